@@ -1,0 +1,21 @@
+use enq_cmd::Why;
+use std::fmt;
+
+/// The line on standard error that tells why the program ended. There is none for an end in order.
+#[derive(Clone, Copy, Debug)]
+pub(crate) struct EndLine(pub(crate) Why);
+
+impl fmt::Display for EndLine {
+    fn fmt<W: fmt::Write>(&self, f: &mut fmt::Formatter<W>) -> fmt::Result {
+        match self.0 {
+            Why::Done => Ok(()),
+            Why::BadWords => f.write_str("enqd: bad words"),
+            Why::BadLine(number) => write!(f, "enqd: bad line {number}"),
+            Why::SourceFault => f.write_str("enqd: cannot read"),
+            Why::SinkFault => f.write_str("enqd: cannot write"),
+            Why::LongLine(number) => write!(f, "enqd: line {number} is too long"),
+            Why::ManyLines => f.write_str("enqd: too many lines"),
+            Why::NoMemory => f.write_str("enqd: no memory"),
+        }
+    }
+}

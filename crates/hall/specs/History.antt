@@ -1,0 +1,83 @@
+-- A call with what the devices did in it, and the history that calls make.
+use Rattle.std.specs.Prelude.{◌≡◌, ℕ, Bool, true, false, [], ◌∷◌, ◌++◌, if◌then◌else◌, is_some, IsTrue}
+use Rattle.enq_base.specs.declared.refusal.Refusal.TheVariants as refusal
+use Rattle.hall.specs.declared.command.Command.{Command}
+use Rattle.hall.specs.declared.command.Command.TheVariants as command
+use Rattle.hall.specs.declared.command.PastEntry.{PastEntry}
+use Rattle.hall.specs.declared.command.Reply.{Reply}
+use Rattle.hall.specs.declared.command.Reply.TheVariants as reply
+use Rattle.hall.specs.declared.command.Who.{Who}
+use Rattle.hall.specs.declared.command.Who.TheVariants as who
+use Rattle.hall.specs.Sessions.{session_at}
+use Rattle.hall.specs.State.{State}
+use Rattle.hall.specs.Step.{Verdict, Refuses, Leaves, verdict}
+
+-- what the devices did in a call
+pub data DeviceOutcome : Type 0 where
+  -- all went well
+  Well : DeviceOutcome
+  -- memory was wanting
+  Wanting : DeviceOutcome
+
+-- what the answer of a call shows of it
+abbrev pub shown : Reply → DeviceOutcome
+shown (reply.Refused refusal.NoMemory) = Wanting
+shown _ = Well
+
+abbrev pub leaves : Verdict → Bool
+leaves (Refuses r) = false
+leaves (Leaves s) = true
+
+-- the calls in which memory may be wanting: a logon that is not refused, and a request for locks
+abbrev pub may_want : State → Command → Bool
+may_want s (command.Logon session user) = leaves (verdict s (command.Logon session user))
+may_want s (command.Ask session requests) = is_some (session_at s.sessions session)
+may_want s (command.Logoff session) = false
+may_want s (command.Free session requests) = false
+
+-- a call may have this outcome
+abbrev pub IsAllowed : DeviceOutcome → State → Command → Type 0
+IsAllowed Well s c = Unit {0}
+IsAllowed Wanting s c = IsTrue (may_want s c)
+
+-- the state after a call, and the answer
+pub record Served : Type 0 where
+  pub state : State
+  pub reply : Reply
+
+abbrev pub judged : State → Verdict → Served
+judged s (Refuses r) = record { state = s; reply = reply.Refused r }
+judged s (Leaves after) = record { state = after; reply = reply.Done }
+
+abbrev pub served : DeviceOutcome → State → Command → Served
+served Well s c = judged s (verdict s c)
+served Wanting s c = record { state = s; reply = reply.Refused refusal.NoMemory }
+
+abbrev pub who_of : Command → Who
+who_of (command.Logon session user) = who.Session session
+who_of (command.Logoff session) = who.Session session
+who_of (command.Ask session requests) = who.Session session
+who_of (command.Free session requests) = who.Session session
+
+-- a call that finds the history full is not in it
+abbrev pub is_unrecorded : Reply → Bool
+is_unrecorded (reply.Refused refusal.LogFull) = true
+is_unrecorded _ = false
+
+abbrev pub past_entry : ℕ → Command → Reply → PastEntry
+past_entry line c r = record { who = who_of c; line = line; command = c; reply = r }
+
+-- the call goes last into the history
+abbrev pub noted : ℕ → Command → Served → Served
+noted line c r =
+    if is_unrecorded r.reply then r
+    else record r { state = record r.state { past = r.state.past ++ past_entry line c r.reply ∷ [] } }
+
+-- one call, of this line of the script
+abbrev pub step : DeviceOutcome → State → ℕ → Command → Served
+step outcome s line c = noted line c (served outcome s c)
+
+-- the state and the answer after a call are those of a step, with an outcome that the answer shows and that may be
+pub record IsStep (old new : State) (line : ℕ) (c : Command) (r : Reply) : Type 0 where
+  pub same : record { state = new; reply = r } ≡ step (shown r) old line c
+  pub allowed : IsAllowed (shown r) old c

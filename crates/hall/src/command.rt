@@ -1,0 +1,73 @@
+ghost use Rattle.std.specs.Prelude.{◌≡◌};
+ghost use Rattle.hall.specs.Step.{answer_of};
+
+use enq_base::{Items, Name, Refusal};
+use lock_entry::Request;
+
+/// Who makes a call.
+#[derive(Clone, Copy, Debug, PartialEq, Eq)]
+pub enum Who {
+    Session(Name),
+    /// An update work process, by its number.
+    Worker(u8),
+    Admin,
+}
+
+/// A session that is logged on.
+#[derive(Clone, Copy, Debug, PartialEq, Eq)]
+pub struct Session {
+    pub name: Name,
+    pub user: Name,
+    /// Counted from 1 since the start of the server.
+    pub number: u32,
+    /// The number of the open unit of work, from 1.
+    pub luw: u32,
+}
+
+/// One call of the hall.
+#[derive(Drop)]
+pub enum Command {
+    Logon {
+        session: Name,
+        user: Name,
+    },
+    Logoff {
+        session: Name,
+    },
+    Ask {
+        session: Name,
+        requests: Items<Request>,
+    },
+    Free {
+        session: Name,
+        requests: Items<Request>,
+    },
+}
+
+/// What a call is answered.
+#[derive(Clone, Copy, Debug, PartialEq, Eq)]
+pub enum Reply {
+    Done,
+    Refused(Refusal),
+}
+
+/// A call of the history.
+#[derive(Drop)]
+pub struct PastEntry {
+    pub who: Who,
+    /// The line of the script, 0 where there is none.
+    pub line: u32,
+    pub command: Command,
+    pub reply: Reply,
+}
+
+impl Reply {
+    pub(crate) fn of(answer: Result<(), Refusal>) -> Reply
+        ensures { result ≡ answer_of answer }
+    {
+        match answer {
+            Ok(()) => Reply::Done,
+            Err(refusal) => Reply::Refused(refusal),
+        }
+    }
+}

@@ -1,0 +1,4 @@
+pub mod Effects
+pub mod Integers
+pub mod Rows
+pub mod Spots

@@ -1,0 +1,208 @@
+-- A run of a script that is in order from the first line to the last comes to its end.
+use Rattle.std.proofs.Common.{◌⊎◌, inl, inr, ⊎_elim, ◌≡◌, ◌≢◌, ℕ, zero, suc, ◌+◌, ◌<◌, ◌≤◌, List, [], ◌∷◌, ◌++◌, length, map, refl, sym, ap, ◌∙◌, subst, arith, true, false, append_assoc, Bool, cond, ne_eqb, length-append}
+use Rattle.std.specs.Prelude.{Option, Some, None, is_some, All, IsTrue, if◌then◌else◌, nat_eq, fold, ◌==◌}
+use Rattle.std.specs.Io.KnownBytes.{Consumes, Appends, IsAtEnd}
+use Rattle.std.proofs.lemmas.Bool.Decides.{eqb_tells}
+use Rattle.std.proofs.lemmas.List.{append-nil}
+use Rattle.std.proofs.lemmas.List.{length-map}
+use Rattle.std.proofs.lemmas.List.Elements.{recursion_from_All}
+use Rattle.std.specs.List.{AllByRecursion}
+use Rattle.hall.specs.State.{State}
+use Rattle.io_edge.specs.Lines.{lines_of, onto_first, is_ended, IsLine, IsUnbroken}
+use Rattle.script_runner.specs.declared.runner.Why.{Why}
+use Rattle.script_runner.specs.declared.runner.Why.TheVariants.{Done, BadWords, BadLine, SourceFault, SinkFault, LongLine, ManyLines, NoMemory}
+use Rattle.script_runner.specs.Run.{Called, Turn, Progress, begun, next, run, moved, after_turn, line_does}
+use Rattle.script_runner.specs.World.{World}
+use Rattle.script_runner.specs.Replay.{Replays, Seen, IsEnd}
+use Rattle.script_runner.specs.Turns.{world_of}
+use Rattle.enq_base.specs.Causes.{Rose}
+use Rattle.script_runner.specs.Commands.{command_in}
+use Rattle.script_runner.proofs.Outcomes.{IsFine, line_fine, line_well}
+use Rattle.script_runner.specs.Whole.{IsGood, IsScript, IsComplete, well_done}
+
+-- ---- lines of bytes that are put together
+
+some_first : (b : ℕ) (ls : List (List ℕ)) → (line : List ℕ) × (rest : List (List ℕ)) × (onto_first b ls ≡ line ∷ rest)
+some_first b [] = (b ∷ [], [], refl)
+some_first b (l ∷ ls) = (b ∷ l, ls, refl)
+
+some_line : (b : ℕ) (bs : List ℕ) → (line : List ℕ) × (rest : List (List ℕ)) × (lines_of (b ∷ bs) ≡ line ∷ rest)
+some_line b bs =
+    elim (nat_eq b 10) as (λ v. (line : List ℕ) × (rest : List (List ℕ)) × ((if v then [] ∷ lines_of bs else onto_first b (lines_of bs)) ≡ line ∷ rest)) [ true ↦ ([], lines_of bs, refl) | false ↦ some_first b (lines_of bs) ]
+
+onto_first-append : (b : ℕ) (xs ys : List (List ℕ)) → (line : List ℕ) × (rest : List (List ℕ)) × (xs ≡ line ∷ rest) → onto_first b (xs ++ ys) ≡ onto_first b xs ++ ys
+onto_first-append b [] ys h = absurd (let e = h.2 in cc)
+onto_first-append b (x ∷ xs) ys h = refl
+
+-- the lines of whole lines stand in front of those of the rest
+pub lines_of-append : (xs ys : List ℕ) → is_ended xs ≡ true → lines_of (xs ++ ys) ≡ lines_of xs ++ lines_of ys
+lines_of-append [] ys h = refl
+lines_of-append (b ∷ []) ys h =
+    let e : nat_eq b 10 ≡ true = h in rw e refl
+lines_of-append (b ∷ c ∷ xs) ys h =
+    let below = lines_of-append (c ∷ xs) ys h in
+    let split = onto_first-append b (lines_of (c ∷ xs)) (lines_of ys) (some_line c xs) in
+    elim (nat_eq b 10) as (λ v. (if v then [] ∷ lines_of (c ∷ xs ++ ys) else onto_first b (lines_of (c ∷ xs ++ ys))) ≡ (if v then [] ∷ lines_of (c ∷ xs) else onto_first b (lines_of (c ∷ xs))) ++ lines_of ys) [
+      | true ↦ ap (λ ls. [] ∷ ls) below
+      | false ↦ ap (onto_first b) below ∙ split
+    ]
+
+-- a line, and lines behind it
+pub record Lines (lines : List (List ℕ)) (least : ℕ) : Type 0 where
+  pub line : List ℕ
+  pub rest : List (List ℕ)
+  pub are : lines ≡ line ∷ rest
+  pub long : least ≤ length line
+
+onto_longer : (b least : ℕ) (lines : List (List ℕ)) → Lines lines least → Lines (onto_first b lines) (suc least)
+onto_longer b least lines h =
+    record { line = b ∷ h.line; rest = h.rest; are = ap (onto_first b) h.are; long = omega (arith, h.long) }
+
+onto_some : (b : ℕ) (lines : List (List ℕ)) → Lines (onto_first b lines) 1
+onto_some b [] = record { line = b ∷ []; rest = []; are = refl; long = omega arith }
+onto_some b (l ∷ ls) = record { line = b ∷ l; rest = ls; are = refl; long = omega arith }
+
+unbroken_step : (b least : ℕ) (bs : List ℕ) → b ≢ 10 → Lines (onto_first b (lines_of bs)) least → Lines (lines_of (b ∷ bs)) least
+unbroken_step b least bs differs h =
+    let off : nat_eq b 10 ≡ false = ne_eqb b 10 differs in
+    subst (λ v. Lines (if v then [] ∷ lines_of bs else onto_first b (lines_of bs)) least) (sym off) h
+
+-- an unbroken front lies in the first line
+pub first_line : (xs ys : List ℕ) → 0 < length xs → IsUnbroken xs → Lines (lines_of (xs ++ ys)) (length xs)
+first_line [] ys some h = absurd (omega arith)
+first_line (b ∷ []) ys some h = unbroken_step b 1 ys (h 0 b (omega arith)) (onto_some b (lines_of ys))
+first_line (b ∷ c ∷ xs) ys some h =
+    let below = first_line (c ∷ xs) ys (omega arith) (λ k d lt. h (suc k) d (omega arith)) in
+    unbroken_step b (suc (length (c ∷ xs))) (c ∷ xs ++ ys) (h 0 b (omega arith)) (onto_longer b (length (c ∷ xs)) (lines_of (c ∷ xs ++ ys)) below)
+
+-- ---- turns
+
+abbrev pub lines_in : List Turn → List (List ℕ)
+lines_in = map (λ t. t.line)
+
+abbrev pub run_on : Progress → List Turn → Progress
+run_on p turns = fold next p turns
+
+next_counts : (p : Progress) (t : Turn) → (next p t).number ≤ p.number + 1
+next_counts p t =
+    elim (p.stop) as (λ o. (after_turn o p t).number ≤ p.number + 1) [ None ↦ omega arith | Some why ↦ omega arith ]
+
+-- a run counts no more lines than it has turns
+pub run_counts : (p : Progress) (turns : List Turn) → (run_on p turns).number ≤ p.number + length turns
+run_counts p [] = omega arith
+run_counts p (t ∷ ts) = omega (arith, run_counts (next p t) ts, next_counts p t)
+
+next_fine : (p : Progress) (t : Turn) → IsTrue (is_some (command_in t.line)) → IsFine p.stop → IsFine (next p t).stop
+next_fine p t known (inl e) =
+    subst (λ o. IsFine (after_turn o p t).stop) (sym e) (line_fine p.world (p.number + 1) t.line t.outcome known)
+next_fine p t known (inr e) = inr (ap (λ o. (after_turn o p t).stop) e ∙ e)
+
+run_fine : (p : Progress) (turns : List Turn) → AllByRecursion IsGood (lines_in turns) → IsFine p.stop → IsFine (run_on p turns).stop
+run_fine p [] all fine = fine
+run_fine p (t ∷ ts) all fine = run_fine (next p t) ts all.1 (next_fine p t all.0.known fine)
+
+abbrev done_well : Turn → Turn
+done_well t = record { line = t.line; outcome = Called None }
+
+stopped : (p : Progress) (t : Turn) (o : Option Why) → p.stop ≡ o → (after_turn o p t).stop ≡ None → o ≡ None
+stopped p t None e h = refl
+stopped p t (Some why) e h = sym e ∙ h
+
+next_well : (p : Progress) (t : Turn) → (next p t).stop ≡ None → next p t ≡ next p (done_well t)
+next_well p t h =
+    let e : p.stop ≡ None = stopped p t p.stop refl h in
+    let h : (line_does p.world (p.number + 1) t.line t.outcome).stop ≡ None = sym (ap (λ o. (after_turn o p t).stop) e) ∙ h in
+    ap (λ o. after_turn o p t) e ∙ ap (moved p) (line_well p.world (p.number + 1) t.line t.outcome h) ∙ sym (ap (λ o. after_turn o p (done_well t)) e)
+
+pub run_stops : (p : Progress) (turns : List Turn) → (run_on p turns).stop ≡ None → p.stop ≡ None
+run_stops p [] h = h
+run_stops p (t ∷ ts) h = stopped p t p.stop refl (run_stops (next p t) ts h)
+
+-- a run that goes on to the end is the run in which nothing was wanting
+run_well : (p : Progress) (turns : List Turn) → (run_on p turns).stop ≡ None → run_on p turns ≡ run_on p (well_done (lines_in turns))
+run_well p [] h = refl
+run_well p (t ∷ ts) h =
+    let goes = run_stops (next p t) ts h in
+    run_well (next p t) ts h ∙ ap (λ q. run_on q (well_done (lines_in ts))) (next_well p t goes)
+
+-- ---- the end of a run
+
+none_is_some : {A : Type 0} (x : A) → ◌≡◌ {A = Option A} None (Some x) → ⊥
+none_is_some x e = cc
+
+memory_is : (why : Why) → IsFine (Some why) → why ≡ NoMemory
+memory_is why (inl e) = absurd (none_is_some why (sym e))
+memory_is why (inr e) = cc
+
+good_front : (xs ys : List (List ℕ)) → AllByRecursion IsGood (xs ++ ys) → AllByRecursion IsGood xs
+good_front [] ys all = tt
+good_front (x ∷ xs) ys all = (all.0, good_front xs ys all.1)
+
+good_next : (xs ys : List (List ℕ)) (line : List ℕ) → AllByRecursion IsGood (xs ++ line ∷ ys) → IsGood line
+good_next [] ys line all = all.0
+good_next (x ∷ xs) ys line all = good_next xs ys line all.1
+
+-- the lines of the bytes are those of the turns, and then those of what was read behind them and of what is left
+pub begins : (bytes lines rest left : List ℕ) (turns : List Turn) → bytes ≡ (lines ++ rest) ++ left → (is_ended lines ≡ true) ⊎ ((rest ≡ []) × (left ≡ [])) → lines_in turns ≡ lines_of lines → lines_of bytes ≡ lines_in turns ++ lines_of (rest ++ left)
+begins bytes lines rest left turns all (inl ended) each =
+    ap lines_of (all ∙ append_assoc lines rest left) ∙ lines_of-append lines (rest ++ left) ended ∙ ap (λ ls. ls ++ lines_of (rest ++ left)) (sym each)
+begins bytes lines rest left turns all (inr e) each =
+    let alone : bytes ≡ lines = all ∙ ap (λ x. (lines ++ rest) ++ x) e.1 ∙ append-nil (lines ++ rest) ∙ ap (λ x. lines ++ x) e.0 ∙ append-nil lines in
+    let none : lines_of (rest ++ left) ≡ [] = ap lines_of (ap (λ x. x ++ left) e.0 ∙ e.1) in
+    ap lines_of alone ∙ sym each ∙ sym (append-nil (lines_in turns)) ∙ ap (λ ls. lines_in turns ++ ls) (sym none)
+
+pub count_lines : (bytes : List ℕ) (turns : List Turn) (tail : List (List ℕ)) → lines_of bytes ≡ lines_in turns ++ tail → length (lines_of bytes) ≡ length turns + length tail
+count_lines bytes turns tail e =
+    ap length e ∙ length-append (lines_in turns) tail ∙ ap (λ n. n + length tail) (length-map turns (λ (t : Turn). t.line))
+
+pub some_tail : (rest left : List ℕ) → length rest ≡ 1 → 0 < length (lines_of (rest ++ left))
+some_tail [] left h = absurd (omega arith)
+some_tail (b ∷ rest) left h = let l = some_line b (rest ++ left) in omega (arith, ap length l.2)
+
+too_long : (xs ys : List (List ℕ)) (rest left : List ℕ) → ys ≡ xs ++ lines_of (rest ++ left) → length rest ≡ 1025 → IsUnbroken rest → AllByRecursion IsGood ys → ⊥
+too_long xs ys rest left e long unbroken all =
+    let l = first_line rest left (omega arith) unbroken in
+    let good = good_next xs l.rest l.line (subst (AllByRecursion IsGood) (e ∙ ap (λ t. xs ++ t) l.are) all) in
+    omega (arith, good.fits.fits, l.long)
+
+-- what is seen at the end, over bytes that the source told
+ends : (before after : State) (bytes left lines rest : List ℕ) (turns : List Turn) (old new : Seen) (why : Why) → new.left ≡ Some left → lines_of bytes ≡ lines_in turns ++ lines_of (rest ++ left) → IsScript bytes → (Rose old.source_faults new.source_faults → ⊥) → (Rose old.sink_faults new.sink_faults → ⊥) → after ≡ (run (world_of before) turns).world.hall → IsEnd (world_of before) turns rest old new why → IsComplete before after bytes old.written new.written why
+ends before after bytes left lines rest turns old new Done is all script quiet_source quiet_sink hall end =
+    let at_end : left ≡ [] = subst IsAtEnd is end.1 in
+    let each : lines_of bytes ≡ lines_in turns = all ∙ ap (λ x. lines_in turns ++ lines_of x) (ap (λ x. x ++ left) end.0 ∙ at_end) ∙ append-nil (lines_in turns) in
+    let same : run (world_of before) turns ≡ run (world_of before) (well_done (lines_of bytes)) = run_well (begun (world_of before)) turns end.2 ∙ ap (λ ls. run (world_of before) (well_done ls)) (sym each) in
+    (hall ∙ ap (λ (p : Progress). p.world.hall) same, subst (λ (p : Progress). Appends old.written new.written p.text) same end.3)
+ends before after bytes left lines rest turns old new BadWords is all script quiet_source quiet_sink hall end = absurd end
+ends before after bytes left lines rest turns old new (BadLine n) is all script quiet_source quiet_sink hall end =
+    let good = recursion_from_All IsGood (lines_of bytes) script.each in
+    let fine = run_fine (begun (world_of before)) turns (good_front (lines_in turns) (lines_of (rest ++ left)) (subst (AllByRecursion IsGood) all good)) (inl refl) in
+    let memory : BadLine n ≡ NoMemory = memory_is (BadLine n) (subst IsFine end.1 fine) in
+    absurd (cc)
+ends before after bytes left lines rest turns old new SourceFault is all script quiet_source quiet_sink hall end = absurd (quiet_source end.1)
+ends before after bytes left lines rest turns old new SinkFault is all script quiet_source quiet_sink hall end = absurd (quiet_sink end.1)
+ends before after bytes left lines rest turns old new (LongLine n) is all script quiet_source quiet_sink hall end =
+    absurd (too_long (lines_in turns) (lines_of bytes) rest left all end.1 end.2 (recursion_from_All IsGood (lines_of bytes) script.each))
+ends before after bytes left lines rest turns old new ManyLines is all script quiet_source quiet_sink hall end =
+    let counted = run_counts (begun (world_of before)) turns in
+    let some = some_tail rest left end.1 in
+    let total = count_lines bytes turns (lines_of (rest ++ left)) all in
+    absurd (omega (arith, end.0, script.few))
+ends before after bytes left lines rest turns old new NoMemory is all script quiet_source quiet_sink hall end = tt
+
+pub told : (bytes taken : List ℕ) (left : Option (List ℕ)) → Consumes (Some bytes) left taken → (rest : List ℕ) × (left ≡ Some rest) × (bytes ≡ taken ++ rest)
+told bytes taken None h = absurd h
+told bytes taken (Some rest) h = (rest, refl, h)
+
+at_end_of : (left : Option (List ℕ)) (rest : List ℕ) → left ≡ Some rest → IsAtEnd left → rest ≡ []
+at_end_of left rest is h = subst IsAtEnd is h
+
+pub known_whole : (lines rest left : List ℕ) (told : Option (List ℕ)) → told ≡ Some left → (is_ended lines ≡ true) ⊎ ((rest ≡ []) × IsAtEnd told) → (is_ended lines ≡ true) ⊎ ((rest ≡ []) × (left ≡ []))
+known_whole lines rest left told is (inl ended) = inl ended
+known_whole lines rest left told is (inr h) = inr (h.0, at_end_of told left is h.1)
+
+-- a run over a script that is in order from the first line to the last
+pub completes : (before after : State) (old new : Seen) (why : Why) (bytes : List ℕ) → Replays before after old new why → old.left ≡ Some bytes → IsScript bytes → (Rose old.source_faults new.source_faults → ⊥) → (Rose old.sink_faults new.sink_faults → ⊥) → IsComplete before after bytes old.written new.written why
+completes before after old new why bytes h is script quiet_source quiet_sink =
+    let rest = told bytes (h.lines ++ h.rest) new.left (subst (λ o. Consumes o new.left (h.lines ++ h.rest)) is h.read) in
+    let all = begins bytes h.lines h.rest rest.0 h.turns rest.2 (known_whole h.lines h.rest rest.0 new.left rest.1 h.whole) h.each in
+    ends before after bytes rest.0 h.lines h.rest h.turns old new why rest.1 all script quiet_source quiet_sink h.hall h.end

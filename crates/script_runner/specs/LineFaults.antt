@@ -1,0 +1,43 @@
+-- The lines that end a run.
+use Rattle.std.specs.Prelude.{◌≡◌, ℕ, ◌+◌, ◌<◌, List, ◌∷◌, ◌++◌, length, Option, None, is_some, IsTrue}
+use Rattle.std.specs.List.{AllByRecursion}
+use Rattle.io_edge.specs.Lines.{lines_of}
+use Rattle.script_runner.specs.declared.runner.Why.{Why}
+use Rattle.script_runner.specs.declared.runner.Why.TheVariants.{Done, BadWords, BadLine, SourceFault, SinkFault, LongLine, ManyLines, NoMemory}
+use Rattle.script_runner.specs.Commands.{command_in}
+
+-- the line of this number, with the lines before it and behind it
+pub record IsLineAt (n : ℕ) (bytes : List ℕ) (earlier : List (List ℕ)) (line : List ℕ) : Type 0 where
+  pub later : List (List ℕ)
+  pub lines : lines_of bytes ≡ earlier ++ line ∷ later
+  pub place : n ≡ length earlier + 1
+
+abbrev pub HasCommand : List ℕ → Type 0
+HasCommand line = IsTrue (is_some (command_in line))
+
+-- line n is the first without a command
+pub record IsFirstBad (n : ℕ) (bytes : List ℕ) : Type 0 where
+  pub earlier : List (List ℕ)
+  pub line : List ℕ
+  pub at : IsLineAt n bytes earlier line
+  pub known : AllByRecursion HasCommand earlier
+  pub bad : command_in line ≡ None
+
+-- line n has more than 1,024 bytes, and each line before it has a command
+pub record IsFirstLong (n : ℕ) (bytes : List ℕ) : Type 0 where
+  pub earlier : List (List ℕ)
+  pub line : List ℕ
+  pub at : IsLineAt n bytes earlier line
+  pub known : AllByRecursion HasCommand earlier
+  pub long : 1024 < length line
+
+-- an end that a line is to blame for comes just at that line
+abbrev pub IsToBlame : Why → List ℕ → Type 0
+IsToBlame (BadLine n) bytes = IsFirstBad n bytes
+IsToBlame (LongLine n) bytes = IsFirstLong n bytes
+IsToBlame ManyLines bytes = 200000 < length (lines_of bytes)
+IsToBlame Done bytes = Unit {0}
+IsToBlame BadWords bytes = Unit {0}
+IsToBlame SourceFault bytes = Unit {0}
+IsToBlame SinkFault bytes = Unit {0}
+IsToBlame NoMemory bytes = Unit {0}

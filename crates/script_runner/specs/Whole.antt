@@ -1,0 +1,36 @@
+-- Scripts that are in order from the first line to the last, and what a run of one comes to.
+use Rattle.std.specs.Prelude.{◌≡◌, ℕ, ◌≤◌, List, map, length, Option, Some, None, is_some, All, IsTrue}
+use Rattle.std.specs.Io.KnownBytes.{Appends}
+use Rattle.hall.specs.State.{State}
+use Rattle.io_edge.specs.Lines.{lines_of, IsLine}
+use Rattle.script_runner.specs.declared.runner.Why.{Why}
+use Rattle.script_runner.specs.declared.runner.Why.TheVariants.{Done, BadWords, BadLine, SourceFault, SinkFault, LongLine, ManyLines, NoMemory}
+use Rattle.script_runner.specs.Commands.{command_in}
+use Rattle.script_runner.specs.Run.{Called, Turn, run}
+use Rattle.script_runner.specs.Turns.{world_of}
+
+-- a line that fits and has a command
+pub record IsGood (line : List ℕ) : Type 0 where
+  pub fits : IsLine line
+  pub known : IsTrue (is_some (command_in line))
+
+-- each line is good, and there are at most 200,000
+pub record IsScript (bytes : List ℕ) : Type 0 where
+  pub each : All IsGood (lines_of bytes)
+  pub few : length (lines_of bytes) ≤ 200000
+
+-- these lines, each done with nothing wanting
+abbrev pub well_done : List (List ℕ) → List Turn
+well_done lines = map (λ line. record { line = line; outcome = Called None }) lines
+
+-- the run went through all lines of the bytes and wrote their whole text, or memory was wanting
+abbrev pub IsComplete : State → State → List ℕ → Option (List ℕ) → Option (List ℕ) → Why → Type 0
+IsComplete before after bytes old new Done =
+    (after ≡ (run (world_of before) (well_done (lines_of bytes))).world.hall) × Appends old new (run (world_of before) (well_done (lines_of bytes))).text
+IsComplete before after bytes old new NoMemory = Unit {0}
+IsComplete before after bytes old new BadWords = ⊥
+IsComplete before after bytes old new (BadLine n) = ⊥
+IsComplete before after bytes old new SourceFault = ⊥
+IsComplete before after bytes old new SinkFault = ⊥
+IsComplete before after bytes old new (LongLine n) = ⊥
+IsComplete before after bytes old new ManyLines = ⊥
