@@ -8,6 +8,8 @@ use Rattle.lock_entry.specs.declared.fault.AskFault.{AskFault}
 use Rattle.lock_entry.specs.declared.fault.AskFault.TheVariants as fault
 use Rattle.lock_entry.specs.declared.entry.Entry.{Entry}
 use Rattle.lock_entry.specs.declared.entry.Request.{Request}
+use Rattle.lock_entry.specs.declared.entry.Asked.{Asked}
+use Rattle.lock_entry.specs.Converting.{Conversion, converted}
 use Rattle.lock_entry.specs.Granting.{asked}
 use Rattle.lock_entry.specs.Freeing.{freed, freed_owner}
 use Rattle.lock_entry.specs.Names.{halves}
@@ -19,9 +21,9 @@ use Rattle.hall.specs.declared.command.Reply.TheVariants as reply
 use Rattle.hall.specs.declared.command.Session.{Session}
 use Rattle.hall.specs.Acts.{IsAct}
 use Rattle.hall.specs.History.{Well, IsAllowed, is_unrecorded, judged, leaves, may_want, served, shown}
-use Rattle.hall.specs.Sessions.{session_at, without_session, pair_of}
+use Rattle.hall.specs.Sessions.{session_at, without_session, with_session, with_next_unit, pair_of}
 use Rattle.hall.specs.State.{State}
-use Rattle.hall.specs.Step.{Verdict, Refuses, Leaves, answer_of, ask_refusal, call_of, entered, granting, is_full, logon, own_verdict, session_call, verdict}
+use Rattle.hall.specs.Step.{Verdict, Refuses, Leaves, answer_of, ask_refusal, call_of, converting, entered, granting, is_full, logon, own_verdict, session_call, verdict}
 
 pub verdict-room : (s : State) (c : Command) → is_full s ≡ false → verdict s c ≡ own_verdict s c
 unfolding verdict
@@ -42,8 +44,8 @@ refuses s c r room e well noted =
 is_done : (s : State) (c : Command) (after : State) → is_full s ≡ false → own_verdict s c ≡ Leaves after → IsAct s c after reply.Done
 is_done s c after room e = record { same = ap (judged s) (verdict-room s c room ∙ e); allowed = tt; noted = refl }
 
-is_wanting : (s : State) (c : Command) → IsTrue (may_want s c) → IsAct s c s (reply.Refused refusal.NoMemory)
-is_wanting s c h = record { same = refl; allowed = h; noted = refl }
+is_wanting : (s : State) (c : Command) → is_full s ≡ false → IsTrue (may_want s c) → IsAct s c s (reply.Refused refusal.NoMemory)
+is_wanting s c room h = record { same = refl; allowed = (room, h); noted = refl }
 
 pub at_state : (s : State) (c : Command) (after other : State) (r : Reply) → after ≡ other → IsAct s c after r → IsAct s c other r
 at_state s c after other r e h = subst (λ x. IsAct s c x r) e h
@@ -82,7 +84,7 @@ logs_on_wanting s sessions next name user e f room free limit =
     let free : is_some (session_at s.sessions name) ≡ false = ap (λ xs. is_some (session_at xs name)) e ∙ free in
     let limit : nat_le 1024 (length s.sessions) ≡ false = ap (λ xs. nat_le 1024 (length xs)) e ∙ limit in
     at_state _ _ s _ _ (λ i. record s { sessions = e i; next_session = f i })
-    (is_wanting s (command.Logon name user) (ap leaves (verdict-room s (command.Logon name user) room ∙ logon_free s name user false free limit)))
+    (is_wanting s (command.Logon name user) room (ap leaves (verdict-room s (command.Logon name user) room ∙ logon_free s name user false free limit)))
 
 pub logs_on : (s : State) (sessions : List Session) (next : ℕ) (name user : List ℕ) → s.sessions ≡ sessions → s.next_session ≡ next → is_full s ≡ false → is_some (session_at sessions name) ≡ false → nat_le 1024 (length sessions) ≡ false → IsAct s (command.Logon name user) (record s { sessions = sessions ++ record { name = name; user = user; number = next; luw = 1 } ∷ []; next_session = next + 1 }) reply.Done
 logs_on s sessions next name user e f room free limit =
@@ -124,6 +126,52 @@ logs_off s start sessions name x pair after entries k room e f =
     (of_session s start sessions name x pair (command.Logoff name) k ∙ ap (λ p. Leaves (record s { sessions = without_session x.name s.sessions; locks = freed_owner (freed_owner s.locks p.dialogue) p.update })) own
     ∙ (λ i. Leaves (record s { sessions = sym rest i; locks = sym f i })))
 
+pub frees_all : (s : State) (start : ℕ) (sessions : List Session) (name : List ℕ) (x : Session) (pair : Asker) (entries : List Entry) → Caller s start sessions name x pair → is_full s ≡ false → entries ≡ freed_owner (freed_owner s.locks pair.dialogue) pair.update → IsAct s (command.FreeAll name) (record s { locks = entries }) reply.Done
+frees_all s start sessions name x pair entries k room f =
+    let own = own_pair s start sessions name x pair k in
+    is_done s (command.FreeAll name) (record s { locks = entries }) room
+    (of_session s start sessions name x pair (command.FreeAll name) k
+    ∙ ap (λ p. Leaves (record s { locks = freed_owner (freed_owner s.locks p.dialogue) p.update })) own ∙ ap (λ l. Leaves (record s { locks = l })) (sym f))
+
+pub rolls_back : (s : State) (start : ℕ) (sessions : List Session) (name : List ℕ) (x : Session) (pair : Asker) (after : List Session) (entries : List Entry) → Caller s start sessions name x pair → is_full s ≡ false → after ≡ with_session x.name with_next_unit sessions → entries ≡ freed_owner s.locks pair.update → IsAct s (command.Rollback name) (record s { sessions = after; locks = entries }) reply.Done
+rolls_back s start sessions name x pair after entries k room e f =
+    let own = own_pair s start sessions name x pair k in
+    let next : after ≡ with_session x.name with_next_unit s.sessions = e ∙ ap (with_session x.name with_next_unit) (sym k.sessions_are) in
+    is_done s (command.Rollback name) (record s { sessions = after; locks = entries }) room
+    (of_session s start sessions name x pair (command.Rollback name) k
+    ∙ ap (λ p. Leaves (record s { sessions = with_session x.name with_next_unit s.sessions; locks = freed_owner s.locks p.update })) own
+    ∙ (λ i. Leaves (record s { sessions = sym next i; locks = sym f i })))
+
+-- ---- converting
+
+turning : (s : State) (start : ℕ) (sessions : List Session) (name : List ℕ) (x : Session) (pair : Asker) (asked : List Asked) (entries : List Entry) (answer : Result Conversion AskFault) → Caller s start sessions name x pair → s.locks ≡ entries → converted entries pair asked ≡ answer → own_verdict s (command.Convert name asked) ≡ converting s answer
+turning s start sessions name x pair asked entries answer k locks e =
+    let own = own_pair s start sessions name x pair k in
+    of_session s start sessions name x pair (command.Convert name asked) k
+    ∙ (λ i. converting s (converted (locks i) (own i) asked)) ∙ ap (converting s) e
+
+pub converts : (s : State) (start : ℕ) (sessions : List Session) (name : List ℕ) (x : Session) (pair : Asker) (asked : List Asked) (entries : List Entry) (c : Conversion) → Caller s start sessions name x pair → s.locks ≡ entries → is_full s ≡ false → converted entries pair asked ≡ Ok c → IsAct s (command.Convert name asked) (record s { locks = c.entries }) reply.Done
+converts s start sessions name x pair asked entries c k locks room e =
+    is_done s (command.Convert name asked) (record s { locks = c.entries }) room (turning s start sessions name x pair asked entries (Ok c) k locks e)
+
+not_converted : (s : State) (start : ℕ) (sessions : List Session) (name : List ℕ) (x : Session) (pair : Asker) (asked : List Asked) (entries : List Entry) (f : AskFault) → Caller s start sessions name x pair → s.locks ≡ entries → is_full s ≡ false → IsFaultOf (converted entries pair asked) f → IsAct s (command.Convert name asked) s (reply.Refused (ask_refusal f))
+not_converted s start sessions name x pair asked entries (fault.Foreign e) k locks room h =
+    refuses s (command.Convert name asked) _ room (turning s start sessions name x pair asked entries _ k locks h) refl refl
+not_converted s start sessions name x pair asked entries (fault.Full used most) k locks room h =
+    refuses s (command.Convert name asked) _ room (turning s start sessions name x pair asked entries _ k locks h) refl refl
+not_converted s start sessions name x pair asked entries fault.Count k locks room h =
+    refuses s (command.Convert name asked) _ room (turning s start sessions name x pair asked entries _ k locks h) refl refl
+not_converted s start sessions name x pair asked entries fault.Lost k locks room h =
+    refuses s (command.Convert name asked) _ room (turning s start sessions name x pair asked entries _ k locks h) refl refl
+not_converted s start sessions name x pair asked entries fault.NoMemory k locks room h =
+    is_wanting s (command.Convert name asked) room (ap is_some (found_at s sessions name (Some x) k.sessions_are k.found))
+
+pub converts_in_vain : (s : State) (start : ℕ) (sessions : List Session) (name : List ℕ) (x : Session) (pair : Asker) (asked : List Asked) (entries : List Entry) (f : AskFault) (r : Refusal) (after : List Entry) → Caller s start sessions name x pair → s.locks ≡ entries → is_full s ≡ false → IsFaultOf (converted entries pair asked) f → after ≡ entries → r ≡ ask_refusal f → IsAct s (command.Convert name asked) (record s { locks = after }) (reply.Refused r)
+converts_in_vain s start sessions name x pair asked entries f r after k locks room h same is =
+    let stays : s.locks ≡ after = locks ∙ sym same in
+    subst (λ a. IsAct s (command.Convert name asked) (record s { locks = after }) (reply.Refused a)) (sym is)
+    (at_state _ _ s _ _ (λ i. record s { locks = stays i }) (not_converted s start sessions name x pair asked entries f k locks room h))
+
 -- ---- asking
 
 asking : (s : State) (start : ℕ) (sessions : List Session) (name : List ℕ) (x : Session) (pair : Asker) (requests : List Request) (t : Table) (answer : Result (List Entry) AskFault) → Caller s start sessions name x pair → s.locks ≡ t.entries → s.limit ≡ t.limit → asked t pair x.user requests ≡ answer → own_verdict s (command.Ask name requests) ≡ granting s answer
@@ -150,7 +198,7 @@ is_refused s start sessions name x pair requests t fault.Count k locks limit roo
 is_refused s start sessions name x pair requests t fault.Lost k locks limit room h =
     refuses s (command.Ask name requests) _ room (asking s start sessions name x pair requests t _ k locks limit h) refl refl
 is_refused s start sessions name x pair requests t fault.NoMemory k locks limit room h =
-    is_wanting s (command.Ask name requests) (may_ask s name x requests (found_at s sessions name (Some x) k.sessions_are k.found))
+    is_wanting s (command.Ask name requests) room (may_ask s name x requests (found_at s sessions name (Some x) k.sessions_are k.found))
 
 pub asks_in_vain : (s : State) (start : ℕ) (sessions : List Session) (name : List ℕ) (x : Session) (pair : Asker) (requests : List Request) (t : Table) (f : AskFault) (r : Refusal) (entries : List Entry) → Caller s start sessions name x pair → s.locks ≡ t.entries → s.limit ≡ t.limit → is_full s ≡ false → IsFaultOf (asked t pair x.user requests) f → entries ≡ t.entries → r ≡ ask_refusal f → IsAct s (command.Ask name requests) (record s { locks = entries }) (reply.Refused r)
 asks_in_vain s start sessions name x pair requests t f r entries k locks limit room h same is =

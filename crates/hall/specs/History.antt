@@ -10,7 +10,7 @@ use Rattle.hall.specs.declared.command.Who.{Who}
 use Rattle.hall.specs.declared.command.Who.TheVariants as who
 use Rattle.hall.specs.Sessions.{session_at}
 use Rattle.hall.specs.State.{State}
-use Rattle.hall.specs.Step.{Verdict, Refuses, Leaves, verdict}
+use Rattle.hall.specs.Step.{Verdict, Refuses, Leaves, is_full, verdict}
 
 -- what the devices did in a call
 pub data DeviceOutcome : Type 0 where
@@ -28,17 +28,20 @@ abbrev pub leaves : Verdict → Bool
 leaves (Refuses r) = false
 leaves (Leaves s) = true
 
--- the calls in which memory may be wanting: a logon that is not refused, and a request for locks
+-- the calls in which memory may be wanting: a logon that is not refused, a request for locks, and a conversion
 abbrev pub may_want : State → Command → Bool
 may_want s (command.Logon session user) = leaves (verdict s (command.Logon session user))
 may_want s (command.Ask session requests) = is_some (session_at s.sessions session)
 may_want s (command.Logoff session) = false
 may_want s (command.Free session requests) = false
+may_want s (command.FreeAll session) = false
+may_want s (command.Convert session asked) = is_some (session_at s.sessions session)
+may_want s (command.Rollback session) = false
 
--- a call may have this outcome
+-- a call may have this outcome; one that finds the history full wants no memory
 abbrev pub IsAllowed : DeviceOutcome → State → Command → Type 0
 IsAllowed Well s c = Unit {0}
-IsAllowed Wanting s c = IsTrue (may_want s c)
+IsAllowed Wanting s c = (is_full s ≡ false) × IsTrue (may_want s c)
 
 -- the state after a call, and the answer
 pub record Served : Type 0 where
@@ -58,6 +61,9 @@ who_of (command.Logon session user) = who.Session session
 who_of (command.Logoff session) = who.Session session
 who_of (command.Ask session requests) = who.Session session
 who_of (command.Free session requests) = who.Session session
+who_of (command.FreeAll session) = who.Session session
+who_of (command.Convert session asked) = who.Session session
+who_of (command.Rollback session) = who.Session session
 
 -- a call that finds the history full is not in it
 abbrev pub is_unrecorded : Reply → Bool

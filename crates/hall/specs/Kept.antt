@@ -1,9 +1,18 @@
--- What a hall keeps: room for the whole history, and few enough sessions so far.
-use Rattle.std.specs.Prelude.{ℕ, ◌+◌, ◌≤◌, vec_len, vec_capacity}
-use Rattle.std.specs.Global.{Vec}
-use Rattle.hall.specs.declared.command.PastEntry.{PastEntry}
+-- What a state that calls lead to keeps: few sessions and units, since each call opens at most one of each.
+use Rattle.std.specs.Prelude.{ℕ, ◌+◌, ◌≤◌, List, length}
+use Rattle.std.specs.List.{AllByRecursion}
+use Rattle.hall.specs.declared.command.Session.{Session}
+use Rattle.hall.specs.State.{State}
 
-pub record IsKept (next_session : ℕ) (past : Vec PastEntry) : Type 0 where
-  pub room : 262144 ≤ vec_capacity past
-  pub within : vec_len past ≤ 262144
-  pub few : next_session ≤ vec_len past + 1
+-- the session's open unit has at most this number
+abbrev pub IsYoung : ℕ → Session → Type 0
+IsYoung n x = x.luw ≤ n
+
+-- after so many calls
+pub record HasFew (calls : ℕ) (s : State) : Type 0 where
+  pub sessions : s.next_session ≤ calls + 1
+  pub units : AllByRecursion (IsYoung (calls + 1)) s.sessions
+
+pub record IsKept (s : State) : Type 0 where
+  pub within : length s.past ≤ 262144
+  pub few : HasFew (length s.past) s

@@ -2,7 +2,7 @@ ghost use Rattle.std.specs.Prelude.{◌≡◌};
 ghost use Rattle.hall.specs.Step.{answer_of};
 
 use enq_base::{Items, Name, Refusal};
-use lock_entry::Request;
+use lock_entry::{Asked, Request};
 
 /// Who makes a call.
 #[derive(Clone, Copy, Debug, PartialEq, Eq)]
@@ -41,6 +41,16 @@ pub enum Command {
     Free {
         session: Name,
         requests: Items<Request>,
+    },
+    FreeAll {
+        session: Name,
+    },
+    Convert {
+        session: Name,
+        asked: Items<Asked>,
+    },
+    Rollback {
+        session: Name,
     },
 }
 

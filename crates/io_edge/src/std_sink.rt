@@ -12,7 +12,7 @@ use std::marker::Model;
 /// flushed, so that what was written stands outside before more is read. A writer that takes nothing
 /// counts as a fault, as does each error of its `write` and its `flush`. Where the flush fails, the
 /// writer has taken the bytes.
-#[derive(Drop)]
+#[derive(Debug, Drop)]
 pub struct StdSink<W> {
     writer: W,
     faults: u64,

@@ -13,7 +13,7 @@ const PIECE: usize = 4096;
 
 /// A source over a reader of std, which is read a piece of at most 4,096 bytes at a time.
 /// Each error of the reader counts as a fault.
-#[derive(Drop)]
+#[derive(Debug, Drop)]
 pub struct StdSource<R> {
     reader: R,
     buffer: [u8; PIECE],
@@ -77,6 +77,7 @@ impl<R: Read> Source for StdSource<R> {
         ensures untouched { self.old.ahead ≢ [] → self.new.reader ≡ self.old.reader }
 
         ensures counted { OnErr result (self.new.faults ≡ one_more self.old.faults) }
+        ensures unwritten { OnErr result (into.new ≡ into.old) }
     {
         self.read_ahead()?;
         Ok(give(&self.buffer[..self.end], &mut self.start, into))

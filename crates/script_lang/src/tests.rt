@@ -6,7 +6,7 @@ const LONGEST_NAME: &[u8] = b"A23456789012345678901234567890 LOGOFF";
 const LONGER_NAME: &[u8] = b"A234567890123456789012345678901 LOGOFF";
 
 // Lines that are read, and the form of each.
-const LINES: [(&[u8], &str); 50] = [
+const LINES: [(&[u8], &str); 54] = [
     (b"", "blank"),
     (b"#", "blank"),
     (b"# a comment", "blank"),
@@ -25,7 +25,9 @@ const LINES: [(&[u8], &str); 50] = [
     (b"A ENQ EZORDER O 3 MANDT=100 ORDNR=", "enq"),
     (b"A ENQ EZORDER E 1 MANDT== ORDNR=$N", "enq"),
     (b"A DEQ EZORDER E 1 MANDT=100", "deq"),
+    (b"A DEQ EZORDER O 2", "deq"),
     (b"A COLLECT EZORDER E 1 MANDT=100", "collect"),
+    (b"A COLLECT EZORDER X 3 MANDT=", "collect"),
     (b"A CONVERT EZORDER", "convert"),
     (b"A CONVERT EZORDER MANDT=100 ORDNR=0000000001", "convert"),
     (b"A NUM ZORDNR 01 N", "num"),
@@ -44,6 +46,7 @@ const LINES: [(&[u8], &str); 50] = [
     (b"@1 DO1", "do1"),
     (b"@1 TAKE2", "take2"),
     (b"@1 DO2", "do2"),
+    (b"@10 DO2", "do2"),
     (b"@64 DROP", "drop"),
     (b"! KILL", "kill"),
     (b"! FAILOVER", "failover"),
@@ -52,6 +55,7 @@ const LINES: [(&[u8], &str); 50] = [
     (b"! CANCEL 1.2.3", "cancel"),
     (b"! CANCEL 4294967295.1.1", "cancel"),
     (b"! RESUBMIT 1.2.3", "resubmit"),
+    (b"! RESUBMIT 4294967295.4294967295.4294967295", "resubmit"),
     (b"? SM12", "sm12"),
     (b"? SM13", "sm13"),
     (b"? SNRO", "snro"),
@@ -60,7 +64,7 @@ const LINES: [(&[u8], &str); 50] = [
 ];
 
 // Lines outside the grammar.
-const BAD_LINES: [&[u8]; 62] = [
+const BAD_LINES: [&[u8]; 70] = [
     b" ",
     b"   ",
     b"\r",
@@ -117,9 +121,17 @@ const BAD_LINES: [&[u8]; 62] = [
     b"@65 TAKE1",
     b"@01 TAKE1",
     b"@ TAKE1",
+    b"@100 TAKE1",
     b"@1 KILL",
     b"! KILL ",
+    b"! CANCEL",
+    b"! CANCEL 1.2",
+    b"! CANCEL 1..3",
+    b"! CANCEL 1.2.",
+    b"! CANCEL 1.2.3.4",
+    b"! CANCEL 1.2.3 ",
     b"! CANCEL 1.02.3",
+    b"! RESUBMIT 01.2.3",
     b"! CANCEL 1.0.3",
     b"! CANCEL 4294967296.1.1",
     b"? SM14",

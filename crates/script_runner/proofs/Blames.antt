@@ -6,16 +6,15 @@ use Rattle.std.specs.List.{AllByRecursion}
 use Rattle.std.proofs.lemmas.List.{length-map, map-append}
 use Rattle.hall.specs.History.{DeviceOutcome, Well}
 use Rattle.hall.specs.State.{State}
-use Rattle.hall.specs.declared.command.Command.{Command}
+use Rattle.script_lang.specs.declared.script_line.ScriptLine.{ScriptLine}
 use Rattle.io_edge.specs.Lines.{lines_of}
 use Rattle.script_lang.specs.Memory.{holds_lists}
 use Rattle.script_runner.specs.declared.runner.Why.{Why}
 use Rattle.script_runner.specs.declared.runner.Why.TheVariants.{Done, BadWords, BadLine, SourceFault, SinkFault, LongLine, ManyLines, NoMemory}
-use Rattle.script_runner.specs.Commands.{command_in}
-use Rattle.script_runner.specs.LineFaults.{HasCommand, IsLineAt, IsFirstBad, IsFirstLong, IsToBlame}
+use Rattle.script_runner.specs.Lines.{grows, line_in}
+use Rattle.script_runner.specs.LineFaults.{IsKnown, IsLineAt, IsFirstBad, IsFirstLong, IsToBlame}
 use Rattle.script_runner.specs.Replay.{Replays, Seen, IsEnd}
 use Rattle.script_runner.specs.Run.{LineOutcome, NoRoom, Called, Turn, Progress, answered, begun, next, run, moved, after_turn, said, ends, line_does}
-use Rattle.script_runner.specs.Turns.{world_of}
 use Rattle.script_runner.specs.World.{World}
 use Rattle.script_runner.proofs.Outcomes.{IsFine, line_fine}
 use Rattle.script_runner.proofs.Wholes.{lines_in, run_on, first_line, told, known_whole, begins, count_lines, some_tail, run_stops, run_counts}
@@ -24,28 +23,34 @@ bad_fine : (m : ℕ) → IsFine (Some (BadLine m)) → ⊥
 bad_fine m (inl e) = cc
 bad_fine m (inr e) = cc
 
-bad_number : (w : World) (n m : ℕ) (known : Option Command) (outcome : DeviceOutcome) → known ≡ None → (said w n known outcome).stop ≡ Some (BadLine m) → m ≡ n
-bad_number w n m None outcome e h = cc
-bad_number w n m (Some c) outcome e h = cc
+either_number : (b : Bool) (w : World) (n m : ℕ) → (if b then ends w NoMemory else ends w (BadLine n)).stop ≡ Some (BadLine m) → m ≡ n
+either_number true w n m h = cc
+either_number false w n m h = cc
+
+bad_number : (w : World) (n m : ℕ) (lists : Bool) (known : Option ScriptLine) (outcome : LineOutcome) → known ≡ None → (said w n lists known outcome).stop ≡ Some (BadLine m) → m ≡ n
+bad_number w n m lists None NoRoom e h = either_number lists w n m h
+bad_number w n m lists None (Called call) e h = cc
+bad_number w n m lists (Some l) outcome e h = cc
 
 -- how a line comes to be a bad one
-line_bad : (w : World) (n m : ℕ) (bytes : List ℕ) (outcome : LineOutcome) (known : Option Command) → command_in bytes ≡ known → (line_does w n bytes outcome).stop ≡ Some (BadLine m) → (command_in bytes ≡ None) × (m ≡ n)
-line_bad w n m bytes outcome (Some c) e h =
+line_bad : (w : World) (n m : ℕ) (bytes : List ℕ) (outcome : LineOutcome) (known : Option ScriptLine) → line_in bytes ≡ known → (line_does w n bytes outcome).stop ≡ Some (BadLine m) → (line_in bytes ≡ None) × (m ≡ n)
+line_bad w n m bytes outcome (Some l) e h =
     let fine : IsFine (Some (BadLine m)) = subst IsFine h (line_fine w n bytes outcome (ap is_some e)) in
     absurd (bad_fine m fine)
-line_bad w n m bytes NoRoom None e h =
-    (e, (elim (holds_lists bytes) as (λ b. (if b then ends w NoMemory else said w n (command_in bytes) Well).stop ≡ Some (BadLine m) → m ≡ n) [ true ↦ λ q. cc | false ↦ λ q. bad_number w n m (command_in bytes) Well e q ]) h)
-line_bad w n m bytes (Called call) None e h = (e, bad_number w n m (command_in bytes) _ e h)
+line_bad w n m bytes outcome None e h = (e, bad_number w n m (holds_lists bytes) (line_in bytes) outcome e h)
 
-none_stops : (w : World) (n : ℕ) (known : Option Command) (outcome : DeviceOutcome) → known ≡ None → (said w n known outcome).stop ≡ None → ⊥
-none_stops w n None outcome e h = cc
-none_stops w n (Some c) outcome e h = cc
+either_stops : (b : Bool) (w : World) (n : ℕ) → (if b then ends w NoMemory else ends w (BadLine n)).stop ≡ None → ⊥
+either_stops true w n h = cc
+either_stops false w n h = cc
 
-goes_known : (w : World) (n : ℕ) (bytes : List ℕ) (outcome : LineOutcome) (known : Option Command) → command_in bytes ≡ known → (line_does w n bytes outcome).stop ≡ None → HasCommand bytes
-goes_known w n bytes outcome (Some c) e h = ap is_some e
-goes_known w n bytes NoRoom None e h =
-    (elim (holds_lists bytes) as (λ b. (if b then ends w NoMemory else said w n (command_in bytes) Well).stop ≡ None → HasCommand bytes) [ true ↦ λ q. cc | false ↦ λ q. absurd (none_stops w n (command_in bytes) Well e q) ]) h
-goes_known w n bytes (Called call) None e h = absurd (none_stops w n (command_in bytes) _ e h)
+none_stops : (w : World) (n : ℕ) (lists : Bool) (known : Option ScriptLine) (outcome : LineOutcome) → known ≡ None → (said w n lists known outcome).stop ≡ None → ⊥
+none_stops w n lists None NoRoom e h = either_stops lists w n h
+none_stops w n lists None (Called call) e h = cc
+none_stops w n lists (Some l) outcome e h = cc
+
+goes_known : (w : World) (n : ℕ) (bytes : List ℕ) (outcome : LineOutcome) (known : Option ScriptLine) → line_in bytes ≡ known → (line_does w n bytes outcome).stop ≡ None → IsKnown bytes
+goes_known w n bytes outcome (Some l) e h = ap is_some e
+goes_known w n bytes outcome None e h = absurd (none_stops w n (holds_lists bytes) (line_in bytes) outcome e h)
 
 -- the turns before a bad line, and that line
 record Blamed (p : Progress) (turns : List Turn) (n : ℕ) : Type 0 where
@@ -54,8 +59,8 @@ record Blamed (p : Progress) (turns : List Turn) (n : ℕ) : Type 0 where
   later : List (List ℕ)
   lines : lines_in turns ≡ earlier ++ line ∷ later
   place : n ≡ p.number + length earlier + 1
-  known : AllByRecursion HasCommand earlier
-  bad : command_in line ≡ None
+  known : AllByRecursion IsKnown earlier
+  bad : line_in line ≡ None
 
 run_stays : (p : Progress) (turns : List Turn) (why : Why) → p.stop ≡ Some why → run_on p turns ≡ p
 run_stays p [] why h = refl
@@ -81,12 +86,12 @@ blame_step p t ts n goes h below None e =
       later = b.later;
       lines = ap (λ ls. t.line ∷ ls) b.lines;
       place = omega (arith, b.place, stop_number p t goes);
-      known = (goes_known p.world (p.number + 1) t.line t.outcome (command_in t.line) refl (stop_of p t None goes e), b.known);
+      known = (goes_known p.world (p.number + 1) t.line t.outcome (line_in t.line) refl (stop_of p t None goes e), b.known);
       bad = b.bad;
     }
 blame_step p t ts n goes h below (Some why) e =
     let stays = run_stays (next p t) ts why e in
-    let here = line_bad p.world (p.number + 1) n t.line t.outcome (command_in t.line) refl (stop_of p t (Some (BadLine n)) goes (sym (ap (λ (q : Progress). q.stop) stays) ∙ h)) in
+    let here = line_bad p.world (p.number + 1) n t.line t.outcome (line_in t.line) refl (stop_of p t (Some (BadLine n)) goes (sym (ap (λ (q : Progress). q.stop) stays) ∙ h)) in
     record { earlier = []; line = t.line; later = lines_in ts; lines = refl; place = omega (arith, here.1); known = tt; bad = here.0 }
 
 none_bad : (n : ℕ) → ◌≡◌ {A = Option Why} None (Some (BadLine n)) → ⊥
@@ -97,17 +102,17 @@ blame p [] n goes h = absurd (none_bad n (sym goes ∙ h))
 blame p (t ∷ ts) n goes h = blame_step p t ts n goes h (λ e. blame (next p t) ts n e h) ((next p t).stop) refl
 
 -- a run that goes on to its end counted each line, and each had a command
-all_known : (p : Progress) (turns : List Turn) → (run_on p turns).stop ≡ None → ((run_on p turns).number ≡ p.number + length turns) × AllByRecursion HasCommand (lines_in turns)
+all_known : (p : Progress) (turns : List Turn) → (run_on p turns).stop ≡ None → ((run_on p turns).number ≡ p.number + length turns) × AllByRecursion IsKnown (lines_in turns)
 all_known p [] h = (omega arith, tt)
 all_known p (t ∷ ts) h =
     let goes = run_stops p (t ∷ ts) h in
     let here = run_stops (next p t) ts h in
     let below = all_known (next p t) ts h in
-    (omega (arith, below.0, stop_number p t goes), (goes_known p.world (p.number + 1) t.line t.outcome (command_in t.line) refl (stop_of p t None goes here), below.1))
+    (omega (arith, below.0, stop_number p t goes), (goes_known p.world (p.number + 1) t.line t.outcome (line_in t.line) refl (stop_of p t None goes here), below.1))
 
-blames : (before : State) (bytes left rest : List ℕ) (turns : List Turn) (old new : Seen) (why : Why) → lines_of bytes ≡ lines_in turns ++ lines_of (rest ++ left) → IsEnd (world_of before) turns rest old new why → IsToBlame why bytes
+blames : (before : World) (bytes left rest : List ℕ) (turns : List Turn) (old new : Seen) (why : Why) → lines_of bytes ≡ lines_in turns ++ lines_of (rest ++ left) → IsEnd before turns rest old new why → IsToBlame why bytes
 blames before bytes left rest turns old new (BadLine n) all end =
-    let b = blame (begun (world_of before)) turns n refl end.1 in
+    let b = blame (begun before) turns n refl end.1 in
     record {
       earlier = b.earlier;
       line = b.line;
@@ -121,7 +126,7 @@ blames before bytes left rest turns old new (BadLine n) all end =
     }
 blames before bytes left rest turns old new (LongLine n) all end =
     let l = first_line rest left (omega (arith, end.1)) end.2 in
-    let k = all_known (begun (world_of before)) turns end.3 in
+    let k = all_known (begun before) turns end.3 in
     record {
       earlier = lines_in turns;
       line = l.line;
@@ -134,7 +139,7 @@ blames before bytes left rest turns old new (LongLine n) all end =
       long = omega (arith, l.long, end.1);
     }
 blames before bytes left rest turns old new ManyLines all end =
-    let k = run_counts (begun (world_of before)) turns in
+    let k = run_counts (begun before) turns in
     omega (arith, end.0, k, some_tail rest left end.1, count_lines bytes turns (lines_of (rest ++ left)) all)
 blames before bytes left rest turns old new Done all end = tt
 blames before bytes left rest turns old new BadWords all end = tt
@@ -143,7 +148,7 @@ blames before bytes left rest turns old new SinkFault all end = tt
 blames before bytes left rest turns old new NoMemory all end = tt
 
 -- a run over bytes that the source told
-pub blamed_line : (before after : State) (old new : Seen) (why : Why) (bytes : List ℕ) → Replays before after old new why → old.left ≡ Some bytes → IsToBlame why bytes
+pub blamed_line : (before after : World) (old new : Seen) (why : Why) (bytes : List ℕ) → Replays before after old new why → old.left ≡ Some bytes → IsToBlame why bytes
 blamed_line before after old new why bytes h is =
     let rest = told bytes (h.lines ++ h.rest) new.left (subst (λ o. Consumes o new.left (h.lines ++ h.rest)) is h.read) in
     let all = begins bytes h.lines h.rest rest.0 h.turns rest.2 (known_whole h.lines h.rest rest.0 new.left rest.1 h.whole) h.each in

@@ -14,9 +14,8 @@ use Rattle.script_runner.specs.declared.runner.Why.TheVariants.{Done, BadWords, 
 use Rattle.script_runner.specs.Run.{Called, Turn, Progress, begun, next, run, moved, after_turn, line_does}
 use Rattle.script_runner.specs.World.{World}
 use Rattle.script_runner.specs.Replay.{Replays, Seen, IsEnd}
-use Rattle.script_runner.specs.Turns.{world_of}
 use Rattle.enq_base.specs.Causes.{Rose}
-use Rattle.script_runner.specs.Commands.{command_in}
+use Rattle.script_runner.specs.Lines.{line_in}
 use Rattle.script_runner.proofs.Outcomes.{IsFine, line_fine, line_well}
 use Rattle.script_runner.specs.Whole.{IsGood, IsScript, IsComplete, well_done}
 
@@ -92,7 +91,7 @@ pub run_counts : (p : Progress) (turns : List Turn) → (run_on p turns).number 
 run_counts p [] = omega arith
 run_counts p (t ∷ ts) = omega (arith, run_counts (next p t) ts, next_counts p t)
 
-next_fine : (p : Progress) (t : Turn) → IsTrue (is_some (command_in t.line)) → IsFine p.stop → IsFine (next p t).stop
+next_fine : (p : Progress) (t : Turn) → IsTrue (is_some (line_in t.line)) → IsFine p.stop → IsFine (next p t).stop
 next_fine p t known (inl e) =
     subst (λ o. IsFine (after_turn o p t).stop) (sym e) (line_fine p.world (p.number + 1) t.line t.outcome known)
 next_fine p t known (inr e) = inr (ap (λ o. (after_turn o p t).stop) e ∙ e)
@@ -166,16 +165,16 @@ too_long xs ys rest left e long unbroken all =
     omega (arith, good.fits.fits, l.long)
 
 -- what is seen at the end, over bytes that the source told
-ends : (before after : State) (bytes left lines rest : List ℕ) (turns : List Turn) (old new : Seen) (why : Why) → new.left ≡ Some left → lines_of bytes ≡ lines_in turns ++ lines_of (rest ++ left) → IsScript bytes → (Rose old.source_faults new.source_faults → ⊥) → (Rose old.sink_faults new.sink_faults → ⊥) → after ≡ (run (world_of before) turns).world.hall → IsEnd (world_of before) turns rest old new why → IsComplete before after bytes old.written new.written why
+ends : (before after : World) (bytes left lines rest : List ℕ) (turns : List Turn) (old new : Seen) (why : Why) → new.left ≡ Some left → lines_of bytes ≡ lines_in turns ++ lines_of (rest ++ left) → IsScript bytes → (Rose old.source_faults new.source_faults → ⊥) → (Rose old.sink_faults new.sink_faults → ⊥) → after ≡ (run before turns).world → IsEnd before turns rest old new why → IsComplete before after.hall bytes old.written new.written why
 ends before after bytes left lines rest turns old new Done is all script quiet_source quiet_sink hall end =
     let at_end : left ≡ [] = subst IsAtEnd is end.1 in
     let each : lines_of bytes ≡ lines_in turns = all ∙ ap (λ x. lines_in turns ++ lines_of x) (ap (λ x. x ++ left) end.0 ∙ at_end) ∙ append-nil (lines_in turns) in
-    let same : run (world_of before) turns ≡ run (world_of before) (well_done (lines_of bytes)) = run_well (begun (world_of before)) turns end.2 ∙ ap (λ ls. run (world_of before) (well_done ls)) (sym each) in
-    (hall ∙ ap (λ (p : Progress). p.world.hall) same, subst (λ (p : Progress). Appends old.written new.written p.text) same end.3)
+    let same : run before turns ≡ run before (well_done (lines_of bytes)) = run_well (begun before) turns end.2 ∙ ap (λ ls. run before (well_done ls)) (sym each) in
+    (ap (λ (x : World). x.hall) hall ∙ ap (λ (p : Progress). p.world.hall) same, subst (λ (p : Progress). Appends old.written new.written p.text) same end.3)
 ends before after bytes left lines rest turns old new BadWords is all script quiet_source quiet_sink hall end = absurd end
 ends before after bytes left lines rest turns old new (BadLine n) is all script quiet_source quiet_sink hall end =
     let good = recursion_from_All IsGood (lines_of bytes) script.each in
-    let fine = run_fine (begun (world_of before)) turns (good_front (lines_in turns) (lines_of (rest ++ left)) (subst (AllByRecursion IsGood) all good)) (inl refl) in
+    let fine = run_fine (begun before) turns (good_front (lines_in turns) (lines_of (rest ++ left)) (subst (AllByRecursion IsGood) all good)) (inl refl) in
     let memory : BadLine n ≡ NoMemory = memory_is (BadLine n) (subst IsFine end.1 fine) in
     absurd (cc)
 ends before after bytes left lines rest turns old new SourceFault is all script quiet_source quiet_sink hall end = absurd (quiet_source end.1)
@@ -183,7 +182,7 @@ ends before after bytes left lines rest turns old new SinkFault is all script qu
 ends before after bytes left lines rest turns old new (LongLine n) is all script quiet_source quiet_sink hall end =
     absurd (too_long (lines_in turns) (lines_of bytes) rest left all end.1 end.2 (recursion_from_All IsGood (lines_of bytes) script.each))
 ends before after bytes left lines rest turns old new ManyLines is all script quiet_source quiet_sink hall end =
-    let counted = run_counts (begun (world_of before)) turns in
+    let counted = run_counts (begun before) turns in
     let some = some_tail rest left end.1 in
     let total = count_lines bytes turns (lines_of (rest ++ left)) all in
     absurd (omega (arith, end.0, script.few))
@@ -201,8 +200,8 @@ known_whole lines rest left told is (inl ended) = inl ended
 known_whole lines rest left told is (inr h) = inr (h.0, at_end_of told left is h.1)
 
 -- a run over a script that is in order from the first line to the last
-pub completes : (before after : State) (old new : Seen) (why : Why) (bytes : List ℕ) → Replays before after old new why → old.left ≡ Some bytes → IsScript bytes → (Rose old.source_faults new.source_faults → ⊥) → (Rose old.sink_faults new.sink_faults → ⊥) → IsComplete before after bytes old.written new.written why
+pub completes : (before after : World) (old new : Seen) (why : Why) (bytes : List ℕ) → Replays before after old new why → old.left ≡ Some bytes → IsScript bytes → (Rose old.source_faults new.source_faults → ⊥) → (Rose old.sink_faults new.sink_faults → ⊥) → IsComplete before after.hall bytes old.written new.written why
 completes before after old new why bytes h is script quiet_source quiet_sink =
     let rest = told bytes (h.lines ++ h.rest) new.left (subst (λ o. Consumes o new.left (h.lines ++ h.rest)) is h.read) in
     let all = begins bytes h.lines h.rest rest.0 h.turns rest.2 (known_whole h.lines h.rest rest.0 new.left rest.1 h.whole) h.each in
-    ends before after bytes rest.0 h.lines h.rest h.turns old new why rest.1 all script quiet_source quiet_sink h.hall h.end
+    ends before after bytes rest.0 h.lines h.rest h.turns old new why rest.1 all script quiet_source quiet_sink h.world h.end

@@ -4,7 +4,7 @@ use Rattle.std.specs.List.{AllByRecursion}
 use Rattle.io_edge.specs.Lines.{lines_of}
 use Rattle.script_runner.specs.declared.runner.Why.{Why}
 use Rattle.script_runner.specs.declared.runner.Why.TheVariants.{Done, BadWords, BadLine, SourceFault, SinkFault, LongLine, ManyLines, NoMemory}
-use Rattle.script_runner.specs.Commands.{command_in}
+use Rattle.script_runner.specs.Lines.{line_in}
 
 -- the line of this number, with the lines before it and behind it
 pub record IsLineAt (n : ℕ) (bytes : List ℕ) (earlier : List (List ℕ)) (line : List ℕ) : Type 0 where
@@ -12,23 +12,24 @@ pub record IsLineAt (n : ℕ) (bytes : List ℕ) (earlier : List (List ℕ)) (li
   pub lines : lines_of bytes ≡ earlier ++ line ∷ later
   pub place : n ≡ length earlier + 1
 
-abbrev pub HasCommand : List ℕ → Type 0
-HasCommand line = IsTrue (is_some (command_in line))
+-- a line that can be done
+abbrev pub IsKnown : List ℕ → Type 0
+IsKnown line = IsTrue (is_some (line_in line))
 
--- line n is the first without a command
+-- line n is the first that can't be done
 pub record IsFirstBad (n : ℕ) (bytes : List ℕ) : Type 0 where
   pub earlier : List (List ℕ)
   pub line : List ℕ
   pub at : IsLineAt n bytes earlier line
-  pub known : AllByRecursion HasCommand earlier
-  pub bad : command_in line ≡ None
+  pub known : AllByRecursion IsKnown earlier
+  pub bad : line_in line ≡ None
 
--- line n has more than 1,024 bytes, and each line before it has a command
+-- line n has more than 1,024 bytes, and each line before it can be done
 pub record IsFirstLong (n : ℕ) (bytes : List ℕ) : Type 0 where
   pub earlier : List (List ℕ)
   pub line : List ℕ
   pub at : IsLineAt n bytes earlier line
-  pub known : AllByRecursion HasCommand earlier
+  pub known : AllByRecursion IsKnown earlier
   pub long : 1024 < length line
 
 -- an end that a line is to blame for comes just at that line

@@ -5,14 +5,14 @@ use Rattle.hall.specs.State.{State}
 use Rattle.io_edge.specs.Lines.{lines_of, IsLine}
 use Rattle.script_runner.specs.declared.runner.Why.{Why}
 use Rattle.script_runner.specs.declared.runner.Why.TheVariants.{Done, BadWords, BadLine, SourceFault, SinkFault, LongLine, ManyLines, NoMemory}
-use Rattle.script_runner.specs.Commands.{command_in}
+use Rattle.script_runner.specs.Lines.{line_in}
 use Rattle.script_runner.specs.Run.{Called, Turn, run}
-use Rattle.script_runner.specs.Turns.{world_of}
+use Rattle.script_runner.specs.World.{World}
 
--- a line that fits and has a command
+-- a line that fits and can be done
 pub record IsGood (line : List ℕ) : Type 0 where
   pub fits : IsLine line
-  pub known : IsTrue (is_some (command_in line))
+  pub known : IsTrue (is_some (line_in line))
 
 -- each line is good, and there are at most 200,000
 pub record IsScript (bytes : List ℕ) : Type 0 where
@@ -24,9 +24,9 @@ abbrev pub well_done : List (List ℕ) → List Turn
 well_done lines = map (λ line. record { line = line; outcome = Called None }) lines
 
 -- the run went through all lines of the bytes and wrote their whole text, or memory was wanting
-abbrev pub IsComplete : State → State → List ℕ → Option (List ℕ) → Option (List ℕ) → Why → Type 0
+abbrev pub IsComplete : World → State → List ℕ → Option (List ℕ) → Option (List ℕ) → Why → Type 0
 IsComplete before after bytes old new Done =
-    (after ≡ (run (world_of before) (well_done (lines_of bytes))).world.hall) × Appends old new (run (world_of before) (well_done (lines_of bytes))).text
+    (after ≡ (run before (well_done (lines_of bytes))).world.hall) × Appends old new (run before (well_done (lines_of bytes))).text
 IsComplete before after bytes old new NoMemory = Unit {0}
 IsComplete before after bytes old new BadWords = ⊥
 IsComplete before after bytes old new (BadLine n) = ⊥

@@ -13,7 +13,7 @@ returns-in_err-session-clause-act g c s started sessions locks room =
 
 pub returns-clause-act : goal.returns-clause-act
 returns-clause-act g c s started sessions locks room =
-    logs_off s c.args.start c.as_slice.result.now c.args.name.now c.in_ok-session.session c.pair_of-pair.result _ _
-    (record { started = started; sessions_are = sessions ∙ sym c.as_slice.ensures.value; found = c.in_ok-session.ensures.found; pair_is = c.pair_of-pair.ensures })
+    logs_off s c.args.start c.as_slice.result.now c.args.name.now c.in_ok-session.session c.pair_of.result _ _
+    (record { started = started; sessions_are = sessions ∙ sym c.as_slice.ensures.value; found = c.in_ok-session.ensures.found; pair_is = c.pair_of.ensures })
     room (c.leave.ensures ∙ ap (without_session c.in_ok-session.session.name) (sym c.as_slice.ensures.value))
-    (ap (λ t. t.entries) c.free_owner-2.ensures.after ∙ ap (λ t. freed_owner t.entries c.pair_of-pair.result.update) c.free_owner.ensures.after ∙ ap (λ l. freed_owner (freed_owner l c.pair_of-pair.result.dialogue) c.pair_of-pair.result.update) (sym locks))
+    (ap (λ t. t.entries) c.free_pair.ensures ∙ ap (λ l. freed_owner (freed_owner l c.pair_of.result.dialogue) c.pair_of.result.update) (sym locks))

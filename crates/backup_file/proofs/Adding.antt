@@ -1,0 +1,34 @@
+-- A record that is added to a file leads it to other lists.
+use Rattle.std.proofs.Common.{◌≡◌, ◌⊎◌, ℕ, List, ◌∷◌, ◌++◌, inl, inr}
+use Rattle.gate_log.specs.Gates.{IsShut, IsAtRest}
+use Rattle.gate_log.proofs.Logs.{front-push, shut_stands}
+use Rattle.backup_file.specs.declared.handed.Handed.{Handed}
+use Rattle.backup_file.specs.declared.handed.Record.{Record}
+use Rattle.backup_file.specs.Spelling.{spelling, IsRecord}
+use Rattle.backup_file.specs.Backup.{BackupView, IsReady}
+use Rattle.backup_file.specs.Lists.{IsLegal, after, units_of}
+use Rattle.backup_file.specs.File.{Stands, IsFront, grammar}
+
+module _ (l : List Handed) (r : Record) (front : List ℕ) (is_front : IsFront front l) (is : IsRecord r) (legal : IsLegal l r) where
+  pub next_front : IsFront (front ++ 1 ∷ spelling r) (after l r)
+  next_front = front-push grammar front l r is_front is legal
+
+  pub either : (c : List ℕ) → IsShut front c ⊎ IsShut (front ++ 1 ∷ spelling r) c → Stands c l ⊎ Stands c (after l r)
+  either c (inl shut) = inl (shut_stands grammar front c l is_front shut)
+  either c (inr shut) = inr (shut_stands grammar (front ++ 1 ∷ spelling r) c (after l r) next_front shut)
+
+-- a file at rest stands for its lists
+pub rest_stands : (l : List Handed) (front bytes : List ℕ) (images : List ℕ → Type 0) (gate : ℕ) → IsFront front l → IsAtRest bytes images gate front → Stands bytes l
+rest_stands l front bytes images gate f rest = shut_stands grammar front bytes l f (record { byte = rest.byte; rest = rest.more; whole = rest.whole; closed = rest.closed })
+
+-- a file that was at rest and got a record is ready for the lists after it
+pub ready_after : {D : Type 0} (reads : D → List ℕ) (may_leave : D → List ℕ → Type 0) (l : List Handed) (r : Record) (front : List ℕ) → IsFront front l → IsRecord r → IsLegal l r → (b : BackupView D) → IsAtRest (reads b.disk) (may_leave b.disk) b.gate (front ++ 1 ∷ spelling r) → b.units ≡ units_of (after l r) → IsReady reads may_leave b (after l r)
+ready_after reads may_leave l r front is_front is legal b rest units =
+    let next = next_front l r front is_front is legal in
+    record {
+      stands = rest_stands (after l r) (front ++ 1 ∷ spelling r) (reads b.disk) (may_leave b.disk) b.gate next rest;
+      front = front ++ 1 ∷ spelling r;
+      is_front = next;
+      at_rest = rest;
+      units = units;
+    }

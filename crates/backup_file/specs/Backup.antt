@@ -1,0 +1,31 @@
+-- What an open backup file keeps.
+use Rattle.std.specs.Prelude.{◌≡◌, ℕ, ◌≤◌, Bool, List, Result, IsErrOf, OnOk}
+use Rattle.enq_base.specs.Causes.{Rose}
+use Rattle.enq_base.specs.declared.owner.UnitKey.{UnitKey}
+use Rattle.gate_log.specs.Gates.{IsAtRest}
+use Rattle.backup_file.specs.declared.fault.WriteFault.{WriteFault}
+use Rattle.backup_file.specs.declared.fault.WriteFault.TheVariants.{Failed}
+use Rattle.backup_file.specs.declared.handed.Handed.{Handed}
+use Rattle.backup_file.specs.Lists.{units_of}
+use Rattle.backup_file.specs.File.{Stands, IsFront}
+
+-- the disk, where the closed gate stands, the units whose lists stand, and whether a write has failed
+pub record BackupView (D : Type 0) : Type 0 where
+  pub disk : D
+  pub gate : ℕ
+  pub units : List UnitKey
+  pub failed : Bool
+
+-- the file, as read and in every image, stands for these lists, and may be written
+pub record IsReady {D : Type 0} (reads : D → List ℕ) (may_leave : D → List ℕ → Type 0) (b : BackupView D) (l : List Handed) : Type 0 where
+  pub stands : Stands (reads b.disk) l
+  pub front : List ℕ
+  pub is_front : IsFront front l
+  pub at_rest : IsAtRest (reads b.disk) (may_leave b.disk) b.gate front
+  pub units : b.units ≡ units_of l
+
+-- the count has not fallen, `Failed` comes only where it rose, and where all went well it stands still
+pub record HasWriteCause {T : Type 0} (before now : ℕ) (result : Result T WriteFault) : Type 0 where
+  pub later : before ≤ now
+  pub failed : IsErrOf result Failed → Rose before now
+  pub quiet : OnOk result (now ≡ before)

@@ -1,0 +1,198 @@
+ghost use Rattle.std.specs.Prelude.{◌≡◌, ◌⊎◌, ◌≤◌, ◌++◌, ◌∷◌, [], ℕ, List, length, true, false, IsTrue, IfOk, IfErr, OnOk, OnErr, IsErrOf, MatchResult};
+ghost use Rattle.enq_base.specs.Causes.{HasCause, Rose};
+ghost use Rattle.bk_disk.specs.Disk.{Follows};
+ghost use Rattle.gate_log.specs.Gates.{IsShut, IsAtRest};
+ghost use Rattle.backup_file.specs.declared.handed.Handed.{Handed};
+ghost use Rattle.backup_file.specs.declared.handed.Record.TheVariants.{Hand, Free};
+ghost use Rattle.backup_file.specs.Lists.{after, has_unit, is_among, units_without, units_of};
+ghost use Rattle.backup_file.specs.File.{Stands, IsBad, IsShort, IsLong, Keeps, new_file};
+ghost use Rattle.backup_file.specs.Opening.{OnBad};
+ghost use Rattle.backup_file.specs.Handing.{IsHandable, handed_of};
+ghost use Rattle.backup_file.specs.Backup.{IsReady, HasWriteCause};
+
+use crate::fault::{BackFault, WriteFault};
+use crate::handed::Handed;
+use crate::lists::{forget_unit, holds, units_of, units_with};
+use crate::opening::open_file;
+use crate::writing::{free_text, hand_text};
+use bk_disk::Disk;
+use enq_base::{Failed, UnitKey};
+use gate_log::add_record;
+use lock_entry::Entry;
+use std::alloc::Global;
+use std::marker::Model;
+
+/// An open backup file.
+#[derive(Drop)]
+pub struct Backup<D> {
+    disk: D,
+    gate: u64,
+    units: Vec<UnitKey>,
+    failed: bool,
+}
+
+impl<D> Model for Backup<D> {
+    ghost use Rattle.backup_file.specs.Backup.{BackupView};
+
+    ghost Value = { BackupView D };
+
+    ghost view = { λ b. record { disk = b.disk; gate = b.gate; units = b.units.items; failed = b.failed } };
+}
+
+impl<D: Disk> Backup<D> {
+    /// Opens the file of a disk, and gives the lists in the order of their hands. A file of at most 9 bytes stands for
+    /// no lists, whatever it holds, and is written anew. An error gives the disk back.
+    pub fn open(alloc: Global, disk: D) -> Result<(Backup<D>, Vec<Handed>), (BackFault, D)>
+        ensures lists { IsTrue D.tells → IfOk result (λ found. Stands (D.reads disk) found.1.items) }
+        ensures ready { IsTrue D.tells
+            → IfOk result (λ found. IsReady D.reads D.may_leave found.0 found.1.items) }
+        ensures units { IfOk result (λ found. found.0.units ≡ units_of found.1.items) }
+        ensures fresh { IfOk result (λ found. found.0.failed ≡ false) }
+        ensures anew { IsTrue D.tells → IsShort (D.reads disk)
+            → IfOk result (λ found. D.reads found.0.disk ≡ new_file) }
+        ensures stays { IsTrue D.tells → IsLong (D.reads disk)
+            → IfOk result (λ found. D.reads found.0.disk ≡ D.reads disk) }
+
+        // Where the file stands for nothing its bytes stay.
+        ensures bad { IsTrue D.tells
+            → IfErr result (λ e. OnBad (λ at. IsBad (D.reads disk) at × (D.reads e.1 ≡ D.reads disk)) e.0) }
+
+        // Each image stands for the lists of an image before the call.
+        ensures images { IsTrue D.tells → MatchResult result
+            (λ found. Follows Keeps (D.may_leave disk) (D.may_leave found.0.disk))
+            (λ e. Follows Keeps (D.may_leave disk) (D.may_leave e.1)) }
+        ensures quiet { IfOk result (λ found. D.faults found.0.disk ≡ D.faults disk) }
+        ensures later { IfErr result (λ e. D.faults disk ≤ D.faults e.1) }
+        ensures failed { IfErr result (λ e. e.0 ≡ BackFault.Failed → Rose (D.faults disk) (D.faults e.1)) }
+    {
+        let mut disk = disk;
+        match open_file(alloc, &mut disk) {
+            Ok((gate, lists)) => match units_of(alloc, &lists) {
+                Ok(units) => {
+                    let backup = Backup {
+                        disk,
+                        gate,
+                        units,
+                        failed: false,
+                    };
+                    Ok((backup, lists))
+                }
+                Err(_) => Err((BackFault::NoMemory, disk)),
+            },
+            Err(fault) => Err((fault, disk)),
+        }
+    }
+
+    /// Writes the list of a unit, which becomes the last. It takes its memory before any write, and answers want of
+    /// memory too where the list is too long for its record. After `Failed` only `into_disk` is allowed.
+    pub fn hand(
+        &mut self,
+        alloc: Global,
+        unit: &UnitKey,
+        entries: &[Entry],
+    ) -> Result<(), WriteFault>
+        requires usable { self.old.failed ≡ false }
+        requires handable { IsHandable unit.now entries.now }
+        ensures handed { IsTrue D.tells → (l : List Handed) → IsReady D.reads D.may_leave self.old l
+            → OnOk result (IsReady D.reads D.may_leave self.new (after l (Hand (handed_of unit.now entries.now)))) }
+        ensures units { OnOk result (self.new.units ≡ units_without unit.now self.old.units ++ unit.now ∷ []) }
+        ensures usable { OnOk result (self.new.failed ≡ false) }
+        ensures failed { IsErrOf result WriteFault.Failed → self.new.failed ≡ true }
+
+        // A crash leaves the lists before the call or after it.
+        ensures images { IsTrue D.tells → (l : List Handed) → IsReady D.reads D.may_leave self.old l
+            → (c : List ℕ) → D.may_leave self.new.disk c
+            → Stands c l ⊎ Stands c (after l (Hand (handed_of unit.now entries.now))) }
+        ensures no_memory { IsErrOf result WriteFault.NoMemory → self.new ≡ self.old }
+        ensures cause { HasWriteCause (D.faults self.old.disk) (D.faults self.new.disk) result }
+    {
+        let units = units_with(alloc, &self.units, unit)?;
+        let text = hand_text(alloc, unit, entries)?;
+        self.add(&text)?;
+        self.keep(units);
+        Ok(())
+    }
+
+    /// Takes the list of a unit away, which stands. It takes no memory. After `Failed` only `into_disk` is allowed.
+    pub fn free(&mut self, unit: &UnitKey) -> Result<(), Failed>
+        requires usable { self.old.failed ≡ false }
+        requires stands { IsTrue (is_among unit.now self.old.units) }
+        ensures freed { IsTrue D.tells → (l : List Handed) → IsReady D.reads D.may_leave self.old l
+            → OnOk result (IsReady D.reads D.may_leave self.new (after l (Free unit.now))) }
+        ensures units { OnOk result (self.new.units ≡ units_without unit.now self.old.units) }
+        ensures usable { OnOk result (self.new.failed ≡ false) }
+        ensures failed { OnErr result (self.new.failed ≡ true) }
+
+        // A crash leaves the lists before the call or after it.
+        ensures images { IsTrue D.tells → (l : List Handed) → IsReady D.reads D.may_leave self.old l
+            → (c : List ℕ) → D.may_leave self.new.disk c → Stands c l ⊎ Stands c (after l (Free unit.now)) }
+        ensures cause { HasCause (D.faults self.old.disk) (D.faults self.new.disk) result }
+    {
+        self.add(&free_text(unit))?;
+        self.forget(unit);
+        Ok(())
+    }
+
+    /// Adds a record: an open gate, the record and a closed gate.
+    fn add(&mut self, text: &[u8]) -> Result<(), Failed>
+        requires { 1 ≤ length text.now }
+        ensures units { self.new.units ≡ self.old.units }
+        ensures usable { OnOk result (self.new.failed ≡ self.old.failed) }
+        ensures failed { OnErr result (self.new.failed ≡ true) }
+        ensures added { IsTrue D.tells → (front body : List ℕ)
+            → IsAtRest (D.reads self.old.disk) (D.may_leave self.old.disk) self.old.gate front
+            → text.now ≡ 1 ∷ (body ++ 0 ∷ [])
+            → OnOk result (IsAtRest (D.reads self.new.disk) (D.may_leave self.new.disk) self.new.gate (front ++ 1 ∷ body)) }
+        ensures images { IsTrue D.tells → (front body : List ℕ)
+            → IsAtRest (D.reads self.old.disk) (D.may_leave self.old.disk) self.old.gate front
+            → text.now ≡ 1 ∷ (body ++ 0 ∷ [])
+            → (c : List ℕ) → D.may_leave self.new.disk c → IsShut front c ⊎ IsShut (front ++ 1 ∷ body) c }
+        ensures cause { HasCause (D.faults self.old.disk) (D.faults self.new.disk) result }
+    {
+        match add_record(&mut self.disk, self.gate, text) {
+            Ok(gate) => {
+                self.gate = gate;
+                Ok(())
+            }
+            Err(Failed) => {
+                self.failed = true;
+                Err(Failed)
+            }
+        }
+    }
+
+    fn keep(&mut self, units: Vec<UnitKey>)
+        ensures { self.new ≡ record self.old { units = units.items } }
+    {
+        self.units = units;
+    }
+
+    fn forget(&mut self, unit: &UnitKey)
+        ensures { self.new ≡ record self.old { units = units_without unit.now self.old.units } }
+    {
+        forget_unit(&mut self.units, unit);
+    }
+
+    /// Whether the list of a unit stands. It takes no memory.
+    pub fn stands(&self, unit: &UnitKey) -> bool
+        ensures units { result ≡ is_among unit.now self.now.units }
+        ensures lists { IsTrue D.tells → (l : List Handed) → IsReady D.reads D.may_leave self.now l
+            → result ≡ has_unit unit.now l }
+    {
+        holds(&self.units, unit)
+    }
+
+    /// The disk.
+    pub fn into_disk(self) -> D
+        ensures { result ≡ self.disk }
+    {
+        let Backup {
+            disk,
+            gate: _,
+            units,
+            failed: _,
+        } = self;
+        let _ = units;
+        disk
+    }
+}

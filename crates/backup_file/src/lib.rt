@@ -1,0 +1,22 @@
+//! The backup file: the locks of units whose update is still to come, which outlive the lock table (Standalone Enqueue
+//! Server, backup file).
+#![tactic(auto)]
+
+mod backup;
+mod fault;
+mod handed;
+mod laws;
+mod lists;
+mod log;
+mod numbers;
+mod opening;
+mod reading;
+mod writing;
+
+pub use backup::Backup;
+pub use fault::{BackFault, WriteFault};
+pub use handed::{Handed, Record};
+pub use laws::one_meaning;
+
+#[cfg(test)]
+mod tests;

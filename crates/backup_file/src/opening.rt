@@ -1,0 +1,38 @@
+ghost use Rattle.std.specs.Prelude.{◌≡◌, IsTrue, IfOk, IfErr};
+ghost use Rattle.bk_disk.specs.Disk.{Follows};
+ghost use Rattle.gate_log.specs.Logs.{SameOrFirst};
+ghost use Rattle.backup_file.specs.File.{Stands, IsBad, IsShort, IsLong, grammar, new_file};
+ghost use Rattle.backup_file.specs.Opening.{OnBad, HasBackCause, IsOpened};
+
+use crate::fault::BackFault;
+use crate::handed::Handed;
+use crate::log::read_log;
+use bk_disk::Disk;
+use gate_log::{make_new, read_all};
+use std::alloc::Global;
+
+/// Reads a file, and makes it anew where it is of at most 9 bytes. The answer is where the closed gate stands, and the
+/// lists.
+pub fn open_file<D: Disk>(alloc: Global, disk: &mut D) -> Result<(u64, Vec<Handed>), BackFault>
+    ensures lists { IsTrue D.tells → IfOk result (λ found. Stands (D.reads disk.old) found.1.items) }
+    ensures at_rest { IsTrue D.tells
+        → IfOk result (λ found. IsOpened (D.reads disk.new) (D.may_leave disk.new) found.0 found.1.items) }
+    ensures anew { IsTrue D.tells → IsShort (D.reads disk.old) → IfOk result (λ _. D.reads disk.new ≡ new_file) }
+    ensures stays { IsTrue D.tells → IsLong (D.reads disk.old)
+        → IfOk result (λ _. D.reads disk.new ≡ D.reads disk.old) }
+    // Where it stands for nothing the bytes stay, and all of them are on the disk.
+    ensures bad { IsTrue D.tells
+        → IfErr result (OnBad (λ at. IsBad (D.reads disk.old) at × (D.reads disk.new ≡ D.reads disk.old))) }
+    // Each image is one from before the call, or stands for no lists as that one does.
+    ensures images { IsTrue D.tells → Follows (SameOrFirst grammar) (D.may_leave disk.old) (D.may_leave disk.new) }
+    ensures cause { HasBackCause (D.faults disk.old) (D.faults disk.new) result }
+{
+    disk.sync()?;
+    let bytes = read_all(alloc, disk)?;
+    if bytes.len() <= 9 {
+        make_new(disk, b"ENQBCK01\0")?;
+        return Ok((8, Vec::new(alloc)));
+    }
+    let (lists, gate) = read_log(alloc, &bytes)?;
+    Ok((gate, lists))
+}

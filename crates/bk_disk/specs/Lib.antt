@@ -1,0 +1,6 @@
+pub mod Counts
+pub mod Disk
+pub mod File
+pub mod Images
+pub mod Memory
+pub mod Stopping

@@ -1,0 +1,3 @@
+pub mod Crash
+pub mod Logs
+pub mod Scan

@@ -1,0 +1,4 @@
+pub mod Causes
+pub mod Gates
+pub mod Grammars
+pub mod Logs

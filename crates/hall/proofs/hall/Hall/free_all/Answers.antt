@@ -1,0 +1,23 @@
+use Rattle.std.proofs.Common.{◌≡◌, false, refl, sym, subst, rules}
+use Rattle.hall.proofs.Few.{stays_kept}
+use Rattle.hall.proofs.Steps.{full_step}
+use Rattle.hall.specs.Acts.{IsAct}
+use Rattle.hall.specs.declared.command.Command.TheVariants as command
+use Rattle.hall.specs.Kept.{IsKept}
+use Rattle.hall.specs.State.{State, state_of}
+use Rattle.hall.specs.Step.{answer_of, is_full}
+use Rattle.hall.proofs.hall.Hall.free_all.Goals as goal
+
+pub returns-then-len-ge-HISTORY_LIMIT : goal.returns-then-len-ge-HISTORY_LIMIT
+returns-then-len-ge-HISTORY_LIMIT g c = record { step = full_step _ _ _ (search rules) }
+
+pub invariant_of-self : goal.invariant_of-self
+invariant_of-self g c =
+    let table = g.T.LockStore.table in
+    let s = state_of c.self.inside.start c.self.inside.sessions.items c.self.inside.next_session (table c.self.inside.locks) c.self.inside.past.items in
+    let room : is_full s ≡ false = search rules in
+    let new = state_of c.self.inside.start c.self.inside.sessions.items c.self.inside.next_session (table c.free_all-result.new.locks) c.note.new.past.items in (
+      search rules,
+      subst IsKept (λ i. record new { limit = sym c.free_all-result.ensures.limit i })
+          (stays_kept s c.args.line _ _ _ _ _ c.self.invariant.1 room c.of.ensures (c.free_all-result.ensures.act s refl (sym c.as_slice.ensures.value) refl room) c.note.ensures.noted),
+    )

@@ -1,0 +1,6 @@
+mod Views
+mod Turns
+mod EachSteps
+mod Widths
+mod Takings
+mod Whole

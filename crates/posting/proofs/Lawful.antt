@@ -1,0 +1,207 @@
+-- A ledger stays lawful with one unit more, and with the mark of a first part.
+use Rattle.std.proofs.Common.{◌≡◌, ◌⊎◌, inl, inr, ℕ, zero, suc, ◌+◌, ◌≤◌, ◌<◌, ◌^◌, Bool, true, false, cond, not, ◌&&◌, List, [], ◌∷◌, ◌++◌, map, length, if◌then◌else◌, Option, Some, None, IfSome, Result, Ok, Err, IsOk, IsTrue, refl, sym, ap, subst, ◌∙◌, arith, length-append, append_assoc}
+use Rattle.std.specs.List.{All, AllByRecursion, filter, flat_map, range_with_len}
+use Rattle.lock_entry.specs.declared.entry.Entry.{Entry}
+use Rattle.lock_entry.specs.Names.{has_distinct_names}
+use Rattle.std.specs.Option.{option_map_or}
+use Rattle.std.specs.FinMap.{empty}
+use Rattle.std.proofs.lemmas.List.{append-nil}
+use Rattle.std.proofs.lemmas.List.Elements.{All-push, All-nil, recursion_from_All}
+use Rattle.enq_base.specs.Grammar.{is_name}
+use Rattle.enq_base.specs.Owners.{same_unit}
+use Rattle.enq_base.specs.declared.owner.UnitKey.{UnitKey}
+use Rattle.enq_base.specs.declared.unit.Num.{Num as Number}
+use Rattle.enq_base.specs.declared.unit.Status.{Status}
+use Rattle.enq_base.specs.declared.unit.Status.TheVariants.{Open}
+use Rattle.module_effects.specs.Rows.{Tables}
+use Rattle.module_effects.specs.Effects.{applied}
+use Rattle.update_records.specs.declared.records.Mark.{Mark}
+use Rattle.update_records.specs.declared.records.MarkKind.{MarkKind}
+use Rattle.update_records.specs.declared.records.MarkKind.TheVariants.{Num, Rec, V1, Bad1, Again1, V2, Bad2, Again2, Gone}
+use Rattle.update_records.specs.declared.records.Unit.{Unit as UnitOfWork}
+use Rattle.update_records.specs.Business.{posted, part_of, tables_after, tables_of, IsRightMark, AreRight, numbers_in, numbers_of}
+use Rattle.update_records.specs.Grammar.{IsUnit, IsUnitKey, IsEffect, IsNumber, IsEntryOf}
+use Rattle.update_records.specs.Growing.{next_mark, with_mark, with_unit}
+use Rattle.update_records.specs.Ledger.{Ledger, no_ledger, IsLawful, IsMarkUnder, LevelsAgree, recorded}
+use Rattle.update_records.specs.Marks.{unit_at, v1_of, v2_of, given, status_after, status_of, may_follow, IsLegal, is_rec, decides, draws_alone}
+use Rattle.posting.specs.Steps.{IsNewUnit, IsOpenUnit, HasMarksLeft, IsSpelt}
+use Rattle.posting.proofs.Batches.{tables_push, tables_grow, other_part, plain}
+use Rattle.posting.proofs.Status.{NoneOf, none_of, unit_other, flip, legal_grows, legal_push, status_grows, unit_new, one_unit}
+
+range_push : (a n : ℕ) → range_with_len a n ++ (a + n) ∷ [] ≡ range_with_len a (n + 1)
+range_push a zero = ap (λ k. k ∷ []) (omega arith)
+range_push a (suc n) =
+    let next : a + suc n ≡ (a + 1) + n = omega arith in
+    let more : suc (n + 1) ≡ suc n + 1 = omega arith in
+    ap (λ r. a ∷ r) (ap (λ k. range_with_len (a + 1) n ++ k ∷ []) next ∙ range_push (a + 1) n) ∙ ap (range_with_len a) more
+
+seqs_push : (marks : List Mark) (m : Mark) → map (λ (x : Mark). x.seq) (marks ++ m ∷ []) ≡ map (λ (x : Mark). x.seq) marks ++ m.seq ∷ []
+seqs_push [] m = refl
+seqs_push (x ∷ marks) m = ap (λ r. x.seq ∷ r) (seqs_push marks m)
+
+numbered_push : (marks : List Mark) (key : UnitKey) (kind : MarkKind) → map (λ (x : Mark). x.seq) marks ≡ range_with_len 1 (length marks)
+    → map (λ (x : Mark). x.seq) (marks ++ (record { seq = length marks + 1; unit = key; kind = kind }) ∷ []) ≡ range_with_len 1 (length (marks ++ (record { seq = length marks + 1; unit = key; kind = kind }) ∷ []))
+numbered_push marks key kind h =
+    let m : Mark = record { seq = length marks + 1; unit = key; kind = kind } in
+    seqs_push marks m ∙ ap (λ s. s ++ (length marks + 1) ∷ []) h ∙ ap (λ k. range_with_len 1 (length marks) ++ k ∷ []) (omega arith) ∙ range_push 1 (length marks)
+    ∙ ap (range_with_len 1) (sym (length-append marks (m ∷ [])))
+
+keys_push : (units : List UnitOfWork) (u : UnitOfWork) → map (λ (x : UnitOfWork). x.key) (units ++ u ∷ []) ≡ map (λ (x : UnitOfWork). x.key) units ++ u.key ∷ []
+keys_push [] u = refl
+keys_push (x ∷ units) u = ap (λ r. x.key ∷ r) (keys_push units u)
+
+keep_one : (b : Bool) (x : UnitKey) (m : Mark) (rest : List Mark) (more : List UnitKey) → x ≡ m.unit → map (λ (y : Mark). y.unit) (cond b (m ∷ rest) rest) ++ more ≡ cond b (x ∷ (map (λ (y : Mark). y.unit) rest ++ more)) (map (λ (y : Mark). y.unit) rest ++ more)
+keep_one true x m rest more is = ap (λ k. k ∷ (map (λ (y : Mark). y.unit) rest ++ more)) (sym is)
+keep_one false x m rest more is = refl
+
+split : (b : Bool) (x : Mark) (rest : List Mark) → map (λ (y : Mark). y.unit) (cond b (x ∷ rest) rest) ≡ cond b (x.unit ∷ map (λ (y : Mark). y.unit) rest) (map (λ (y : Mark). y.unit) rest)
+split true x rest = refl
+split false x rest = refl
+
+recorded_push : (marks : List Mark) (m : Mark) → recorded (marks ++ m ∷ []) ≡ recorded marks ++ (if is_rec m.kind then m.unit ∷ [] else [])
+recorded_push [] m = elim (is_rec m.kind) as (λ b. map (λ (y : Mark). y.unit) (cond b (m ∷ []) []) ≡ (if b then m.unit ∷ [] else [])) [ true ↦ refl | false ↦ refl ]
+recorded_push (x ∷ marks) m =
+    let more = if is_rec m.kind then m.unit ∷ [] else [] in
+    split (is_rec x.kind) x (filter (λ (y : Mark). is_rec y.kind) (marks ++ m ∷ []))
+    ∙ ap (λ r. cond (is_rec x.kind) (x.unit ∷ r) r) (recorded_push marks m)
+    ∙ sym (keep_one (is_rec x.kind) x.unit x (filter (λ (y : Mark). is_rec y.kind) marks) more refl)
+
+right_push : (units : List UnitOfWork) (tables : Tables) (marks : List Mark) (m : Mark) → AreRight units tables marks → IsRightMark units (tables_after units tables marks) m → AreRight units tables (marks ++ m ∷ [])
+right_push units tables [] m h last = (last, tt)
+right_push units tables (x ∷ marks) m h last = (h.0, right_push units (posted (part_of units x) tables) marks m h.1 last)
+
+other_v1 : (units : List UnitOfWork) (u : UnitOfWork) (key : UnitKey) → same_unit key u.key ≡ false → v1_of (units ++ u ∷ []) key ≡ v1_of units key
+other_v1 units u key h = ap (λ o. option_map_or (λ (x : UnitOfWork). x.parts.v1) o []) (unit_other units u key (flip u.key key h))
+
+other_v2 : (units : List UnitOfWork) (u : UnitOfWork) (key : UnitKey) → same_unit key u.key ≡ false → v2_of (units ++ u ∷ []) key ≡ v2_of units key
+other_v2 units u key h = ap (λ o. option_map_or (λ (x : UnitOfWork). x.parts.v2) o []) (unit_other units u key (flip u.key key h))
+
+other_right : (units : List UnitOfWork) (u : UnitOfWork) (tables : Tables) (seq : ℕ) (key : UnitKey) (kind : MarkKind) → (same_unit key u.key && not (draws_alone kind)) ≡ false
+    → IsRightMark units tables (record { seq = seq; unit = key; kind = kind }) → IsRightMark (units ++ u ∷ []) tables (record { seq = seq; unit = key; kind = kind })
+other_right units u tables seq key V1 h r = subst (λ part. IsOk (applied part tables)) (sym (other_v1 units u key (plain (same_unit key u.key) h))) r
+other_right units u tables seq key V2 h r = subst (λ part. IsOk (applied part tables)) (sym (other_v2 units u key (plain (same_unit key u.key) h))) r
+other_right units u tables seq key (Bad1 i reason) h r = ap (λ part. applied part tables) (other_v1 units u key (plain (same_unit key u.key) h)) ∙ r
+other_right units u tables seq key (Bad2 i reason) h r = ap (λ part. applied part tables) (other_v2 units u key (plain (same_unit key u.key) h)) ∙ r
+other_right units u tables seq key (Num numbers) h r = tt
+other_right units u tables seq key Rec h r = tt
+other_right units u tables seq key Again1 h r = tt
+other_right units u tables seq key Again2 h r = tt
+other_right units u tables seq key Gone h r = tt
+
+right_grows : (units : List UnitOfWork) (u : UnitOfWork) (tables : Tables) (marks : List Mark) → NoneOf u.key marks → AreRight units tables marks → AreRight (units ++ u ∷ []) tables marks
+right_grows units u tables [] none h = tt
+right_grows units u tables (m ∷ marks) none h = (
+  other_right units u tables m.seq m.unit m.kind none.0 h.0,
+  subst (λ part. AreRight (units ++ u ∷ []) (posted part tables) marks) (sym (other_part units u m.seq m.unit m.kind none.0)) (right_grows units u (posted (part_of units m) tables) marks none.1 h.1),
+)
+
+other_numbers : (units : List UnitOfWork) (u : UnitOfWork) (seq : ℕ) (key : UnitKey) (kind : MarkKind) → (same_unit key u.key && not (draws_alone kind)) ≡ false
+    → numbers_in (units ++ u ∷ []) (record { seq = seq; unit = key; kind = kind }) ≡ numbers_in units (record { seq = seq; unit = key; kind = kind })
+other_numbers units u seq key Rec h = ap (λ o. option_map_or (λ (x : UnitOfWork). x.numbers) o []) (unit_other units u key (flip u.key key (plain (same_unit key u.key) h)))
+other_numbers units u seq key V1 h = refl
+other_numbers units u seq key V2 h = refl
+other_numbers units u seq key (Num numbers) h = refl
+other_numbers units u seq key (Bad1 i r) h = refl
+other_numbers units u seq key (Bad2 i r) h = refl
+other_numbers units u seq key Again1 h = refl
+other_numbers units u seq key Again2 h = refl
+other_numbers units u seq key Gone h = refl
+
+numbers_grow : (units : List UnitOfWork) (u : UnitOfWork) (marks : List Mark) → NoneOf u.key marks → numbers_of (units ++ u ∷ []) marks ≡ numbers_of units marks
+numbers_grow units u [] none = refl
+numbers_grow units u (m ∷ marks) none = ap (λ n. n ++ numbers_of (units ++ u ∷ []) marks) (other_numbers units u m.seq m.unit m.kind none.0) ∙ ap (λ r. numbers_in units m ++ r) (numbers_grow units u marks none.1)
+
+numbers_push : (units : List UnitOfWork) (marks : List Mark) (m : Mark) → numbers_in units m ≡ [] → numbers_of units (marks ++ m ∷ []) ≡ numbers_of units marks
+numbers_push units [] m h = ap (λ n. n ++ []) h
+numbers_push units (x ∷ marks) m h = ap (λ r. numbers_in units x ++ r) (numbers_push units marks m h)
+
+rec_case : (key unit : UnitKey) (kind : MarkKind) (rest : List Mark) (m : Mark) → m.unit ≡ unit → (same_unit unit key && not (draws_alone kind)) ≡ false
+    → AllByRecursion (λ k. same_unit k key ≡ false) (map (λ (y : Mark). y.unit) rest) → AllByRecursion (λ k. same_unit k key ≡ false) (map (λ (y : Mark). y.unit) (cond (is_rec kind) (m ∷ rest) rest))
+rec_case key unit Rec rest m is h all = (ap (λ k. same_unit k key) is ∙ plain (same_unit unit key) h, all)
+rec_case key unit (Num numbers) rest m is h all = all
+rec_case key unit V1 rest m is h all = all
+rec_case key unit (Bad1 i r) rest m is h all = all
+rec_case key unit Again1 rest m is h all = all
+rec_case key unit V2 rest m is h all = all
+rec_case key unit (Bad2 i r) rest m is h all = all
+rec_case key unit Again2 rest m is h all = all
+rec_case key unit Gone rest m is h all = all
+
+none_recorded : (key : UnitKey) (marks : List Mark) → NoneOf key marks → AllByRecursion (λ k. same_unit k key ≡ false) (recorded marks)
+none_recorded key [] none = tt
+none_recorded key (m ∷ marks) none = rec_case key m.unit m.kind (filter (λ (y : Mark). is_rec y.kind) marks) m refl none.0 (none_recorded key marks none.1)
+
+none_among : (key : UnitKey) (units : List UnitOfWork) → AllByRecursion (λ k. same_unit k key ≡ false) (map (λ (x : UnitOfWork). x.key) units) → unit_at units key ≡ None
+none_among key [] h = refl
+none_among key (u ∷ units) h = ap (λ b. cond b (Some u) (unit_at units key)) h.0 ∙ none_among key units h.1
+
+-- a unit of which no mark tells isn't there
+pub not_there : (ledger : Ledger) (key : UnitKey) → map (λ (x : UnitOfWork). x.key) ledger.units ≡ recorded ledger.marks → NoneOf key ledger.marks → unit_at ledger.units key ≡ None
+not_there ledger key same none = none_among key ledger.units (subst (λ ks. AllByRecursion (λ k. same_unit k key ≡ false) ks) (sym same) (none_recorded key ledger.marks none))
+
+no_numbers : (units : List UnitOfWork) (unit : UnitOfWork) → unit_at units unit.key ≡ None → unit.numbers ≡ [] → option_map_or (λ (x : UnitOfWork). x.numbers) (unit_at (units ++ unit ∷ []) unit.key) [] ≡ []
+no_numbers units unit none empty_numbers = ap (λ o. option_map_or (λ (x : UnitOfWork). x.numbers) o []) (unit_new units unit none) ∙ empty_numbers
+
+new_unit : (ledger : Ledger) (unit : UnitOfWork) → IsNewUnit ledger unit → IsSpelt unit → IsUnit unit
+new_unit ledger unit new spelt = record {
+  key = spelt.key;
+  user = spelt.user;
+  some = new.some;
+  few = new.few;
+  first = spelt.first;
+  second = spelt.second;
+  few_numbers = subst (λ (ns : List Number). length ns ≤ 64) (sym new.numbers) (omega arith);
+  numbers = subst (All IsNumber) (sym new.numbers) (All-nil IsNumber);
+  few_entries = subst (λ (es : List Entry). length es < 2 ^ 32) (sym new.entries) (omega arith);
+  entries = subst (All (IsEntryOf unit)) (sym new.entries) (All-nil (IsEntryOf unit));
+  distinct = subst (λ es. IsTrue (has_distinct_names es)) (sym new.entries) refl;
+}
+
+-- the ledger stays lawful with one unit more
+pub unit_lawful : (ledger : Ledger) (unit : UnitOfWork) → IsLawful ledger → HasMarksLeft ledger → IsNewUnit ledger unit → IsSpelt unit → IsLawful (with_unit ledger unit)
+unit_lawful ledger unit law few new spelt =
+    let m : Mark = next_mark ledger unit.key Rec in
+    let units = ledger.units ++ unit ∷ [] in
+    let none : NoneOf unit.key ledger.marks = none_of _ unit.key ledger.marks new.fresh in
+    let absent = not_there ledger unit.key law.recorded none in
+    let n = length-append ledger.marks (m ∷ []) in
+    record {
+      started = law.started;
+      start = law.start;
+      few = omega (arith, n, few);
+      numbered = numbered_push ledger.marks unit.key Rec law.numbered;
+      marks = All-push (IsMarkUnder ledger.start) ledger.marks m law.marks (record { kind = tt; first = new.first; last = new.last; session = spelt.key.session; luw = spelt.key.luw });
+      legal = legal_push units [] ledger.marks m (legal_grows ledger.units unit [] ledger.marks tt none law.legal)
+          (ap (λ s. may_follow s Rec) (status_grows ledger.units unit ledger.marks unit.key none ∙ new.fresh));
+      units = All-push IsUnit ledger.units unit law.units (new_unit ledger unit new spelt);
+      recorded = keys_push ledger.units unit ∙ ap (λ r. r ++ unit.key ∷ []) law.recorded ∙ sym (recorded_push ledger.marks m);
+      right = right_push units empty ledger.marks m (right_grows ledger.units unit empty ledger.marks none law.right) tt;
+      levels = subst (LevelsAgree ledger.levels) (sym (numbers_push units ledger.marks m (no_numbers ledger.units unit absent new.numbers) ∙ numbers_grow ledger.units unit ledger.marks none)) law.levels;
+    }
+
+open_key : (start seq : ℕ) (b : Bool) (key : UnitKey) (s : Status) (marks : List Mark) → AllByRecursion (IsMarkUnder start) marks → status_after b key None marks ≡ Some s → IsMarkUnder start (record { seq = seq; unit = key; kind = V1 })
+open_key start seq b key s [] all h = cc
+open_key start seq b key s (m ∷ marks) all h =
+    elim (same_unit m.unit key) as (λ t. same_unit m.unit key ≡ t → status_after b key (if t then given b m.kind None else None) marks ≡ Some s → IsMarkUnder start (record { seq = seq; unit = key; kind = V1 })) [
+      | true ↦ λ e h2. subst (λ k. IsMarkUnder start (record { seq = seq; unit = k; kind = V1 })) (one_unit m.unit key e)
+          (record { kind = tt; first = all.0.first; last = all.0.last; session = all.0.session; luw = all.0.luw })
+      | false ↦ λ e h2. open_key start seq b key s marks all.1 h2
+    ] refl h
+
+-- the ledger stays lawful with the mark of a first part
+pub post_lawful : (ledger : Ledger) (key : UnitKey) → IsLawful ledger → HasMarksLeft ledger → IsOpenUnit ledger key → IsOk (applied (v1_of ledger.units key) (tables_of ledger.units ledger.marks)) → IsLawful (with_mark ledger key V1)
+post_lawful ledger key law few waits ok =
+    let m : Mark = next_mark ledger key V1 in
+    let n = length-append ledger.marks (m ∷ []) in
+    record {
+      started = law.started;
+      start = law.start;
+      few = omega (arith, n, few);
+      numbered = numbered_push ledger.marks key V1 law.numbered;
+      marks = All-push (IsMarkUnder ledger.start) ledger.marks m law.marks (open_key ledger.start (length ledger.marks + 1) _ key Open ledger.marks (recursion_from_All (IsMarkUnder ledger.start) ledger.marks law.marks) waits);
+      legal = legal_push ledger.units [] ledger.marks m law.legal (ap (λ s. may_follow s V1) waits);
+      units = law.units;
+      recorded = law.recorded ∙ sym (append-nil (recorded ledger.marks)) ∙ sym (recorded_push ledger.marks m);
+      right = right_push ledger.units empty ledger.marks m law.right ok;
+      levels = subst (LevelsAgree ledger.levels) (sym (numbers_push ledger.units ledger.marks m refl)) law.levels;
+    }

@@ -1,0 +1,12 @@
+pub mod Status
+pub mod Waiting
+pub mod Registers
+pub mod Own
+pub mod Opened
+pub mod Usable
+pub mod Keyed
+pub mod Batches
+pub mod Lawful
+pub mod Distinct
+pub mod Posts
+pub mod Makes

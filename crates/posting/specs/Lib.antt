@@ -1,0 +1,6 @@
+pub mod Registers
+pub mod Standings
+pub mod Puts
+pub mod Steps
+pub mod Shelf
+pub mod Opening

@@ -1,0 +1,78 @@
+-- What a prepared change adds to the ledger.
+use Rattle.std.specs.Prelude.{ℕ, ◌≡◌, ◌≤◌, ◌+◌, ◌<◌, ◌-◌, nat_eq, List, [], length, if◌then◌else◌, Option, Some, None, Result, Ok, Err, IsTrue, slice_get}
+use Rattle.std.specs.List.{All}
+use Rattle.enq_base.specs.Grammar.{is_name}
+use Rattle.update_records.specs.Grammar.{IsUnitKey, IsEffect}
+use Rattle.enq_base.specs.declared.owner.UnitKey.{UnitKey}
+use Rattle.enq_base.specs.declared.unit.Status.TheVariants.{Open}
+use Rattle.keeper_api.specs.declared.rows.Change.{Change}
+use Rattle.module_effects.specs.Rows.{Tables}
+use Rattle.module_effects.specs.declared.fault.EffectFault.{EffectFault}
+use Rattle.module_effects.specs.declared.fault.EffectFault.TheVariants as effect_fault
+use Rattle.update_records.specs.declared.records.MarkKind.{MarkKind}
+use Rattle.update_records.specs.declared.records.MarkKind.TheVariants.{V1, Bad1}
+use Rattle.update_records.specs.declared.records.Unit.{Unit as UnitOfWork}
+use Rattle.update_records.specs.Growing.{with_mark, with_unit, with_start}
+use Rattle.update_records.specs.Ledger.{Ledger}
+use Rattle.update_records.specs.Marks.{status_of, waiting, waiting_again}
+use Rattle.posting.specs.Puts.{IsPutUnit}
+use Rattle.posting.specs.declared.prepared.Outcome.{Outcome}
+use Rattle.posting.specs.declared.prepared.Outcome.TheVariants.{Done, Refused}
+use Rattle.posting.specs.declared.prepared.Step.{Step}
+use Rattle.posting.specs.declared.prepared.Step.TheVariants.{Start, Record, Note}
+
+-- a change of the rows, and the step that it stands for
+pub record Plan : Type 0 where
+  pub batch : List Change
+  pub step : Step
+
+-- the ledger after a step
+abbrev pub after_step : Ledger → Step → Ledger
+after_step ledger (Start start) = with_start ledger start
+after_step ledger (Record unit) = with_unit ledger unit
+after_step ledger (Note key kind) = with_mark ledger key kind
+
+-- the mark of a first part
+abbrev pub post_kind : Outcome → MarkKind
+post_kind Done = V1
+post_kind (Refused index reason) = Bad1 index reason
+
+-- what applying a part comes to
+abbrev pub IsOutcome : Result Tables EffectFault → Outcome → Type 0
+IsOutcome (Ok tables) outcome = outcome ≡ Done
+IsOutcome (Err (effect_fault.Refused index reason)) outcome = outcome ≡ Refused index reason
+IsOutcome (Err effect_fault.NoMemory) outcome = ⊥
+
+-- a unit that may be recorded next: nothing is marked of its key, its start is not past the ledger's, and it has 1 to
+-- 200 effects, which put rows, no numbers and no locks
+pub record IsNewUnit (ledger : Ledger) (unit : UnitOfWork) : Type 0 where
+  pub fresh : status_of ledger.units ledger.marks unit.key ≡ None
+  pub first : 1 ≤ unit.key.start
+  pub last : unit.key.start ≤ ledger.start
+  pub some : 1 ≤ length unit.parts.v1 + length unit.parts.v2
+  pub few : length unit.parts.v1 + length unit.parts.v2 ≤ 200
+  pub puts : IsPutUnit unit
+  pub numbers : unit.numbers ≡ []
+  pub entries : unit.entries ≡ []
+
+-- key, names, keys and texts of a unit are in their grammars
+pub record IsSpelt (unit : UnitOfWork) : Type 0 where
+  pub key : IsUnitKey unit.key
+  pub user : IsTrue (is_name unit.user)
+  pub first : All IsEffect unit.parts.v1
+  pub second : All IsEffect unit.parts.v2
+
+-- there is room for one more mark
+abbrev pub HasMarksLeft : Ledger → Type 0
+HasMarksLeft ledger = length ledger.marks < 1048576
+
+abbrev pub IsOpenUnit : Ledger → UnitKey → Type 0
+IsOpenUnit ledger key = status_of ledger.units ledger.marks key ≡ Some Open
+
+-- the units that wait for a part, the one whose last mark is oldest first
+abbrev pub waiting_for : ℕ → Ledger → List UnitKey
+waiting_for part ledger = if nat_eq part 1 then waiting ledger.units ledger.marks else waiting_again ledger.units ledger.marks
+
+-- the item at a place, counted from 1
+abbrev pub at_place : {X : Type 0} → ℕ → List X → Option X
+at_place place xs = if nat_eq place 0 then None else slice_get xs (place - 1)

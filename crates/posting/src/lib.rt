@@ -1,0 +1,15 @@
+//! The books of update units over a keeper of rows (Updates in the SAP System).
+#![tactic(auto)]
+
+mod batch;
+mod books;
+mod opening;
+mod prepared;
+mod puts;
+mod register;
+mod unit_id;
+
+pub use books::Books;
+pub use opening::BooksFault;
+pub use prepared::{Outcome, Prepared, Step};
+pub use puts::are_puts;

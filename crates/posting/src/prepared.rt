@@ -1,0 +1,38 @@
+use enq_base::{Items, Reason, UnitKey};
+use keeper_api::Change;
+use std::marker::Model;
+use update_records::{MarkKind, Unit};
+
+/// What a prepared change adds.
+#[derive(Drop)]
+pub enum Step {
+    /// Another start number.
+    Start(u32),
+    /// One more unit, and its mark.
+    Record(Unit),
+    /// One more mark.
+    Note { unit: UnitKey, kind: MarkKind },
+}
+
+/// A change that is ready to be written.
+#[derive(Drop)]
+pub struct Prepared {
+    pub(crate) batch: Items<Change>,
+    pub(crate) step: Step,
+}
+
+impl Model for Prepared {
+    ghost use Rattle.posting.specs.Steps.{Plan};
+
+    ghost Value = { Plan };
+
+    ghost view = { λ p. record { batch = p.batch; step = p.step } };
+}
+
+/// What became of a part.
+#[derive(Clone, Copy, Debug, PartialEq, Eq)]
+pub enum Outcome {
+    Done,
+    /// The first effect that is refused, counted from 1.
+    Refused { index: u32, reason: Reason },
+}

@@ -1,0 +1,4 @@
+pub mod Operations
+pub mod Linking
+pub mod Memory
+pub mod Shipping

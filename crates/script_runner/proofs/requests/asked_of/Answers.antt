@@ -1,0 +1,31 @@
+use Rattle.std.proofs.Common.{◌≡◌, Option, Some, None, List, length, refl, sym, ap, ◌∙◌, map, subst}
+use Rattle.std.specs.Prelude.{Result, Ok, Err}
+use Rattle.std.specs.Global.{Vec}
+use Rattle.std.proofs.lemmas.Option.{slice_get_read}
+use Rattle.enq_base.specs.declared.refusal.Refusal.TheVariants as refusal
+use Rattle.lock_entry.proofs.Places.{position-find_none, position-find_some}
+use Rattle.lock_entry.specs.declared.entry.Asked.{Asked}
+use Rattle.lock_objects.specs.Objects.{Object}
+use Rattle.script_runner.specs.Answers.{IsGivenBy}
+use Rattle.script_runner.specs.Lines.{arguments_at, asking, field_value, is_object_called, object_at}
+use Rattle.script_runner.proofs.requests.asked_of.Goals as goal
+
+pub returns-in_default : goal.returns-in_default
+returns-in_default c =
+    let values = map field_value c.args.values.now in
+    let none = position-find_none (is_object_called c.args.object.now) c.args.objects.now (sym c.place_of.ensures.place ∙ c.in_default.is) in
+    ap (λ (o : Option Object). elim o [ None ↦ Err refusal.UnknownObject | Some x ↦ arguments_at x values c.args.mode ]) none
+
+pub returns : goal.returns
+returns c =
+    let values = map field_value c.args.values.now in
+    let test = is_object_called c.args.object.now in
+    let objects = c.args.objects.now in
+    let o = c.index-objects-place.result in
+    let at = sym c.place_of.ensures.place ∙ c.in-Some.is in
+    let found : object_at objects c.args.object.now ≡ Some o =
+    position-find_some test objects c.in-Some.place at ∙ slice_get_read objects (length objects) c.in-Some.place o refl c.in-Some.ensures.within c.index-objects-place.is in
+    let rule : asking objects c.args.object.now c.args.mode c.args.values.now ≡ arguments_at o values c.args.mode =
+    ap (λ (o : Option Object). elim o [ None ↦ Err refusal.UnknownObject | Some x ↦ arguments_at x values c.args.mode ]) found in
+    let given = subst (λ vs. IsGivenBy (λ (v : Vec Asked). v.items) (arguments_at o vs c.args.mode) c.arguments_at.result) (c.as_slice.ensures.value ∙ c.in-Ok.ensures) c.arguments_at.ensures in
+    subst (λ r. IsGivenBy (λ (v : Vec Asked). v.items) r c.arguments_at.result) (sym rule) given

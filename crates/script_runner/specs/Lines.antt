@@ -1,0 +1,157 @@
+-- What a line of a script comes to.
+use Rattle.std.specs.Prelude.{ℕ, ◌+◌, Bool, true, false, ◌||◌, nat_eq, nat_lt, List, [], ◌∷◌, map, length, cond, if◌then◌else◌, Option, Some, None, is_some, option_and_then, Result, Ok, Err}
+use Rattle.std.specs.List.{find, list_any}
+use Rattle.std.specs.Str.{bytes_eq}
+use Rattle.enq_base.specs.Grammar.{is_short}
+use Rattle.enq_base.specs.declared.owner.Scope.{Scope}
+use Rattle.enq_base.specs.declared.refusal.ArgKind.{ArgKind}
+use Rattle.enq_base.specs.declared.refusal.ArgKind.TheVariants as kind
+use Rattle.enq_base.specs.declared.refusal.Refusal.{Refusal}
+use Rattle.enq_base.specs.declared.refusal.Refusal.TheVariants as refusal
+use Rattle.mode_rules.specs.declared.Mode.{Mode}
+use Rattle.mode_rules.specs.declared.Mode.TheVariants as mode
+use Rattle.lock_entry.specs.declared.entry.Asked.{Asked}
+use Rattle.lock_entry.specs.declared.entry.Request.{Request}
+use Rattle.lock_objects.specs.Arguments.{arguments, values_fault}
+use Rattle.lock_objects.specs.Objects.{Object}
+use Rattle.lock_objects.specs.declared.value.ArgFault.{ArgFault}
+use Rattle.lock_objects.specs.declared.value.ArgFault.TheVariants as fault
+use Rattle.lock_objects.specs.declared.value.FieldValue.{FieldValue}
+use Rattle.lock_objects.specs.declared.value.Value.{Value}
+use Rattle.lock_objects.specs.declared.value.Value.TheVariants.{Given, Initial, Long}
+use Rattle.owner_scope.specs.Halves.{names_dialogue, names_update}
+use Rattle.dialogue_session.specs.Private.{Private, with_requests, without_effects, without_requests}
+use Rattle.hall.specs.declared.command.Command.{Command}
+use Rattle.hall.specs.declared.command.Command.TheVariants as command
+use Rattle.hall.specs.declared.command.Reply.{Reply}
+use Rattle.hall.specs.declared.command.Reply.TheVariants as reply
+use Rattle.script_lang.specs.Reading.{line_of}
+use Rattle.script_lang.specs.declared.script_line.RawValue.{RawValue}
+use Rattle.script_lang.specs.declared.script_line.ScriptLine.{ScriptLine}
+use Rattle.script_lang.specs.declared.script_line.ScriptLine.TheVariants as line
+use Rattle.script_runner.specs.Sides.{container_of, side_of, with_new_side, with_side, without_side}
+use Rattle.script_runner.specs.World.{World}
+
+-- `$` stands before the name of a variable
+abbrev pub has_variables : List ℕ → Bool
+has_variables bytes = list_any (nat_eq 36) bytes
+
+-- the lines that have a meaning so far
+abbrev pub is_built : ScriptLine → Bool
+is_built (line.Logon s user) = true
+is_built (line.Logoff s) = true
+is_built (line.DeqAll s) = true
+is_built (line.Flush s) = true
+is_built (line.Reset s) = true
+is_built (line.Rollback s) = true
+is_built (line.Enq s object m scope values) = true
+is_built (line.Deq s object m scope values) = true
+is_built (line.Collect s object m scope values) = true
+is_built (line.Convert s object values) = true
+is_built _ = false
+
+abbrev pub if_built : ScriptLine → Option ScriptLine
+if_built l = if is_built l then Some l else None
+
+-- the line of these bytes; none is a bad line, as is so far one with variables
+unfoldable pub line_in : List ℕ → Option ScriptLine
+line_in bytes = if has_variables bytes then None else option_and_then if_built (line_of bytes)
+
+-- An empty value is the initial one. Each byte of a line is a text's, so that a value can only be too long.
+abbrev pub value_of : List ℕ → Value
+value_of [] = Initial
+value_of (b ∷ bs) = cond (is_short (b ∷ bs)) (Given (b ∷ bs)) Long
+
+abbrev pub field_value : RawValue → FieldValue
+field_value v = record { field = v.field; value = value_of v.raw }
+
+abbrev pub kind_of : ArgFault → ArgKind
+kind_of fault.UnknownField = kind.Field
+kind_of fault.TooWide = kind.Wide
+kind_of fault.BadByte = kind.Byte
+kind_of fault.Repeat = kind.Repeat
+kind_of fault.NoMemory = kind.Field
+
+abbrev pub is_object_called : List ℕ → Object → Bool
+is_object_called name o = bytes_eq o.name name
+
+abbrev pub object_at : List Object → List ℕ → Option Object
+object_at objects name = find (is_object_called name) objects
+
+-- the arguments that values make at an object, or the kind of the first wrong one
+abbrev pub arguments_at : Object → List FieldValue → Mode → Result (List Asked) Refusal
+arguments_at o values m =
+    elim (values_fault o.fields values) [ None ↦ Ok (arguments o values m) | Some f ↦ Err (refusal.BadArgument (kind_of f)) ]
+
+-- what a line on a lock object asks for
+abbrev pub asking : List Object → List ℕ → Mode → List RawValue → Result (List Asked) Refusal
+asking objects object m values =
+    elim (object_at objects object) [ None ↦ Err refusal.UnknownObject | Some o ↦ arguments_at o (map field_value values) m ]
+
+abbrev pub request_in : Scope → Asked → Request
+request_in scope asked = record { asked = asked; dialogue = names_dialogue scope; update = names_update scope }
+
+abbrev pub in_scope : Scope → Result (List Asked) Refusal → Result (List Request) Refusal
+in_scope scope (Ok asked) = Ok (map (request_in scope) asked)
+in_scope scope (Err r) = Err r
+
+-- the requests of a line, for the owners that its scope names
+abbrev pub requesting : List Object → List ℕ → Mode → Scope → List RawValue → Result (List Request) Refusal
+requesting objects object m scope values = in_scope scope (asking objects object m values)
+
+-- what a line comes to
+pub data Meaning : Type 0 where
+  -- a call of the server
+  Calls : Command → Meaning
+  -- a refusal before any call
+  Declines : Refusal → Meaning
+  -- another private side, and no call
+  Changes : List Private → Meaning
+
+abbrev pub unless_refused : {X : Type 0} → Result X Refusal → (X → Meaning) → Meaning
+unless_refused (Ok x) next = next x
+unless_refused (Err r) next = Declines r
+
+-- the line of a session that has logged on
+abbrev pub of_session : List Private → List ℕ → Meaning → Meaning
+of_session sides s m = if is_some (side_of sides s) then m else Declines refusal.UnknownSession
+
+-- the private sides with more requests in the session's container, which has room for 64
+abbrev pub collected : List Private → List ℕ → List Request → Result (List Private) Refusal
+collected sides s requests =
+    if nat_lt 64 (length (container_of sides s) + length requests) then Err refusal.ContainerFull
+    else Ok (with_side s (with_requests requests) sides)
+
+abbrev pub collecting : List Private → List ℕ → List Request → Meaning
+collecting sides s requests = unless_refused (collected sides s requests) Changes
+
+abbrev pub meaning : World → ScriptLine → Meaning
+meaning w (line.Logon s user) = Calls (command.Logon s user)
+meaning w (line.Logoff s) = of_session w.sides s (Calls (command.Logoff s))
+meaning w (line.DeqAll s) = of_session w.sides s (Calls (command.FreeAll s))
+meaning w (line.Flush s) = of_session w.sides s (Calls (command.Ask s (container_of w.sides s)))
+meaning w (line.Reset s) = of_session w.sides s (Changes (with_side s without_requests w.sides))
+meaning w (line.Rollback s) = of_session w.sides s (Calls (command.Rollback s))
+meaning w (line.Enq s object m scope values) = of_session w.sides s (unless_refused (requesting w.objects object m scope values) (λ rs. Calls (command.Ask s rs)))
+meaning w (line.Deq s object m scope values) = of_session w.sides s (unless_refused (requesting w.objects object m scope values) (λ rs. Calls (command.Free s rs)))
+meaning w (line.Collect s object m scope values) = of_session w.sides s (unless_refused (requesting w.objects object m scope values) (collecting w.sides s))
+meaning w (line.Convert s object values) = of_session w.sides s (unless_refused (asking w.objects object mode.O values) (λ asked. Calls (command.Convert s asked)))
+meaning w _ = Declines refusal.UnknownSession
+
+-- the private sides after a call that a line made, by its answer
+abbrev pub settled : ScriptLine → Reply → List Private → List Private
+settled (line.Logon s user) reply.Done sides = with_new_side s sides
+settled (line.Logoff s) reply.Done sides = without_side s sides
+settled (line.Flush s) reply.Done sides = with_side s without_requests sides
+settled (line.Rollback s) reply.Done sides = with_side s (λ p. without_requests (without_effects p)) sides
+settled _ _ sides = sides
+
+-- the lines that may want memory once they are read: they hold lists, make a private side or ask for what was collected
+abbrev pub grows : ScriptLine → Bool
+grows (line.Logon s user) = true
+grows (line.Flush s) = true
+grows (line.Enq s object m scope values) = true
+grows (line.Deq s object m scope values) = true
+grows (line.Collect s object m scope values) = true
+grows (line.Convert s object values) = true
+grows _ = false

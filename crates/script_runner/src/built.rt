@@ -1,0 +1,50 @@
+ghost use Rattle.std.specs.Prelude.{◌≡◌, Err, IfOk, IsTrue, nat_eq, true};
+ghost use Rattle.std.specs.List.{list_any};
+ghost use Rattle.script_lang.specs.Memory.{holds_lists};
+ghost use Rattle.script_lang.specs.Reading.{Gives};
+ghost use Rattle.script_runner.specs.Lines.{has_variables, is_built, line_in};
+
+use script_lang::{ReadFault, ScriptLine, read_line};
+use std::alloc::Global;
+
+/// The line of these bytes. One that has no meaning yet is a bad line.
+#[tactic(auto, unfolding(crate::specs::Lines::line_in))]
+pub(crate) fn read_built(alloc: Global, bytes: &[u8]) -> Result<ScriptLine, ReadFault>
+    ensures exact { Gives (λ l. l) result (line_in bytes.now) }
+    ensures built { IfOk result (λ l. is_built l ≡ true) }
+    ensures no_memory { result ≡ Err ReadFault.NoMemory → IsTrue (holds_lists bytes.now) }
+{
+    if has_variables(bytes) {
+        return Err(ReadFault::BadLine);
+    }
+    let line = read_line(alloc, bytes)?;
+    if is_built(&line) {
+        Ok(line)
+    } else {
+        Err(ReadFault::BadLine)
+    }
+}
+
+fn has_variables(bytes: &[u8]) -> bool
+    ensures { result ≡ has_variables bytes.now }
+{
+    bytes.iter().any(|b| b'$' == *b)
+}
+
+pub(crate) fn is_built(line: &ScriptLine) -> bool
+    ensures { result ≡ is_built line.now }
+{
+    matches!(
+        line,
+        ScriptLine::Logon { .. }
+            | ScriptLine::Logoff { .. }
+            | ScriptLine::DeqAll { .. }
+            | ScriptLine::Flush { .. }
+            | ScriptLine::Reset { .. }
+            | ScriptLine::Rollback { .. }
+            | ScriptLine::Enq { .. }
+            | ScriptLine::Deq { .. }
+            | ScriptLine::Collect { .. }
+            | ScriptLine::Convert { .. }
+    )
+}

@@ -1,0 +1,83 @@
+ghost use Rattle.std.specs.Prelude.{◌≡◌, ◌≤◌, ◌++◌, ◌∷◌, [], length, OnOk, IfOk};
+ghost use Rattle.byteorder.specs.Endian.{big_bytes};
+ghost use Rattle.update_records.specs.Grammar.{HasFewNumbers};
+ghost use Rattle.update_records.specs.RecordRows.{kind_number, mark_row, mark_tail, meta_row, reason_number};
+
+use crate::bytes::{bytes_of_unit, push_bytes, push_u32, push_u64, put};
+use crate::records::{Mark, MarkKind};
+use crate::units::push_numbers;
+use enq_base::{NoMemory, Reason};
+use keeper_api::Change;
+use std::alloc::Global;
+
+fn kind_byte(kind: &MarkKind) -> u8
+    ensures { result ≡ kind_number kind.now }
+{
+    match kind {
+        MarkKind::Num(_) => 1,
+        MarkKind::Rec => 2,
+        MarkKind::V1 => 3,
+        MarkKind::Bad1 { .. } => 4,
+        MarkKind::Again1 => 5,
+        MarkKind::V2 => 6,
+        MarkKind::Bad2 { .. } => 7,
+        MarkKind::Again2 => 8,
+        MarkKind::Gone => 9,
+    }
+}
+
+fn reason_byte(reason: Reason) -> u8
+    ensures { result ≡ reason_number reason }
+{
+    match reason {
+        Reason::Duplicate => 1,
+        Reason::Missing => 2,
+        Reason::NotNumber => 3,
+        Reason::Overflow => 4,
+    }
+}
+
+fn push_refusal(out: &mut Vec<u8>, index: u32, reason: Reason) -> Result<(), NoMemory>
+    ensures { OnOk result (out.new.items ≡ out.old.items ++ (big_bytes 4 index ++ reason_number reason ∷ [])) }
+{
+    push_u32(out, index)?;
+    push_bytes(out, &[reason_byte(reason)])
+}
+
+fn push_tail(out: &mut Vec<u8>, kind: &MarkKind) -> Result<(), NoMemory>
+    requires { HasFewNumbers kind.now }
+    ensures { OnOk result (out.new.items ≡ out.old.items ++ mark_tail kind.now) }
+{
+    match kind {
+        MarkKind::Num(numbers) => push_numbers(out, numbers.as_slice()),
+        MarkKind::Bad1 { index, reason } => push_refusal(out, *index, *reason),
+        MarkKind::Bad2 { index, reason } => push_refusal(out, *index, *reason),
+        _ => Ok(()),
+    }
+}
+
+/// The row of a mark.
+pub fn encode_mark(alloc: Global, mark: &Mark) -> Result<Change, NoMemory>
+    requires { HasFewNumbers mark.now.kind }
+    ensures { IfOk result (λ change. change ≡ mark_row mark.now) }
+{
+    let mut place = Vec::new(alloc);
+    push_u64(&mut place, mark.seq)?;
+    let mut value = Vec::new(alloc);
+    value.push(kind_byte(&mark.kind))?;
+    push_bytes(&mut value, bytes_of_unit(alloc, &mark.unit)?.as_slice())?;
+    push_tail(&mut value, &mark.kind)?;
+    Ok(put(4, place, value))
+}
+
+/// The row of the start number and of how many marks there are.
+pub fn encode_meta(alloc: Global, start: u32, marks: u64) -> Result<Change, NoMemory>
+    ensures { IfOk result (λ change. change ≡ meta_row start marks) }
+{
+    let mut place = Vec::new(alloc);
+    place.push(b'S')?;
+    let mut value = Vec::new(alloc);
+    push_u32(&mut value, start)?;
+    push_u64(&mut value, marks)?;
+    Ok(put(0, place, value))
+}

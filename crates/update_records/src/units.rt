@@ -1,0 +1,135 @@
+ghost use Rattle.std.specs.Prelude.{◌≡◌, ◌≤◌, ◌<◌, ◌+◌, ◌^◌, ◌++◌, length, OnOk, IfOk, IsTrue};
+ghost use Rattle.std.specs.List.{All};
+ghost use Rattle.byteorder.specs.Endian.{big_bytes};
+ghost use Rattle.enq_base.specs.Grammar.{is_name};
+ghost use Rattle.update_records.specs.Grammar.{IsEffect, IsUnitKey};
+ghost use Rattle.update_records.specs.RecordRows.{header_row, lock_row, lock_rows, mode_number, number_bytes, numbers_bytes, unit_rows};
+
+use crate::bytes::{bytes_of_unit, push_bytes, push_short, push_u16, push_u32, push_u64, put};
+use crate::parts::push_part;
+use crate::records::Unit;
+use enq_base::{Effect, Items, NoMemory, Num, UnitKey};
+use keeper_api::Change;
+use lock_entry::{Entry, Mode};
+use std::alloc::Global;
+
+impl Unit {
+    /// An equal unit.
+    pub fn copy(&self, alloc: Global) -> Result<Unit, NoMemory>
+        ensures { IfOk result (λ unit. unit ≡ self.now) }
+    {
+        Ok(Unit {
+            key: self.key,
+            user: self.user,
+            numbers: Items::from_vec(Vec::from_slice(alloc, self.numbers.as_slice())?),
+            parts: self.parts.copy(alloc)?,
+            entries: Items::from_vec(Vec::from_slice(alloc, self.entries.as_slice())?),
+        })
+    }
+}
+
+fn push_number(out: &mut Vec<u8>, number: &Num) -> Result<(), NoMemory>
+    ensures { OnOk result (out.new.items ≡ out.old.items ++ number_bytes number.now) }
+{
+    push_short(out, number.object.bytes())?;
+    push_bytes(out, &number.nr)?;
+    push_u64(out, number.number)
+}
+
+/// How many numbers there are, and each of them.
+pub fn push_numbers(out: &mut Vec<u8>, numbers: &[Num]) -> Result<(), NoMemory>
+    requires { length numbers.now ≤ 64 }
+    ensures { OnOk result (out.new.items ≡ out.old.items ++ numbers_bytes numbers.now) }
+{
+    push_u16(out, numbers.len() as u16)?;
+    for number in numbers {
+        push_number(out, number)?;
+    }
+    Ok(())
+}
+
+fn push_count(out: &mut Vec<u8>, effects: &[Effect]) -> Result<(), NoMemory>
+    requires { length effects.now ≤ 200 }
+    ensures { OnOk result (out.new.items ≡ out.old.items ++ big_bytes 2 (length effects.now)) }
+{
+    push_u16(out, effects.len() as u16)
+}
+
+fn encode_header(alloc: Global, unit: &Unit) -> Result<Change, NoMemory>
+    requires first { length unit.now.parts.v1 ≤ 200 }
+    requires second { length unit.now.parts.v2 ≤ 200 }
+    requires entries { length unit.now.entries < 2 ^ 32 }
+    requires numbers { length unit.now.numbers ≤ 64 }
+    ensures row { IfOk result (λ change. change ≡ header_row unit.now) }
+    ensures key { OnOk result (IsUnitKey unit.now.key) }
+    ensures user { OnOk result (IsTrue (is_name unit.now.user)) }
+{
+    let place = bytes_of_unit(alloc, &unit.key)?;
+    let mut value = Vec::new(alloc);
+    push_short(&mut value, unit.user.bytes())?;
+    push_count(&mut value, unit.parts.v1.as_slice())?;
+    push_count(&mut value, unit.parts.v2.as_slice())?;
+    push_u32(&mut value, unit.entries.as_slice().len() as u32)?;
+    push_numbers(&mut value, unit.numbers.as_slice())?;
+    Ok(put(1, place, value))
+}
+
+fn mode_byte(mode: Mode) -> u8
+    ensures { result ≡ mode_number mode }
+{
+    match mode {
+        Mode::S => 1,
+        Mode::E => 2,
+        Mode::X => 3,
+        Mode::O => 0,
+    }
+}
+
+fn encode_lock(alloc: Global, key: &UnitKey, index: u32, entry: &Entry) -> Result<Change, NoMemory>
+    ensures { IfOk result (λ change. change ≡ lock_row key.now index entry.now) }
+{
+    let mut place = bytes_of_unit(alloc, key)?;
+    push_u32(&mut place, index)?;
+    let mut value = Vec::new(alloc);
+    push_short(&mut value, entry.table.bytes())?;
+    value.push(mode_byte(entry.mode))?;
+    push_u16(&mut value, entry.count)?;
+    push_short(&mut value, entry.pattern.bytes())?;
+    Ok(put(7, place, value))
+}
+
+fn push_locks(
+    batch: &mut Vec<Change>,
+    alloc: Global,
+    key: &UnitKey,
+    entries: &[Entry],
+) -> Result<(), NoMemory>
+    requires { length entries.now < 2 ^ 32 }
+    ensures { OnOk result (batch.new.items ≡ batch.old.items ++ lock_rows key.now 1 entries.now) }
+{
+    for (i, entry) in entries.iter().enumerate() {
+        batch.push(encode_lock(alloc, key, i as u32 + 1, entry)?)?;
+    }
+    Ok(())
+}
+
+/// All rows of a unit but those of its marks.
+///
+/// The names, keys and texts of a unit are in their grammars, as their types say.
+pub fn encode_unit(alloc: Global, unit: &Unit) -> Result<Vec<Change>, NoMemory>
+    requires effects { length unit.now.parts.v1 + length unit.now.parts.v2 ≤ 200 }
+    requires entries { length unit.now.entries < 2 ^ 32 }
+    requires numbers { length unit.now.numbers ≤ 64 }
+    ensures rows { IfOk result (λ batch. batch.items ≡ unit_rows unit.now) }
+    ensures key { OnOk result (IsUnitKey unit.now.key) }
+    ensures user { OnOk result (IsTrue (is_name unit.now.user)) }
+    ensures first { OnOk result (All IsEffect unit.now.parts.v1) }
+    ensures second { OnOk result (All IsEffect unit.now.parts.v2) }
+{
+    let mut batch = Vec::new(alloc);
+    batch.push(encode_header(alloc, unit)?)?;
+    push_part(&mut batch, alloc, &unit.key, 1, unit.parts.v1.as_slice())?;
+    push_part(&mut batch, alloc, &unit.key, 2, unit.parts.v2.as_slice())?;
+    push_locks(&mut batch, alloc, &unit.key, unit.entries.as_slice())?;
+    Ok(batch)
+}
