@@ -8,9 +8,11 @@ use Rattle.hall.specs.declared.command.PastEntry.{PastEntry}
 use Rattle.hall.specs.declared.command.Reply.{Reply}
 use Rattle.hall.specs.declared.command.Reply.TheVariants as reply
 use Rattle.hall.specs.History.{DeviceOutcome, Well, IsAllowed, step}
-use Rattle.hall.specs.Recall.{AreModelAnswers, StaysSound}
+use Rattle.hall.specs.Recall.{AreModelAnswers, StaysSound, state_after}
+use Rattle.hall.specs.Standing.{LocksStand}
 use Rattle.hall.specs.State.{State}
 use Rattle.hall.proofs.Fair.{table_of}
+use Rattle.hall.proofs.Standings.{locks_stand}
 use Rattle.hall.proofs.Recalls.{IsTold, stays_sound, told_first, told_step, told-answers}
 use Rattle.script_runner.specs.declared.runner.Why.{Why}
 use Rattle.script_runner.specs.declared.runner.Why.TheVariants.{BadLine, NoMemory}
@@ -22,7 +24,8 @@ use Rattle.script_runner.specs.Replay.{RunsScript, Seen}
 use Rattle.script_runner.specs.Run.{AreAllowed, CallMayHave, Called, LineMayHave, LineOutcome, MayHave, NoRoom, Progress, Turn, Turned, after_turn, begun, does, ends, line_does, next, run, said}
 use Rattle.script_runner.proofs.TurnLemmas.{answered-world}
 use Rattle.script_runner.specs.World.{World, first_world, world}
-use Rattle.enq_cmd.specs.Main.{Ran, built_in, first_state}
+use Rattle.script_runner.specs.Whole.{IsComplete}
+use Rattle.enq_cmd.specs.Main.{EndsComplete, Ran, built_in, first_state}
 
 told_does : (first : State) (w : World) (n : ℕ) (l : ScriptLine) (d : DeviceOutcome) (m : Meaning) → ((c : Command) → m ≡ Calls c → IsAllowed d w.hall c) → IsTold first w.hall → IsTold first (does w n l d m).world.hall
 told_does first w n l d (Calls c) allowed h =
@@ -62,14 +65,6 @@ pub told_none : (past : List PastEntry) → past ≡ [] → AreModelAnswers firs
 told_none past none =
     subst (λ es. AreModelAnswers first_state es) (sym none) (told-answers first_state first_state (told_first first_state refl))
 
-told_ran : (old new : Seen) (past : List PastEntry) (why : Why) → Ran old new past why → AreModelAnswers first_state past
-told_ran old new past why h =
-    let first = first_world built_in first_state in
-    let turns = h.runs.replays.turns in
-    let told : IsTold first_state (run first turns).world.hall = told_turns first_state (begun first) turns h.runs.replays.allowed (told_first first_state refl) in
-    let after : IsTold first_state h.after = subst (λ (x : World). IsTold first_state x.hall) (sym h.runs.replays.world) told in
-    subst (λ es. AreModelAnswers first_state es) (sym h.history) (told-answers first_state h.after after)
-
 -- no locks are sound
 first-good : IsTable (table_of first_state)
 first-good = record { sound = record { names = refl; counts = refl; conflicts = refl }; within = omega arith; limit_fits = lit< tt }
@@ -77,6 +72,41 @@ first-good = record { sound = record { names = refl; counts = refl; conflicts = 
 pub stays_sound_from_first : (past : List PastEntry) → StaysSound first_state past
 stays_sound_from_first past = stays_sound first_state past first-good
 
+-- the state in which a run from the first one ends is that to which its history leads
+told_after : (old new : Seen) (past : List PastEntry) (why : Why) (h : Ran old new past why) → IsTold first_state h.after
+told_after old new past why h =
+    let first = first_world built_in first_state in
+    let turns = h.runs.replays.turns in
+    let told : IsTold first_state (run first turns).world.hall = told_turns first_state (begun first) turns h.runs.replays.allowed (told_first first_state refl) in
+    subst (λ (x : World). IsTold first_state x.hall) (sym h.runs.replays.world) told
+
+told_ran : (old new : Seen) (past : List PastEntry) (why : Why) → Ran old new past why → AreModelAnswers first_state past
+told_ran old new past why h = subst (λ es. AreModelAnswers first_state es) (sym h.history) (told-answers first_state h.after (told_after old new past why h))
+
+abbrev pub ran : (before after : State) (objects : List Object) (old new : Seen) (past : List PastEntry) (why : Why) → before ≡ first_state → objects ≡ built_in → past ≡ after.past → RunsScript objects before after old new why → Ran old new past why
+ran before after objects old new past why e known history r =
+    record { after = after; history = history; runs = subst (λ s. RunsScript built_in s after old new why) e (subst (λ os. RunsScript os before after old new why) known r) }
+
 pub told_replay : (before after : State) (objects : List Object) (old new : Seen) (past : List PastEntry) (why : Why) → before ≡ first_state → objects ≡ built_in → past ≡ after.past → RunsScript objects before after old new why → AreModelAnswers first_state past
-told_replay before after objects old new past why e known history r =
-    told_ran old new past why (record { after = after; history = history; runs = subst (λ s. RunsScript built_in s after old new why) e (subst (λ os. RunsScript os before after old new why) known r) })
+told_replay before after objects old new past why e known history r = told_ran old new past why (ran before after objects old new past why e known history r)
+
+pub replay_leads : (before after : State) (objects : List Object) (old new : Seen) (past : List PastEntry) (why : Why) → before ≡ first_state → objects ≡ built_in → past ≡ after.past → RunsScript objects before after old new why → after ≡ state_after first_state past
+replay_leads before after objects old new past why e known history r =
+    (told_after old new past why (ran before after objects old new past why e known history r)).state ∙ ap (state_after first_state) (sym history)
+
+pub runs_as : (before after : State) (objects : List Object) (old new : Seen) (older newer : Seen) (past : List PastEntry) (why end : Why) → before ≡ first_state → objects ≡ built_in → past ≡ after.past → old ≡ older → new ≡ newer → why ≡ end → RunsScript objects before after old new why → Ran older newer past end
+runs_as before after objects old new older newer past why end e known history o n w r =
+    ran before after objects older newer past end e known history
+    (subst (λ x. RunsScript objects before after older newer x) w (subst (λ x. RunsScript objects before after older x why) n (subst (λ x. RunsScript objects before after x new why) o r)))
+
+pub locks_stand_from_first : (past : List PastEntry) → AreModelAnswers first_state past → LocksStand first_state past
+locks_stand_from_first past h = locks_stand 1000 past h
+
+pub completes_as : (before after : State) (objects : List Object) (bytes : List ℕ) (old new : Option (List ℕ)) (past : List PastEntry) (why end : Why) → before ≡ first_state → objects ≡ built_in → past ≡ after.past → why ≡ end → IsComplete (first_world objects before) after bytes old new why → EndsComplete bytes old new past end
+completes_as before after objects bytes old new past why end e known history w h =
+    record {
+      after = after;
+      history = history;
+      complete = subst (λ x. IsComplete (first_world built_in first_state) after bytes old new x) w
+          (subst (λ s. IsComplete (first_world built_in s) after bytes old new why) e (subst (λ os. IsComplete (first_world os before) after bytes old new why) known h));
+    }

@@ -15,6 +15,10 @@ impl fmt::Display for EndLine {
             Why::SinkFault => f.write_str("enqd: cannot write"),
             Why::LongLine(number) => write!(f, "enqd: line {number} is too long"),
             Why::ManyLines => f.write_str("enqd: too many lines"),
+            Why::StoreFault(call) => write!(f, "enqd: store fault in command {call}"),
+            Why::BadStore { table, row } => {
+                write!(f, "enqd: bad store, table {table} row {row}")
+            }
             Why::NoMemory => f.write_str("enqd: no memory"),
         }
     }

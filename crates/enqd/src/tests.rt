@@ -11,6 +11,11 @@ fn each_end_has_its_line(rt: HostRuntime) -> Result<(), Fail> {
         (Why::SinkFault, "enqd: cannot write"),
         (Why::LongLine(1), "enqd: line 1 is too long"),
         (Why::ManyLines, "enqd: too many lines"),
+        (Why::StoreFault(4), "enqd: store fault in command 4"),
+        (
+            Why::BadStore { table: 6, row: 1 },
+            "enqd: bad store, table 6 row 1",
+        ),
         (Why::NoMemory, "enqd: no memory"),
     ] {
         let line_of_end = EndLine(why).to_string(rt.alloc())?;

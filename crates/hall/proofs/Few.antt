@@ -1,13 +1,29 @@
--- Each call opens at most one session and one unit.
-use Rattle.std.proofs.Common.{◌≡◌, ℕ, ◌+◌, ◌≤◌, ◌<◌, Bool, true, false, List, [], ◌∷◌, ◌++◌, length, refl, sym, ap, ◌∙◌, subst, arith, cond}
+-- What each call keeps.
+use Rattle.std.proofs.Common.{◌≡◌, ℕ, ◌+◌, ◌≤◌, ◌<◌, Bool, true, false, List, [], ◌∷◌, ◌++◌, length, set, refl, sym, ap, ◌∙◌, subst, arith, cond}
 use Rattle.std.specs.Prelude.{if◌then◌else◌, nat_le, not, Option, Some, None, Result, Ok, Err}
-use Rattle.std.specs.List.{AllByRecursion, filter}
-use Rattle.std.proofs.lemmas.List.{length-append}
+use Rattle.std.specs.List.{AllByRecursion, filter, find}
+use Rattle.std.proofs.lemmas.List.{length-append, length-set}
 use Rattle.std.proofs.lemmas.Bool.Decides.{nat_tests}
+use Rattle.enq_base.specs.declared.condition.Condition.TheVariants as condition
+use Rattle.enq_base.specs.declared.owner.UnitKey.{UnitKey}
+use Rattle.enq_base.specs.declared.refusal.Refusal.{Refusal}
 use Rattle.enq_base.specs.declared.refusal.Refusal.TheVariants as refusal
+use Rattle.enq_base.specs.declared.unit.Parts.{Parts}
+use Rattle.lock_entry.proofs.Naming.{bytes_eq-same}
 use Rattle.lock_entry.specs.declared.entry.Entry.{Entry}
 use Rattle.lock_entry.specs.declared.fault.AskFault.{AskFault}
 use Rattle.lock_entry.specs.Converting.{Conversion}
+use Rattle.module_effects.specs.Effects.{applied}
+use Rattle.module_effects.specs.Rows.{Tables}
+use Rattle.module_effects.specs.declared.fault.EffectFault.{EffectFault}
+use Rattle.module_effects.specs.declared.fault.EffectFault.TheVariants as effect
+use Rattle.posting.specs.Steps.{IsOpenUnit}
+use Rattle.update_records.specs.Business.{tables_of}
+use Rattle.update_records.specs.Growing.{next_mark}
+use Rattle.update_records.specs.Ledger.{Ledger}
+use Rattle.update_records.specs.Marks.{v1_of, waiting}
+use Rattle.update_records.specs.declared.records.MarkKind.{MarkKind}
+use Rattle.update_records.specs.declared.records.MarkKind.TheVariants as mark
 use Rattle.hall.specs.declared.command.Command.{Command}
 use Rattle.hall.specs.declared.command.Command.TheVariants as command
 use Rattle.hall.specs.declared.command.PastEntry.{PastEntry}
@@ -15,12 +31,15 @@ use Rattle.hall.specs.declared.command.Reply.{Reply}
 use Rattle.hall.specs.declared.command.Reply.TheVariants as reply
 use Rattle.hall.specs.declared.command.Session.{Session}
 use Rattle.hall.specs.Acts.{IsAct}
-use Rattle.hall.specs.History.{DeviceOutcome, Well, Wanting, IsAllowed, IsStep, Served, is_unrecorded, judged, noted, past_entry, served, shown, step}
-use Rattle.hall.specs.Kept.{HasFew, IsKept, IsYoung}
-use Rattle.hall.specs.Sessions.{is_called, session_at, with_next_unit, with_session, without_session}
+use Rattle.hall.specs.History.{DeviceOutcome, Well, Wanting, StoreFails, doubted, failed, judged, noted, past_entry, served, shown}
+use Rattle.hall.specs.Kept.{HasFew, IsKept, IsSteady, IsYoung}
+use Rattle.hall.specs.Orders.{first_unclaimed, is_claimed, order_of, without_order}
+use Rattle.hall.specs.Sessions.{is_called, session_at, unit_key, with_next_unit, with_session, without_session}
 use Rattle.hall.specs.State.{State}
-use Rattle.hall.specs.Step.{Verdict, Refuses, Leaves, call_of, converting, entered, granting, is_full, own_verdict, session_call, verdict}
-use Rattle.hall.proofs.Calls.{verdict-full}
+use Rattle.hall.specs.Step.{Verdict, Refuses, Leaves, call_of, closed, committed, converting, entered, granting, is_full, marked, own_verdict, posting, session_call, taking, unit_of, unless_closed, verdict}
+use Rattle.hall.proofs.Claims.{found_all, held_open, orders_posted, orders_recorded, orders_with, orders_without}
+use Rattle.hall.proofs.Fresh.{found_name, fresh_committed, fresh_entered, fresh_left, fresh_marked, fresh_next, open_unheard}
+use Rattle.hall.proofs.Heard.{waiting_open}
 use Rattle.hall.proofs.Steps.{served-past}
 
 young_more : (n m : ℕ) (xs : List Session) → n ≤ m → AllByRecursion (IsYoung n) xs → AllByRecursion (IsYoung m) xs
@@ -44,76 +63,321 @@ young_next n name (x ∷ xs) k =
       | false ↦ (omega (arith, k.0), young_next n name xs k.1)
     ]
 
+-- what is kept, but for the length of the history
+pub record Holds (n : ℕ) (s : State) : Type 0 where
+  pub few : HasFew n s
+  pub steady : IsSteady s
+
 -- one call more
 abbrev IsModest : ℕ → State → Verdict → Type 0
-IsModest n s v = HasFew n s → HasFew (n + 1) (judged s v).state
+IsModest n s v = Holds n s → Holds (n + 1) (judged s v).state
 
 few_more : (n : ℕ) (s : State) → HasFew n s → HasFew (n + 1) s
-few_more n s h = record { sessions = omega (arith, h.sessions); units = young_more (n + 1) (n + 1 + 1) s.sessions (omega arith) h.units }
+few_more n s h = record { sessions = omega (arith, h.sessions); units = young_more (n + 1) (n + 1 + 1) s.sessions (omega arith) h.units; marks = omega (arith, h.marks) }
+
+holds_more : (n : ℕ) (s : State) → Holds n s → Holds (n + 1) s
+holds_more n s h = record { few = few_more n s h.few; steady = h.steady }
 
 -- other locks
-few_locks : (n : ℕ) (s : State) (locks : List Entry) → HasFew n s → HasFew (n + 1) (record s { locks = locks })
-few_locks n s locks h = record { sessions = (few_more n s h).sessions; units = (few_more n s h).units }
+holds_locks : (n : ℕ) (s : State) (locks : List Entry) → Holds n s → Holds (n + 1) (record s { locks = locks })
+holds_locks n s locks h =
+    let few = few_more n s h.few in
+    let steady = h.steady in
+    record {
+      few = record { sessions = few.sessions; units = few.units; marks = few.marks };
+      steady = record {
+        started = steady.started;
+        server = steady.server;
+        settled = steady.settled;
+        fresh = record { numbered = steady.fresh.numbered; ahead = steady.fresh.ahead; later = steady.fresh.later };
+        places = steady.places;
+        orders = steady.orders;
+      };
+    }
 
-granting-few : (n : ℕ) (s : State) (r : Result (List Entry) AskFault) → IsModest n s (granting s r)
-granting-few n s (Ok locks) h = few_locks n s locks h
-granting-few n s (Err f) h = few_more n s h
+granting-holds : (n : ℕ) (s : State) (r : Result (List Entry) AskFault) → IsModest n s (granting s r)
+granting-holds n s (Ok locks) h = holds_locks n s locks h
+granting-holds n s (Err f) h = holds_more n s h
 
-converting-few : (n : ℕ) (s : State) (r : Result Conversion AskFault) → IsModest n s (converting s r)
-converting-few n s (Ok c) h = few_locks n s c.entries h
-converting-few n s (Err f) h = few_more n s h
+converting-holds : (n : ℕ) (s : State) (r : Result Conversion AskFault) → IsModest n s (converting s r)
+converting-holds n s (Ok c) h = holds_locks n s c.entries h
+converting-holds n s (Err f) h = holds_more n s h
 
-session-few : (n : ℕ) (s : State) (x : Session) (c : Command) → IsModest n s (session_call s x c)
-session-few n s x (command.Logon session user) h = few_more n s h
-session-few n s x (command.Logoff session) h =
-    record { sessions = (few_more n s h).sessions; units = young_filter (n + 1 + 1) (λ y. not (is_called x.name y)) s.sessions (few_more n s h).units }
-session-few n s x (command.Ask session requests) h = granting-few n s _ h
-session-few n s x (command.Free session requests) h = few_locks n s _ h
-session-few n s x (command.FreeAll session) h = few_locks n s _ h
-session-few n s x (command.Convert session asked) h = converting-few n s _ h
-session-few n s x (command.Rollback session) h =
-    record { sessions = (few_more n s h).sessions; units = young_next (n + 1) x.name s.sessions h.units }
+left-holds : (n : ℕ) (s : State) (name : List ℕ) (locks : List Entry) → Holds n s → Holds (n + 1) (record s { sessions = without_session name s.sessions; locks = locks })
+left-holds n s name locks h =
+    let p : Session → Bool = λ y. not (is_called name y) in
+    let few = few_more n s h.few in
+    let steady = h.steady in
+    let fresh = fresh_left s p steady.fresh in
+    record {
+      few = record { sessions = few.sessions; units = young_filter (n + 1 + 1) p s.sessions few.units; marks = few.marks };
+      steady = record {
+        started = steady.started;
+        server = steady.server;
+        settled = steady.settled;
+        fresh = record { numbered = fresh.numbered; ahead = fresh.ahead; later = fresh.later };
+        places = steady.places;
+        orders = steady.orders;
+      };
+    }
 
-call-few : (n : ℕ) (s : State) (name : List ℕ) (c : Command) → IsModest n s (call_of s name c)
-call-few n s name c =
-    elim (session_at s.sessions name) as (λ o. IsModest n s (elim o [ None ↦ Refuses refusal.UnknownSession | Some x ↦ session_call s x c ])) [ None ↦ few_more n s | Some x ↦ session-few n s x c ]
+rolled-holds : (n : ℕ) (s : State) (name : List ℕ) (locks : List Entry) → Holds n s → Holds (n + 1) (record s { sessions = with_session name with_next_unit s.sessions; locks = locks })
+rolled-holds n s name locks h =
+    let few = few_more n s h.few in
+    let steady = h.steady in
+    let fresh = fresh_next s name steady.fresh in
+    record {
+      few = record { sessions = few.sessions; units = young_next (n + 1) name s.sessions h.few.units; marks = few.marks };
+      steady = record {
+        started = steady.started;
+        server = steady.server;
+        settled = steady.settled;
+        fresh = record { numbered = fresh.numbered; ahead = fresh.ahead; later = fresh.later };
+        places = steady.places;
+        orders = steady.orders;
+      };
+    }
 
-logon-few : (n : ℕ) (s : State) (name user : List ℕ) (known full : Bool) → IsModest n s (if known then Refuses refusal.SessionExists else (if full then Refuses refusal.SessionsFull else Leaves (entered s name user)))
-logon-few n s name user true full h = few_more n s h
-logon-few n s name user false true h = few_more n s h
-logon-few n s name user false false h =
-    record { sessions = omega (arith, h.sessions); units = young_push (n + 1 + 1) s.sessions _ (few_more n s h).units (omega arith) }
+one_mark : (n : ℕ) (ledger : Ledger) (key : UnitKey) (kind : MarkKind) → length ledger.marks ≤ n → length (ledger.marks ++ next_mark ledger key kind ∷ []) ≤ n + 1
+one_mark n ledger key kind h = let e = length-append ledger.marks (next_mark ledger key kind ∷ []) in omega (arith, e, h)
 
-own-few : (n : ℕ) (s : State) (c : Command) → IsModest n s (own_verdict s c)
-own-few n s (command.Logon session user) = logon-few n s session user _ _
-own-few n s (command.Logoff session) = call-few n s session (command.Logoff session)
-own-few n s (command.Ask session requests) = call-few n s session (command.Ask session requests)
-own-few n s (command.Free session requests) = call-few n s session (command.Free session requests)
-own-few n s (command.FreeAll session) = call-few n s session (command.FreeAll session)
-own-few n s (command.Convert session asked) = call-few n s session (command.Convert session asked)
-own-few n s (command.Rollback session) = call-few n s session (command.Rollback session)
+-- the session that commits is the one of that name
+commit-holds : (n : ℕ) (s : State) (name : List ℕ) (x : Session) (parts : Parts) → find (is_called name) s.sessions ≡ Some x → name ≡ x.name → Holds n s → Holds (n + 1) (committed s x parts)
+commit-holds n s name x parts found same h =
+    let few = few_more n s h.few in
+    let steady = h.steady in
+    let unit = unit_of s.stored.start x parts in
+    let found' : find (is_called x.name) s.sessions ≡ Some x = subst (λ m. find (is_called m) s.sessions ≡ Some x) same found in
+    let fresh = fresh_committed s unit x.name x found' refl steady.fresh in
+    record {
+      few = record { sessions = few.sessions; units = young_next (n + 1) x.name s.sessions h.few.units; marks = one_mark n s.stored unit.key mark.Rec h.few.marks };
+      steady = record {
+        started = steady.started;
+        server = steady.server;
+        settled = steady.settled;
+        fresh = record { numbered = fresh.numbered; ahead = fresh.ahead; later = fresh.later };
+        places = steady.places;
+        orders = orders_recorded s.stored unit s.orders (open_unheard s x.name x found' steady.fresh) steady.orders;
+      };
+    }
 
-verdict-few : (n : ℕ) (s : State) (c : Command) → IsModest n s (verdict s c)
+committing-holds : (n : ℕ) (s : State) (name : List ℕ) (x : Session) (parts : Parts) (large none : Bool) → find (is_called name) s.sessions ≡ Some x → name ≡ x.name → IsModest n s (if large then Refuses refusal.UnitTooLarge else (if none then Leaves s reply.Done else Leaves (committed s x parts) (reply.Unit (unit_key s.stored.start x))))
+committing-holds n s name x parts true none found same h = holds_more n s h
+committing-holds n s name x parts false true found same h = holds_more n s h
+committing-holds n s name x parts false false found same h = commit-holds n s name x parts found same h
+
+session-holds : (n : ℕ) (s : State) (name : List ℕ) (x : Session) (c : Command) → find (is_called name) s.sessions ≡ Some x → name ≡ x.name → IsModest n s (session_call s x c)
+session-holds n s name x (command.Logon session user) found same h = holds_more n s h
+session-holds n s name x (command.Logoff session) found same h = left-holds n s x.name _ h
+session-holds n s name x (command.Ask session requests) found same h = granting-holds n s _ h
+session-holds n s name x (command.Free session requests) found same h = holds_locks n s _ h
+session-holds n s name x (command.FreeAll session) found same h = holds_locks n s _ h
+session-holds n s name x (command.Convert session asked) found same h = converting-holds n s _ h
+session-holds n s name x (command.Rollback session) found same h = rolled-holds n s x.name _ h
+session-holds n s name x (command.Commit session parts) found same h = committing-holds n s name x parts _ _ found same h
+session-holds n s name x (command.Take1 worker) found same h = holds_more n s h
+session-holds n s name x (command.Do1 worker) found same h = holds_more n s h
+session-holds n s name x (command.DropOrder worker) found same h = holds_more n s h
+
+call-holds : (n : ℕ) (s : State) (name : List ℕ) (c : Command) → IsModest n s (call_of s name c)
+call-holds n s name c =
+    elim (session_at s.sessions name) as (λ o. session_at s.sessions name ≡ o → IsModest n s (elim o [ None ↦ Refuses refusal.UnknownSession | Some x ↦ session_call s x c ])) [
+      | None ↦ λ e. holds_more n s
+      | Some x ↦ λ e. session-holds n s name x c e (sym (bytes_eq-same _ _ (found_name name s.sessions x e)))
+    ] refl
+
+entered-holds : (n : ℕ) (s : State) (name user : List ℕ) → Holds n s → Holds (n + 1) (entered s name user)
+entered-holds n s name user h =
+    let few = few_more n s h.few in
+    let steady = h.steady in
+    let y : Session = record { name = name; user = user; number = s.next_session; luw = 1 } in
+    let fresh = fresh_entered s y refl steady.fresh in
+    record {
+      few = record { sessions = omega (arith, h.few.sessions); units = young_push (n + 1 + 1) s.sessions y few.units (omega arith); marks = few.marks };
+      steady = record {
+        started = steady.started;
+        server = steady.server;
+        settled = steady.settled;
+        fresh = record { numbered = fresh.numbered; ahead = fresh.ahead; later = fresh.later };
+        places = steady.places;
+        orders = steady.orders;
+      };
+    }
+
+logon-holds : (n : ℕ) (s : State) (name user : List ℕ) (known full : Bool) → IsModest n s (if known then Refuses refusal.SessionExists else (if full then Refuses refusal.SessionsFull else Leaves (entered s name user) reply.Done))
+logon-holds n s name user true full h = holds_more n s h
+logon-holds n s name user false true h = holds_more n s h
+logon-holds n s name user false false h = entered-holds n s name user h
+
+-- ---- orders
+
+holds_orders : (n : ℕ) (s : State) (worker : ℕ) (o : Option UnitKey) → IsSteady (record s { orders = set s.orders worker o }) → Holds n s → Holds (n + 1) (record s { orders = set s.orders worker o })
+holds_orders n s worker o steady h =
+    let few = few_more n s h.few in
+    record { few = record { sessions = few.sessions; units = few.units; marks = few.marks }; steady = steady }
+
+not_yes : (b : Bool) → not b ≡ true → b ≡ false
+not_yes true h = cc
+not_yes false h = refl
+
+taking-holds : (n : ℕ) (s : State) (worker : ℕ) (o : Option UnitKey) → first_unclaimed s.orders (waiting s.stored.units s.stored.marks) ≡ o → IsModest n s (taking s worker o)
+taking-holds n s worker None e h = holds_more n s h
+taking-holds n s worker (Some unit) e h =
+    let steady = h.steady in
+    let found = found_all (IsOpenUnit s.stored) (λ key. not (is_claimed s.orders key)) (waiting s.stored.units s.stored.marks) unit e (waiting_open s.stored) in
+    holds_orders n s worker (Some unit) (record {
+      started = steady.started;
+      server = steady.server;
+      settled = steady.settled;
+      fresh = record { numbered = steady.fresh.numbered; ahead = steady.fresh.ahead; later = steady.fresh.later };
+      places = length-set s.orders worker (Some unit) ∙ steady.places;
+      orders = orders_with s.stored s.orders worker unit steady.orders found.0 (not_yes (is_claimed s.orders unit) found.1);
+    }) h
+
+take-holds : (n : ℕ) (s : State) (worker : ℕ) (o : Option UnitKey) → IsModest n s (elim o [ Some unit ↦ Refuses (refusal.WorkerBusy unit) | None ↦ taking s worker (first_unclaimed s.orders (waiting s.stored.units s.stored.marks)) ])
+take-holds n s worker None h = taking-holds n s worker _ refl h
+take-holds n s worker (Some unit) h = holds_more n s h
+
+dropped-holds : (n : ℕ) (s : State) (worker : ℕ) → Holds n s → Holds (n + 1) (record s { orders = without_order s.orders worker })
+dropped-holds n s worker h =
+    let steady = h.steady in
+    holds_orders n s worker None (record {
+      started = steady.started;
+      server = steady.server;
+      settled = steady.settled;
+      fresh = record { numbered = steady.fresh.numbered; ahead = steady.fresh.ahead; later = steady.fresh.later };
+      places = length-set s.orders worker None ∙ steady.places;
+      orders = orders_without s.stored s.orders worker steady.orders;
+    }) h
+
+marked-holds : (n : ℕ) (s : State) (worker : ℕ) (unit : UnitKey) (kind : MarkKind) → order_of s.orders worker ≡ Some unit → Holds n s → Holds (n + 1) (marked s worker unit kind)
+marked-holds n s worker unit kind e h =
+    let few = few_more n s h.few in
+    let steady = h.steady in
+    let fresh = fresh_marked s unit kind (held_open s.stored s.orders worker unit steady.orders e) steady.fresh in
+    record {
+      few = record { sessions = few.sessions; units = few.units; marks = one_mark n s.stored unit kind h.few.marks };
+      steady = record {
+        started = steady.started;
+        server = steady.server;
+        settled = steady.settled;
+        fresh = record { numbered = fresh.numbered; ahead = fresh.ahead; later = fresh.later };
+        places = length-set s.orders worker None ∙ steady.places;
+        orders = orders_posted s.stored s.orders worker unit kind steady.orders e;
+      };
+    }
+
+posting-holds : (n : ℕ) (s : State) (worker : ℕ) (unit : UnitKey) (r : Result Tables EffectFault) → order_of s.orders worker ≡ Some unit → IsModest n s (posting s worker unit r)
+posting-holds n s worker unit (Ok tables) e h = marked-holds n s worker unit mark.V1 e h
+posting-holds n s worker unit (Err (effect.Refused index reason)) e h = marked-holds n s worker unit (mark.Bad1 index reason) e h
+posting-holds n s worker unit (Err effect.NoMemory) e h = holds_more n s h
+
+post-holds : (n : ℕ) (s : State) (worker : ℕ) (o : Option UnitKey) → order_of s.orders worker ≡ o → IsModest n s (elim o [ None ↦ Refuses refusal.NoOrder | Some unit ↦ posting s worker unit (applied (v1_of s.stored.units unit) (tables_of s.stored.units s.stored.marks)) ])
+post-holds n s worker None e h = holds_more n s h
+post-holds n s worker (Some unit) e h = posting-holds n s worker unit _ e h
+
+drop-holds : (n : ℕ) (s : State) (worker : ℕ) (o : Option UnitKey) → IsModest n s (elim o [ None ↦ Refuses refusal.NoOrder | Some unit ↦ Leaves (record s { orders = without_order s.orders worker }) (reply.Unit unit) ])
+drop-holds n s worker None h = holds_more n s h
+drop-holds n s worker (Some unit) h = dropped-holds n s worker h
+
+-- ---- all calls
+
+own-holds : (n : ℕ) (s : State) (c : Command) → IsModest n s (own_verdict s c)
+own-holds n s (command.Logon session user) = logon-holds n s session user _ _
+own-holds n s (command.Logoff session) = call-holds n s session (command.Logoff session)
+own-holds n s (command.Ask session requests) = call-holds n s session (command.Ask session requests)
+own-holds n s (command.Free session requests) = call-holds n s session (command.Free session requests)
+own-holds n s (command.FreeAll session) = call-holds n s session (command.FreeAll session)
+own-holds n s (command.Convert session asked) = call-holds n s session (command.Convert session asked)
+own-holds n s (command.Rollback session) = call-holds n s session (command.Rollback session)
+own-holds n s (command.Commit session parts) = call-holds n s session (command.Commit session parts)
+own-holds n s (command.Take1 worker) = take-holds n s worker (order_of s.orders worker)
+own-holds n s (command.Do1 worker) = post-holds n s worker (order_of s.orders worker) refl
+own-holds n s (command.DropOrder worker) = drop-holds n s worker (order_of s.orders worker)
+
+unless-holds : (n : ℕ) (s : State) (o : Option Refusal) (v : Verdict) → IsModest n s v → IsModest n s (unless_closed o v)
+unless-holds n s None v h = h
+unless-holds n s (Some r) v h = holds_more n s
+
+verdict-holds : (n : ℕ) (s : State) (c : Command) → IsModest n s (verdict s c)
 unfolding verdict
-verdict-few n s c =
-    elim (is_full s) as (λ b. IsModest n s (if b then Refuses refusal.LogFull else own_verdict s c)) [ true ↦ few_more n s | false ↦ own-few n s c ]
+verdict-holds n s c = unless-holds n s (closed s) (own_verdict s c) (own-holds n s c)
 
-served-few : (n : ℕ) (o : DeviceOutcome) (s : State) (c : Command) → HasFew n s → HasFew (n + 1) (served o s c).state
-served-few n Well s c h = verdict-few n s c h
-served-few n Wanting s c h = few_more n s h
+doubted-holds : (n : ℕ) (s : State) (pending : Ledger) → Holds n s → Holds (n + 1) (doubted s pending)
+doubted-holds n s pending h =
+    let few = few_more n s h.few in
+    let steady = h.steady in
+    record {
+      few = record { sessions = few.sessions; units = few.units; marks = few.marks };
+      steady = record {
+        started = steady.started;
+        server = tt;
+        settled = tt;
+        fresh = record { numbered = steady.fresh.numbered; ahead = steady.fresh.ahead; later = steady.fresh.later };
+        places = steady.places;
+        orders = steady.orders;
+      };
+    }
+
+failed-holds : (n : ℕ) (s : State) (v : Verdict) → Holds n s → Holds (n + 1) (failed s v).state
+failed-holds n s (Refuses r) h = holds_more n s h
+failed-holds n s (Leaves after r) h = doubted-holds n s after.stored h
+
+pub served-holds : (n : ℕ) (o : DeviceOutcome) (s : State) (c : Command) → Holds n s → Holds (n + 1) (served o s c).state
+served-holds n Well s c h = verdict-holds n s c h
+served-holds n Wanting s c h = holds_more n s h
+served-holds n StoreFails s c h = failed-holds n s (verdict s c) h
 
 below_limit : (n : ℕ) → nat_le 262144 n ≡ false → n + 1 ≤ 262144
 below_limit n h = grind (arith, nat_tests)
 
+pub full_at : (n : ℕ) → 262144 ≤ n → nat_le 262144 n ≡ true
+full_at n h = grind (arith, nat_tests)
+
+pub room_at : (n : ℕ) → n < 262144 → nat_le 262144 n ≡ false
+room_at n h = grind (arith, nat_tests)
+
+full_or : (P : Type 0) (b : Bool) → (b ≡ true → P) → (b ≡ false → P) → P
+full_or P true f g = f refl
+full_or P false f g = g refl
+
+-- a call is served only where the history has room
+pub has_room : (s : State) → closed s ≡ None → is_full s ≡ false
+has_room s room =
+    full_or _ (is_full s)
+    (λ full.
+    let shut : closed s ≡ Some refusal.LogFull = ap (λ b. if b then Some refusal.LogFull else elim s.condition [ condition.Up ↦ None | condition.NoServer ↦ None | condition.Doubt k ↦ Some (refusal.Down k) ]) full in
+    cc)
+    (λ e. e)
+
+pub with_past : (n : ℕ) (s : State) (past : List PastEntry) → Holds n s → Holds n (record s { past = past })
+with_past n s past h =
+    let few = h.few in
+    let steady = h.steady in
+    record {
+      few = record { sessions = few.sessions; units = few.units; marks = few.marks };
+      steady = record {
+        started = steady.started;
+        server = steady.server;
+        settled = steady.settled;
+        fresh = record { numbered = steady.fresh.numbered; ahead = steady.fresh.ahead; later = steady.fresh.later };
+        places = steady.places;
+        orders = steady.orders;
+      };
+    }
+
 -- a call with room for it in the history
 pub kept_call : (s : State) (line : ℕ) (c : Command) (after : State) (r : Reply) → IsKept s → is_full s ≡ false → IsAct s c after r → IsKept (record after { past = after.past ++ past_entry line c r ∷ [] })
 kept_call s line c after r kept room act =
-    let few : HasFew (length s.past + 1) after = subst (λ x. HasFew (length s.past + 1) x.state) act.same (served-few (length s.past) (shown r) s c kept.few) in
+    let before : Holds (length s.past) s = record { few = kept.few; steady = kept.steady } in
+    let holds : Holds (length s.past + 1) after = subst (λ x. Holds (length s.past + 1) x.state) act.same (served-holds (length s.past) (shown r) s c before) in
     let past : after.past ≡ s.past = ap (λ x. x.state.past) (sym act.same) ∙ served-past (shown r) s c in
     let longer : length (after.past ++ past_entry line c r ∷ []) ≡ length s.past + 1 = length-append after.past (past_entry line c r ∷ []) ∙ ap (λ p. length p + 1) past in
+    let whole = with_past (length s.past + 1) after (after.past ++ past_entry line c r ∷ []) holds in
     record {
       within = subst (λ n. n ≤ 262144) (sym longer) (below_limit (length s.past) room);
-      few = subst (λ n. HasFew n (record after { past = after.past ++ past_entry line c r ∷ [] })) (sym longer) (record { sessions = few.sessions; units = few.units });
+      few = subst (λ n. HasFew n (record after { past = after.past ++ past_entry line c r ∷ [] })) (sym longer) whole.few;
+      steady = whole.steady;
     }
 
 -- the state behind a call, by what stands in its history

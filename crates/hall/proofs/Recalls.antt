@@ -1,34 +1,36 @@
 -- Each step puts its call into the history as the model answers it.
-use Rattle.std.proofs.Common.{◌≡◌, ℕ, Bool, true, false, List, [], ◌∷◌, ◌++◌, fold, refl, sym, ap, ◌∙◌, subst}
+use Rattle.std.proofs.Common.{◌≡◌, ℕ, Bool, true, false, List, [], ◌∷◌, ◌++◌, refl, sym, ap, ◌∙◌, subst}
 use Rattle.std.specs.Prelude.{if◌then◌else◌}
 use Rattle.std.proofs.lemmas.List.Sums.{fold-append}
-use Rattle.enq_base.specs.declared.refusal.Refusal.{Refusal}
-use Rattle.enq_base.specs.declared.refusal.Refusal.TheVariants as refusal
 use Rattle.lock_entry.specs.Table.{IsTable}
 use Rattle.hall.specs.declared.command.Command.{Command}
 use Rattle.hall.specs.declared.command.PastEntry.{PastEntry}
-use Rattle.hall.specs.declared.command.Reply.{Reply}
-use Rattle.hall.specs.declared.command.Reply.TheVariants as reply
-use Rattle.hall.specs.History.{DeviceOutcome, Well, Wanting, IsAllowed, Served, is_unrecorded, judged, noted, past_entry, served, shown, step}
+use Rattle.hall.specs.History.{DeviceOutcome, Well, Wanting, StoreFails, IsAllowed, Served, failed, is_unrecorded, past_entry, served, shown, step}
 use Rattle.hall.specs.Recall.{AreModelAnswers, IsModelAnswer, StaysSound, recalled, state_after}
 use Rattle.hall.specs.State.{State}
 use Rattle.hall.specs.Step.{Verdict, Refuses, Leaves, verdict}
-use Rattle.hall.proofs.Fair.{table_of, verdict-fair}
+use Rattle.hall.proofs.Fair.{failed-sound, table_of, verdict-fair}
 use Rattle.hall.proofs.Steps.{served-past}
 
 -- the answer shows the outcome
+shown-failed : (s : State) (v : Verdict) → shown (failed s v).reply ≡ StoreFails
+shown-failed s (Refuses r) = refl
+shown-failed s (Leaves after r) = refl
+
 shown-served : (o : DeviceOutcome) (s : State) (c : Command) → shown (served o s c).reply ≡ o
 shown-served Well s c = (verdict-fair s c).well
 shown-served Wanting s c = refl
+shown-served StoreFails s c = shown-failed s (verdict s c)
 
 -- a call that is not noted leaves the state
-unnoted-judged : (s : State) (v : Verdict) → is_unrecorded (judged s v).reply ≡ true → (judged s v).state ≡ s
-unnoted-judged s (Refuses r) e = refl
-unnoted-judged s (Leaves after) e = absurd (cc)
+unnoted-failed : (s : State) (v : Verdict) → is_unrecorded (failed s v).reply ≡ true → (failed s v).state ≡ s
+unnoted-failed s (Refuses r) e = absurd (cc)
+unnoted-failed s (Leaves after r) e = absurd (cc)
 
 unnoted-served : (o : DeviceOutcome) (s : State) (c : Command) → is_unrecorded (served o s c).reply ≡ true → (served o s c).state ≡ s
-unnoted-served Well s c e = unnoted-judged s (verdict s c) e
+unnoted-served Well s c e = (verdict-fair s c).quiet e
 unnoted-served Wanting s c e = refl
+unnoted-served StoreFails s c e = unnoted-failed s (verdict s c) e
 
 -- each call is answered as the model answers it, told from the first call on
 abbrev AnswersFrom : State → List PastEntry → Type 0
@@ -95,6 +97,7 @@ told-answers first s h earlier later call e =
 served-sound : (o : DeviceOutcome) (s : State) (c : Command) → IsTable (table_of s) → IsTable (table_of (served o s c).state)
 served-sound Well s c h = (verdict-fair s c).sound h
 served-sound Wanting s c h = h
+served-sound StoreFails s c h = failed-sound s (verdict s c) h
 
 noted-sound : (line : ℕ) (c : Command) (r : Served) (b : Bool) → IsTable (table_of r.state) → IsTable (table_of (if b then r else record r { state = record r.state { past = r.state.past ++ past_entry line c r.reply ∷ [] } }).state)
 noted-sound line c r true h = h

@@ -1,8 +1,19 @@
 -- A call apart from its place in the history.
-use Rattle.std.specs.Prelude.{◌≡◌, false}
+use Rattle.std.specs.Prelude.{◌≡◌, ℕ, ◌+◌, false, Option, Some, None}
+use Rattle.enq_base.specs.declared.condition.Condition.{Condition}
+use Rattle.enq_base.specs.declared.condition.Condition.TheVariants as condition
+use Rattle.posting.specs.declared.prepared.Step.{Step}
+use Rattle.enq_base.specs.declared.refusal.Refusal.TheVariants as refusal
 use Rattle.hall.specs.declared.command.Command.{Command}
 use Rattle.hall.specs.declared.command.Reply.{Reply}
-use Rattle.hall.specs.History.{IsAllowed, is_unrecorded, served, shown}
+use Rattle.hall.specs.declared.command.Reply.TheVariants as reply
+use Rattle.hall.specs.declared.units.Written.{Written}
+use Rattle.hall.specs.declared.units.Written.TheVariants.{Answered, Failed}
+use Rattle.posting.specs.Steps.{after_step}
+use Rattle.hall.specs.History.{IsAllowed, doubted, is_unrecorded, served, shown}
+use Rattle.enq_base.specs.declared.owner.UnitKey.{UnitKey}
+use Rattle.posting.specs.declared.prepared.Outcome.{Outcome}
+use Rattle.posting.specs.declared.prepared.Outcome.TheVariants as outcome
 use Rattle.hall.specs.State.{State}
 
 -- the call leaves this state, and is answered so
@@ -10,3 +21,39 @@ pub record IsAct (s : State) (c : Command) (after : State) (r : Reply) : Type 0 
   pub same : served (shown r) s c ≡ record { state = after; reply = r }
   pub allowed : IsAllowed (shown r) s c
   pub noted : is_unrecorded r ≡ false
+
+-- a worker that asks for an order and finds no unit is told so
+abbrev pub taken_reply : Option Reply → Reply
+taken_reply None = reply.Refused refusal.Idle
+taken_reply (Some r) = r
+
+-- a call that writes the store leaves this state, or where the store fails a server in doubt
+abbrev pub IsWritten : State → Command → State → Written → Type 0
+IsWritten s c after (Answered r) = IsAct s c after r
+IsWritten s c after (Failed step) = IsAct s c (doubted s (after_step s.stored step)) (reply.Refused refusal.StoreFault)
+
+-- where the store fails
+abbrev pub OnFailure : Written → Type 0 → Type 0
+OnFailure (Answered r) P = Unit {0}
+OnFailure (Failed step) P = P
+
+abbrev pub OnAnswer : Written → Type 0 → Type 0
+OnAnswer (Answered r) P = P
+OnAnswer (Failed step) P = Unit {0}
+
+abbrev pub posted_reply : UnitKey → Outcome → Reply
+posted_reply unit outcome.Done = reply.Posted unit
+posted_reply unit (outcome.Refused index reason) = reply.Bad unit index reason
+
+-- what a call that writes the store is answered, and what it leaves of the condition and of the pending step
+abbrev pub written_reply : Written → Reply
+written_reply (Answered r) = r
+written_reply (Failed step) = reply.Refused refusal.StoreFault
+
+abbrev pub written_condition : Condition → ℕ → Written → Condition
+written_condition before calls (Answered r) = before
+written_condition before calls (Failed step) = condition.Doubt (calls + 1)
+
+abbrev pub written_pending : Option Step → Written → Option Step
+written_pending before (Answered r) = before
+written_pending before (Failed step) = Some step

@@ -1,5 +1,7 @@
 -- A call with what the devices did in it, and the history that calls make.
-use Rattle.std.specs.Prelude.{◌≡◌, ℕ, Bool, true, false, [], ◌∷◌, ◌++◌, if◌then◌else◌, is_some, IsTrue}
+use Rattle.std.specs.Prelude.{◌≡◌, ℕ, ◌+◌, Bool, true, false, nat_le, IsTrue, if◌then◌else◌}
+use Rattle.std.specs.Prelude.{[], ◌∷◌, ◌++◌, length, Some, None, is_some}
+use Rattle.enq_base.specs.declared.condition.Condition.TheVariants as condition
 use Rattle.enq_base.specs.declared.refusal.Refusal.TheVariants as refusal
 use Rattle.hall.specs.declared.command.Command.{Command}
 use Rattle.hall.specs.declared.command.Command.TheVariants as command
@@ -8,9 +10,11 @@ use Rattle.hall.specs.declared.command.Reply.{Reply}
 use Rattle.hall.specs.declared.command.Reply.TheVariants as reply
 use Rattle.hall.specs.declared.command.Who.{Who}
 use Rattle.hall.specs.declared.command.Who.TheVariants as who
+use Rattle.hall.specs.Orders.{order_of}
 use Rattle.hall.specs.Sessions.{session_at}
 use Rattle.hall.specs.State.{State}
-use Rattle.hall.specs.Step.{Verdict, Refuses, Leaves, is_full, verdict}
+use Rattle.hall.specs.Step.{Verdict, Refuses, Leaves, closed, effects_in, verdict}
+use Rattle.update_records.specs.Ledger.{Ledger}
 
 -- what the devices did in a call
 pub data DeviceOutcome : Type 0 where
@@ -18,30 +22,40 @@ pub data DeviceOutcome : Type 0 where
   Well : DeviceOutcome
   -- memory was wanting
   Wanting : DeviceOutcome
+  -- the store failed
+  StoreFails : DeviceOutcome
 
 -- what the answer of a call shows of it
 abbrev pub shown : Reply → DeviceOutcome
 shown (reply.Refused refusal.NoMemory) = Wanting
+shown (reply.Refused refusal.StoreFault) = StoreFails
 shown _ = Well
 
 abbrev pub leaves : Verdict → Bool
 leaves (Refuses r) = false
-leaves (Leaves s) = true
+leaves (Leaves s r) = true
 
--- the calls in which memory may be wanting: a logon that is not refused, a request for locks, and a conversion
+-- the calls in which memory may be wanting: a logon that is not refused, a request for locks, a conversion, a commit,
+-- and a post
 abbrev pub may_want : State → Command → Bool
 may_want s (command.Logon session user) = leaves (verdict s (command.Logon session user))
 may_want s (command.Ask session requests) = is_some (session_at s.sessions session)
-may_want s (command.Logoff session) = false
-may_want s (command.Free session requests) = false
-may_want s (command.FreeAll session) = false
 may_want s (command.Convert session asked) = is_some (session_at s.sessions session)
-may_want s (command.Rollback session) = false
+may_want s (command.Commit session parts) = is_some (session_at s.sessions session)
+may_want s (command.Do1 worker) = is_some (order_of s.orders worker)
+may_want s command = false
 
--- a call may have this outcome; one that finds the history full wants no memory
+-- the calls that write the store: a commit with effects, and a post
+abbrev pub writes : Command → Bool
+writes (command.Commit session parts) = nat_le 1 (effects_in parts)
+writes (command.Do1 worker) = true
+writes command = false
+
+-- a call may have this outcome; one that is refused writes nothing, and one that isn't served wants no memory
 abbrev pub IsAllowed : DeviceOutcome → State → Command → Type 0
 IsAllowed Well s c = Unit {0}
-IsAllowed Wanting s c = (is_full s ≡ false) × IsTrue (may_want s c)
+IsAllowed Wanting s c = (closed s ≡ None) × IsTrue (may_want s c)
+IsAllowed StoreFails s c = IsTrue (leaves (verdict s c)) × IsTrue (writes c)
 
 -- the state after a call, and the answer
 pub record Served : Type 0 where
@@ -50,11 +64,20 @@ pub record Served : Type 0 where
 
 abbrev pub judged : State → Verdict → Served
 judged s (Refuses r) = record { state = s; reply = reply.Refused r }
-judged s (Leaves after) = record { state = after; reply = reply.Done }
+judged s (Leaves after r) = record { state = after; reply = r }
+
+-- in doubt since this call, which the store may have taken or not
+abbrev pub doubted : State → Ledger → State
+doubted s pending = record s { condition = condition.Doubt (length s.past + 1); locks = []; pending = Some pending }
+
+abbrev pub failed : State → Verdict → Served
+failed s (Refuses r) = record { state = s; reply = reply.Refused refusal.StoreFault }
+failed s (Leaves after r) = record { state = doubted s after.stored; reply = reply.Refused refusal.StoreFault }
 
 abbrev pub served : DeviceOutcome → State → Command → Served
 served Well s c = judged s (verdict s c)
 served Wanting s c = record { state = s; reply = reply.Refused refusal.NoMemory }
+served StoreFails s c = failed s (verdict s c)
 
 abbrev pub who_of : Command → Who
 who_of (command.Logon session user) = who.Session session
@@ -64,10 +87,15 @@ who_of (command.Free session requests) = who.Session session
 who_of (command.FreeAll session) = who.Session session
 who_of (command.Convert session asked) = who.Session session
 who_of (command.Rollback session) = who.Session session
+who_of (command.Commit session parts) = who.Session session
+who_of (command.Take1 worker) = who.Worker worker
+who_of (command.Do1 worker) = who.Worker worker
+who_of (command.DropOrder worker) = who.Worker worker
 
--- a call that finds the history full is not in it
+-- a call that finds the history full is not in it, nor is one that finds no unit to take
 abbrev pub is_unrecorded : Reply → Bool
 is_unrecorded (reply.Refused refusal.LogFull) = true
+is_unrecorded (reply.Refused refusal.Idle) = true
 is_unrecorded _ = false
 
 abbrev pub past_entry : ℕ → Command → Reply → PastEntry

@@ -22,7 +22,8 @@ pub record IsModelAnswer (s : State) (call : PastEntry) : Type 0 where
 -- each call is answered as the model answers it, in the state to which the calls before it lead
 abbrev pub AreModelAnswers : State → List PastEntry → Type 0
 AreModelAnswers first calls =
-    (earlier later : List PastEntry) (call : PastEntry) → calls ≡ earlier ++ call ∷ later → IsModelAnswer (state_after first earlier) call
+    (earlier later : List PastEntry) (call : PastEntry) → calls ≡ earlier ++ call ∷ later
+    → IsModelAnswer (state_after first earlier) call
 
 -- in each state on the way no two locks of unrelated owners meet and clash
 abbrev pub StaysSound : State → List PastEntry → Type 0

@@ -1,7 +1,7 @@
 ghost use Rattle.std.specs.Prelude.{◌≡◌};
 ghost use Rattle.hall.specs.Step.{answer_of};
 
-use enq_base::{Items, Name, Refusal};
+use enq_base::{Items, Name, Parts, Reason, Refusal, UnitKey};
 use lock_entry::{Asked, Request};
 
 /// Who makes a call.
@@ -52,12 +52,35 @@ pub enum Command {
     Rollback {
         session: Name,
     },
+    Commit {
+        session: Name,
+        parts: Parts,
+    },
+    Take1 {
+        worker: u8,
+    },
+    Do1 {
+        worker: u8,
+    },
+    DropOrder {
+        worker: u8,
+    },
 }
 
 /// What a call is answered.
 #[derive(Clone, Copy, Debug, PartialEq, Eq)]
 pub enum Reply {
     Done,
+    /// The unit was recorded, or a worker has an order for it.
+    Unit(UnitKey),
+    /// The unit's V1 part was posted.
+    Posted(UnitKey),
+    /// The unit's V1 part was refused at this effect, counted from 1.
+    Bad {
+        unit: UnitKey,
+        index: u32,
+        reason: Reason,
+    },
     Refused(Refusal),
 }
 

@@ -73,6 +73,13 @@ OnRefused (BadStore table row) P = P
 OnRefused NoStart P = P
 OnRefused NoMemory P = P
 
+-- what is said of a store that isn't good
+abbrev pub OnBad : BooksFault → Type 0 → Type 0
+OnBad StoreFault P = Unit {0}
+OnBad (BadStore table row) P = P
+OnBad NoStart P = Unit {0}
+OnBad NoMemory P = Unit {0}
+
 -- rows that may have been left before, or those of the first start, where one was asked for in a store without rows
 abbrev pub MayBeLeft : (Rows → Type 0) → Bool → Rows → Type 0
 MayBeLeft before raise left = before left ⊎ (IsTrue raise × StandFor left (first_ledger true) × (bare : Rows) × WasBare before bare)

@@ -1,5 +1,5 @@
 ghost use Rattle.std.specs.Prelude.{◌≡◌, true, ◌≤◌, ◌+◌, ◌++◌, ◌∷◌, [], length, IfOk, OnOk};
-ghost use Rattle.update_records.specs.Grammar.{HasFewNumbers};
+ghost use Rattle.update_records.specs.Grammar.{MayMark};
 ghost use Rattle.update_records.specs.RecordRows.{mark_row, meta_row, unit_rows};
 ghost use Rattle.update_records.specs.declared.records.MarkKind.TheVariants.{Rec, V1};
 ghost use Rattle.std.specs.List.{list_any};
@@ -31,7 +31,7 @@ fn push_mark(
     unit: &UnitKey,
     kind: MarkKind,
 ) -> Result<(), NoMemory>
-    requires { HasFewNumbers kind }
+    requires { MayMark kind }
     ensures { OnOk result (batch.new.items ≡ batch.old.items ++ mark_row (record { seq = marks + 1; unit = unit.now; kind = kind }) ∷ meta_row start (marks + 1) ∷ []) }
 {
     let seq = marks as u64 + 1;

@@ -9,7 +9,7 @@ ghost use Rattle.update_records.specs.Business.{tables_of};
 ghost use Rattle.update_records.specs.Ledger.{StandFor, no_ledger};
 ghost use Rattle.update_records.specs.Growing.{with_start};
 ghost use Rattle.update_records.specs.Marks.{status_of, v1_of};
-ghost use Rattle.posting.specs.Opening.{HasNoRows, CountsFault, IsBooksFault, MayBeFault, MayBeLeft, OnRefused, IsRaiseFault, first_ledger};
+ghost use Rattle.posting.specs.Opening.{HasNoRows, CountsFault, OnBad, IsBooksFault, MayBeFault, MayBeLeft, OnRefused, IsRaiseFault, first_ledger};
 ghost use Rattle.posting.specs.Shelf.{IsUsable, IsUnmoved, IsReady, MayTake, StandForEither};
 ghost use Rattle.posting.specs.Steps.{after_step, at_place, post_kind, waiting_for, HasMarksLeft, IsNewUnit, IsOpenUnit, IsOutcome};
 ghost use Rattle.posting.specs.declared.prepared.Step.TheVariants.{Record, Note, Start};
@@ -57,6 +57,8 @@ impl<K: Keeper> Books<K> {
 
         ensures fault { IfErr result (λ e. IfSome (K.held e.1) (λ rows. IsBooksFault rows e.0)) }
         ensures untold_fault { IfErr result (λ e. MayBeFault e.0) }
+        // The rows of a bad store are some that a crash might have left.
+        ensures found { IfErr result (λ e. OnBad e.0 (IfSome (K.held e.1) (K.may_leave keeper))) }
         ensures told_after { IfErr result (λ e. is_some (K.held e.1) ≡ is_some (K.held keeper)) }
         ensures left_after { IfErr result (λ e. IfSome (K.held e.1)
             (λ _. (left : Rows) → K.may_leave e.1 left → MayBeLeft (K.may_leave keeper) raise left)) }

@@ -13,3 +13,6 @@ pub use books::Books;
 pub use opening::BooksFault;
 pub use prepared::{Outcome, Prepared, Step};
 pub use puts::are_puts;
+
+#[cfg(test)]
+mod tests;

@@ -1,6 +1,6 @@
 ghost use Rattle.std.specs.Prelude.{◌≡◌, ◌≤◌, ◌<◌, Option, IfSome, IfOk, IfErr, OnOk, is_some};
 ghost use Rattle.keeper_api.specs.Keeping.{HasFaultCause, IsWithin, Stays, UnlessFailed};
-ghost use Rattle.posting.specs.Opening.{CountsFault, Finds, IsBooksFault, MayBeFault, WasBare, books_fault};
+ghost use Rattle.posting.specs.Opening.{CountsFault, Finds, IsBooksFault, MayBeFault, OnBad, WasBare, books_fault};
 
 use keeper_api::{KeepFault, Keeper};
 use std::alloc::Global;
@@ -58,6 +58,7 @@ pub fn open_empty<K: Keeper>(alloc: Global, keeper: &mut K) -> Result<(), BooksF
     ensures crash { IsWithin (K.may_leave keeper.new) (K.may_leave keeper.old) }
     ensures fault { IfErr result (λ fault. IfSome (K.held keeper.new) (λ rows. IsBooksFault rows fault)) }
     ensures untold_fault { IfErr result MayBeFault }
+    ensures found { IfErr result (λ fault. OnBad fault (IfSome (K.held keeper.new) (K.may_leave keeper.old))) }
     ensures cause { IfErr result (λ fault. CountsFault fault (K.faults keeper.old) (K.faults keeper.new)) }
 {
     if let Err(fault) = keeper.reopen(alloc) {

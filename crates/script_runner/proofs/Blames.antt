@@ -1,20 +1,18 @@
 -- A run that a line ends comes to its end just at that line.
-use Rattle.std.proofs.Common.{◌⊎◌, inl, inr, ◌≡◌, ◌≢◌, ℕ, ◌+◌, ◌<◌, ◌≤◌, List, [], ◌∷◌, ◌++◌, length, map, refl, sym, ap, ◌∙◌, subst, arith, true, false, append_assoc, Bool, length-append}
-use Rattle.std.specs.Prelude.{Option, Some, None, is_some, IsTrue, if◌then◌else◌}
-use Rattle.std.specs.Io.KnownBytes.{Consumes, IsAtEnd}
+use Rattle.std.proofs.Common.{inl, inr, ◌≡◌, ℕ, ◌+◌, List, [], ◌∷◌, ◌++◌, length, refl, sym, ap, ◌∙◌, subst, arith, true, false, append_assoc, Bool}
+use Rattle.std.specs.Prelude.{Option, Some, None, is_some, if◌then◌else◌}
+use Rattle.std.specs.Io.KnownBytes.{Consumes}
 use Rattle.std.specs.List.{AllByRecursion}
-use Rattle.std.proofs.lemmas.List.{length-map, map-append}
-use Rattle.hall.specs.History.{DeviceOutcome, Well}
-use Rattle.hall.specs.State.{State}
+use Rattle.std.proofs.lemmas.List.{length-map}
 use Rattle.script_lang.specs.declared.script_line.ScriptLine.{ScriptLine}
 use Rattle.io_edge.specs.Lines.{lines_of}
 use Rattle.script_lang.specs.Memory.{holds_lists}
 use Rattle.script_runner.specs.declared.runner.Why.{Why}
-use Rattle.script_runner.specs.declared.runner.Why.TheVariants.{Done, BadWords, BadLine, SourceFault, SinkFault, LongLine, ManyLines, NoMemory}
-use Rattle.script_runner.specs.Lines.{grows, line_in}
-use Rattle.script_runner.specs.LineFaults.{IsKnown, IsLineAt, IsFirstBad, IsFirstLong, IsToBlame}
+use Rattle.script_runner.specs.declared.runner.Why.TheVariants.{Done, BadWords, BadLine, SourceFault, SinkFault, LongLine, ManyLines, StoreFault, BadStore, NoMemory}
+use Rattle.script_runner.specs.Lines.{line_in}
+use Rattle.script_runner.specs.LineFaults.{IsKnown, IsToBlame}
 use Rattle.script_runner.specs.Replay.{Replays, Seen, IsEnd}
-use Rattle.script_runner.specs.Run.{LineOutcome, NoRoom, Called, Turn, Progress, answered, begun, next, run, moved, after_turn, said, ends, line_does}
+use Rattle.script_runner.specs.Run.{LineOutcome, NoRoom, Called, Turn, Progress, begun, next, moved, after_turn, said, ends, line_does}
 use Rattle.script_runner.specs.World.{World}
 use Rattle.script_runner.proofs.Outcomes.{IsFine, line_fine}
 use Rattle.script_runner.proofs.Wholes.{lines_in, run_on, first_line, told, known_whole, begins, count_lines, some_tail, run_stops, run_counts}
@@ -145,6 +143,8 @@ blames before bytes left rest turns old new Done all end = tt
 blames before bytes left rest turns old new BadWords all end = tt
 blames before bytes left rest turns old new SourceFault all end = tt
 blames before bytes left rest turns old new SinkFault all end = tt
+blames before bytes left rest turns old new (StoreFault k) all end = tt
+blames before bytes left rest turns old new (BadStore table row) all end = tt
 blames before bytes left rest turns old new NoMemory all end = tt
 
 -- a run over bytes that the source told

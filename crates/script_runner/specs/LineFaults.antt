@@ -1,9 +1,10 @@
 -- The lines that end a run.
-use Rattle.std.specs.Prelude.{◌≡◌, ℕ, ◌+◌, ◌<◌, List, ◌∷◌, ◌++◌, length, Option, None, is_some, IsTrue}
+use Rattle.std.specs.Prelude.{◌≡◌, ℕ, ◌+◌, ◌<◌, List, ◌∷◌, ◌++◌, length, None, is_some, IsTrue}
 use Rattle.std.specs.List.{AllByRecursion}
 use Rattle.io_edge.specs.Lines.{lines_of}
 use Rattle.script_runner.specs.declared.runner.Why.{Why}
-use Rattle.script_runner.specs.declared.runner.Why.TheVariants.{Done, BadWords, BadLine, SourceFault, SinkFault, LongLine, ManyLines, NoMemory}
+use Rattle.script_runner.specs.declared.runner.Why.TheVariants.{Done, BadWords, BadLine, SourceFault, SinkFault}
+use Rattle.script_runner.specs.declared.runner.Why.TheVariants.{LongLine, ManyLines, StoreFault, BadStore, NoMemory}
 use Rattle.script_runner.specs.Lines.{line_in}
 
 -- the line of this number, with the lines before it and behind it
@@ -41,4 +42,6 @@ IsToBlame Done bytes = Unit {0}
 IsToBlame BadWords bytes = Unit {0}
 IsToBlame SourceFault bytes = Unit {0}
 IsToBlame SinkFault bytes = Unit {0}
+IsToBlame (StoreFault k) bytes = Unit {0}
+IsToBlame (BadStore table row) bytes = Unit {0}
 IsToBlame NoMemory bytes = Unit {0}

@@ -1,13 +1,16 @@
 -- What a line of a script comes to.
-use Rattle.std.specs.Prelude.{ℕ, ◌+◌, Bool, true, false, ◌||◌, nat_eq, nat_lt, List, [], ◌∷◌, map, length, cond, if◌then◌else◌, Option, Some, None, is_some, option_and_then, Result, Ok, Err}
-use Rattle.std.specs.List.{find, list_any}
+use Rattle.std.specs.Prelude.{ℕ, ◌+◌, Bool, true, false, ◌&&◌, nat_eq, nat_le, nat_lt, List, [], ◌∷◌, map, length, cond, if◌then◌else◌, Option, Some, None, is_some, option_and_then, Result, Ok, Err}
+use Rattle.std.specs.List.{find, list_all, list_any}
 use Rattle.std.specs.Str.{bytes_eq}
-use Rattle.enq_base.specs.Grammar.{is_short}
+use Rattle.enq_base.specs.Grammar.{is_key_byte, is_short, is_text_byte}
+use Rattle.enq_base.specs.TextFaults.{has_text_length}
 use Rattle.enq_base.specs.declared.owner.Scope.{Scope}
 use Rattle.enq_base.specs.declared.refusal.ArgKind.{ArgKind}
 use Rattle.enq_base.specs.declared.refusal.ArgKind.TheVariants as kind
 use Rattle.enq_base.specs.declared.refusal.Refusal.{Refusal}
 use Rattle.enq_base.specs.declared.refusal.Refusal.TheVariants as refusal
+use Rattle.enq_base.specs.declared.unit.Deed.TheVariants.{Put}
+use Rattle.enq_base.specs.declared.unit.Effect.{Effect}
 use Rattle.mode_rules.specs.declared.Mode.{Mode}
 use Rattle.mode_rules.specs.declared.Mode.TheVariants as mode
 use Rattle.lock_entry.specs.declared.entry.Asked.{Asked}
@@ -20,16 +23,17 @@ use Rattle.lock_objects.specs.declared.value.FieldValue.{FieldValue}
 use Rattle.lock_objects.specs.declared.value.Value.{Value}
 use Rattle.lock_objects.specs.declared.value.Value.TheVariants.{Given, Initial, Long}
 use Rattle.owner_scope.specs.Halves.{names_dialogue, names_update}
-use Rattle.dialogue_session.specs.Private.{Private, with_requests, without_effects, without_requests}
+use Rattle.dialogue_session.specs.Private.{Private, with_effect, with_requests, without_effects, without_requests}
 use Rattle.hall.specs.declared.command.Command.{Command}
 use Rattle.hall.specs.declared.command.Command.TheVariants as command
 use Rattle.hall.specs.declared.command.Reply.{Reply}
 use Rattle.hall.specs.declared.command.Reply.TheVariants as reply
+use Rattle.hall.specs.Step.{effects_in}
 use Rattle.script_lang.specs.Reading.{line_of}
 use Rattle.script_lang.specs.declared.script_line.RawValue.{RawValue}
 use Rattle.script_lang.specs.declared.script_line.ScriptLine.{ScriptLine}
 use Rattle.script_lang.specs.declared.script_line.ScriptLine.TheVariants as line
-use Rattle.script_runner.specs.Sides.{container_of, side_of, with_new_side, with_side, without_side}
+use Rattle.script_runner.specs.Sides.{container_of, parts_of, side_of, with_new_side, with_side, without_side}
 use Rattle.script_runner.specs.World.{World}
 
 -- `$` stands before the name of a variable
@@ -48,6 +52,11 @@ is_built (line.Enq s object m scope values) = true
 is_built (line.Deq s object m scope values) = true
 is_built (line.Collect s object m scope values) = true
 is_built (line.Convert s object values) = true
+is_built (line.Put s part table key text) = nat_eq part 1
+is_built (line.Commit s) = true
+is_built (line.Take1 worker) = true
+is_built (line.Do1 worker) = true
+is_built (line.DropOrder worker) = true
 is_built _ = false
 
 abbrev pub if_built : ScriptLine → Option ScriptLine
@@ -81,12 +90,18 @@ object_at objects name = find (is_object_called name) objects
 -- the arguments that values make at an object, or the kind of the first wrong one
 abbrev pub arguments_at : Object → List FieldValue → Mode → Result (List Asked) Refusal
 arguments_at o values m =
-    elim (values_fault o.fields values) [ None ↦ Ok (arguments o values m) | Some f ↦ Err (refusal.BadArgument (kind_of f)) ]
+    elim (values_fault o.fields values) [
+      | None ↦ Ok (arguments o values m)
+      | Some f ↦ Err (refusal.BadArgument (kind_of f))
+    ]
 
 -- what a line on a lock object asks for
 abbrev pub asking : List Object → List ℕ → Mode → List RawValue → Result (List Asked) Refusal
 asking objects object m values =
-    elim (object_at objects object) [ None ↦ Err refusal.UnknownObject | Some o ↦ arguments_at o (map field_value values) m ]
+    elim (object_at objects object) [
+      | None ↦ Err refusal.UnknownObject
+      | Some o ↦ arguments_at o (map field_value values) m
+    ]
 
 abbrev pub request_in : Scope → Asked → Request
 request_in scope asked = record { asked = asked; dialogue = names_dialogue scope; update = names_update scope }
@@ -98,6 +113,31 @@ in_scope scope (Err r) = Err r
 -- the requests of a line, for the owners that its scope names
 abbrev pub requesting : List Object → List ℕ → Mode → Scope → List RawValue → Result (List Request) Refusal
 requesting objects object m scope values = in_scope scope (asking objects object m values)
+
+-- 1 to 60 bytes
+abbrev pub has_key_length : List ℕ → Bool
+has_key_length key = nat_le 1 (length key) && nat_le (length key) 60
+
+-- bytes that are to be a key or a text: their number is tested first
+abbrev pub argument_in : Bool → Bool → List ℕ → Result (List ℕ) Refusal
+argument_in fits good bytes =
+    if fits then (if good then Ok bytes else Err (refusal.BadArgument kind.Byte))
+    else Err (refusal.BadArgument kind.Length)
+
+abbrev pub key_in : List ℕ → Result (List ℕ) Refusal
+key_in key = argument_in (has_key_length key) (list_all is_key_byte key) key
+
+abbrev pub text_in : List ℕ → Result (List ℕ) Refusal
+text_in text = argument_in (has_text_length text) (list_all is_text_byte text) text
+
+abbrev pub put_of : List ℕ → Result (List ℕ) Refusal → Result (List ℕ) Refusal → Result Effect Refusal
+put_of table (Ok key) (Ok text) = Ok (record { table = table; key = key; deed = Put text })
+put_of table (Ok key) (Err r) = Err r
+put_of table (Err r) text = Err r
+
+-- the effect that puts a row, or what is wrong: with its key, and then with its text
+abbrev pub putting : List ℕ → List ℕ → List ℕ → Result Effect Refusal
+putting table key text = put_of table (key_in key) (text_in text)
 
 -- what a line comes to
 pub data Meaning : Type 0 where
@@ -122,6 +162,15 @@ collected sides s requests =
     if nat_lt 64 (length (container_of sides s) + length requests) then Err refusal.ContainerFull
     else Ok (with_side s (with_requests requests) sides)
 
+-- the private sides with one more effect for this part of the session's unit, which has room for 200
+abbrev pub registered : List Private → List ℕ → ℕ → Effect → Result (List Private) Refusal
+registered sides s part effect =
+    if nat_le 200 (effects_in (parts_of sides s)) then Err refusal.UnitTooLarge
+    else Ok (with_side s (with_effect part effect) sides)
+
+abbrev pub registering : List Private → List ℕ → ℕ → Effect → Meaning
+registering sides s part effect = unless_refused (registered sides s part effect) Changes
+
 abbrev pub collecting : List Private → List ℕ → List Request → Meaning
 collecting sides s requests = unless_refused (collected sides s requests) Changes
 
@@ -132,10 +181,20 @@ meaning w (line.DeqAll s) = of_session w.sides s (Calls (command.FreeAll s))
 meaning w (line.Flush s) = of_session w.sides s (Calls (command.Ask s (container_of w.sides s)))
 meaning w (line.Reset s) = of_session w.sides s (Changes (with_side s without_requests w.sides))
 meaning w (line.Rollback s) = of_session w.sides s (Calls (command.Rollback s))
-meaning w (line.Enq s object m scope values) = of_session w.sides s (unless_refused (requesting w.objects object m scope values) (λ rs. Calls (command.Ask s rs)))
-meaning w (line.Deq s object m scope values) = of_session w.sides s (unless_refused (requesting w.objects object m scope values) (λ rs. Calls (command.Free s rs)))
-meaning w (line.Collect s object m scope values) = of_session w.sides s (unless_refused (requesting w.objects object m scope values) (collecting w.sides s))
-meaning w (line.Convert s object values) = of_session w.sides s (unless_refused (asking w.objects object mode.O values) (λ asked. Calls (command.Convert s asked)))
+meaning w (line.Enq s object m scope values) =
+    of_session w.sides s (unless_refused (requesting w.objects object m scope values) (λ rs. Calls (command.Ask s rs)))
+meaning w (line.Deq s object m scope values) =
+    of_session w.sides s (unless_refused (requesting w.objects object m scope values) (λ rs. Calls (command.Free s rs)))
+meaning w (line.Collect s object m scope values) =
+    of_session w.sides s (unless_refused (requesting w.objects object m scope values) (collecting w.sides s))
+meaning w (line.Convert s object values) =
+    of_session w.sides s (unless_refused (asking w.objects object mode.O values) (λ asked. Calls (command.Convert s asked)))
+meaning w (line.Put s part table key text) =
+    of_session w.sides s (unless_refused (putting table key text) (registering w.sides s part))
+meaning w (line.Commit s) = of_session w.sides s (Calls (command.Commit s (parts_of w.sides s)))
+meaning w (line.Take1 worker) = Calls (command.Take1 worker)
+meaning w (line.Do1 worker) = Calls (command.Do1 worker)
+meaning w (line.DropOrder worker) = Calls (command.DropOrder worker)
 meaning w _ = Declines refusal.UnknownSession
 
 -- the private sides after a call that a line made, by its answer
@@ -144,9 +203,11 @@ settled (line.Logon s user) reply.Done sides = with_new_side s sides
 settled (line.Logoff s) reply.Done sides = without_side s sides
 settled (line.Flush s) reply.Done sides = with_side s without_requests sides
 settled (line.Rollback s) reply.Done sides = with_side s (λ p. without_requests (without_effects p)) sides
+settled (line.Commit s) reply.Done sides = with_side s without_effects sides
+settled (line.Commit s) (reply.Unit unit) sides = with_side s without_effects sides
 settled _ _ sides = sides
 
--- the lines that may want memory once they are read: they hold lists, make a private side or ask for what was collected
+-- the lines that may want memory once they are read: with lists or an effect, or that make or copy a private side
 abbrev pub grows : ScriptLine → Bool
 grows (line.Logon s user) = true
 grows (line.Flush s) = true
@@ -154,4 +215,6 @@ grows (line.Enq s object m scope values) = true
 grows (line.Deq s object m scope values) = true
 grows (line.Collect s object m scope values) = true
 grows (line.Convert s object values) = true
+grows (line.Put s part table key text) = true
+grows (line.Commit s) = true
 grows _ = false

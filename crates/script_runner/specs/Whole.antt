@@ -4,8 +4,10 @@ use Rattle.std.specs.Io.KnownBytes.{Appends}
 use Rattle.hall.specs.State.{State}
 use Rattle.io_edge.specs.Lines.{lines_of, IsLine}
 use Rattle.script_runner.specs.declared.runner.Why.{Why}
-use Rattle.script_runner.specs.declared.runner.Why.TheVariants.{Done, BadWords, BadLine, SourceFault, SinkFault, LongLine, ManyLines, NoMemory}
+use Rattle.script_runner.specs.declared.runner.Why.TheVariants.{Done, BadWords, BadLine, SourceFault, SinkFault}
+use Rattle.script_runner.specs.declared.runner.Why.TheVariants.{LongLine, ManyLines, StoreFault, BadStore, NoMemory}
 use Rattle.script_runner.specs.Lines.{line_in}
+use Rattle.script_runner.specs.Replay.{doubt_of}
 use Rattle.script_runner.specs.Run.{Called, Turn, run}
 use Rattle.script_runner.specs.World.{World}
 
@@ -23,10 +25,17 @@ pub record IsScript (bytes : List ℕ) : Type 0 where
 abbrev pub well_done : List (List ℕ) → List Turn
 well_done lines = map (λ line. record { line = line; outcome = Called None }) lines
 
--- the run went through all lines of the bytes and wrote their whole text, or memory was wanting
+-- the run went through all lines of the bytes and wrote their whole text
+abbrev pub IsAllDone : World → State → List ℕ → Option (List ℕ) → Option (List ℕ) → Type 0
+IsAllDone before after bytes old new =
+    (after ≡ (run before (well_done (lines_of bytes))).world.hall)
+    × Appends old new (run before (well_done (lines_of bytes))).text
+
+-- all lines were done, by a server that is in doubt only where it was before, or memory was wanting
 abbrev pub IsComplete : World → State → List ℕ → Option (List ℕ) → Option (List ℕ) → Why → Type 0
-IsComplete before after bytes old new Done =
-    (after ≡ (run before (well_done (lines_of bytes))).world.hall) × Appends old new (run before (well_done (lines_of bytes))).text
+IsComplete before after bytes old new Done = IsAllDone before after bytes old new
+IsComplete before after bytes old new (StoreFault k) =
+    (doubt_of before.hall ≡ Some k) × IsAllDone before after bytes old new
 IsComplete before after bytes old new NoMemory = Unit {0}
 IsComplete before after bytes old new BadWords = ⊥
 IsComplete before after bytes old new (BadLine n) = ⊥
@@ -34,3 +43,4 @@ IsComplete before after bytes old new SourceFault = ⊥
 IsComplete before after bytes old new SinkFault = ⊥
 IsComplete before after bytes old new (LongLine n) = ⊥
 IsComplete before after bytes old new ManyLines = ⊥
+IsComplete before after bytes old new (BadStore table row) = ⊥

@@ -1,15 +1,22 @@
-ghost use Rattle.std.specs.Prelude.{◌≡◌, List};
+ghost use Rattle.std.specs.Prelude.{◌≡◌, ◌⊎◌, ℕ, List};
+ghost use Rattle.dialogue_session.specs.Private.{Private};
+ghost use Rattle.hall.specs.State.{State};
 ghost use Rattle.lock_objects.specs.Objects.{Object};
 ghost use Rattle.script_runner.specs.Lines.{settled};
-ghost use Rattle.script_runner.specs.Turns.{IsDone};
-ghost use Rattle.script_runner.specs.World.{world};
+ghost use Rattle.script_runner.specs.Turns.{DoesLine, IsDone};
+ghost use Rattle.script_runner.specs.Sides.{HavePuts};
+ghost use Rattle.script_runner.specs.World.{StoreView, world};
 ghost use Rattle.script_lang.specs.declared.script_line.ScriptLine.TheVariants as line;
 
+use crate::puts::putting;
 use crate::requests::{asked_of, requests_of};
-use crate::sides::{clear, collect, container, enter, has_side, leave, reset};
+use crate::sides::{
+    clear, collect, container, drop_effects, enter, has_side, leave, parts, register, reset,
+};
 use dialogue_session::Dialogue;
 use enq_base::{Name, Refusal, Scope};
 use hall::{Hall, Reply};
+use keeper_api::Keeper;
 use lock_entry::LockStore;
 use lock_objects::LockObject;
 use mode_rules::Mode;
@@ -17,15 +24,17 @@ use script_lang::RawValue;
 use std::alloc::Global;
 
 /// Logs a session on, and makes its private side. The memory for that is taken before.
-pub(crate) fn log_on<T: LockStore>(
+pub(crate) fn log_on<T: LockStore, K: Keeper>(
     alloc: Global,
     number: u32,
     session: Name,
     user: Name,
-    hall: &mut Hall<T>,
+    hall: &mut Hall<T, K>,
     sides: &mut Vec<Dialogue>,
 ) -> Reply
-    ensures done { (objects : List Object) → IsDone (world objects hall.old sides.old.items) (world objects hall.new sides.new.items) number (line.Logon session user) result }
+    ensures done { (objects : List Object) → DoesLine K.held K.faults
+        objects hall.old hall.new sides.old.items sides.new.items number
+        (line.Logon session user) result }
 {
     if sides.reserve(1).is_err() {
         return Reply::Refused(Refusal::NoMemory);
@@ -38,13 +47,15 @@ pub(crate) fn log_on<T: LockStore>(
 }
 
 /// Logs a session off, and ends its private side.
-pub(crate) fn log_off<T: LockStore>(
+pub(crate) fn log_off<T: LockStore, K: Keeper>(
     number: u32,
     session: Name,
-    hall: &mut Hall<T>,
+    hall: &mut Hall<T, K>,
     sides: &mut Vec<Dialogue>,
 ) -> Reply
-    ensures done { (objects : List Object) → IsDone (world objects hall.old sides.old.items) (world objects hall.new sides.new.items) number (line.Logoff session) result }
+    ensures done { (objects : List Object) → DoesLine K.held K.faults
+        objects hall.old hall.new sides.old.items sides.new.items number
+        (line.Logoff session) result }
 {
     if !has_side(sides.as_slice(), &session) {
         return Reply::Refused(Refusal::UnknownSession);
@@ -57,13 +68,15 @@ pub(crate) fn log_off<T: LockStore>(
 }
 
 /// Frees all locks of a session.
-pub(crate) fn free_all<T: LockStore>(
+pub(crate) fn free_all<T: LockStore, K: Keeper>(
     number: u32,
     session: Name,
-    hall: &mut Hall<T>,
+    hall: &mut Hall<T, K>,
     sides: &[Dialogue],
 ) -> Reply
-    ensures done { (objects : List Object) → IsDone (world objects hall.old sides.now) (world objects hall.new sides.now) number (line.DeqAll session) result }
+    ensures done { (objects : List Object) → DoesLine K.held K.faults
+        objects hall.old hall.new sides.now sides.now number
+        (line.DeqAll session) result }
 {
     if !has_side(sides, &session) {
         return Reply::Refused(Refusal::UnknownSession);
@@ -72,13 +85,15 @@ pub(crate) fn free_all<T: LockStore>(
 }
 
 /// Rolls a session back, with its effects and its container.
-pub(crate) fn roll_back<T: LockStore>(
+pub(crate) fn roll_back<T: LockStore, K: Keeper>(
     number: u32,
     session: Name,
-    hall: &mut Hall<T>,
+    hall: &mut Hall<T, K>,
     sides: &mut Vec<Dialogue>,
 ) -> Reply
-    ensures done { (objects : List Object) → IsDone (world objects hall.old sides.old.items) (world objects hall.new sides.new.items) number (line.Rollback session) result }
+    ensures done { (objects : List Object) → DoesLine K.held K.faults
+        objects hall.old hall.new sides.old.items sides.new.items number
+        (line.Rollback session) result }
 {
     if !has_side(sides.as_slice(), &session) {
         return Reply::Refused(Refusal::UnknownSession);
@@ -91,14 +106,16 @@ pub(crate) fn roll_back<T: LockStore>(
 }
 
 /// Asks for all that a session has collected. Its container is emptied where that is granted.
-pub(crate) fn flush<T: LockStore>(
+pub(crate) fn flush<T: LockStore, K: Keeper>(
     alloc: Global,
     number: u32,
     session: Name,
-    hall: &mut Hall<T>,
+    hall: &mut Hall<T, K>,
     sides: &mut Vec<Dialogue>,
 ) -> Reply
-    ensures done { (objects : List Object) → IsDone (world objects hall.old sides.old.items) (world objects hall.new sides.new.items) number (line.Flush session) result }
+    ensures done { (objects : List Object) → DoesLine K.held K.faults
+        objects hall.old hall.new sides.old.items sides.new.items number
+        (line.Flush session) result }
 {
     if !has_side(sides.as_slice(), &session) {
         return Reply::Refused(Refusal::UnknownSession);
@@ -114,13 +131,15 @@ pub(crate) fn flush<T: LockStore>(
 }
 
 /// Empties a session's container.
-pub(crate) fn empty<T: LockStore>(
+pub(crate) fn empty<T: LockStore, K: Keeper>(
     number: u32,
     session: Name,
-    hall: &mut Hall<T>,
+    hall: &mut Hall<T, K>,
     sides: &mut Vec<Dialogue>,
 ) -> Reply
-    ensures done { (objects : List Object) → IsDone (world objects hall.old sides.old.items) (world objects hall.new sides.new.items) number (line.Reset session) result }
+    ensures done { (objects : List Object) → DoesLine K.held K.faults
+        objects hall.old hall.new sides.old.items sides.new.items number
+        (line.Reset session) result }
 {
     if !has_side(sides.as_slice(), &session) {
         return Reply::Refused(Refusal::UnknownSession);
@@ -130,7 +149,7 @@ pub(crate) fn empty<T: LockStore>(
 }
 
 /// Asks for the locks of a line.
-pub(crate) fn enqueue<T: LockStore>(
+pub(crate) fn enqueue<T: LockStore, K: Keeper>(
     alloc: Global,
     objects: &[LockObject],
     number: u32,
@@ -139,10 +158,12 @@ pub(crate) fn enqueue<T: LockStore>(
     mode: Mode,
     scope: Scope,
     values: &[RawValue],
-    hall: &mut Hall<T>,
+    hall: &mut Hall<T, K>,
     sides: &[Dialogue],
 ) -> Reply
-    ensures done { IsDone (world objects.now hall.old sides.now) (world objects.now hall.new sides.now) number (line.Enq session object mode scope values.now) result }
+    ensures done { DoesLine K.held K.faults
+        objects.now hall.old hall.new sides.now sides.now number
+        (line.Enq session object mode scope values.now) result }
 {
     if !has_side(sides, &session) {
         return Reply::Refused(Refusal::UnknownSession);
@@ -154,7 +175,7 @@ pub(crate) fn enqueue<T: LockStore>(
 }
 
 /// Takes one from each lock of a line.
-pub(crate) fn dequeue<T: LockStore>(
+pub(crate) fn dequeue<T: LockStore, K: Keeper>(
     alloc: Global,
     objects: &[LockObject],
     number: u32,
@@ -163,10 +184,12 @@ pub(crate) fn dequeue<T: LockStore>(
     mode: Mode,
     scope: Scope,
     values: &[RawValue],
-    hall: &mut Hall<T>,
+    hall: &mut Hall<T, K>,
     sides: &[Dialogue],
 ) -> Reply
-    ensures done { IsDone (world objects.now hall.old sides.now) (world objects.now hall.new sides.now) number (line.Deq session object mode scope values.now) result }
+    ensures done { DoesLine K.held K.faults
+        objects.now hall.old hall.new sides.now sides.now number
+        (line.Deq session object mode scope values.now) result }
 {
     if !has_side(sides, &session) {
         return Reply::Refused(Refusal::UnknownSession);
@@ -178,7 +201,7 @@ pub(crate) fn dequeue<T: LockStore>(
 }
 
 /// Collects the requests of a line.
-pub(crate) fn collect_requests<T: LockStore>(
+pub(crate) fn collect_requests<T: LockStore, K: Keeper>(
     alloc: Global,
     objects: &[LockObject],
     number: u32,
@@ -187,10 +210,12 @@ pub(crate) fn collect_requests<T: LockStore>(
     mode: Mode,
     scope: Scope,
     values: &[RawValue],
-    hall: &mut Hall<T>,
+    hall: &mut Hall<T, K>,
     sides: &mut Vec<Dialogue>,
 ) -> Reply
-    ensures done { IsDone (world objects.now hall.old sides.old.items) (world objects.now hall.new sides.new.items) number (line.Collect session object mode scope values.now) result }
+    ensures done { DoesLine K.held K.faults
+        objects.now hall.old hall.new sides.old.items sides.new.items number
+        (line.Collect session object mode scope values.now) result }
 {
     if !has_side(sides.as_slice(), &session) {
         return Reply::Refused(Refusal::UnknownSession);
@@ -206,17 +231,19 @@ pub(crate) fn collect_requests<T: LockStore>(
 }
 
 /// Turns the optimistic locks of a line into exclusive ones.
-pub(crate) fn convert<T: LockStore>(
+pub(crate) fn convert<T: LockStore, K: Keeper>(
     alloc: Global,
     objects: &[LockObject],
     number: u32,
     session: Name,
     object: Name,
     values: &[RawValue],
-    hall: &mut Hall<T>,
+    hall: &mut Hall<T, K>,
     sides: &[Dialogue],
 ) -> Reply
-    ensures done { IsDone (world objects.now hall.old sides.now) (world objects.now hall.new sides.now) number (line.Convert session object values.now) result }
+    ensures done { DoesLine K.held K.faults
+        objects.now hall.old hall.new sides.now sides.now number
+        (line.Convert session object values.now) result }
 {
     if !has_side(sides, &session) {
         return Reply::Refused(Refusal::UnknownSession);
@@ -225,4 +252,98 @@ pub(crate) fn convert<T: LockStore>(
         Ok(asked) => hall.convert(alloc, number, session, asked),
         Err(refusal) => Reply::Refused(refusal),
     }
+}
+
+/// Registers an effect that puts a row.
+pub(crate) fn put(
+    alloc: Global,
+    session: Name,
+    part: u8,
+    table: Name,
+    key: &[u8],
+    text: &[u8],
+    sides: &mut Vec<Dialogue>,
+) -> Reply
+    requires part { (part ≡ 1) ⊎ (part ≡ 2) }
+    ensures done { (objects : List Object) (hall : State) (store : StoreView) (number : ℕ)
+        → IsDone (world objects hall sides.old.items) (world objects hall sides.new.items) store store number
+        (line.Put session part table key.now text.now) result }
+{
+    if !has_side(sides.as_slice(), &session) {
+        return Reply::Refused(Refusal::UnknownSession);
+    }
+    let effect = match putting(alloc, table, key, text) {
+        Ok(effect) => effect,
+        Err(refusal) => return Reply::Refused(refusal),
+    };
+    match register(sides, &session, part, effect) {
+        Ok(()) => Reply::Done,
+        Err(refusal) => Reply::Refused(refusal),
+    }
+}
+
+/// Commits the effects that a session has registered. They are dropped unless the call is refused; the container stays.
+pub(crate) fn commit<T: LockStore, K: Keeper>(
+    alloc: Global,
+    number: u32,
+    session: Name,
+    hall: &mut Hall<T, K>,
+    sides: &mut Vec<Dialogue>,
+) -> Reply
+    requires puts { HavePuts sides.old.items }
+    ensures done { (objects : List Object) → DoesLine K.held K.faults
+        objects hall.old hall.new sides.old.items sides.new.items number
+        (line.Commit session) result }
+{
+    if !has_side(sides.as_slice(), &session) {
+        return Reply::Refused(Refusal::UnknownSession);
+    }
+    let Ok(parts) = parts(alloc, sides.as_slice(), &session) else {
+        return Reply::Refused(Refusal::NoMemory);
+    };
+    let reply = hall.commit(alloc, number, session, parts);
+    if let Reply::Done | Reply::Unit(_) = reply {
+        drop_effects(sides, &session);
+    }
+    reply
+}
+
+/// Asks for an order for a worker.
+pub(crate) fn take1<T: LockStore, K: Keeper>(
+    number: u32,
+    worker: u8,
+    hall: &mut Hall<T, K>,
+) -> Reply
+    ensures done { (objects : List Object) (sides : List Private) → DoesLine K.held K.faults
+        objects hall.old hall.new sides sides number
+        (line.Take1 worker) result }
+{
+    hall.take1(number, worker)
+}
+
+/// Posts the V1 part of the unit that a worker has an order for.
+pub(crate) fn do1<T: LockStore, K: Keeper>(
+    alloc: Global,
+    number: u32,
+    worker: u8,
+    hall: &mut Hall<T, K>,
+) -> Reply
+    ensures done { (objects : List Object) (sides : List Private) → DoesLine K.held K.faults
+        objects hall.old hall.new sides sides number
+        (line.Do1 worker) result }
+{
+    hall.do1(alloc, number, worker)
+}
+
+/// Drops the order of a worker.
+pub(crate) fn drop_order<T: LockStore, K: Keeper>(
+    number: u32,
+    worker: u8,
+    hall: &mut Hall<T, K>,
+) -> Reply
+    ensures done { (objects : List Object) (sides : List Private) → DoesLine K.held K.faults
+        objects hall.old hall.new sides sides number
+        (line.DropOrder worker) result }
+{
+    hall.drop_order(number, worker)
 }

@@ -46,5 +46,10 @@ pub(crate) fn is_built(line: &ScriptLine) -> bool
             | ScriptLine::Deq { .. }
             | ScriptLine::Collect { .. }
             | ScriptLine::Convert { .. }
+            | ScriptLine::Put { part: 1, .. }
+            | ScriptLine::Commit { .. }
+            | ScriptLine::Take1 { .. }
+            | ScriptLine::Do1 { .. }
+            | ScriptLine::DropOrder { .. }
     )
 }

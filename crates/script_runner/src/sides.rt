@@ -1,13 +1,13 @@
-ghost use Rattle.std.specs.Prelude.{◌≡◌, ◌<◌, [], length, is_some, IfOk, IfSome, IsTrue, OnErr, vec_len, vec_capacity};
+ghost use Rattle.std.specs.Prelude.{◌≡◌, ◌⊎◌, ◌<◌, [], length, is_some, IfOk, IfSome, IsTrue, OnErr, vec_len, vec_capacity};
 ghost use Rattle.std.specs.List.{position};
 ghost use Rattle.std.specs.Option.{option_copied};
 ghost use Rattle.dialogue_session.specs.Private.{without_effects, without_requests};
 ghost use Rattle.script_runner.specs.Answers.{IsGivenBy};
-ghost use Rattle.script_runner.specs.Lines.{collected};
-ghost use Rattle.script_runner.specs.Sides.{container_of, is_side_of, side_of, with_new_side, with_side, without_side};
+ghost use Rattle.script_runner.specs.Lines.{collected, registered};
+ghost use Rattle.script_runner.specs.Sides.{container_of, is_side_of, parts_of, side_of, with_new_side, with_side, without_side};
 
 use dialogue_session::Dialogue;
-use enq_base::{Name, NoMemory, Refusal};
+use enq_base::{Effect, Items, Name, NoMemory, Parts, Refusal};
 use lock_entry::Request;
 use std::alloc::Global;
 
@@ -82,6 +82,48 @@ pub(crate) fn collect(
     };
     let side = &mut sides[place];
     side.collect(requests)
+}
+
+/// Registers an effect for a part of the session's unit.
+pub(crate) fn register(
+    sides: &mut Vec<Dialogue>,
+    name: &Name,
+    part: u8,
+    effect: Effect,
+) -> Result<(), Refusal>
+    requires side { IsTrue (is_some (side_of sides.old.items name.now)) }
+    requires part { (part ≡ 1) ⊎ (part ≡ 2) }
+    ensures given { IsGivenBy (λ _. sides.new.items) (registered sides.old.items name.now part effect) result }
+    ensures unchanged { OnErr result (sides.new.items ≡ sides.old.items) }
+{
+    let Some(place) = place_of(sides.as_slice(), name) else {
+        unreachable!()
+    };
+    let side = &mut sides[place];
+    side.effect(part, effect)
+}
+
+/// What the session has registered, copied.
+pub(crate) fn parts(alloc: Global, sides: &[Dialogue], name: &Name) -> Result<Parts, NoMemory>
+    ensures { IfOk result (λ parts. parts ≡ parts_of sides.now name.now) }
+{
+    match side_of(sides, name) {
+        Some(side) => side.parts(alloc),
+        None => Ok(Parts {
+            v1: Items::from_vec(Vec::new(alloc)),
+            v2: Items::from_vec(Vec::new(alloc)),
+        }),
+    }
+}
+
+/// Drops the session's effects, and keeps its container.
+pub(crate) fn drop_effects(sides: &mut Vec<Dialogue>, name: &Name)
+    ensures { sides.new.items ≡ with_side name.now without_effects sides.old.items }
+{
+    if let Some(place) = place_of(sides.as_slice(), name) {
+        let side = &mut sides[place];
+        side.drop_effects();
+    }
 }
 
 /// Empties the session's container.

@@ -84,6 +84,23 @@ IsKind (Bad1 index reason) = IsWord index
 IsKind (Bad2 index reason) = IsWord index
 IsKind kind = Unit {0}
 
-abbrev pub HasFewNumbers : MarkKind → Type 0
-HasFewNumbers (Num numbers) = length numbers ≤ 64
-HasFewNumbers kind = Unit {0}
+-- ---- what the types of a unit and of a mark leave open
+
+abbrev pub HasDigits : Number → Type 0
+HasDigits num = IsNr num.nr
+
+-- names and keys apart, the same as `IsEntryOf`
+pub record IsHeldBy (unit : UnitOfWork) (entry : Entry) : Type 0 where
+  pub owner : entry.owner ≡ Upd unit.key
+  pub user : entry.user ≡ unit.user
+  pub mode : is_optimistic entry.mode ≡ false
+  pub low : 1 ≤ entry.count
+  pub high : entry.count ≤ 9999
+  pub handed : entry.handed ≡ true
+
+abbrev pub HasNames : Entry → Type 0
+HasNames entry = IsTrue (is_name entry.table) × IsTrue (is_pattern entry.pattern)
+
+abbrev pub MayMark : MarkKind → Type 0
+MayMark (Num numbers) = (1 ≤ length numbers) × (length numbers ≤ 64) × All HasDigits numbers
+MayMark kind = Unit {0}

@@ -43,10 +43,15 @@ number_bytes num = short num.object ++ num.nr ++ big_bytes 8 num.number
 abbrev pub numbers_bytes : List Number → List ℕ
 numbers_bytes numbers = big_bytes 2 (length numbers) ++ flat_map number_bytes numbers
 
+-- a user, the counts of the effects of both parts and of the locks, and the numbers
+abbrev pub header_value : List ℕ → ℕ → ℕ → ℕ → List Number → List ℕ
+header_value user v1 v2 locks numbers =
+    short user ++ big_bytes 2 v1 ++ big_bytes 2 v2 ++ big_bytes 4 locks ++ numbers_bytes numbers
+
 -- table 1: the header of a unit
 abbrev pub header_row : UnitOfWork → Change
 header_row unit = row.Put 1 (unit_bytes unit.key)
-    (short unit.user ++ big_bytes 2 (length unit.parts.v1) ++ big_bytes 2 (length unit.parts.v2) ++ big_bytes 4 (length unit.entries) ++ numbers_bytes unit.numbers)
+    (header_value unit.user (length unit.parts.v1) (length unit.parts.v2) (length unit.entries) unit.numbers)
 
 -- table 2: how many effects a part has
 abbrev pub module_row : UnitKey → ℕ → List Effect → Change
@@ -88,9 +93,13 @@ mode_number E = 2
 mode_number X = 3
 mode_number O = 0
 
+abbrev pub lock_value : List ℕ → Mode → ℕ → List ℕ → List ℕ
+lock_value table mode count pattern = short table ++ mode_number mode ∷ big_bytes 2 count ++ short pattern
+
 -- table 7: a lock of a unit, at its place from 1
 abbrev pub lock_row : UnitKey → ℕ → Entry → Change
-lock_row key index entry = row.Put 7 (unit_bytes key ++ big_bytes 4 index) (short entry.table ++ mode_number entry.mode ∷ big_bytes 2 entry.count ++ short entry.pattern)
+lock_row key index entry = row.Put 7 (unit_bytes key ++ big_bytes 4 index)
+    (lock_value entry.table entry.mode entry.count entry.pattern)
 
 abbrev pub lock_rows : UnitKey → ℕ → List Entry → List Change
 lock_rows key index [] = []

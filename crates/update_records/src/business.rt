@@ -1,5 +1,7 @@
-ghost use Rattle.std.specs.Prelude.{◌≡◌, IfOk};
+ghost use Rattle.std.specs.Prelude.{◌≡◌, IfOk, OnOk};
 ghost use Rattle.update_records.specs.RecordRows.{business_row};
+ghost use Rattle.update_records.specs.Spelling.{IsRecord};
+ghost use Rattle.update_records.specs.declared.stored.Record.TheVariants as rec;
 
 use crate::bytes::{push_bytes, push_short, put};
 use enq_base::{Key, Name, NoMemory, Text};
@@ -13,7 +15,8 @@ pub fn encode_business(
     key: &Key,
     text: &Text,
 ) -> Result<Change, NoMemory>
-    ensures { IfOk result (λ change. change ≡ business_row (table.now, key.now) text.now) }
+    ensures row { IfOk result (λ change. change ≡ business_row (table.now, key.now) text.now) }
+    ensures grammar { OnOk result (IsRecord (rec.Business table.now key.now text.now)) }
 {
     let mut place = Vec::new(alloc);
     push_short(&mut place, table.bytes())?;

@@ -3,12 +3,31 @@
 
 mod business;
 mod bytes;
+mod decode;
+mod fault;
+mod fields;
+mod laws;
+mod levels;
+mod mark_rows;
 mod marks;
+mod numbers;
 mod parts;
+mod plain_rows;
 mod records;
+mod step_rows;
+mod stored;
+mod unit_rows;
 mod units;
 
 pub use business::encode_business;
+pub use decode::decode_row;
+pub use fault::RowFault;
+pub use laws::{rows_tell_records, units_are_records};
+pub use levels::encode_level;
 pub use marks::{encode_mark, encode_meta};
 pub use records::{Mark, MarkKind, Unit};
+pub use stored::{Interval, Record};
 pub use units::encode_unit;
+
+#[cfg(test)]
+mod tests;

@@ -1,7 +1,9 @@
 ghost use Rattle.std.specs.Prelude.{◌≡◌, ◌≤◌, ◌++◌, ◌∷◌, [], length, OnOk, IfOk};
 ghost use Rattle.byteorder.specs.Endian.{big_bytes};
-ghost use Rattle.update_records.specs.Grammar.{HasFewNumbers};
+ghost use Rattle.update_records.specs.Grammar.{MayMark};
 ghost use Rattle.update_records.specs.RecordRows.{kind_number, mark_row, mark_tail, meta_row, reason_number};
+ghost use Rattle.update_records.specs.Spelling.{HasFields, IsRecord};
+ghost use Rattle.update_records.specs.declared.stored.Record.TheVariants as rec;
 
 use crate::bytes::{bytes_of_unit, push_bytes, push_u32, push_u64, put};
 use crate::records::{Mark, MarkKind};
@@ -45,8 +47,9 @@ fn push_refusal(out: &mut Vec<u8>, index: u32, reason: Reason) -> Result<(), NoM
 }
 
 fn push_tail(out: &mut Vec<u8>, kind: &MarkKind) -> Result<(), NoMemory>
-    requires { HasFewNumbers kind.now }
-    ensures { OnOk result (out.new.items ≡ out.old.items ++ mark_tail kind.now) }
+    requires { MayMark kind.now }
+    ensures bytes { OnOk result (out.new.items ≡ out.old.items ++ mark_tail kind.now) }
+    ensures grammar { OnOk result (HasFields kind.now) }
 {
     match kind {
         MarkKind::Num(numbers) => push_numbers(out, numbers.as_slice()),
@@ -58,8 +61,9 @@ fn push_tail(out: &mut Vec<u8>, kind: &MarkKind) -> Result<(), NoMemory>
 
 /// The row of a mark.
 pub fn encode_mark(alloc: Global, mark: &Mark) -> Result<Change, NoMemory>
-    requires { HasFewNumbers mark.now.kind }
-    ensures { IfOk result (λ change. change ≡ mark_row mark.now) }
+    requires { MayMark mark.now.kind }
+    ensures row { IfOk result (λ change. change ≡ mark_row mark.now) }
+    ensures grammar { OnOk result (IsRecord (rec.Mark mark.now)) }
 {
     let mut place = Vec::new(alloc);
     push_u64(&mut place, mark.seq)?;
@@ -72,7 +76,8 @@ pub fn encode_mark(alloc: Global, mark: &Mark) -> Result<Change, NoMemory>
 
 /// The row of the start number and of how many marks there are.
 pub fn encode_meta(alloc: Global, start: u32, marks: u64) -> Result<Change, NoMemory>
-    ensures { IfOk result (λ change. change ≡ meta_row start marks) }
+    ensures row { IfOk result (λ change. change ≡ meta_row start marks) }
+    ensures grammar { OnOk result (IsRecord (rec.Meta start marks)) }
 {
     let mut place = Vec::new(alloc);
     place.push(b'S')?;

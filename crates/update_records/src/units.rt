@@ -1,8 +1,11 @@
-ghost use Rattle.std.specs.Prelude.{◌≡◌, ◌≤◌, ◌<◌, ◌+◌, ◌^◌, ◌++◌, length, OnOk, IfOk, IsTrue};
+ghost use Rattle.std.specs.Prelude.{◌≡◌, ◌≤◌, ◌<◌, ◌+◌, ◌^◌, ◌++◌, length, map, OnOk, IfOk, IsTrue};
 ghost use Rattle.std.specs.List.{All};
 ghost use Rattle.byteorder.specs.Endian.{big_bytes};
 ghost use Rattle.enq_base.specs.Grammar.{is_name};
-ghost use Rattle.update_records.specs.Grammar.{IsEffect, IsUnitKey};
+ghost use Rattle.update_records.specs.Grammar.{HasDigits, HasNames, IsEffect, IsEntryOf, IsHeldBy, IsNumber, IsUnitKey};
+ghost use Rattle.keeper_api.specs.Batch.{IsBatch};
+ghost use Rattle.lock_entry.specs.Names.{has_distinct_names};
+ghost use Rattle.update_records.specs.Spelling.{IsRecord, record_row, records_of};
 ghost use Rattle.update_records.specs.RecordRows.{header_row, lock_row, lock_rows, mode_number, number_bytes, numbers_bytes, unit_rows};
 
 use crate::bytes::{bytes_of_unit, push_bytes, push_short, push_u16, push_u32, push_u64, put};
@@ -29,7 +32,9 @@ impl Unit {
 }
 
 fn push_number(out: &mut Vec<u8>, number: &Num) -> Result<(), NoMemory>
-    ensures { OnOk result (out.new.items ≡ out.old.items ++ number_bytes number.now) }
+    requires { HasDigits number.now }
+    ensures bytes { OnOk result (out.new.items ≡ out.old.items ++ number_bytes number.now) }
+    ensures grammar { OnOk result (IsNumber number.now) }
 {
     push_short(out, number.object.bytes())?;
     push_bytes(out, &number.nr)?;
@@ -38,8 +43,10 @@ fn push_number(out: &mut Vec<u8>, number: &Num) -> Result<(), NoMemory>
 
 /// How many numbers there are, and each of them.
 pub fn push_numbers(out: &mut Vec<u8>, numbers: &[Num]) -> Result<(), NoMemory>
-    requires { length numbers.now ≤ 64 }
-    ensures { OnOk result (out.new.items ≡ out.old.items ++ numbers_bytes numbers.now) }
+    requires few { length numbers.now ≤ 64 }
+    requires digits { All HasDigits numbers.now }
+    ensures bytes { OnOk result (out.new.items ≡ out.old.items ++ numbers_bytes numbers.now) }
+    ensures grammar { OnOk result (All IsNumber numbers.now) }
 {
     push_u16(out, numbers.len() as u16)?;
     for number in numbers {
@@ -60,9 +67,11 @@ fn encode_header(alloc: Global, unit: &Unit) -> Result<Change, NoMemory>
     requires second { length unit.now.parts.v2 ≤ 200 }
     requires entries { length unit.now.entries < 2 ^ 32 }
     requires numbers { length unit.now.numbers ≤ 64 }
+    requires digits { All HasDigits unit.now.numbers }
     ensures row { IfOk result (λ change. change ≡ header_row unit.now) }
     ensures key { OnOk result (IsUnitKey unit.now.key) }
     ensures user { OnOk result (IsTrue (is_name unit.now.user)) }
+    ensures spelt { OnOk result (All IsNumber unit.now.numbers) }
 {
     let place = bytes_of_unit(alloc, &unit.key)?;
     let mut value = Vec::new(alloc);
@@ -86,7 +95,8 @@ fn mode_byte(mode: Mode) -> u8
 }
 
 fn encode_lock(alloc: Global, key: &UnitKey, index: u32, entry: &Entry) -> Result<Change, NoMemory>
-    ensures { IfOk result (λ change. change ≡ lock_row key.now index entry.now) }
+    ensures row { IfOk result (λ change. change ≡ lock_row key.now index entry.now) }
+    ensures grammar { OnOk result (HasNames entry.now) }
 {
     let mut place = bytes_of_unit(alloc, key)?;
     push_u32(&mut place, index)?;
@@ -105,7 +115,8 @@ fn push_locks(
     entries: &[Entry],
 ) -> Result<(), NoMemory>
     requires { length entries.now < 2 ^ 32 }
-    ensures { OnOk result (batch.new.items ≡ batch.old.items ++ lock_rows key.now 1 entries.now) }
+    ensures rows { OnOk result (batch.new.items ≡ batch.old.items ++ lock_rows key.now 1 entries.now) }
+    ensures grammar { OnOk result (All HasNames entries.now) }
 {
     for (i, entry) in entries.iter().enumerate() {
         batch.push(encode_lock(alloc, key, i as u32 + 1, entry)?)?;
@@ -118,13 +129,22 @@ fn push_locks(
 /// The names, keys and texts of a unit are in their grammars, as their types say.
 pub fn encode_unit(alloc: Global, unit: &Unit) -> Result<Vec<Change>, NoMemory>
     requires effects { length unit.now.parts.v1 + length unit.now.parts.v2 ≤ 200 }
-    requires entries { length unit.now.entries < 2 ^ 32 }
     requires numbers { length unit.now.numbers ≤ 64 }
+    requires digits { All HasDigits unit.now.numbers }
+    requires entries { length unit.now.entries < 2 ^ 32 }
+    requires held { All (IsHeldBy unit.now) unit.now.entries }
+    requires distinct { IsTrue (has_distinct_names unit.now.entries) }
     ensures rows { IfOk result (λ batch. batch.items ≡ unit_rows unit.now) }
     ensures key { OnOk result (IsUnitKey unit.now.key) }
     ensures user { OnOk result (IsTrue (is_name unit.now.user)) }
     ensures first { OnOk result (All IsEffect unit.now.parts.v1) }
     ensures second { OnOk result (All IsEffect unit.now.parts.v2) }
+    ensures drawn { OnOk result (All IsNumber unit.now.numbers) }
+    ensures locks { OnOk result (All (IsEntryOf unit.now) unit.now.entries) }
+    // Each of the rows spells a record of the unit.
+    ensures records { IfOk result (λ batch. batch.items ≡ map record_row (records_of unit.now)) }
+    ensures grammar { OnOk result (All IsRecord (records_of unit.now)) }
+    ensures batch { IfOk result (λ batch. IsBatch batch.items) }
 {
     let mut batch = Vec::new(alloc);
     batch.push(encode_header(alloc, unit)?)?;

@@ -1,38 +1,34 @@
-use Rattle.std.proofs.Common.{◌≡◌, List, refl, sym, ap, ◌∙◌, subst}
+use Rattle.std.proofs.Common.{refl, sym, ap, ◌∙◌, subst}
 use Rattle.std.specs.Prelude.{is_some}
 use Rattle.enq_base.specs.declared.refusal.Refusal.TheVariants as refusal
 use Rattle.hall.specs.History.{IsStep}
 use Rattle.hall.specs.declared.command.Command.TheVariants as command
-use Rattle.hall.specs.declared.command.Reply.TheVariants as reply
-use Rattle.lock_entry.specs.declared.entry.Asked.{Asked}
-use Rattle.lock_entry.specs.declared.entry.Request.{Request}
-use Rattle.mode_rules.specs.declared.Mode.TheVariants as mode
-use Rattle.dialogue_session.specs.Private.{without_effects, without_requests}
 use Rattle.script_lang.specs.declared.script_line.ScriptLine.TheVariants as line
-use Rattle.script_runner.specs.Lines.{Calls, Changes, asking, collected, collecting, requesting, settled, unless_refused}
-use Rattle.script_runner.specs.Sides.{container_of, side_of, with_new_side, with_side, without_side}
-use Rattle.script_runner.specs.Turns.{IsDone}
-use Rattle.script_runner.specs.World.{world}
-use Rattle.script_runner.proofs.TurnLemmas.{call_done, changed, declined, known_session, refused_by, unknown_session, wanting}
+use Rattle.script_runner.specs.Lines.{Calls, settled}
+use Rattle.script_runner.specs.Sides.{container_of, side_of}
+use Rattle.script_runner.specs.World.{store_view, world}
+use Rattle.script_runner.proofs.TurnLemmas.{call_done, flush_stays, declined, known_session, unknown_session}
 use Rattle.script_runner.proofs.acts.flush.Goals as goal
 
 pub returns-then-not-has_side : goal.returns-then-not-has_side
-returns-then-not-has_side g c = record { done = λ objects. declined (world objects c.args.hall.now c.args.sides.now.items) c.args.number (line.Flush c.args.session) refusal.UnknownSession (unknown_session c.args.sides.now.items c.args.session (Calls (command.Ask c.args.session (container_of c.args.sides.now.items c.args.session))) (ap (λ xs. is_some (side_of xs c.args.session)) (sym c.as_slice.ensures.value) ∙ sym c.has_side.ensures ∙ c.if-not-has_side.true)) }
+returns-then-not-has_side g c = record { done = λ objects. declined (world objects c.args.hall.now.state c.args.sides.now.items) c.args.number (line.Flush c.args.session) refusal.UnknownSession (unknown_session c.args.sides.now.items c.args.session (Calls (command.Ask c.args.session (container_of c.args.sides.now.items c.args.session))) (ap (λ xs. is_some (side_of xs c.args.session)) (sym c.as_slice.ensures.value) ∙ sym c.has_side.ensures ∙ c.if-not-has_side.true)) }
 
 pub returns-in-Done : goal.returns-in-Done
 returns-in-Done g c = record {
   done = λ objects.
       let asked = c.in-Ok.ensures ∙ ap (λ xs. container_of xs c.args.session) c.as_slice-2.ensures.value in
-      let step = subst (λ rs. IsStep c.args.hall.now c.ask-granted.new.self c.args.number (command.Ask c.args.session rs) c.ask-granted.result) asked c.ask-granted.ensures.step in
-      call_done (world objects c.args.hall.now c.args.sides.now.items) c.ask-granted.new.self c.reset.new.sides.items c.args.number (line.Flush c.args.session) _ c.ask-granted.result (known_session c.args.sides.now.items c.args.session (Calls (command.Ask c.args.session (container_of c.args.sides.now.items c.args.session))) (ap (λ xs. is_some (side_of xs c.args.session)) (sym c.as_slice.ensures.value) ∙ sym c.has_side.ensures ∙ c.if-not-has_side.false)) step
-      (c.reset.ensures ∙ sym (ap (λ r. settled (line.Flush c.args.session) r c.args.sides.now.items) c.in-Done.is));
+      let step = subst (λ rs. IsStep c.args.hall.now.state c.ask-granted.new.self.state c.args.number (command.Ask c.args.session rs) c.ask-granted.result) asked c.ask-granted.ensures.step in
+      call_done (world objects c.args.hall.now.state c.args.sides.now.items) c.ask-granted.new.self.state c.reset.new.sides.items c.args.number (line.Flush c.args.session) _ c.ask-granted.result (known_session c.args.sides.now.items c.args.session (Calls (command.Ask c.args.session (container_of c.args.sides.now.items c.args.session))) (ap (λ xs. is_some (side_of xs c.args.session)) (sym c.as_slice.ensures.value) ∙ sym c.has_side.ensures ∙ c.if-not-has_side.false)) step
+      (c.reset.ensures ∙ sym (ap (λ r. settled (line.Flush c.args.session) r c.args.sides.now.items) c.in-Done.is))
+      refl (ap (store_view g.K.Keeper.held g.K.Keeper.faults) c.ask-granted.ensures.keeper);
 }
 
 pub returns-in_default-granted : goal.returns-in_default-granted
 returns-in_default-granted g c = record {
   done = λ objects.
       let asked = c.in-Ok.ensures ∙ ap (λ xs. container_of xs c.args.session) c.as_slice-2.ensures.value in
-      let step = subst (λ rs. IsStep c.args.hall.now c.ask-granted.new.self c.args.number (command.Ask c.args.session rs) c.ask-granted.result) asked c.ask-granted.ensures.step in
-      call_done (world objects c.args.hall.now c.args.sides.now.items) c.ask-granted.new.self c.args.sides.now.items c.args.number (line.Flush c.args.session) _ c.ask-granted.result (known_session c.args.sides.now.items c.args.session (Calls (command.Ask c.args.session (container_of c.args.sides.now.items c.args.session))) (ap (λ xs. is_some (side_of xs c.args.session)) (sym c.as_slice.ensures.value) ∙ sym c.has_side.ensures ∙ c.if-not-has_side.false)) step
-      (sym (ap (λ r. settled (line.Flush c.args.session) r c.args.sides.now.items) c.in_default-granted.is));
+      let step = subst (λ rs. IsStep c.args.hall.now.state c.ask-granted.new.self.state c.args.number (command.Ask c.args.session rs) c.ask-granted.result) asked c.ask-granted.ensures.step in
+      call_done (world objects c.args.hall.now.state c.args.sides.now.items) c.ask-granted.new.self.state c.args.sides.now.items c.args.number (line.Flush c.args.session) _ c.ask-granted.result (known_session c.args.sides.now.items c.args.session (Calls (command.Ask c.args.session (container_of c.args.sides.now.items c.args.session))) (ap (λ xs. is_some (side_of xs c.args.session)) (sym c.as_slice.ensures.value) ∙ sym c.has_side.ensures ∙ c.if-not-has_side.false)) step
+      (sym (flush_stays c.args.session c.ask-granted.result c.args.sides.now.items c.in_default-granted.not-Done))
+      refl (ap (store_view g.K.Keeper.held g.K.Keeper.faults) c.ask-granted.ensures.keeper);
 }

@@ -1,26 +1,18 @@
-use Rattle.std.proofs.Common.{◌≡◌, List, refl, sym, ap, ◌∙◌, subst}
-use Rattle.std.specs.Prelude.{is_some}
+use Rattle.std.proofs.Common.{refl, sym, ap, ◌∙◌}
 use Rattle.enq_base.specs.declared.refusal.Refusal.TheVariants as refusal
-use Rattle.hall.specs.History.{IsStep}
 use Rattle.hall.specs.declared.command.Command.TheVariants as command
-use Rattle.hall.specs.declared.command.Reply.TheVariants as reply
-use Rattle.lock_entry.specs.declared.entry.Asked.{Asked}
-use Rattle.lock_entry.specs.declared.entry.Request.{Request}
-use Rattle.mode_rules.specs.declared.Mode.TheVariants as mode
-use Rattle.dialogue_session.specs.Private.{without_effects, without_requests}
 use Rattle.script_lang.specs.declared.script_line.ScriptLine.TheVariants as line
-use Rattle.script_runner.specs.Lines.{Calls, Changes, asking, collected, collecting, requesting, settled, unless_refused}
-use Rattle.script_runner.specs.Sides.{side_of, with_new_side, with_side, without_side}
-use Rattle.script_runner.specs.Turns.{IsDone}
-use Rattle.script_runner.specs.World.{world}
-use Rattle.script_runner.proofs.TurnLemmas.{call_done, changed, declined, known_session, refused_by, unknown_session, wanting}
+use Rattle.script_runner.specs.Lines.{Calls}
+use Rattle.script_runner.specs.World.{store_view, world}
+use Rattle.script_runner.proofs.TurnLemmas.{call_done, declined, known_session, unknown_session}
 use Rattle.script_runner.proofs.acts.free_all.Goals as goal
 
 pub returns-then-not-has_side : goal.returns-then-not-has_side
-returns-then-not-has_side g c = record { done = λ objects. declined (world objects c.args.hall.now c.args.sides.now) c.args.number (line.DeqAll c.args.session) refusal.UnknownSession (unknown_session c.args.sides.now c.args.session (Calls (command.FreeAll c.args.session)) (sym c.has_side.ensures ∙ c.if-not-has_side.true)) }
+returns-then-not-has_side g c = record { done = λ objects. declined (world objects c.args.hall.now.state c.args.sides.now) c.args.number (line.DeqAll c.args.session) refusal.UnknownSession (unknown_session c.args.sides.now c.args.session (Calls (command.FreeAll c.args.session)) (sym c.has_side.ensures ∙ c.if-not-has_side.true)) }
 
 pub returns : goal.returns
 returns g c = record {
   done = λ objects.
-      call_done (world objects c.args.hall.now c.args.sides.now) c.free_all.new.self c.args.sides.now c.args.number (line.DeqAll c.args.session) (command.FreeAll c.args.session) c.free_all.result (known_session c.args.sides.now c.args.session (Calls (command.FreeAll c.args.session)) (sym c.has_side.ensures ∙ c.if-not-has_side.false)) c.free_all.ensures.step refl;
+      call_done (world objects c.args.hall.now.state c.args.sides.now) c.free_all.new.self.state c.args.sides.now c.args.number (line.DeqAll c.args.session) (command.FreeAll c.args.session) c.free_all.result (known_session c.args.sides.now c.args.session (Calls (command.FreeAll c.args.session)) (sym c.has_side.ensures ∙ c.if-not-has_side.false)) c.free_all.ensures.step refl
+      refl (ap (store_view g.K.Keeper.held g.K.Keeper.faults) c.free_all.ensures.keeper);
 }

@@ -1,34 +1,50 @@
-use Rattle.std.proofs.Common.{refl, ap}
+use Rattle.std.proofs.Common.{refl, sym, ap, ◌∙◌, subst}
+use Rattle.script_runner.specs.Faults.{end_of}
+use Rattle.script_runner.specs.Run.{begun}
+use Rattle.script_runner.specs.Sides.{HavePuts}
+use Rattle.script_runner.specs.World.{World}
 use Rattle.script_runner.proofs.Loop.{begins, goes_on, ends_done, ends_fault, ends_turn}
+use Rattle.script_runner.proofs.PutSides.{run_puts}
 use Rattle.script_runner.proofs.TurnLemmas.{taken_at}
 use Rattle.script_runner.proofs.runner.replay_lines.Goals as goal
 
 pub lines-init : goal.lines-init
-lines-init g c = begins _ _ _ c.new-reader.ensures.number c.new-reader.ensures.reading
+lines-init g c = (begins _ _ _ c.new-reader.ensures.number c.new-reader.ensures.reading, refl)
+
+pub take_turn-requires : goal.take_turn-requires
+take_turn-requires g c =
+    let run = c.lines.invariant.0 in
+    record { puts = subst (λ (w : World). HavePuts w.sides) (sym run.world) (run_puts (begun _) run.turns c.requires.puts) }
 
 pub lines-preserved : goal.lines-preserved
-lines-preserved g c =
-    goes_on _ _ _ _ _ _ _ _ _ _ _ c.lines.invariant
-    (λ e. rw c.in-Ok-true.field-0-test at (c.in-Ok-true.ensures.reads e))
-    (rw c.in-Ok-true.field-0-test at c.in-Ok-true.ensures.again)
-    c.next.ensures.later
-    (taken_at _ _ _ _ _ _ _ _ _ _ _ c.number.ensures c.line.ensures c.in_default.ensures.turn)
-    c.take_turn.ensures.later
+lines-preserved g c = (
+  goes_on _ _ _ _ _ _ _ _ _ _ _ _ _ refl c.lines.invariant.0
+      (λ e. rw c.in-Ok-true.field-0-test at (c.in-Ok-true.ensures.reads e))
+      (rw c.in-Ok-true.field-0-test at c.in-Ok-true.ensures.again)
+      c.next.ensures.later
+      (taken_at _ _ _ _ _ _ _ _ _ _ _ _ _ c.number.ensures c.line.ensures c.in_default.ensures.turn)
+      c.take_turn.ensures.later,
+  c.in_default.ensures.turn.store.told ∙ c.lines.invariant.1,
+)
 
 pub returns-in-Ok-false-clause-run : goal.returns-in-Ok-false-clause-run
 returns-in-Ok-false-clause-run g c =
-    ends_done _ _ _ _ _ _ _ _ c.lines.invariant
+    ends_done _ _ _ _ _ _ _ _ c.lines.invariant.0
     (λ e. rw c.in-Ok-false.field-0-test at (c.in-Ok-false.ensures.reads e))
     (λ n. ap g.S.Source.left (c.next.ensures.untouched n))
     (λ n. ap g.S.Source.faults (c.next.ensures.untouched n))
+    _ (c.end_of.ensures ∙ ap end_of c.condition.ensures)
 
 pub returns-in-Err-clause-run : goal.returns-in-Err-clause-run
 returns-in-Err-clause-run g c =
-    ends_fault _ _ _ _ _ _ _ _ c.in-Err.fault _ c.why_of.ensures c.lines.invariant c.in-Err.ensures.reads c.in-Err.ensures.again
+    ends_fault _ _ _ _ _ _ _ _ c.in-Err.fault _ c.why_of.ensures c.lines.invariant.0 c.in-Err.ensures.reads c.in-Err.ensures.again
 
 pub returns-in-Err-take_turn-clause-run : goal.returns-in-Err-take_turn-clause-run
 returns-in-Err-take_turn-clause-run g c =
-    ends_turn _ _ _ _ _ _ _ _ _ _ _ _ c.lines.invariant
+    ends_turn _ _ _ _ _ _ _ _ _ _ _ _ _ _ refl c.lines.invariant.0
     (λ e. rw c.in-Ok-true.field-0-test at (c.in-Ok-true.ensures.reads e))
     (rw c.in-Ok-true.field-0-test at c.in-Ok-true.ensures.again)
-    (taken_at _ _ _ _ _ _ _ _ _ _ _ c.number.ensures c.line.ensures c.in-Err-take_turn.ensures.turn)
+    (taken_at _ _ _ _ _ _ _ _ _ _ _ _ _ c.number.ensures c.line.ensures c.in-Err-take_turn.ensures.turn)
+
+pub returns-in-Err-take_turn-clause-told : goal.returns-in-Err-take_turn-clause-told
+returns-in-Err-take_turn-clause-told g c = c.in-Err-take_turn.ensures.turn.store.told ∙ c.lines.invariant.1

@@ -1,19 +1,17 @@
-use Rattle.std.proofs.Common.{◌≡◌, false, refl, sym, subst, rules}
-use Rattle.hall.proofs.Few.{stays_kept}
-use Rattle.hall.proofs.Steps.{full_step}
-use Rattle.hall.specs.Acts.{IsAct}
-use Rattle.hall.specs.declared.command.Command.TheVariants as command
-use Rattle.hall.specs.Kept.{IsKept}
+use Rattle.std.proofs.Common.{◌≡◌, refl, sym, ap, ◌∙◌, rules}
+use Rattle.std.specs.Prelude.{None}
+use Rattle.std.specs.Option.{option_map}
+use Rattle.enq_base.specs.declared.condition.Condition.{Condition}
+use Rattle.posting.specs.Steps.{after_step}
+use Rattle.hall.proofs.Few.{has_room, stays_kept}
 use Rattle.hall.specs.State.{State, state_of}
-use Rattle.hall.specs.Step.{answer_of, is_full}
+use Rattle.hall.specs.Step.{closed}
 use Rattle.hall.proofs.hall.Hall.logon.Goals as goal
-
-pub returns-then-len-ge-HISTORY_LIMIT : goal.returns-then-len-ge-HISTORY_LIMIT
-returns-then-len-ge-HISTORY_LIMIT g c = record { step = full_step _ _ _ (search rules) }
 
 pub invariant_of-self : goal.invariant_of-self
 invariant_of-self g c =
     let table = g.T.LockStore.table in
-    let s = state_of c.self.inside.start c.self.inside.sessions.items c.self.inside.next_session (table c.self.inside.locks) c.self.inside.past.items in
-    let room : is_full s ≡ false = search rules in
-    (search rules, stays_kept s c.args.line _ _ _ _ _ c.self.invariant.1 room c.of.ensures (c.log_on-result.ensures.act s refl refl room) c.note.ensures.noted)
+    let before : Condition → State = λ k. state_of k c.self.inside.sessions.items c.self.inside.next_session c.self.inside.orders.items (table c.self.inside.locks) c.self.inside.books.ledger (option_map (after_step c.self.inside.books.ledger) c.self.inside.pending) c.self.inside.past.items in
+    let shut : closed (before c.self.inside.condition) ≡ None = ap (λ v. closed v.state) c.self.view_is ∙ sym c.closed.ensures.refusal ∙ c.in_default.is in
+    let s = before c.self.inside.condition in
+    (search rules, stays_kept s c.args.line _ _ _ _ _ c.self.invariant.1 (has_room s shut) c.of.ensures (c.log_on-result.ensures.act s refl refl shut) c.note.ensures.noted, c.self.invariant.2)

@@ -1,0 +1,170 @@
+-- What a recorded unit or a mark leaves of the statuses of other units.
+use Rattle.std.proofs.Common.{◌≡◌, Bool, true, false, not, ◌&&◌, ◌||◌, List, [], ◌∷◌, ◌++◌, refl, sym, ap, ◌∙◌}
+use Rattle.std.specs.Prelude.{if◌then◌else◌, Option, Some, None}
+use Rattle.std.specs.List.{AllByRecursion, list_any}
+use Rattle.enq_base.specs.Owners.{same_unit}
+use Rattle.enq_base.specs.declared.owner.UnitKey.{UnitKey}
+use Rattle.enq_base.specs.declared.unit.Status.{Status}
+use Rattle.enq_base.specs.declared.unit.Status.TheVariants.{Open, Posted, Bad, Closed, Bad2, Cancelled}
+use Rattle.posting.proofs.Status.{none_of, one_unit, status_grows, status_push, unit_refl}
+use Rattle.posting.specs.Steps.{IsOpenUnit}
+use Rattle.update_records.specs.Growing.{next_mark, with_mark, with_unit}
+use Rattle.update_records.specs.Ledger.{Ledger}
+use Rattle.update_records.specs.Marks.{decides, draws_alone, given, has_no_v2, has_status, same_status, status_after, status_of, units_with, waiting}
+use Rattle.update_records.specs.declared.records.Mark.{Mark}
+use Rattle.update_records.specs.declared.records.MarkKind.{MarkKind}
+use Rattle.update_records.specs.declared.records.MarkKind.TheVariants.{Num, Rec, V1, Bad1, Again1, V2, Bad2 as BadSecond, Again2, Gone}
+use Rattle.update_records.specs.declared.records.Unit.{Unit as UnitOfWork}
+
+-- the status of a unit in a ledger
+abbrev pub status_in : Ledger → UnitKey → Option Status
+status_in ledger key = status_of ledger.units ledger.marks key
+
+pub marked_other : (ledger : Ledger) (key other : UnitKey) (kind : MarkKind) → same_unit key other ≡ false → status_in (with_mark ledger key kind) other ≡ status_in ledger other
+marked_other ledger key other kind apart =
+    let b = has_no_v2 ledger.units other in
+    status_push b other None ledger.marks (next_mark ledger key kind)
+    ∙ ap (λ t. if t then given b kind (status_after b other None ledger.marks) else status_after b other None ledger.marks) apart
+
+pub recorded_other : (ledger : Ledger) (unit : UnitOfWork) (other : UnitKey) → status_in ledger unit.key ≡ None → same_unit unit.key other ≡ false → status_in (with_unit ledger unit) other ≡ status_in ledger other
+recorded_other ledger unit other fresh apart =
+    let units = ledger.units ++ unit ∷ [] in
+    let b = has_no_v2 units other in
+    status_push b other None ledger.marks (next_mark ledger unit.key Rec)
+    ∙ ap (λ t. if t then given b Rec (status_after b other None ledger.marks) else status_after b other None ledger.marks) apart
+    ∙ status_grows ledger.units unit ledger.marks other (none_of (has_no_v2 ledger.units unit.key) unit.key ledger.marks fresh)
+
+by_test : (P : Type 0) (b : Bool) → (b ≡ true → P) → (b ≡ false → P) → P
+by_test P true f g = f refl
+by_test P false f g = g refl
+
+some_or_none : {X : Type 0} (o : Option X) (x : X) → o ≡ Some x → o ≡ None → ⊥
+some_or_none None x h k = cc
+some_or_none (Some y) x h k = cc
+
+-- units of two statuses are two
+pub apart_by_status : (ledger : Ledger) (key other : UnitKey) (s : Status) → status_in ledger key ≡ Some s → status_in ledger other ≡ None → same_unit key other ≡ false
+apart_by_status ledger key other s here none =
+    by_test _ (same_unit key other)
+    (λ same. absurd (some_or_none (status_in ledger key) s here (ap (status_in ledger) (one_unit key other same) ∙ none)))
+    (λ apart. apart)
+
+apart_the_other_way : (ledger : Ledger) (key other : UnitKey) (s : Status) → status_in ledger key ≡ None → status_in ledger other ≡ Some s → same_unit key other ≡ false
+apart_the_other_way ledger key other s none here =
+    by_test _ (same_unit key other)
+    (λ same. absurd (some_or_none (status_in ledger other) s here (ap (status_in ledger) (sym (one_unit key other same)) ∙ none)))
+    (λ apart. apart)
+
+-- a mark of an open unit leaves the unheard unheard
+pub marked_unheard : (ledger : Ledger) (key other : UnitKey) (kind : MarkKind) → IsOpenUnit ledger key → status_in ledger other ≡ None → status_in (with_mark ledger key kind) other ≡ None
+marked_unheard ledger key other kind here none =
+    marked_other ledger key other kind (apart_by_status ledger key other Open here none) ∙ none
+
+-- a unit of which nothing was heard leaves the open ones open
+pub recorded_open : (ledger : Ledger) (unit : UnitOfWork) (other : UnitKey) → status_in ledger unit.key ≡ None → IsOpenUnit ledger other → IsOpenUnit (with_unit ledger unit) other
+recorded_open ledger unit other fresh here =
+    recorded_other ledger unit other fresh (apart_the_other_way ledger unit.key other Open fresh here) ∙ here
+
+-- ---- those that wait
+
+of_same : (a b : Status) → same_status a b ≡ true → a ≡ b
+of_same Open Open h = refl
+of_same Posted Posted h = refl
+of_same Bad Bad h = refl
+of_same Closed Closed h = refl
+of_same Bad2 Bad2 h = refl
+of_same Cancelled Cancelled h = refl
+of_same _ _ h = cc
+
+of_has : (status : Status) (o : Option Status) → has_status status o ≡ true → o ≡ Some status
+of_has status None h = cc
+of_has status (Some other) h = ap Some (sym (of_same status other h))
+
+-- what a mark gives doesn't hang on the status before it, but where it gives none
+given_any : (b : Bool) (kind : MarkKind) (before : Option Status) (s : Status) → given b kind None ≡ Some s → given b kind before ≡ Some s
+given_any b (Num numbers) before s h = cc
+given_any b Rec before s h = h
+given_any b V1 before s h = h
+given_any b (Bad1 i r) before s h = h
+given_any b Again1 before s h = h
+given_any b V2 before s h = h
+given_any b (BadSecond i r) before s h = h
+given_any b Again2 before s h = h
+given_any b Gone before s h = h
+
+given_alone : (b : Bool) (kind : MarkKind) (before : Option Status) → draws_alone kind ≡ true → given b kind before ≡ before
+given_alone b (Num numbers) before h = refl
+given_alone b Rec before h = cc
+given_alone b V1 before h = cc
+given_alone b (Bad1 i r) before h = cc
+given_alone b Again1 before h = cc
+given_alone b V2 before h = cc
+given_alone b (BadSecond i r) before h = cc
+given_alone b Again2 before h = cc
+given_alone b Gone before h = cc
+
+alone_by : (d : Bool) → not d ≡ false → d ≡ true
+alone_by true e = refl
+alone_by false e = cc
+
+undecided_once : (b : Bool) (key : UnitKey) (before : Option Status) (m : Mark) → decides key m ≡ false → (if same_unit m.unit key then given b m.kind before else before) ≡ before
+undecided_once b key before m h =
+    by_test _ (same_unit m.unit key)
+    (λ same. ap (λ t. if t then given b m.kind before else before) same
+    ∙ given_alone b m.kind before (alone_by (draws_alone m.kind) (sym (ap (λ t. t && not (draws_alone m.kind)) same) ∙ h)))
+    (λ apart. ap (λ t. if t then given b m.kind before else before) apart)
+
+no_or : (a b : Bool) → (a || b) ≡ false → (a ≡ false) × (b ≡ false)
+no_or true b h = (cc, cc)
+no_or false b h = (refl, h)
+
+-- marks that decide nothing of a unit leave its status
+undecided : (b : Bool) (key : UnitKey) (before : Option Status) (marks : List Mark) → list_any (decides key) marks ≡ false → status_after b key before marks ≡ before
+undecided b key before [] h = refl
+undecided b key before (m ∷ marks) h =
+    let parts = no_or (decides key m) (list_any (decides key) marks) h in
+    ap (λ o. status_after b key o marks) (undecided_once b key before m parts.0) ∙ undecided b key before marks parts.1
+
+-- whatever stood before
+abbrev Ends : List UnitOfWork → List Mark → Status → UnitKey → Type 0
+Ends units marks status key = (before : Option Status) → status_after (has_no_v2 units key) key before marks ≡ Some status
+
+ends_more : (units : List UnitOfWork) (m : Mark) (marks : List Mark) (status : Status) (keys : List UnitKey) → AllByRecursion (Ends units marks status) keys → AllByRecursion (Ends units (m ∷ marks) status) keys
+ends_more units m marks status [] h = tt
+ends_more units m marks status (key ∷ keys) h =
+    ((λ before. h.0 (if same_unit m.unit key then given (has_no_v2 units key) m.kind before else before)), ends_more units m marks status keys h.1)
+
+first_of : (a b : Bool) → (a && b) ≡ true → a ≡ true
+first_of true b h = refl
+first_of false b h = cc
+
+second_of : (a b : Bool) → (a && not b) ≡ true → b ≡ false
+second_of true true h = cc
+second_of true false h = refl
+second_of false b h = cc
+
+ends_here : (units : List UnitOfWork) (m : Mark) (marks : List Mark) (status : Status) → (has_status status (given (has_no_v2 units m.unit) m.kind None) && not (list_any (decides m.unit) marks)) ≡ true → Ends units (m ∷ marks) status m.unit
+ends_here units m marks status h before =
+    let b = has_no_v2 units m.unit in
+    let here : given b m.kind before ≡ Some status = given_any b m.kind before status (of_has status (given b m.kind None) (first_of _ _ h)) in
+    ap (λ t. status_after b m.unit (if t then given b m.kind before else before) marks) (unit_refl m.unit)
+    ∙ ap (λ o. status_after b m.unit o marks) here
+    ∙ undecided b m.unit (Some status) marks (second_of _ _ h)
+
+ends_with : (status : Status) (units : List UnitOfWork) (marks : List Mark) → AllByRecursion (Ends units marks status) (units_with status units marks)
+ends_with status units [] = tt
+ends_with status units (m ∷ marks) =
+    let rest = ends_more units m marks status (units_with status units marks) (ends_with status units marks) in
+    let test = has_status status (given (has_no_v2 units m.unit) m.kind None) && not (list_any (decides m.unit) marks) in
+    elim test as (λ t. test ≡ t → AllByRecursion (Ends units (m ∷ marks) status) (if t then m.unit ∷ units_with status units marks else units_with status units marks)) [
+      | true ↦ λ e. (ends_here units m marks status e, rest)
+      | false ↦ λ e. rest
+    ] refl
+
+all_open : (ledger : Ledger) (keys : List UnitKey) → AllByRecursion (Ends ledger.units ledger.marks Open) keys → AllByRecursion (IsOpenUnit ledger) keys
+all_open ledger [] h = tt
+all_open ledger (key ∷ keys) h = (h.0 None, all_open ledger keys h.1)
+
+-- those that wait are open
+pub waiting_open : (ledger : Ledger) → AllByRecursion (IsOpenUnit ledger) (waiting ledger.units ledger.marks)
+waiting_open ledger = all_open ledger _ (ends_with Open ledger.units ledger.marks)

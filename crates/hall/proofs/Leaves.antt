@@ -1,0 +1,113 @@
+-- What a stop may leave behind a call.
+use Rattle.std.proofs.Common.{◌≡◌, ◌⊎◌, inl, ℕ, Bool, true, false, sym, ap, ◌∙◌, subst}
+use Rattle.std.specs.Prelude.{Option, Some, None, IfSome, is_some, if◌then◌else◌}
+use Rattle.std.specs.Option.{option_map}
+use Rattle.enq_base.specs.declared.condition.Condition.{Condition}
+use Rattle.enq_base.specs.declared.condition.Condition.TheVariants as condition
+use Rattle.enq_base.specs.declared.owner.UnitKey.{UnitKey}
+use Rattle.enq_base.specs.declared.refusal.Refusal.{Refusal}
+use Rattle.enq_base.specs.declared.refusal.Refusal.TheVariants as refusal
+use Rattle.keeper_api.specs.Keeping.{IsOnly, IsWithin}
+use Rattle.keeper_api.specs.Rows.{Rows}
+use Rattle.posting.specs.Shelf.{Shelf, IsUsable, StandForEither}
+use Rattle.posting.specs.Steps.{after_step}
+use Rattle.posting.specs.declared.prepared.Outcome.{Outcome}
+use Rattle.posting.specs.declared.prepared.Outcome.TheVariants as outcome
+use Rattle.posting.specs.declared.prepared.Step.{Step}
+use Rattle.update_records.specs.Ledger.{Ledger, StandFor}
+use Rattle.hall.specs.Acts.{OnAnswer, OnFailure, posted_reply, written_condition, written_pending}
+use Rattle.hall.specs.Kept.{WhileUp}
+use Rattle.hall.specs.Leaving.{HasStoreCause, LeavesWritten, StandForPending, StandForWritten}
+use Rattle.hall.specs.State.{State}
+use Rattle.hall.specs.Step.{closed, is_full}
+use Rattle.hall.specs.declared.command.Reply.TheVariants as reply
+use Rattle.hall.specs.declared.units.Written.{Written}
+use Rattle.hall.specs.declared.units.Written.TheVariants.{Answered, Failed}
+
+-- ---- a call that isn't served
+
+same_of : {X : Type 0} (a b : X) → Some a ≡ Some b → a ≡ b
+same_of a b e = cc
+
+shut_quiet : (full : Bool) (k : Condition) (r : Refusal) (n m : ℕ) → m ≡ n → (if full then Some refusal.LogFull else elim k [ condition.Up ↦ None | condition.NoServer ↦ None | condition.Doubt call ↦ Some (refusal.Down call) ]) ≡ Some r → HasStoreCause n m (reply.Refused r)
+shut_quiet true k r n m h e = subst (λ x. HasStoreCause n m (reply.Refused x)) (same_of refusal.LogFull r e) h
+shut_quiet false condition.Up r n m h e = cc
+shut_quiet false condition.NoServer r n m h e = cc
+shut_quiet false (condition.Doubt call) r n m h e = subst (λ x. HasStoreCause n m (reply.Refused x)) (same_of (refusal.Down call) r e) h
+
+-- a call that isn't served leaves the count of faults
+pub closed_quiet : (s : State) (r : Refusal) (n m : ℕ) → m ≡ n → closed s ≡ Some r → HasStoreCause n m (reply.Refused r)
+closed_quiet s r n m h shut = shut_quiet (is_full s) s.condition r n m h shut
+
+-- ---- a call that writes the store
+
+-- while calls are allowed, what may be left stands for the ledger
+settled_stands : (held : Option Rows) (may_leave : Rows → Type 0) (ledger : Ledger) → IfSome held (λ rows. IsOnly rows may_leave) → IfSome held (λ rows. StandFor rows ledger) → IfSome held (λ _. (left : Rows) → may_leave left → StandFor left ledger)
+settled_stands None may_leave ledger only stands = tt
+settled_stands (Some rows) may_leave ledger only stands = λ left may. subst (λ r. StandFor r ledger) (sym (only.alone left may)) stands
+
+pub answered_leaves : {K : Type 0} (held : K → Option Rows) (is_open : K → Type 0) (may_leave : K → Rows → Type 0) (shelf : Shelf K) → ((keeper : K) → is_open keeper → IfSome (held keeper) (λ rows. IsOnly rows (may_leave keeper))) → IsUsable held is_open shelf → IfSome (held shelf.keeper) (λ _. (left : Rows) → may_leave shelf.keeper left → StandFor left shelf.ledger)
+answered_leaves held is_open may_leave shelf settled usable =
+    settled_stands (held shelf.keeper) (may_leave shelf.keeper) shelf.ledger (settled shelf.keeper usable.opened) usable.stands
+
+-- where rows are told after a call, they were told before it
+told_too : (held before : Option Rows) (P : Type 0) → is_some held ≡ is_some before → IfSome before (λ _. P) → IfSome held (λ _. P)
+told_too None before P e h = tt
+told_too (Some rows) None P e h = cc
+told_too (Some rows) (Some other) P e h = h
+
+-- a write that failed
+pub failed_leaves : (held before : Option Rows) (may_leave : Rows → Type 0) (ledger old : Ledger) (step said : Step) → is_some held ≡ is_some before → ledger ≡ old → said ≡ step
+    → IfSome before (λ _. (left : Rows) → may_leave left → StandForEither left old said)
+    → IfSome held (λ _. (left : Rows) → may_leave left → StandForEither left ledger step)
+failed_leaves held before may_leave ledger old step said told kept is h =
+    told_too held before ((left : Rows) → may_leave left → StandForEither left ledger step) told
+    (subst (λ l. IfSome before (λ _. (left : Rows) → may_leave left → StandForEither left l step)) (sym kept)
+    (subst (λ x. IfSome before (λ _. (left : Rows) → may_leave left → StandForEither left old x)) is h))
+
+before_step : (before : Option Rows) (may_leave was : Rows → Type 0) (ledger old : Ledger) (step : Step) → ledger ≡ old → IsWithin may_leave was
+    → IfSome before (λ _. (left : Rows) → was left → StandFor left old)
+    → IfSome before (λ _. (left : Rows) → may_leave left → StandForEither left ledger step)
+before_step None may_leave was ledger old step kept within h = tt
+before_step (Some rows) may_leave was ledger old step kept within h =
+    λ left may. inl (subst (StandFor left) (sym kept) (h left (within left may)))
+
+-- a read that failed before the write
+pub unread_leaves : (held before : Option Rows) (may_leave was : Rows → Type 0) (ledger old : Ledger) (step : Step) → is_some held ≡ is_some before → ledger ≡ old → IsWithin may_leave was
+    → IfSome before (λ _. (left : Rows) → was left → StandFor left old)
+    → IfSome held (λ _. (left : Rows) → may_leave left → StandForEither left ledger step)
+unread_leaves held before may_leave was ledger old step told kept within h =
+    told_too held before ((left : Rows) → may_leave left → StandForEither left ledger step) told (before_step before may_leave was ledger old step kept within h)
+
+pub posted_quiet : (unit : UnitKey) (o : Outcome) (n m : ℕ) → m ≡ n → HasStoreCause n m (posted_reply unit o)
+posted_quiet unit outcome.Done n m h = h
+posted_quiet unit (outcome.Refused index reason) n m h = h
+
+-- ---- the hall behind it
+
+stands_after : (left : Rows) (ledger : Ledger) (p : Option Step) (w : Written) → StandForWritten left ledger w → StandFor left ledger ⊎ StandForPending left (option_map (after_step ledger) (written_pending p w))
+stands_after left ledger p (Answered r) h = inl h
+stands_after left ledger p (Failed step) h = h
+
+leaves_for : (held : Option Rows) (may_leave : Rows → Type 0) (ledger : Ledger) (p : Option Step) (w : Written) → IfSome held (λ _. (left : Rows) → may_leave left → StandForWritten left ledger w)
+    → IfSome held (λ _. (left : Rows) → may_leave left → StandFor left ledger ⊎ StandForPending left (option_map (after_step ledger) (written_pending p w)))
+leaves_for None may_leave ledger p w h = tt
+leaves_for (Some rows) may_leave ledger p w h = λ left may. stands_after left ledger p w (h left may)
+
+pub leaves_after : {K : Type 0} (held : K → Option Rows) (may_leave : K → Rows → Type 0) (shelf : Shelf K) (p pending : Option Step) (w : Written) → pending ≡ written_pending p w → LeavesWritten held may_leave shelf w
+    → IfSome (held shelf.keeper) (λ _. (left : Rows) → may_leave shelf.keeper left → StandFor left shelf.ledger ⊎ StandForPending left (option_map (after_step shelf.ledger) pending))
+leaves_after held may_leave shelf p pending w is h =
+    subst (λ q. IfSome (held shelf.keeper) (λ _. (left : Rows) → may_leave shelf.keeper left → StandFor left shelf.ledger ⊎ StandForPending left (option_map (after_step shelf.ledger) q))) (sym is)
+    (leaves_for (held shelf.keeper) (may_leave shelf.keeper) shelf.ledger p w h)
+
+usable_for : (P : Type 0) (calls : ℕ) (w : Written) → OnAnswer w P → WhileUp (written_condition condition.Up calls w) P
+usable_for P calls (Answered r) h = h
+usable_for P calls (Failed step) h = tt
+
+pub usable_after : (P : Type 0) (before now : Condition) (calls : ℕ) (w : Written) → before ≡ condition.Up → now ≡ written_condition before calls w → OnAnswer w P → WhileUp now P
+usable_after P before now calls w up is h =
+    subst (λ k. WhileUp k P) (sym (is ∙ ap (λ k. written_condition k calls w) up)) (usable_for P calls w h)
+
+pub also_failed : (P : Type 0) (w : Written) → P → OnFailure w P
+also_failed P (Answered r) h = tt
+also_failed P (Failed step) h = h

@@ -1,0 +1,512 @@
+-- The locks of a unit that was committed stand as long as it waits for its V1 part.
+use Rattle.std.proofs.Common.{◌≡◌, ◌≢◌, ℕ, zero, suc, ◌+◌, Bool, true, false, not, ◌&&◌, List, [], ◌∷◌, ◌++◌, replicate, append_assoc, refl, sym, ap, ◌∙◌, subst, arith}
+use Rattle.std.specs.Prelude.{if◌then◌else◌, Option, Some, None, Result, Ok, Err}
+use Rattle.std.proofs.lemmas.List.{append-nil, length-replicate}
+use Rattle.std.proofs.lemmas.Bool.{or_parts}
+use Rattle.std.proofs.lemmas.List.Sums.{fold-append}
+use Rattle.enq_base.specs.Owners.{same_owner, same_unit}
+use Rattle.enq_base.specs.declared.condition.Condition.{Condition}
+use Rattle.enq_base.specs.declared.condition.Condition.TheVariants as condition
+use Rattle.enq_base.specs.declared.owner.Owner.TheVariants.{Upd}
+use Rattle.enq_base.specs.declared.owner.UnitKey.{UnitKey}
+use Rattle.enq_base.specs.declared.refusal.Refusal.{Refusal}
+use Rattle.enq_base.specs.declared.refusal.Refusal.TheVariants as refusal
+use Rattle.enq_base.specs.declared.unit.Parts.{Parts}
+use Rattle.enq_base.specs.declared.unit.Status.{Status}
+use Rattle.enq_base.specs.declared.unit.Status.TheVariants.{Open}
+use Rattle.lock_entry.proofs.Naming.{same_mode-same, same_owner-refl}
+use Rattle.lock_entry.specs.declared.entry.Entry.{Entry}
+use Rattle.lock_entry.specs.declared.entry.Asked.{Asked}
+use Rattle.lock_entry.specs.declared.entry.Request.{Request}
+use Rattle.lock_entry.specs.declared.fault.AskFault.{AskFault}
+use Rattle.lock_entry.specs.Converting.{Conversion, converted}
+use Rattle.lock_entry.specs.Freeing.{freed_owner, handed_over}
+use Rattle.lock_entry.specs.Granting.{asked}
+use Rattle.lock_entry.specs.Names.{halves, is_of}
+use Rattle.lock_entry.specs.Pairs.{in_pair}
+use Rattle.mode_rules.specs.declared.Mode.TheVariants.{O}
+use Rattle.mode_rules.specs.Modes.{same_mode}
+use Rattle.module_effects.specs.Effects.{applied}
+use Rattle.module_effects.specs.Rows.{Tables}
+use Rattle.module_effects.specs.declared.fault.EffectFault.{EffectFault}
+use Rattle.module_effects.specs.declared.fault.EffectFault.TheVariants as effect
+use Rattle.posting.proofs.Status.{flip, one_unit, status_push, unit_refl}
+use Rattle.posting.specs.Steps.{IsOpenUnit}
+use Rattle.update_records.specs.Business.{tables_of}
+use Rattle.update_records.specs.Growing.{next_mark, with_mark, with_unit}
+use Rattle.update_records.specs.Ledger.{Ledger}
+use Rattle.update_records.specs.Marks.{given, has_no_v2, status_after, v1_of, waiting}
+use Rattle.update_records.specs.declared.records.MarkKind.{MarkKind}
+use Rattle.update_records.specs.declared.records.MarkKind.TheVariants as mark
+use Rattle.update_records.specs.declared.records.Unit.{Unit as UnitOfWork}
+use Rattle.hall.specs.declared.command.Command.{Command}
+use Rattle.hall.specs.declared.command.Command.TheVariants as command
+use Rattle.hall.specs.declared.command.PastEntry.{PastEntry}
+use Rattle.hall.specs.declared.command.Reply.{Reply}
+use Rattle.hall.specs.declared.command.Reply.TheVariants as reply
+use Rattle.hall.specs.declared.command.Session.{Session}
+use Rattle.hall.specs.History.{DeviceOutcome, Well, Wanting, StoreFails, Served, doubted, failed, is_unrecorded, judged, noted, past_entry, served, shown, step}
+use Rattle.hall.specs.Kept.{AreOrders, HasFreshKeys, HasServer}
+use Rattle.hall.specs.Orders.{first_unclaimed, order_of, without_order}
+use Rattle.hall.specs.Recall.{AreModelAnswers, IsModelAnswer, recalled, state_after}
+use Rattle.hall.specs.Sessions.{pair_of, session_at, unit_key}
+use Rattle.hall.specs.Standing.{CallKeepsLocks, CallsKeepLocks, HandsOver, IsCommitOf, IsFirm, IsHandedTo, LocksStand, NoneEndsWait, StillWaits, WaitsLocked, WasFirm, ends_wait, is_commit, with_handed}
+use Rattle.hall.specs.State.{State, opened}
+use Rattle.hall.specs.Step.{Verdict, Refuses, Leaves, call_of, closed, committed, converting, entered, granting, is_full, marked, own_verdict, posting, session_call, taking, unit_of, unless_closed, verdict}
+use Rattle.hall.proofs.Few.{Holds, served-holds, with_past}
+use Rattle.hall.proofs.Fresh.{open_unheard}
+use Rattle.hall.proofs.Heard.{apart_by_status, marked_other, recorded_open, status_in}
+use Rattle.hall.proofs.LockLists.{Allows, Among, AreSure, IsOutside, all_among, among_from, asked_allows, contains_from, converted_allows, handed_source, hands_over, is_sure, kept_both, kept_conversion, kept_freed, kept_granted, kept_handed, kept_unit, kept_update, sure_conversion, sure_freed, sure_freed_owner, sure_granted, sure_handed_over, unnamed}
+
+-- the same as `KeepsHanded`, by recursion over the locks
+abbrev KeepsAmong : State → State → Type 0
+KeepsAmong s t = (unit : UnitKey) (e : Entry) → IsHandedTo unit e → StillWaits unit t → Among s.locks e → Among t.locks e
+
+-- all that is wanted of a call, by the state behind it and its answer
+record Stands (s : State) (r : Served) : Type 0 where
+  -- no optimistic lock is handed
+  sure : AreSure s.locks → AreSure r.state.locks
+  kept : AreSure s.locks → KeepsAmong s r.state
+  waits : (unit : UnitKey) → ends_wait unit r.reply ≡ false → StillWaits unit s → StillWaits unit r.state
+
+stands_still : (s : State) (r : Reply) → Stands s (record { state = s; reply = r })
+stands_still s r = record { sure = λ h. h; kept = λ h unit e own waits k. k; waits = λ unit on w. w }
+
+-- other locks, over the ledger as it was
+stands_over : (s t : State) (r : Reply) → t.condition ≡ s.condition → t.stored ≡ s.stored → (AreSure s.locks → AreSure t.locks) → ((unit : UnitKey) (e : Entry) → AreSure s.locks → IsHandedTo unit e → IsOpenUnit s.stored unit → Among s.locks e → Among t.locks e) → Stands s (record { state = t; reply = r })
+stands_over s t r c l sure kept = record {
+  sure = sure;
+  kept = λ h unit e own w k. kept unit e h own (subst (λ x. IsOpenUnit x unit) l w.waits) k;
+  waits = λ unit on w. record { up = c ∙ w.up; waits = subst (λ x. IsOpenUnit x unit) (sym l) w.waits };
+}
+
+-- neither locks nor ledger change
+stands_beside : (s t : State) (r : Reply) → t.condition ≡ s.condition → t.stored ≡ s.stored → t.locks ≡ s.locks → Stands s (record { state = t; reply = r })
+stands_beside s t r c l locks =
+    stands_over s t r c l (λ h. subst AreSure (sym locks) h) (λ unit e h own waits k. subst (λ es. Among es e) (sym locks) k)
+
+-- ---- calls of a session
+
+-- nothing is recorded of the session's open unit
+abbrev IsNew : State → Session → Type 0
+IsNew s x = status_in s.stored (unit_key s.stored.start x) ≡ None
+
+-- a lock of a unit that waits belongs to no owner of the session's pair
+outside : (s : State) (x : Session) (unit : UnitKey) (e : Entry) → IsNew s x → IsOpenUnit s.stored unit → IsHandedTo unit e → IsOutside (pair_of s.stored.start x) e
+outside s x unit e new waits own =
+    ap (in_pair (pair_of s.stored.start x)) own.owner ∙ apart_by_status s.stored unit (unit_key s.stored.start x) Open waits new
+
+second_no : (b c : Bool) → b ≡ true → not (b && c) ≡ true → c ≡ false
+second_no true true h k = cc
+second_no true false h k = refl
+second_no false c h k = cc
+
+-- a lock that is handed isn't optimistic
+firm_of : (es : List Entry) (e : Entry) → AreSure es → Among es e → e.handed ≡ true → same_mode e.mode O ≡ false
+firm_of es e h k handed = second_no e.handed (same_mode e.mode O) handed (all_among is_sure es e h k)
+
+granting-stands : (s : State) (r : Result (List Entry) AskFault) → Allows (λ es. Stands s (record { state = record s { locks = es }; reply = reply.Done })) r → Stands s (judged s (granting s r))
+granting-stands s (Ok es) h = h
+granting-stands s (Err f) h = stands_still s _
+
+converting-stands : (s : State) (r : Result Conversion AskFault) → Allows (λ (c : Conversion). Stands s (record { state = record s { locks = c.entries }; reply = reply.Done })) r → Stands s (judged s (converting s r))
+converting-stands s (Ok c) h = h
+converting-stands s (Err f) h = stands_still s _
+
+ask-stands : (s : State) (x : Session) (rs : List Request) → IsNew s x → Stands s (judged s (granting s (asked (record { entries = s.locks; limit = s.limit }) (pair_of s.stored.start x) x.user rs)))
+ask-stands s x rs new =
+    let pair = pair_of s.stored.start x in
+    granting-stands s _
+    (asked_allows (λ es. Stands s (record { state = record s { locks = es }; reply = reply.Done })) (record { entries = s.locks; limit = s.limit }) pair x.user rs
+    (stands_over s _ _ refl refl
+    (λ h. sure_granted s.locks x.user (halves pair rs) h)
+    (λ unit e h own waits k. kept_granted s.locks x.user (halves pair rs) e (unnamed pair rs e (outside s x unit e new waits own)) k)))
+
+convert-stands : (s : State) (x : Session) (asked : List Asked) → IsNew s x → Stands s (judged s (converting s (converted s.locks (pair_of s.stored.start x) asked)))
+convert-stands s x asked new =
+    let pair = pair_of s.stored.start x in
+    converting-stands s _
+    (converted_allows (λ (c : Conversion). Stands s (record { state = record s { locks = c.entries }; reply = reply.Done })) s.locks pair asked
+    (stands_over s _ _ refl refl
+    (λ h. sure_conversion s.locks pair asked h)
+    (λ unit e h own waits k. kept_conversion s.locks pair asked e (outside s x unit e new waits own) (firm_of s.locks e h k own.handed) k)))
+
+committed-stands : (s : State) (x : Session) (parts : Parts) (r : Reply) → IsNew s x → Stands s (record { state = committed s x parts; reply = r })
+committed-stands s x parts r new =
+    let key = unit_key s.stored.start x in
+    record {
+      sure = λ h. sure_handed_over s.locks key h;
+      kept = λ h u e own w k. kept_handed s.locks key e own.handed (firm_of s.locks e h k own.handed) k;
+      waits = λ u on w. record { up = w.up; waits = recorded_open s.stored (unit_of s.stored.start x parts) u new w.waits };
+    }
+
+commit-stands : (s : State) (x : Session) (parts : Parts) (large none : Bool) → IsNew s x → Stands s (judged s (if large then Refuses refusal.UnitTooLarge else (if none then Leaves s reply.Done else Leaves (committed s x parts) (reply.Unit (unit_key s.stored.start x)))))
+commit-stands s x parts true none new = stands_still s _
+commit-stands s x parts false true new = stands_still s _
+commit-stands s x parts false false new = committed-stands s x parts _ new
+
+session-stands : (s : State) (x : Session) (c : Command) → IsNew s x → Stands s (judged s (session_call s x c))
+session-stands s x (command.Logon session user) new = stands_still s _
+session-stands s x (command.Logoff session) new =
+    let pair = pair_of s.stored.start x in
+    stands_over s _ _ refl refl
+    (λ h. sure_freed_owner (freed_owner s.locks pair.dialogue) pair.update (sure_freed_owner s.locks pair.dialogue h))
+    (λ unit e h own waits k. kept_both s.locks pair e (outside s x unit e new waits own) k)
+session-stands s x (command.Ask session rs) new = ask-stands s x rs new
+session-stands s x (command.Free session rs) new =
+    let pair = pair_of s.stored.start x in
+    stands_over s _ _ refl refl
+    (λ h. sure_freed s.locks (halves pair rs) h)
+    (λ unit e h own waits k. kept_freed s.locks (halves pair rs) e (unnamed pair rs e (outside s x unit e new waits own)) k)
+session-stands s x (command.FreeAll session) new =
+    let pair = pair_of s.stored.start x in
+    stands_over s _ _ refl refl
+    (λ h. sure_freed_owner (freed_owner s.locks pair.dialogue) pair.update (sure_freed_owner s.locks pair.dialogue h))
+    (λ unit e h own waits k. kept_both s.locks pair e (outside s x unit e new waits own) k)
+session-stands s x (command.Convert session asked) new = convert-stands s x asked new
+session-stands s x (command.Rollback session) new =
+    let pair = pair_of s.stored.start x in
+    stands_over s _ _ refl refl
+    (λ h. sure_freed_owner s.locks pair.update h)
+    (λ unit e h own waits k. kept_update s.locks pair e (outside s x unit e new waits own) k)
+session-stands s x (command.Commit session parts) new = commit-stands s x parts _ _ new
+session-stands s x (command.Take1 worker) new = stands_still s _
+session-stands s x (command.Do1 worker) new = stands_still s _
+session-stands s x (command.DropOrder worker) new = stands_still s _
+
+call-stands : (s : State) (name : List ℕ) (c : Command) → HasFreshKeys s → Stands s (judged s (call_of s name c))
+call-stands s name c fresh =
+    elim (session_at s.sessions name) as (λ o. session_at s.sessions name ≡ o → Stands s (judged s (elim o [ None ↦ Refuses refusal.UnknownSession | Some x ↦ session_call s x c ]))) [
+      | None ↦ λ e. stands_still s _
+      | Some x ↦ λ e. session-stands s x c (open_unheard s name x e fresh)
+    ] refl
+
+logon-stands : (s : State) (name user : List ℕ) (known full : Bool) → Stands s (judged s (if known then Refuses refusal.SessionExists else (if full then Refuses refusal.SessionsFull else Leaves (entered s name user) reply.Done)))
+logon-stands s name user true full = stands_still s _
+logon-stands s name user false true = stands_still s _
+logon-stands s name user false false = stands_beside s _ _ refl refl refl
+
+-- ---- calls of a worker
+
+taking-stands : (s : State) (worker : ℕ) (o : Option UnitKey) → Stands s (judged s (taking s worker o))
+taking-stands s worker None = stands_still s _
+taking-stands s worker (Some unit) = stands_beside s _ _ refl refl refl
+
+take-stands : (s : State) (worker : ℕ) (o found : Option UnitKey) → Stands s (judged s (elim o [ Some unit ↦ Refuses (refusal.WorkerBusy unit) | None ↦ taking s worker found ]))
+take-stands s worker None found = taking-stands s worker found
+take-stands s worker (Some unit) found = stands_still s _
+
+order-stands : (s : State) (o : Option UnitKey) (act : UnitKey → Verdict) → ((unit : UnitKey) → Stands s (judged s (act unit))) → Stands s (judged s (elim o [ None ↦ Refuses refusal.NoOrder | Some unit ↦ act unit ]))
+order-stands s None act h = stands_still s _
+order-stands s (Some unit) act h = h unit
+
+-- a mark that ends the V1 part
+abbrev Ends : MarkKind → Type 0
+Ends kind = (b : Bool) (before : Option Status) → given b kind before ≡ Some Open → ⊥
+
+v1-ends : Ends mark.V1
+v1-ends true before h = cc
+v1-ends false before h = cc
+
+status_here : (ledger : Ledger) (key : UnitKey) (kind : MarkKind) → status_in (with_mark ledger key kind) key ≡ given (has_no_v2 ledger.units key) kind (status_in ledger key)
+status_here ledger key kind =
+    let b = has_no_v2 ledger.units key in
+    status_push b key None ledger.marks (next_mark ledger key kind)
+    ∙ ap (λ t. if t then given b kind (status_after b key None ledger.marks) else status_after b key None ledger.marks) (unit_refl key)
+
+by_unit : (P : Type 0) (key other : UnitKey) → (key ≡ other → P) → (same_unit key other ≡ false → P) → P
+by_unit P key other f g =
+    elim (same_unit key other) as (λ b. same_unit key other ≡ b → P) [ true ↦ λ same. f (one_unit key other same) | false ↦ λ apart. g apart ] refl
+
+-- another unit waits than the one whose part ended
+apart_from_ended : (ledger : Ledger) (key other : UnitKey) (kind : MarkKind) → Ends kind → IsOpenUnit (with_mark ledger key kind) other → same_unit key other ≡ false
+apart_from_ended ledger key other kind ends waits =
+    by_unit _ key other
+    (λ same.
+    absurd (ends (has_no_v2 ledger.units key) (status_in ledger key) (sym (status_here ledger key kind) ∙ subst (IsOpenUnit (with_mark ledger key kind)) (sym same) waits)))
+    (λ apart. apart)
+
+marked-stands : (s : State) (worker : ℕ) (unit : UnitKey) (kind : MarkKind) (r : Reply) → Ends kind → ((u : UnitKey) → ends_wait u r ≡ same_unit unit u) → Stands s (record { state = marked s worker unit kind; reply = r })
+marked-stands s worker unit kind r ends told = record {
+  sure = λ h. sure_freed_owner s.locks (Upd unit) h;
+  kept = λ h u e own w k. kept_unit s.locks u unit e own.owner (flip u unit (apart_from_ended s.stored unit u kind ends w.waits)) k;
+  waits = λ u on w. record { up = w.up; waits = marked_other s.stored unit u kind (sym (told u) ∙ on) ∙ w.waits };
+}
+
+posting-stands : (s : State) (worker : ℕ) (unit : UnitKey) (r : Result Tables EffectFault) → Stands s (judged s (posting s worker unit r))
+posting-stands s worker unit (Ok tables) = marked-stands s worker unit mark.V1 (reply.Posted unit) v1-ends (λ u. refl)
+posting-stands s worker unit (Err (effect.Refused index reason)) =
+    marked-stands s worker unit (mark.Bad1 index reason) (reply.Bad unit index reason) (λ b before h. cc) (λ u. refl)
+posting-stands s worker unit (Err effect.NoMemory) = stands_still s _
+
+-- ---- all calls
+
+own-stands : (s : State) (c : Command) → HasFreshKeys s → Stands s (judged s (own_verdict s c))
+own-stands s (command.Logon session user) fresh = logon-stands s session user _ _
+own-stands s (command.Logoff session) fresh = call-stands s session (command.Logoff session) fresh
+own-stands s (command.Ask session rs) fresh = call-stands s session (command.Ask session rs) fresh
+own-stands s (command.Free session rs) fresh = call-stands s session (command.Free session rs) fresh
+own-stands s (command.FreeAll session) fresh = call-stands s session (command.FreeAll session) fresh
+own-stands s (command.Convert session asked) fresh = call-stands s session (command.Convert session asked) fresh
+own-stands s (command.Rollback session) fresh = call-stands s session (command.Rollback session) fresh
+own-stands s (command.Commit session parts) fresh = call-stands s session (command.Commit session parts) fresh
+own-stands s (command.Take1 worker) fresh = take-stands s worker (order_of s.orders worker) (first_unclaimed s.orders (waiting s.stored.units s.stored.marks))
+own-stands s (command.Do1 worker) fresh =
+    order-stands s (order_of s.orders worker) (λ unit. posting s worker unit (applied (v1_of s.stored.units unit) (tables_of s.stored.units s.stored.marks)))
+    (λ unit. posting-stands s worker unit _)
+own-stands s (command.DropOrder worker) fresh =
+    order-stands s (order_of s.orders worker) (λ unit. Leaves (record s { orders = without_order s.orders worker }) (reply.Unit unit))
+    (λ unit. stands_beside s _ _ refl refl refl)
+
+unless-stands : (s : State) (o : Option Refusal) (v : Verdict) → Stands s (judged s v) → Stands s (judged s (unless_closed o v))
+unless-stands s None v h = h
+unless-stands s (Some r) v h = stands_still s _
+
+verdict-stands : (s : State) (c : Command) → HasFreshKeys s → Stands s (judged s (verdict s c))
+unfolding verdict
+verdict-stands s c fresh = unless-stands s (closed s) (own_verdict s c) (own-stands s c fresh)
+
+-- a server in doubt has no locks, and isn't up
+doubted-stands : (s : State) (pending : Ledger) → Stands s (record { state = doubted s pending; reply = reply.Refused refusal.StoreFault })
+doubted-stands s pending = record {
+  sure = λ h. refl;
+  kept = λ h unit e own w k. let up = w.up in absurd (cc);
+  waits = λ unit on w. absurd (cc);
+}
+
+failed-stands : (s : State) (v : Verdict) → Stands s (failed s v)
+failed-stands s (Refuses r) = stands_still s _
+failed-stands s (Leaves after r) = doubted-stands s after.stored
+
+served-stands : (o : DeviceOutcome) (s : State) (c : Command) → HasFreshKeys s → Stands s (served o s c)
+served-stands Well s c fresh = verdict-stands s c fresh
+served-stands Wanting s c fresh = stands_still s _
+served-stands StoreFails s c fresh = failed-stands s (verdict s c)
+
+noted-stands : (s : State) (line : ℕ) (c : Command) (r : Served) (b : Bool) → Stands s r → Stands s (if b then r else record r { state = record r.state { past = r.state.past ++ past_entry line c r.reply ∷ [] } })
+noted-stands s line c r true h = h
+noted-stands s line c r false h = record {
+  sure = λ k. h.sure k;
+  kept = λ sure unit e own w k. h.kept sure unit e own (record { up = w.up; waits = w.waits }) k;
+  waits = λ unit on w. let now = h.waits unit on w in record { up = now.up; waits = now.waits };
+}
+
+stepped-stands : (o : DeviceOutcome) (s : State) (line : ℕ) (c : Command) → HasFreshKeys s → Stands s (step o s line c)
+stepped-stands o s line c fresh =
+    let r = served o s c in noted-stands s line c r (is_unrecorded r.reply) (served-stands o s c fresh)
+
+recalled-stands : (s : State) (call : PastEntry) → HasFreshKeys s → Stands s (step (shown call.reply) s call.line call.command)
+recalled-stands s call fresh = stepped-stands (shown call.reply) s call.line call.command fresh
+
+-- ---- states that calls lead to
+
+record IsReached (s : State) : Type 0 where
+  calls : ℕ
+  holds : Holds calls s
+  sure : AreSure s.locks
+
+none_ordered : (ledger : Ledger) (n : ℕ) → AreOrders ledger (replicate n None)
+none_ordered ledger zero = tt
+none_ordered ledger (suc n) = none_ordered ledger n
+
+reached_first : (limit : ℕ) → IsReached (opened limit)
+reached_first limit = record {
+  calls = 0;
+  holds = record {
+    few = record { sessions = omega arith; units = tt; marks = omega arith };
+    steady = record {
+      started = omega arith;
+      server = tt;
+      settled = refl;
+      fresh = record { numbered = tt; ahead = tt; later = λ session luw from. refl };
+      places = length-replicate {A = Option UnitKey} 256 None;
+      orders = none_ordered (opened limit).stored 256;
+    };
+  };
+  sure = refl;
+}
+
+noted-holds : (n line : ℕ) (c : Command) (r : Served) (b : Bool) → Holds n r.state → Holds n (if b then r else record r { state = record r.state { past = r.state.past ++ past_entry line c r.reply ∷ [] } }).state
+noted-holds n line c r true h = h
+noted-holds n line c r false h = with_past n r.state (r.state.past ++ past_entry line c r.reply ∷ []) h
+
+reached_next : (s : State) (call : PastEntry) → IsReached s → IsReached (recalled s call)
+reached_next s call h =
+    let r = served (shown call.reply) s call.command in
+    record {
+      calls = h.calls + 1;
+      holds = noted-holds (h.calls + 1) call.line call.command r (is_unrecorded r.reply) (served-holds h.calls (shown call.reply) s call.command h.holds);
+      sure = (recalled-stands s call h.holds.steady.fresh).sure h.sure;
+    }
+
+reached_after : (s : State) (calls : List PastEntry) → IsReached s → IsReached (state_after s calls)
+reached_after s [] h = h
+reached_after s (call ∷ calls) h = reached_after (recalled s call) calls (reached_next s call h)
+
+-- ---- commits
+
+-- what a commit leaves of its unit
+record Hands (unit : UnitKey) (s t : State) : Type 0 where
+  locks : t.locks ≡ handed_over s.locks unit
+  waits : StillWaits unit t
+
+abbrev HandsIf : UnitKey → State → Served → Type 0
+HandsIf unit s r = r.reply ≡ reply.Unit unit → Hands unit s r.state
+
+recorded_here : (ledger : Ledger) (unit : UnitOfWork) → IsOpenUnit (with_unit ledger unit) unit.key
+recorded_here ledger unit =
+    let b = has_no_v2 (ledger.units ++ unit ∷ []) unit.key in
+    status_push b unit.key None ledger.marks (next_mark ledger unit.key mark.Rec)
+    ∙ ap (λ t. if t then given b mark.Rec (status_after b unit.key None ledger.marks) else status_after b unit.key None ledger.marks) (unit_refl unit.key)
+
+commit-hands : (unit : UnitKey) (s : State) (x : Session) (parts : Parts) (large none : Bool) → s.condition ≡ condition.Up → HandsIf unit s (judged s (if large then Refuses refusal.UnitTooLarge else (if none then Leaves s reply.Done else Leaves (committed s x parts) (reply.Unit (unit_key s.stored.start x)))))
+commit-hands unit s x parts true none up e = absurd (cc)
+commit-hands unit s x parts false true up e = absurd (cc)
+commit-hands unit s x parts false false up e =
+    let same : unit_key s.stored.start x ≡ unit = cc in
+    record {
+      locks = ap (handed_over s.locks) same;
+      waits = record { up = up; waits = subst (IsOpenUnit (committed s x parts).stored) same (recorded_here s.stored (unit_of s.stored.start x parts)) };
+    }
+
+call-hands : (unit : UnitKey) (s : State) (name : List ℕ) (parts : Parts) → s.condition ≡ condition.Up → HandsIf unit s (judged s (call_of s name (command.Commit name parts)))
+call-hands unit s name parts up =
+    elim (session_at s.sessions name) as (λ o. HandsIf unit s (judged s (elim o [ None ↦ Refuses refusal.UnknownSession | Some x ↦ session_call s x (command.Commit name parts) ]))) [
+      | None ↦ λ e. absurd (cc)
+      | Some x ↦ commit-hands unit s x parts _ _ up
+    ]
+
+-- where calls are served the server is up, since no call ends the lock server
+served_up : (full : Bool) (c : Condition) → HasServer c → (if full then Some refusal.LogFull else elim c [ condition.Up ↦ None | condition.NoServer ↦ None | condition.Doubt k ↦ Some (refusal.Down k) ]) ≡ None → c ≡ condition.Up
+served_up true c server e = absurd (cc)
+served_up false condition.Up server e = refl
+served_up false condition.NoServer server e = absurd server
+served_up false (condition.Doubt k) server e = absurd (cc)
+
+unless-hands : (unit : UnitKey) (s : State) (o : Option Refusal) (v : Verdict) → (o ≡ None → HandsIf unit s (judged s v)) → HandsIf unit s (judged s (unless_closed o v))
+unless-hands unit s None v h e = h refl e
+unless-hands unit s (Some r) v h e = absurd (cc)
+
+verdict-hands : (unit : UnitKey) (s : State) (c : Command) → HasServer s.condition → is_commit c ≡ true → HandsIf unit s (judged s (verdict s c))
+unfolding verdict
+verdict-hands unit s (command.Commit name parts) server is =
+    unless-hands unit s (closed s) (own_verdict s (command.Commit name parts))
+    (λ room. call-hands unit s name parts (served_up (is_full s) s.condition server room))
+verdict-hands unit s _ server is = absurd (cc)
+
+noted-hands : (unit : UnitKey) (s : State) (line : ℕ) (c : Command) (r : Served) (b : Bool) → HandsIf unit s r → HandsIf unit s (if b then r else record r { state = record r.state { past = r.state.past ++ past_entry line c r.reply ∷ [] } })
+noted-hands unit s line c r true h e = h e
+noted-hands unit s line c r false h e =
+    let k = h e in
+    record { locks = k.locks; waits = record { up = k.waits.up; waits = k.waits.waits } }
+
+recalled-hands : (unit : UnitKey) (s : State) (call : PastEntry) → HasServer s.condition → IsModelAnswer s call → IsCommitOf unit call → Hands unit s (recalled s call)
+recalled-hands unit s call server answer is =
+    let well : shown call.reply ≡ Well = ap shown is.answered in
+    let r = judged s (verdict s call.command) in
+    let same : step (shown call.reply) s call.line call.command ≡ noted call.line call.command r = ap (λ o. step o s call.line call.command) well in
+    let told : (noted call.line call.command r).reply ≡ reply.Unit unit = ap (λ (x : Served). x.reply) (sym same) ∙ answer.reply ∙ is.answered in
+    subst (λ (x : Served). Hands unit s x.state) (sym same)
+    (noted-hands unit s call.line call.command r (is_unrecorded r.reply) (verdict-hands unit s call.command server is.commits) told)
+
+firm_mode : (e : Entry) → e.mode ≢ O → same_mode e.mode O ≡ false
+firm_mode e h =
+    elim (same_mode e.mode O) as (λ b. same_mode e.mode O ≡ b → b ≡ false) [ true ↦ λ t. absurd (h (same_mode-same e.mode O t)) | false ↦ λ t. refl ] refl
+
+no_firm : (e : Entry) → same_mode e.mode O ≡ false → e.mode ≢ O
+no_firm e h is = let both : true ≡ false = sym (ap (λ m. same_mode m O) is) ∙ h in cc
+
+handed-among : (unit : UnitKey) (s t : State) (e : Entry) → t.locks ≡ handed_over s.locks unit → IsFirm unit e → Among s.locks e → Among t.locks (with_handed e)
+handed-among unit s t e locks firm k =
+    let own : is_of (Upd unit) e ≡ true = ap (λ o. same_owner o (Upd unit)) firm.owner ∙ same_owner-refl (Upd unit) in
+    subst (λ es. Among es (with_handed e)) (sym locks) (hands_over s.locks unit e own (firm_mode e firm.mode) k)
+
+was_firm : (unit : UnitKey) (s t : State) (e : Entry) → t.locks ≡ handed_over s.locks unit → e.owner ≡ Upd unit → Among t.locks e → WasFirm unit s e
+was_firm unit s t e locks own k =
+    let source = handed_source s.locks unit e own (subst (λ es. Among es e) locks k) in
+    record {
+      before = source.0;
+      firm = record { owner = source.2; mode = no_firm source.0 source.3 };
+      stood = contains_from s.locks source.0 source.1;
+      same = source.4;
+    }
+
+hands-over : (unit : UnitKey) (s t : State) → Hands unit s t → HandsOver unit s t
+hands-over unit s t h = record {
+  waits = h.waits;
+  handed = λ e firm k. contains_from t.locks (with_handed e) (handed-among unit s t e h.locks firm (among_from s.locks e k));
+  only = λ e own k. was_firm unit s t e h.locks own (among_from t.locks e k);
+}
+
+-- ---- whole histories
+
+called : (s : State) (call : PastEntry) → IsReached s → IsModelAnswer s call → CallKeepsLocks s call (recalled s call)
+called s call reached answer = record {
+  commits = λ unit is. hands-over unit s (recalled s call) (recalled-hands unit s call reached.holds.steady.server answer is);
+  kept = λ unit e own w k.
+      contains_from (recalled s call).locks e ((recalled-stands s call reached.holds.steady.fresh).kept reached.sure unit e own w (among_from s.locks e k));
+}
+
+-- each call of a history that is answered as the model answers it keeps the locks of committed units
+pub calls_keep_locks : (limit : ℕ) (calls : List PastEntry) → AreModelAnswers (opened limit) calls → CallsKeepLocks (opened limit) calls
+calls_keep_locks limit calls answers earlier later call e =
+    let first = opened limit in
+    let s = state_after first earlier in
+    subst (CallKeepsLocks s call) (sym (fold-append recalled first earlier (call ∷ [])))
+    (called s call (reached_after first earlier (reached_first limit)) (answers earlier later call e))
+
+-- each call is answered as the model answers it, from this state on
+abbrev AnswersFrom : State → List PastEntry → Type 0
+AnswersFrom s [] = Unit {0}
+AnswersFrom s (call ∷ calls) = IsModelAnswer s call × AnswersFrom (recalled s call) calls
+
+-- a unit that waits, with these of its locks, waits with them as long as no call ends that
+stays_locked : (unit : UnitKey) (before t : State) (calls : List PastEntry) → IsReached t → AnswersFrom t calls → NoneEndsWait unit calls → WaitsLocked unit before t → WaitsLocked unit before (state_after t calls)
+stays_locked unit before t [] reached answers on h = h
+stays_locked unit before t (call ∷ calls) reached answers on h =
+    let ons = or_parts (ends_wait unit call.reply) _ on in
+    let stands = recalled-stands t call reached.holds.steady.fresh in
+    let waits : StillWaits unit (recalled t call) = stands.waits unit (ap (ends_wait unit) answers.0.reply ∙ ons.0) h.waits in
+    stays_locked unit before (recalled t call) calls (reached_next t call reached) answers.1 ons.1 (record {
+      waits = waits;
+      locks = λ e firm k.
+          let own : IsHandedTo unit (with_handed e) = record { owner = firm.owner; handed = refl } in
+          contains_from (recalled t call).locks (with_handed e)
+          (stands.kept reached.sure unit (with_handed e) own waits (among_from t.locks (with_handed e) (h.locks e firm k)));
+    })
+
+answers_from : (first : State) (earlier calls : List PastEntry) → ((done later : List PastEntry) (call : PastEntry) → calls ≡ done ++ call ∷ later → IsModelAnswer (state_after first (earlier ++ done)) call) → AnswersFrom (state_after first earlier) calls
+answers_from first earlier [] h = tt
+answers_from first earlier (call ∷ calls) h =
+    let leads : state_after first (earlier ++ call ∷ []) ≡ recalled (state_after first earlier) call = fold-append recalled first earlier (call ∷ []) in (
+      subst (λ es. IsModelAnswer (state_after first es) call) (append-nil earlier) (h [] calls call refl),
+      subst (λ s. AnswersFrom s calls) leads
+          (answers_from first (earlier ++ call ∷ []) calls
+          (λ done later other e. subst (λ es. IsModelAnswer (state_after first es) other) (sym (append_assoc earlier (call ∷ []) done)) (h (call ∷ done) later other (ap (λ es. call ∷ es) e)))),
+    )
+
+-- a call of those between is one of the whole history
+rest_of : (calls earlier between later : List PastEntry) (call : PastEntry) (done after : List PastEntry) (other : PastEntry) → calls ≡ earlier ++ call ∷ (between ++ later) → between ≡ done ++ other ∷ after → calls ≡ ((earlier ++ call ∷ []) ++ done) ++ other ∷ (after ++ later)
+rest_of calls earlier between later call done after other whole e =
+    whole
+    ∙ ap (λ es. earlier ++ call ∷ (es ++ later)) e
+    ∙ ap (λ es. earlier ++ call ∷ es) (append_assoc done (other ∷ after) later)
+    ∙ sym (append_assoc earlier (call ∷ []) (done ++ other ∷ (after ++ later)))
+    ∙ sym (append_assoc (earlier ++ call ∷ []) done (other ∷ (after ++ later)))
+
+-- in a history that is answered as the model answers it each committed unit waits with its locks until a call ends that
+pub locks_stand : (limit : ℕ) (calls : List PastEntry) → AreModelAnswers (opened limit) calls → LocksStand (opened limit) calls
+locks_stand limit calls answers earlier between later call unit whole is on =
+    let first = opened limit in
+    let s = state_after first earlier in
+    let t = recalled s call in
+    let leads : state_after first (earlier ++ call ∷ between) ≡ state_after t between = fold-append recalled first earlier (call ∷ between) in
+    let to_here : state_after first (earlier ++ call ∷ []) ≡ t = fold-append recalled first earlier (call ∷ []) in
+    let reached = reached_after first earlier (reached_first limit) in
+    let hands = hands-over unit s t (recalled-hands unit s call reached.holds.steady.server (answers earlier (between ++ later) call whole) is) in
+    let rest : AnswersFrom t between =
+    subst (λ x. AnswersFrom x between) to_here
+    (answers_from first (earlier ++ call ∷ []) between
+    (λ done after other e. answers ((earlier ++ call ∷ []) ++ done) (after ++ later) other (rest_of calls earlier between later call done after other whole e))) in
+    subst (WaitsLocked unit s) (sym leads)
+    (stays_locked unit s t between (reached_next s call reached) rest on (record { waits = hands.waits; locks = hands.handed }))

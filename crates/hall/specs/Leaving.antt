@@ -1,0 +1,43 @@
+-- What a stop may leave in the store, and when the store fails.
+use Rattle.std.specs.Prelude.{ℕ, ◌≡◌, ◌⊎◌, ◌≤◌, Option, Some, None, IfSome}
+use Rattle.enq_base.specs.Causes.{Rose}
+use Rattle.enq_base.specs.declared.refusal.Refusal.TheVariants as refusal
+use Rattle.keeper_api.specs.Rows.{Rows}
+use Rattle.posting.specs.Shelf.{Shelf, StandForEither}
+use Rattle.update_records.specs.Ledger.{Ledger, StandFor}
+use Rattle.hall.specs.declared.command.Reply.{Reply}
+use Rattle.hall.specs.declared.command.Reply.TheVariants as reply
+use Rattle.hall.specs.declared.units.Written.{Written}
+use Rattle.hall.specs.declared.units.Written.TheVariants.{Answered, Failed}
+use Rattle.hall.specs.State.{State, View}
+
+-- rows stand for the change in flight, if there is one
+abbrev pub StandForPending : Rows → Option Ledger → Type 0
+StandForPending rows None = ⊥
+StandForPending rows (Some pending) = StandFor rows pending
+
+-- rows stand for what is recorded, with or without the change in flight
+abbrev pub StandForState : Rows → State → Type 0
+StandForState rows s = StandFor rows s.stored ⊎ StandForPending rows s.pending
+
+-- where the keeper tells its rows, each map that a stop may leave stands for the state
+abbrev pub LeavesState : {K : Type 0} → (K → Option Rows) → (K → Rows → Type 0) → View K → Type 0
+LeavesState held may_leave view =
+    IfSome (held view.keeper) (λ _. (left : Rows) → may_leave view.keeper left → StandForState left view.state)
+
+-- rows stand for the ledger, or where the store failed in a step for the ledger before it or after it
+abbrev pub StandForWritten : Rows → Ledger → Written → Type 0
+StandForWritten rows ledger (Answered r) = StandFor rows ledger
+StandForWritten rows ledger (Failed step) = StandForEither rows ledger step
+
+-- the same of each map that a stop may leave
+abbrev pub LeavesWritten :
+    {K : Type 0} → (K → Option Rows) → (K → Rows → Type 0) → Shelf K → Written → Type 0
+LeavesWritten held may_leave shelf written =
+    IfSome (held shelf.keeper)
+    (λ _. (left : Rows) → may_leave shelf.keeper left → StandForWritten left shelf.ledger written)
+
+-- the store's fault is answered only where the count of faults has risen, and with any other answer it stands still
+abbrev pub HasStoreCause : ℕ → ℕ → Reply → Type 0
+HasStoreCause before now (reply.Refused refusal.StoreFault) = (before ≤ now) × Rose before now
+HasStoreCause before now _ = now ≡ before

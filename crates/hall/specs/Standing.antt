@@ -1,0 +1,106 @@
+-- How long the locks of a unit that was committed stand.
+use Rattle.std.specs.Prelude.{◌≡◌, ◌≢◌, Bool, true, false, List, [], ◌∷◌, ◌++◌, Contains, IsTrue}
+use Rattle.std.specs.List.{list_any}
+use Rattle.enq_base.specs.Owners.{same_unit}
+use Rattle.enq_base.specs.declared.condition.Condition.TheVariants.{Up}
+use Rattle.enq_base.specs.declared.owner.Owner.TheVariants.{Upd}
+use Rattle.enq_base.specs.declared.owner.UnitKey.{UnitKey}
+use Rattle.enq_base.specs.declared.refusal.Refusal.TheVariants as refusal
+use Rattle.lock_entry.specs.declared.entry.Entry.{Entry}
+use Rattle.mode_rules.specs.declared.Mode.TheVariants.{O}
+use Rattle.posting.specs.Steps.{IsOpenUnit}
+use Rattle.hall.specs.declared.command.Command.{Command}
+use Rattle.hall.specs.declared.command.Command.TheVariants as command
+use Rattle.hall.specs.declared.command.PastEntry.{PastEntry}
+use Rattle.hall.specs.declared.command.Reply.{Reply}
+use Rattle.hall.specs.declared.command.Reply.TheVariants as reply
+use Rattle.hall.specs.Recall.{state_after}
+use Rattle.hall.specs.State.{State}
+
+abbrev pub is_commit : Command → Bool
+is_commit (command.Commit session parts) = true
+is_commit _ = false
+
+-- the call is the commit that recorded this unit
+pub record IsCommitOf (unit : UnitKey) (call : PastEntry) : Type 0 where
+  pub commits : IsTrue (is_commit call.command)
+  pub answered : call.reply ≡ reply.Unit unit
+
+-- the server is up, and the unit waits for its V1 part
+pub record StillWaits (unit : UnitKey) (s : State) : Type 0 where
+  pub up : s.condition ≡ Up
+  pub waits : IsOpenUnit s.stored unit
+
+-- with this answer the unit waits no more: its V1 part was posted or refused, or the store failed
+abbrev pub ends_wait : UnitKey → Reply → Bool
+ends_wait unit (reply.Posted other) = same_unit other unit
+ends_wait unit (reply.Bad other index reason) = same_unit other unit
+ends_wait unit (reply.Refused refusal.StoreFault) = true
+ends_wait unit _ = false
+
+abbrev pub NoneEndsWait : UnitKey → List PastEntry → Type 0
+NoneEndsWait unit calls = list_any (λ (call : PastEntry). ends_wait unit call.reply) calls ≡ false
+
+-- ---- locks of a unit
+
+-- a lock of the unit that its commit hands over to the update; the optimistic ones go
+pub record IsFirm (unit : UnitKey) (e : Entry) : Type 0 where
+  pub owner : e.owner ≡ Upd unit
+  pub mode : e.mode ≢ O
+
+-- a lock that was handed over to the update of the unit
+pub record IsHandedTo (unit : UnitKey) (e : Entry) : Type 0 where
+  pub owner : e.owner ≡ Upd unit
+  pub handed : e.handed ≡ true
+
+abbrev pub with_handed : Entry → Entry
+with_handed e = record e { handed = true }
+
+-- from one state to another the unit's firm locks are handed over
+abbrev pub FirmAreHanded : UnitKey → State → State → Type 0
+FirmAreHanded unit s t = (e : Entry) → IsFirm unit e → Contains s.locks e → Contains t.locks (with_handed e)
+
+-- the lock is a firm one of that state, handed over
+pub record WasFirm (unit : UnitKey) (s : State) (e : Entry) : Type 0 where
+  pub before : Entry
+  pub firm : IsFirm unit before
+  pub stood : Contains s.locks before
+  pub same : e ≡ with_handed before
+
+-- ---- through one call
+
+-- what the commit of a unit leaves: the unit waits, and has just its firm locks, handed over
+pub record HandsOver (unit : UnitKey) (s t : State) : Type 0 where
+  pub waits : StillWaits unit t
+  pub handed : FirmAreHanded unit s t
+  pub only : (e : Entry) → e.owner ≡ Upd unit → Contains t.locks e → WasFirm unit s e
+
+-- no lock goes that was handed over to a unit which still waits afterwards
+abbrev pub KeepsHanded : State → State → Type 0
+KeepsHanded s t =
+    (unit : UnitKey) (e : Entry) → IsHandedTo unit e → StillWaits unit t
+    → Contains s.locks e → Contains t.locks e
+
+pub record CallKeepsLocks (s : State) (call : PastEntry) (t : State) : Type 0 where
+  pub commits : (unit : UnitKey) → IsCommitOf unit call → HandsOver unit s t
+  pub kept : KeepsHanded s t
+
+-- ---- through a history
+
+-- each call keeps what was handed over, and each commit hands over
+abbrev pub CallsKeepLocks : State → List PastEntry → Type 0
+CallsKeepLocks first calls =
+    (earlier later : List PastEntry) (call : PastEntry) → calls ≡ earlier ++ call ∷ later
+    → CallKeepsLocks (state_after first earlier) call (state_after first (earlier ++ call ∷ []))
+
+-- from the state before its commit on, the unit waits with the locks that it had
+pub record WaitsLocked (unit : UnitKey) (before now : State) : Type 0 where
+  pub waits : StillWaits unit now
+  pub locks : FirmAreHanded unit before now
+
+-- a committed unit waits for its V1 part, and its locks stand, until a call ends that
+abbrev pub LocksStand : State → List PastEntry → Type 0
+LocksStand first calls =
+    (earlier between later : List PastEntry) (call : PastEntry) (unit : UnitKey)
+    → calls ≡ earlier ++ call ∷ (between ++ later) → IsCommitOf unit call → NoneEndsWait unit between
+    → WaitsLocked unit (state_after first earlier) (state_after first (earlier ++ call ∷ between))

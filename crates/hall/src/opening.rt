@@ -1,0 +1,67 @@
+ghost use Rattle.std.specs.Prelude.{◌≡◌, ◌≤◌, [], None, IfOk, replicate, vec_capacity};
+ghost use Rattle.hall.specs.Faults.{books_fault};
+ghost use Rattle.posting.specs.Opening.{MayBeFault};
+
+use crate::command::PastEntry;
+use enq_base::{NoMemory, UnitKey};
+use lock_entry::LockStore;
+use posting::BooksFault;
+use std::alloc::Global;
+
+pub(crate) const HISTORY_LIMIT: usize = 262_144;
+
+const WORKERS: usize = 256;
+
+/// Why a hall can't be opened.
+#[derive(Clone, Copy, Debug, PartialEq, Eq)]
+pub enum HallFault {
+    /// The store failed.
+    Store,
+    /// The store isn't good, which shows at this row of this table, counted from 1.
+    Bad { table: u8, row: u64 },
+    NoMemory,
+}
+
+/// The tables of a hall before its first call, with room for its whole history.
+#[derive(Drop)]
+pub(crate) struct Tables<T: LockStore> {
+    pub(crate) locks: T,
+    pub(crate) orders: Vec<Option<UnitKey>>,
+    pub(crate) past: Vec<PastEntry>,
+}
+
+impl<T: LockStore> Tables<T> {
+    /// No locks, no orders and no calls. At most `max_locks` locks may come to stand.
+    pub(crate) fn empty(alloc: Global, max_locks: u32) -> Result<Tables<T>, NoMemory>
+        ensures locks { IfOk result (λ tables. T.table tables.locks ≡ record { entries = []; limit = max_locks }) }
+        ensures orders { IfOk result (λ tables. tables.orders.items ≡ replicate 256 None) }
+        ensures past { IfOk result (λ tables. tables.past.items ≡ []) }
+        ensures room { IfOk result (λ tables. 262144 ≤ vec_capacity tables.past) }
+    {
+        Ok(Tables {
+            locks: T::empty(alloc, max_locks)?,
+            orders: no_orders(alloc)?,
+            past: Vec::with_capacity(alloc, HISTORY_LIMIT)?,
+        })
+    }
+}
+
+/// No worker has an order.
+fn no_orders(alloc: Global) -> Result<Vec<Option<UnitKey>>, NoMemory>
+    ensures { IfOk result (λ orders. orders.items ≡ replicate 256 None) }
+{
+    Ok(Vec::from_elem(alloc, None, WORKERS)?)
+}
+
+/// Why the books weren't opened. A store without rows always has a number for its first start.
+pub(crate) fn fault_of(fault: BooksFault) -> HallFault
+    requires { MayBeFault fault }
+    ensures { books_fault result ≡ fault }
+{
+    match fault {
+        BooksFault::StoreFault => HallFault::Store,
+        BooksFault::BadStore { table, row } => HallFault::Bad { table, row },
+        BooksFault::NoStart => unreachable!(),
+        BooksFault::NoMemory => HallFault::NoMemory,
+    }
+}

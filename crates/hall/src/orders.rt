@@ -1,0 +1,89 @@
+ghost use Rattle.std.specs.Prelude.{◌≡◌, None, IfSome, false, length};
+ghost use Rattle.hall.specs.declared.command.Command.TheVariants as command;
+ghost use Rattle.hall.specs.Acts.{IsAct, taken_reply};
+ghost use Rattle.hall.specs.History.{is_unrecorded, judged};
+ghost use Rattle.hall.specs.Orders as claims;
+ghost use Rattle.hall.specs.State.{State};
+ghost use Rattle.hall.specs.Step.{closed, take};
+ghost use Rattle.update_records.specs.Marks.{waiting};
+
+use crate::command::Reply;
+use enq_base::{Refusal, UnitKey};
+use keeper_api::Keeper;
+use posting::Books;
+
+/// The unit that a worker has an order for.
+pub(crate) fn order_of(orders: &[Option<UnitKey>], worker: u8) -> Option<UnitKey>
+    ensures { result ≡ claims.order_of orders.now worker }
+{
+    match orders.get(worker as usize) {
+        Some(order) => *order,
+        None => None,
+    }
+}
+
+/// Whether some worker has an order for the unit.
+fn is_claimed(orders: &[Option<UnitKey>], unit: &UnitKey) -> bool
+    ensures { result ≡ claims.is_claimed orders.now unit.now }
+{
+    orders.iter().any(|order| is_for(order, unit))
+}
+
+fn is_for(order: &Option<UnitKey>, unit: &UnitKey) -> bool
+    ensures { result ≡ claims.is_for unit.now order.now }
+{
+    match order {
+        Some(other) => other.is(unit),
+        None => false,
+    }
+}
+
+/// The oldest unit of those that wait for their V1 part that no worker has an order for.
+fn first_unclaimed<K: Keeper>(orders: &[Option<UnitKey>], books: &Books<K>) -> Option<UnitKey>
+    ensures { result ≡ claims.first_unclaimed orders.now (waiting books.now.ledger.units books.now.ledger.marks) }
+{
+    for place in 0..books.waiting(1) {
+        match books.waiting_at(1, place + 1) {
+            Some(unit) => {
+                if !is_claimed(orders, &unit) {
+                    return Some(unit);
+                }
+            }
+            None => return None,
+        }
+    }
+    None
+}
+
+/// Gives a worker an order for the oldest unit that waits and that no worker has an order for. None: there is none.
+pub(crate) fn take<K: Keeper>(
+    orders: &mut Vec<Option<UnitKey>>,
+    books: &Books<K>,
+    worker: u8,
+) -> Option<Reply>
+    requires { length orders.old.items ≡ 256 }
+    ensures verdict { (s : State) → s.orders ≡ orders.old.items → s.stored ≡ books.now.ledger
+        → judged s (take s worker)
+        ≡ record { state = record s { orders = orders.new.items }; reply = taken_reply result } }
+    ensures recorded { IfSome result (λ r. is_unrecorded r ≡ false) }
+{
+    if let Some(unit) = order_of(orders.as_slice(), worker) {
+        return Some(Reply::Refused(Refusal::WorkerBusy(unit)));
+    }
+    let unit = first_unclaimed(orders.as_slice(), books)?;
+    orders[worker as usize] = Some(unit);
+    Some(Reply::Unit(unit))
+}
+
+/// Takes a worker's order back.
+pub(crate) fn drop_order(orders: &mut Vec<Option<UnitKey>>, worker: u8) -> Reply
+    requires { length orders.old.items ≡ 256 }
+    ensures act { (s : State) → s.orders ≡ orders.old.items → closed s ≡ None
+        → IsAct s (command.DropOrder worker) (record s { orders = orders.new.items }) result }
+{
+    let Some(unit) = order_of(orders.as_slice(), worker) else {
+        return Reply::Refused(Refusal::NoOrder);
+    };
+    orders[worker as usize] = None;
+    Reply::Unit(unit)
+}

@@ -1,0 +1,12 @@
+use Rattle.update_records.proofs.Distinct.{unit_batch}
+use Rattle.update_records.proofs.UnitRecords.{unit_is, unit_fits}
+use Rattle.update_records.proofs.laws.units_are_records.Goals as goal
+
+pub returns-clause-rows : goal.returns-clause-rows
+returns-clause-rows c = unit_is
+
+pub returns-clause-grammar : goal.returns-clause-grammar
+returns-clause-grammar c unit is = unit_fits unit is.key is.user is.few is.first is.second is.few_numbers is.numbers is.few_entries is.entries
+
+pub returns-clause-batch : goal.returns-clause-batch
+returns-clause-batch c unit is = unit_batch unit is.few is.few_entries

@@ -1,0 +1,58 @@
+ghost use Rattle.std.specs.Prelude.{◌≡◌, false, Err, IfOk, IfErr};
+ghost use Rattle.update_records.specs.Fields.{Gives};
+ghost use Rattle.update_records.specs.Reading.{row_at};
+ghost use Rattle.update_records.specs.Spelling.{Spells, takes_memory};
+ghost use Rattle.update_records.specs.declared.fault.RowFault.TheVariants.{Bad};
+ghost use Rattle.update_records.specs.declared.stored.Record.{Record};
+
+use crate::fault::RowFault;
+use crate::mark_rows::mark_at;
+use crate::plain_rows::{business_at, level_at, meta_at};
+use crate::step_rows::step_at;
+use crate::stored::Record;
+use crate::unit_rows::{header_at, lock_at, module_at};
+use keeper_api::Row;
+use std::alloc::Global;
+
+#[tactic(auto, unfolding(crate::specs::Reading::row_at))]
+fn row_at(alloc: Global, table: u8, key: &[u8], value: &[u8]) -> Result<Record, RowFault>
+    ensures gives { Gives (λ r. r) result (row_at table key.now value.now) }
+    ensures memory { takes_memory table ≡ false → IfErr result (λ fault. fault ≡ Bad) }
+{
+    match table {
+        0 => meta_at(key, value),
+        1 => header_at(alloc, key, value),
+        2 => module_at(key, value),
+        3 => step_at(alloc, key, value),
+        4 => mark_at(alloc, key, value),
+        5 => level_at(key, value),
+        6 => business_at(alloc, key, value),
+        7 => lock_at(key, value),
+        _ => Err(RowFault::Bad),
+    }
+}
+
+fn record_in(alloc: Global, table: u8, key: &[u8], value: &[u8]) -> Result<Record, RowFault>
+    ensures read { IfOk result (Spells table key.now value.now) }
+    ensures bad { result ≡ Err Bad → (r : Record) → Spells table key.now value.now r → ⊥ }
+    ensures exact { (r : Record) → Spells table key.now value.now r → IfOk result (λ read. read ≡ r) }
+    ensures memory { takes_memory table ≡ false → IfErr result (λ fault. fault ≡ Bad) }
+{
+    row_at(alloc, table, key, value)
+}
+
+/// The record that a row of this table spells.
+///
+/// There is no table 8 or above. Whether the counts of a record agree with other rows is not asked.
+pub fn decode_row(alloc: Global, row: &Row, table: u8) -> Result<Record, RowFault>
+    // What is read is spelled so.
+    ensures read { IfOk result (Spells table row.now.key row.now.value) }
+    // The row is bad only where it spells no record.
+    ensures bad { result ≡ Err Bad → (r : Record) → Spells table row.now.key row.now.value r → ⊥ }
+    // A record that is spelled so is what is read, unless memory runs out.
+    ensures exact { (r : Record) → Spells table row.now.key row.now.value r → IfOk result (λ read. read ≡ r) }
+    // Only a record with numbers or a text takes memory.
+    ensures memory { takes_memory table ≡ false → IfErr result (λ fault. fault ≡ Bad) }
+{
+    record_in(alloc, table, row.key.as_slice(), row.value.as_slice())
+}
