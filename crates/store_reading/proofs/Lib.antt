@@ -1,0 +1,5 @@
+pub mod Pages
+pub mod Spelled
+pub mod Stores
+pub mod Causes
+pub mod Numbered

@@ -1,0 +1,4 @@
+pub mod Tables
+pub mod Told
+pub mod Faults
+pub mod Rules
