@@ -1,4 +1,3 @@
-pub mod Counts
 pub mod Disk
 pub mod File
 pub mod Images

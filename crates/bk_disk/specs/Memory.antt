@@ -1,7 +1,7 @@
 -- A disk in memory, whose calls fail where they are told to.
 use Rattle.std.specs.Prelude.{◌≡◌, ◌⊎◌, ℕ, List, [], ◌∷◌, ◌++◌, length, Bool, nat_eq, IsTrue}
 use Rattle.std.specs.List.{list_any}
-use Rattle.bk_disk.specs.Counts.{one_more}
+use Rattle.enq_base.specs.Causes.{one_more}
 use Rattle.bk_disk.specs.Disk.{written, resized}
 use Rattle.bk_disk.specs.Images.{IsImage, all_filled}
 use Rattle.bk_disk.specs.declared.change.Change.{Change}

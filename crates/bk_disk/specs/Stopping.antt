@@ -1,7 +1,7 @@
 -- A disk that stops.
 use Rattle.std.specs.Prelude.{◌≡◌, ◌⊎◌, ℕ, ◌+◌}
 use Rattle.enq_base.specs.Causes.{Rose}
-use Rattle.bk_disk.specs.Counts.{one_more}
+use Rattle.enq_base.specs.Causes.{one_more}
 
 -- what it shows: the disk below, how many calls it still serves, and how many calls it failed itself
 pub record StopView (D : Type 0) : Type 0 where

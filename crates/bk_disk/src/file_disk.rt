@@ -1,6 +1,6 @@
 ghost use Rattle.std.specs.Prelude.{◌≡◌, ◌≤◌, length, Some, IfSome, IfOk, OnErr};
 ghost use Rattle.enq_base.specs.Causes.{HasCause};
-ghost use Rattle.bk_disk.specs.Counts.{one_more};
+ghost use Rattle.enq_base.specs.Causes.{one_more};
 
 use crate::disk::Disk;
 use enq_base::{Failed, Short};

@@ -1,6 +1,6 @@
 ghost use Rattle.std.specs.Prelude.{◌≡◌, ◌+◌, ◌-◌, ◌≤◌, length, IsTrue, IsErr, IfOk, OnOk, OnErr};
 ghost use Rattle.enq_base.specs.Causes.{HasCause};
-ghost use Rattle.bk_disk.specs.Counts.{one_more};
+ghost use Rattle.enq_base.specs.Causes.{one_more};
 ghost use Rattle.bk_disk.specs.Disk.{written, resized, Torn, Cut, Follows, AddsNone, Only, Fills};
 ghost use Rattle.bk_disk.specs.Stopping.{FailsStopped, all_faults};
 

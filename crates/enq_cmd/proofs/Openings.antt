@@ -24,20 +24,20 @@ over_told P None (Some y) e h = absurd (cc)
 over_told P (Some x) None e h = tt
 over_told P (Some x) (Some y) e h = h
 
-all_stand : {K : Type 0} (may_leave : K → Rows → Type 0) (before : Rows → Type 0) (kept : K) (s : State) (past : List PastEntry) (why : Why) (o : Option Rows)
-    → s ≡ state_after first_state past
+all_stand : (t : Bool) {K : Type 0} (may_leave : K → Rows → Type 0) (before : Rows → Type 0) (kept : K) (s : State) (past : List PastEntry) (why : Why) (o : Option Rows)
+    → s ≡ state_after (first_state t) past
     → IfSome o (λ _. (rows : Rows) → may_leave kept rows → StandForState rows s)
-    → IfSome o (λ _. (rows : Rows) → may_leave kept rows → MayRemain before past why rows)
-all_stand may_leave before kept s past why None e h = tt
-all_stand may_leave before kept s past why (Some x) e h = λ rows left. inl (subst (StandForState rows) e (h rows left))
+    → IfSome o (λ _. (rows : Rows) → may_leave kept rows → MayRemain t before past why rows)
+all_stand t may_leave before kept s past why None e h = tt
+all_stand t may_leave before kept s past why (Some x) e h = λ rows left. inl (subst (StandForState rows) e (h rows left))
 
 -- the store was opened: what is left stands for the state to which the history leads
-pub remains : {K : Type 0} (held : K → Option Rows) (may_leave : K → Rows → Type 0) (before after : K) (view : View K) (past : List PastEntry) (why : Why)
-    → is_some (held view.keeper) ≡ is_some (held before) → after ≡ view.keeper → view.state ≡ state_after first_state past → LeavesState held may_leave view
-    → IfSome (held before) (λ _. (rows : Rows) → may_leave after rows → MayRemain (may_leave before) past why rows)
-remains held may_leave before after view past why told same state h =
-    subst (λ k. IfSome (held before) (λ _. (rows : Rows) → may_leave k rows → MayRemain (may_leave before) past why rows)) (sym same)
-    (over_told _ (held view.keeper) (held before) told (all_stand may_leave (may_leave before) view.keeper view.state past why (held view.keeper) state h))
+pub remains : (t : Bool) {K : Type 0} (held : K → Option Rows) (may_leave : K → Rows → Type 0) (before after : K) (view : View K) (past : List PastEntry) (why : Why)
+    → is_some (held view.keeper) ≡ is_some (held before) → after ≡ view.keeper → view.state ≡ state_after (first_state t) past → LeavesState held may_leave view
+    → IfSome (held before) (λ _. (rows : Rows) → may_leave after rows → MayRemain t (may_leave before) past why rows)
+remains t held may_leave before after view past why told same state h =
+    subst (λ k. IfSome (held before) (λ _. (rows : Rows) → may_leave k rows → MayRemain t (may_leave before) past why rows)) (sym same)
+    (over_told _ (held view.keeper) (held before) told (all_stand t may_leave (may_leave before) view.keeper view.state past why (held view.keeper) state h))
 
 pub opening_ends : (f : HallFault) → IsOpeningEnd (opening_end f)
 opening_ends fault.Store = refl
@@ -49,42 +49,42 @@ idle_ends fault.Store = refl
 idle_ends (fault.Bad table row) = tt
 idle_ends fault.NoMemory = tt
 
-untouched : (before : Rows → Type 0) (past : List PastEntry) (why : Why) (rows : Rows) → past ≡ [] → IsIdleEnd why → MayBeLeft before true rows → MayRemain before past why rows
-untouched before past why rows none idle (inl there) = inr (record { idle = idle; none = none; there = there })
-untouched before past why rows none idle (inr raised) = inl (subst (λ calls. StandForState rows (state_after first_state calls)) (sym none) (inl raised.1))
+untouched : (t : Bool) (before : Rows → Type 0) (past : List PastEntry) (why : Why) (rows : Rows) → past ≡ [] → IsIdleEnd why → MayBeLeft before true rows → MayRemain t before past why rows
+untouched t before past why rows none idle (inl there) = inr (record { idle = idle; none = none; there = there })
+untouched t before past why rows none idle (inr raised) = inl (subst (λ calls. StandForState rows (state_after (first_state t) calls)) (sym none) (inl raised.1))
 
-all_untouched : {K : Type 0} (may_leave : K → Rows → Type 0) (before : Rows → Type 0) (kept : K) (past : List PastEntry) (why : Why) (o : Option Rows)
+all_untouched : (t : Bool) {K : Type 0} (may_leave : K → Rows → Type 0) (before : Rows → Type 0) (kept : K) (past : List PastEntry) (why : Why) (o : Option Rows)
     → past ≡ [] → IsIdleEnd why
     → IfSome o (λ _. (left : Rows) → may_leave kept left → MayBeLeft before true left)
-    → IfSome o (λ _. (rows : Rows) → may_leave kept rows → MayRemain before past why rows)
-all_untouched may_leave before kept past why None none idle h = tt
-all_untouched may_leave before kept past why (Some x) none idle h = λ rows left. untouched before past why rows none idle (h rows left)
+    → IfSome o (λ _. (rows : Rows) → may_leave kept rows → MayRemain t before past why rows)
+all_untouched t may_leave before kept past why None none idle h = tt
+all_untouched t may_leave before kept past why (Some x) none idle h = λ rows left. untouched t before past why rows none idle (h rows left)
 
 -- the store wasn't opened: what is left was there before, or is the row of a first start
-pub untouched_remains : {K : Type 0} (held : K → Option Rows) (may_leave : K → Rows → Type 0) (before after kept : K) (past : List PastEntry) (why : Why)
+pub untouched_remains : (t : Bool) {K : Type 0} (held : K → Option Rows) (may_leave : K → Rows → Type 0) (before after kept : K) (past : List PastEntry) (why : Why)
     → is_some (held kept) ≡ is_some (held before) → after ≡ kept → past ≡ [] → IsIdleEnd why
     → IfSome (held kept) (λ _. (left : Rows) → may_leave kept left → MayBeLeft (may_leave before) true left)
-    → IfSome (held before) (λ _. (rows : Rows) → may_leave after rows → MayRemain (may_leave before) past why rows)
-untouched_remains held may_leave before after kept past why told same none idle h =
-    subst (λ k. IfSome (held before) (λ _. (rows : Rows) → may_leave k rows → MayRemain (may_leave before) past why rows)) (sym same)
-    (over_told _ (held kept) (held before) told (all_untouched may_leave (may_leave before) kept past why (held kept) none idle h))
+    → IfSome (held before) (λ _. (rows : Rows) → may_leave after rows → MayRemain t (may_leave before) past why rows)
+untouched_remains t held may_leave before after kept past why told same none idle h =
+    subst (λ k. IfSome (held before) (λ _. (rows : Rows) → may_leave k rows → MayRemain t (may_leave before) past why rows)) (sym same)
+    (over_told _ (held kept) (held before) told (all_untouched t may_leave (may_leave before) kept past why (held kept) none idle h))
 
 own : {K : Type 0} (may_leave : K → Rows → Type 0) (before : K) (o : Option Rows) → IfSome o (λ _. (left : Rows) → may_leave before left → MayBeLeft (may_leave before) true left)
 own may_leave before None = tt
 own may_leave before (Some x) = λ left h. inl h
 
 -- nothing was done at all
-pub nothing_remains : {K : Type 0} (held : K → Option Rows) (may_leave : K → Rows → Type 0) (before after : K) (past : List PastEntry) (why : Why)
+pub nothing_remains : (t : Bool) {K : Type 0} (held : K → Option Rows) (may_leave : K → Rows → Type 0) (before after : K) (past : List PastEntry) (why : Why)
     → after ≡ before → past ≡ [] → IsIdleEnd why
-    → IfSome (held before) (λ _. (rows : Rows) → may_leave after rows → MayRemain (may_leave before) past why rows)
-nothing_remains held may_leave before after past why same none idle =
-    subst (λ k. IfSome (held before) (λ _. (rows : Rows) → may_leave k rows → MayRemain (may_leave before) past why rows)) (sym same)
-    (all_untouched may_leave (may_leave before) before past why (held before) none idle (own may_leave before (held before)))
+    → IfSome (held before) (λ _. (rows : Rows) → may_leave after rows → MayRemain t (may_leave before) past why rows)
+nothing_remains t held may_leave before after past why same none idle =
+    subst (λ k. IfSome (held before) (λ _. (rows : Rows) → may_leave k rows → MayRemain t (may_leave before) past why rows)) (sym same)
+    (all_untouched t may_leave (may_leave before) before past why (held before) none idle (own may_leave before (held before)))
 
-pub unopened_completes : (bytes : List ℕ) (old new : Option (List ℕ)) (past : List PastEntry) (why : Why)
-    → past ≡ [] → why ≡ NoMemory → EndsComplete bytes old new past why
-unopened_completes bytes old new past why none memory =
-    record { after = first_state; history = none; complete = subst (λ w. IsComplete (first_world built_in first_state) first_state bytes old new w) (sym memory) tt }
+pub unopened_completes : (t : Bool) (bytes : List ℕ) (old new : Option (List ℕ)) (past : List PastEntry) (why : Why)
+    → past ≡ [] → why ≡ NoMemory → EndsComplete t bytes old new past why
+unopened_completes t bytes old new past why none memory =
+    record { after = (first_state t); history = none; complete = subst (λ w. IsComplete (first_world built_in (first_state t)) (first_state t) bytes old new w) (sym memory) tt }
 
 -- a store whose tables have no rows isn't a bad one
 not_bad : (may_be : Rows → Type 0) (o : Option Rows) (table row : ℕ) → IsTrue (is_some o) → ((rows : Rows) → may_be rows → AreBare rows 8)
@@ -93,15 +93,15 @@ not_bad may_be None table row told bare lowest found = absurd (cc)
 not_bad may_be (Some rows) table row told bare lowest found = lowest.0.there (bare rows found table lowest.0.own)
 
 -- where no count rose, a store whose tables have no rows is opened, unless memory is wanting
-pub opening_completes : (may_be : Rows → Type 0) (before after : Option Rows) (f : HallFault) (n m : ℕ) (bytes : List ℕ) (old new : Option (List ℕ)) (past : List PastEntry) (why : Why)
+pub opening_completes : (t : Bool) (may_be : Rows → Type 0) (before after : Option Rows) (f : HallFault) (n m : ℕ) (bytes : List ℕ) (old new : Option (List ℕ)) (past : List PastEntry) (why : Why)
     → past ≡ [] → why ≡ opening_end f → is_some after ≡ is_some before → IsTrue (is_some before) → ((rows : Rows) → may_be rows → AreBare rows 8)
     → IfSome after (λ rows. IsBooksFault rows (books_fault f)) → OnBad (books_fault f) (IfSome after may_be) → CountsFault (books_fault f) n m → (Rose n m → ⊥)
-    → EndsComplete bytes old new past why
-opening_completes may_be before after fault.Store n m bytes old new past why none end same told bare lowest found counts calm = absurd (calm counts.1)
-opening_completes may_be before after (fault.Bad table row) n m bytes old new past why none end same told bare lowest found counts calm =
+    → EndsComplete t bytes old new past why
+opening_completes t may_be before after fault.Store n m bytes old new past why none end same told bare lowest found counts calm = absurd (calm counts.1)
+opening_completes t may_be before after (fault.Bad table row) n m bytes old new past why none end same told bare lowest found counts calm =
     absurd (not_bad may_be after table row (subst (λ b. IsTrue b) (sym same) told) bare lowest found)
-opening_completes may_be before after fault.NoMemory n m bytes old new past why none end same told bare lowest found counts calm =
-    unopened_completes bytes old new past why none end
+opening_completes t may_be before after fault.NoMemory n m bytes old new past why none end same told bare lowest found counts calm =
+    unopened_completes t bytes old new past why none end
 
 -- the store's fault at its opening comes only where its count rose
 pub opening_faults : (f : HallFault) (n m call : ℕ) → opening_end f ≡ StoreFault call → CountsFault (books_fault f) n m → Rose n m

@@ -61,52 +61,52 @@ told_turns : (first : State) (p : Progress) (turns : List Turn) → AreAllowed p
 told_turns first p [] allowed h = h
 told_turns first p (t ∷ ts) allowed h = told_turns first (next p t) ts allowed.1 (told_turn first p t p.stop allowed.0 h)
 
-pub told_none : (past : List PastEntry) → past ≡ [] → AreModelAnswers first_state past
-told_none past none =
-    subst (λ es. AreModelAnswers first_state es) (sym none) (told-answers first_state first_state (told_first first_state refl))
+pub told_none : (t : Bool) (past : List PastEntry) → past ≡ [] → AreModelAnswers (first_state t) past
+told_none t past none =
+    subst (λ es. AreModelAnswers (first_state t) es) (sym none) (told-answers (first_state t) (first_state t) (told_first (first_state t) refl))
 
 -- no locks are sound
-first-good : IsTable (table_of first_state)
-first-good = record { sound = record { names = refl; counts = refl; conflicts = refl }; within = omega arith; limit_fits = lit< tt }
+first-good : (t : Bool) → IsTable (table_of (first_state t))
+first-good t = record { sound = record { names = refl; counts = refl; conflicts = refl }; within = omega arith; limit_fits = lit< tt }
 
-pub stays_sound_from_first : (past : List PastEntry) → StaysSound first_state past
-stays_sound_from_first past = stays_sound first_state past first-good
+pub stays_sound_from_first : (t : Bool) (past : List PastEntry) → StaysSound (first_state t) past
+stays_sound_from_first t past = stays_sound (first_state t) past (first-good t)
 
 -- the state in which a run from the first one ends is that to which its history leads
-told_after : (old new : Seen) (past : List PastEntry) (why : Why) (h : Ran old new past why) → IsTold first_state h.after
-told_after old new past why h =
-    let first = first_world built_in first_state in
+told_after : (t : Bool) (old new : Seen) (past : List PastEntry) (why : Why) (h : Ran t old new past why) → IsTold (first_state t) h.after
+told_after t old new past why h =
+    let first = first_world built_in (first_state t) in
     let turns = h.runs.replays.turns in
-    let told : IsTold first_state (run first turns).world.hall = told_turns first_state (begun first) turns h.runs.replays.allowed (told_first first_state refl) in
-    subst (λ (x : World). IsTold first_state x.hall) (sym h.runs.replays.world) told
+    let told : IsTold (first_state t) (run first turns).world.hall = told_turns (first_state t) (begun first) turns h.runs.replays.allowed (told_first (first_state t) refl) in
+    subst (λ (x : World). IsTold (first_state t) x.hall) (sym h.runs.replays.world) told
 
-told_ran : (old new : Seen) (past : List PastEntry) (why : Why) → Ran old new past why → AreModelAnswers first_state past
-told_ran old new past why h = subst (λ es. AreModelAnswers first_state es) (sym h.history) (told-answers first_state h.after (told_after old new past why h))
+told_ran : (t : Bool) (old new : Seen) (past : List PastEntry) (why : Why) → Ran t old new past why → AreModelAnswers (first_state t) past
+told_ran t old new past why h = subst (λ es. AreModelAnswers (first_state t) es) (sym h.history) (told-answers (first_state t) h.after (told_after t old new past why h))
 
-abbrev pub ran : (before after : State) (objects : List Object) (old new : Seen) (past : List PastEntry) (why : Why) → before ≡ first_state → objects ≡ built_in → past ≡ after.past → RunsScript objects before after old new why → Ran old new past why
-ran before after objects old new past why e known history r =
+abbrev pub ran : (t : Bool) (before after : State) (objects : List Object) (old new : Seen) (past : List PastEntry) (why : Why) → before ≡ (first_state t) → objects ≡ built_in → past ≡ after.past → RunsScript objects before after old new why → Ran t old new past why
+ran t before after objects old new past why e known history r =
     record { after = after; history = history; runs = subst (λ s. RunsScript built_in s after old new why) e (subst (λ os. RunsScript os before after old new why) known r) }
 
-pub told_replay : (before after : State) (objects : List Object) (old new : Seen) (past : List PastEntry) (why : Why) → before ≡ first_state → objects ≡ built_in → past ≡ after.past → RunsScript objects before after old new why → AreModelAnswers first_state past
-told_replay before after objects old new past why e known history r = told_ran old new past why (ran before after objects old new past why e known history r)
+pub told_replay : (t : Bool) (before after : State) (objects : List Object) (old new : Seen) (past : List PastEntry) (why : Why) → before ≡ (first_state t) → objects ≡ built_in → past ≡ after.past → RunsScript objects before after old new why → AreModelAnswers (first_state t) past
+told_replay t before after objects old new past why e known history r = told_ran t old new past why (ran t before after objects old new past why e known history r)
 
-pub replay_leads : (before after : State) (objects : List Object) (old new : Seen) (past : List PastEntry) (why : Why) → before ≡ first_state → objects ≡ built_in → past ≡ after.past → RunsScript objects before after old new why → after ≡ state_after first_state past
-replay_leads before after objects old new past why e known history r =
-    (told_after old new past why (ran before after objects old new past why e known history r)).state ∙ ap (state_after first_state) (sym history)
+pub replay_leads : (t : Bool) (before after : State) (objects : List Object) (old new : Seen) (past : List PastEntry) (why : Why) → before ≡ (first_state t) → objects ≡ built_in → past ≡ after.past → RunsScript objects before after old new why → after ≡ state_after (first_state t) past
+replay_leads t before after objects old new past why e known history r =
+    (told_after t old new past why (ran t before after objects old new past why e known history r)).state ∙ ap (state_after (first_state t)) (sym history)
 
-pub runs_as : (before after : State) (objects : List Object) (old new : Seen) (older newer : Seen) (past : List PastEntry) (why end : Why) → before ≡ first_state → objects ≡ built_in → past ≡ after.past → old ≡ older → new ≡ newer → why ≡ end → RunsScript objects before after old new why → Ran older newer past end
-runs_as before after objects old new older newer past why end e known history o n w r =
-    ran before after objects older newer past end e known history
+pub runs_as : (t : Bool) (before after : State) (objects : List Object) (old new : Seen) (older newer : Seen) (past : List PastEntry) (why end : Why) → before ≡ (first_state t) → objects ≡ built_in → past ≡ after.past → old ≡ older → new ≡ newer → why ≡ end → RunsScript objects before after old new why → Ran t older newer past end
+runs_as t before after objects old new older newer past why end e known history o n w r =
+    ran t before after objects older newer past end e known history
     (subst (λ x. RunsScript objects before after older newer x) w (subst (λ x. RunsScript objects before after older x why) n (subst (λ x. RunsScript objects before after x new why) o r)))
 
-pub locks_stand_from_first : (past : List PastEntry) → AreModelAnswers first_state past → LocksStand first_state past
-locks_stand_from_first past h = locks_stand 1000 past h
+pub locks_stand_from_first : (t : Bool) (past : List PastEntry) → AreModelAnswers (first_state t) past → LocksStand (first_state t) past
+locks_stand_from_first t past h = locks_stand 1000 t past h
 
-pub completes_as : (before after : State) (objects : List Object) (bytes : List ℕ) (old new : Option (List ℕ)) (past : List PastEntry) (why end : Why) → before ≡ first_state → objects ≡ built_in → past ≡ after.past → why ≡ end → IsComplete (first_world objects before) after bytes old new why → EndsComplete bytes old new past end
-completes_as before after objects bytes old new past why end e known history w h =
+pub completes_as : (t : Bool) (before after : State) (objects : List Object) (bytes : List ℕ) (old new : Option (List ℕ)) (past : List PastEntry) (why end : Why) → before ≡ (first_state t) → objects ≡ built_in → past ≡ after.past → why ≡ end → IsComplete (first_world objects before) after bytes old new why → EndsComplete t bytes old new past end
+completes_as t before after objects bytes old new past why end e known history w h =
     record {
       after = after;
       history = history;
-      complete = subst (λ x. IsComplete (first_world built_in first_state) after bytes old new x) w
+      complete = subst (λ x. IsComplete (first_world built_in (first_state t)) after bytes old new x) w
           (subst (λ s. IsComplete (first_world built_in s) after bytes old new why) e (subst (λ os. IsComplete (first_world os before) after bytes old new why) known h));
     }

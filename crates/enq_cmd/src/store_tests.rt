@@ -5,7 +5,6 @@ use hall::Reply;
 use io_edge::{MemSink, MemSource};
 use keeper_mem::MemKeeper;
 use lock_entry::{Asked, Mode, Request};
-use posting::are_puts;
 use std::test::*;
 
 // What scripts that record and post units are answered.
@@ -202,7 +201,7 @@ fn units_are_recorded_and_posted(rt: HostRuntime) -> Result<(), Fail> {
 }
 
 // A script over a keeper.
-fn run_over(
+pub(super) fn run_over(
     alloc: Global,
     script: &[u8],
     keeper: MemKeeper,
@@ -216,7 +215,7 @@ fn run_over(
 }
 
 // Whether a store that is opened again has a row of this value.
-fn has_row(
+pub(super) fn has_row(
     alloc: Global,
     keeper: &mut MemKeeper,
     table: u8,
@@ -235,7 +234,8 @@ fn has_row(
     }
 }
 
-const ORDER: &[u8] = b"A LOGON MILLER\nA V1 PUT T 1 X\nA COMMIT\n@1 TAKE1\n@1 DO1\n@1 TAKE1\n";
+pub(super) const ORDER: &[u8] =
+    b"A LOGON MILLER\nA V1 PUT T 1 X\nA COMMIT\n@1 TAKE1\n@1 DO1\n@1 TAKE1\n";
 
 #[test]
 fn the_store_has_what_was_posted(rt: HostRuntime) -> Result<(), Fail> {
@@ -253,12 +253,12 @@ fn the_store_has_what_was_posted(rt: HostRuntime) -> Result<(), Fail> {
     Ok(())
 }
 
-// The commit of the post is the twelfth call of the store: ten open it, and one records the unit.
+// The commit of the post is the 13th call of the store: ten open it, one records the unit, and one reads the row.
 #[test]
 fn a_failed_post_is_in_doubt(rt: HostRuntime) -> Result<(), Fail> {
     let alloc = rt.alloc();
-    for (falls_after, marks) in [(0, 1), (12, 2)] {
-        let keeper = MemKeeper::new(alloc, vec![in alloc; 12]?, vec![in alloc; falls_after]?)?;
+    for (falls_after, marks) in [(0, 1), (13, 2)] {
+        let keeper = MemKeeper::new(alloc, vec![in alloc; 13]?, vec![in alloc; falls_after]?)?;
         let (ended, sink) = run_over(alloc, ORDER, keeper)?;
         assert_eq!(rt;
             sink.bytes(),
@@ -267,7 +267,7 @@ fn a_failed_post_is_in_doubt(rt: HostRuntime) -> Result<(), Fail> {
         assert_eq!(rt; ended.why, Why::StoreFault(4));
         assert_eq!(rt; ended.status, 7);
         let mut keeper = ended.site.keeper.again(Vec::new(alloc), Vec::new(alloc));
-        let posted = falls_after == 12;
+        let posted = falls_after == 13;
         assert!(rt;
             has_row(
                 alloc,
@@ -401,7 +401,6 @@ fn a_commit_hands_its_locks_over(rt: HostRuntime) -> Result<(), Fail> {
     assert!(rt; hall.ask(alloc, 2, session, vec![in alloc; optimistic]?) == Reply::Done);
     assert!(rt; hall.ask(alloc, 3, session, vec![in alloc; exclusive]?) == Reply::Done);
     let parts = one_put(alloc)?;
-    assert!(rt; are_puts(&parts));
     let unit = UnitKey {
         start: 1,
         session: 1,

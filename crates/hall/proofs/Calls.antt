@@ -1,6 +1,7 @@
 -- A call comes to what its command's verdict says.
 use Rattle.std.proofs.Common.{◌≡◌, ℕ, ◌+◌, Bool, true, false, List, [], ◌∷◌, ◌++◌, length, fold, refl, sym, ap, ◌∙◌, subst}
 use Rattle.std.specs.Prelude.{nat_le, if◌then◌else◌, Option, Some, None, is_some, Result, Ok, Err, IsTrue}
+use Rattle.enq_base.specs.declared.owner.UnitKey.{UnitKey}
 use Rattle.enq_base.specs.declared.refusal.Refusal.{Refusal}
 use Rattle.enq_base.specs.declared.refusal.Refusal.TheVariants as refusal
 use Rattle.lock_entry.specs.declared.entry.Asker.{Asker}
@@ -19,30 +20,32 @@ use Rattle.hall.specs.declared.command.Command.TheVariants as command
 use Rattle.hall.specs.declared.command.Reply.{Reply}
 use Rattle.hall.specs.declared.command.Reply.TheVariants as reply
 use Rattle.hall.specs.declared.command.Session.{Session}
+use Rattle.posting.specs.declared.prepared.Outcome.{Outcome}
 use Rattle.hall.specs.Acts.{IsAct}
+use Rattle.hall.specs.Coming.{outcome_in}
 use Rattle.hall.specs.History.{Well, IsAllowed, is_unrecorded, judged, leaves, may_want, served, shown}
 use Rattle.hall.specs.Sessions.{session_at, without_session, with_session, with_next_unit, pair_of}
 use Rattle.hall.specs.State.{State}
 use Rattle.hall.specs.Step.{Verdict, Refuses, Leaves, answer_of, ask_refusal, call_of, closed, converting, entered, granting, logon, own_verdict, session_call, unless_closed, verdict}
 
-pub verdict-room : (s : State) (c : Command) → closed s ≡ None → verdict s c ≡ own_verdict s c
+pub verdict-room : (come : UnitKey → Outcome) (s : State) (c : Command) → closed s ≡ None → verdict come s c ≡ own_verdict come s c
 unfolding verdict
-verdict-room s c room = ap (λ o. unless_closed o (own_verdict s c)) room
+verdict-room come s c room = ap (λ o. unless_closed o (own_verdict come s c)) room
 
-pub verdict-closed : (s : State) (c : Command) (r : Refusal) → closed s ≡ Some r → verdict s c ≡ Refuses r
+pub verdict-closed : (come : UnitKey → Outcome) (s : State) (c : Command) (r : Refusal) → closed s ≡ Some r → verdict come s c ≡ Refuses r
 unfolding verdict
-verdict-closed s c r shut = ap (λ o. unless_closed o (own_verdict s c)) shut
+verdict-closed come s c r shut = ap (λ o. unless_closed o (own_verdict come s c)) shut
 
-pub refuses : (s : State) (c : Command) (r : Refusal) → closed s ≡ None → own_verdict s c ≡ Refuses r → shown (reply.Refused r) ≡ Well → is_unrecorded (reply.Refused r) ≡ false → IsAct s c s (reply.Refused r)
+pub refuses : (s : State) (c : Command) (r : Refusal) → closed s ≡ None → own_verdict (outcome_in s.stored) s c ≡ Refuses r → shown (reply.Refused r) ≡ Well → is_unrecorded (reply.Refused r) ≡ false → IsAct s c s (reply.Refused r)
 refuses s c r room e well noted =
     record {
-      same = ap (λ o. served o s c) well ∙ ap (judged s) (verdict-room s c room ∙ e);
+      same = ap (λ o. served o s c) well ∙ ap (judged s) (verdict-room (outcome_in s.stored) s c room ∙ e);
       allowed = subst (λ o. IsAllowed o s c) (sym well) tt;
       noted = noted;
     }
 
-pub is_done : (s : State) (c : Command) (after : State) → closed s ≡ None → own_verdict s c ≡ Leaves after reply.Done → IsAct s c after reply.Done
-is_done s c after room e = record { same = ap (judged s) (verdict-room s c room ∙ e); allowed = tt; noted = refl }
+pub is_done : (s : State) (c : Command) (after : State) → closed s ≡ None → own_verdict (outcome_in s.stored) s c ≡ Leaves after reply.Done → IsAct s c after reply.Done
+is_done s c after room e = record { same = ap (judged s) (verdict-room (outcome_in s.stored) s c room ∙ e); allowed = tt; noted = refl }
 
 pub is_wanting : (s : State) (c : Command) → closed s ≡ None → IsTrue (may_want s c) → IsAct s c s (reply.Refused refusal.NoMemory)
 is_wanting s c room h = record { same = refl; allowed = (room, h); noted = refl }
@@ -84,7 +87,7 @@ logs_on_wanting s sessions next name user e f room free limit =
     let free : is_some (session_at s.sessions name) ≡ false = ap (λ xs. is_some (session_at xs name)) e ∙ free in
     let limit : nat_le 1024 (length s.sessions) ≡ false = ap (λ xs. nat_le 1024 (length xs)) e ∙ limit in
     at_state _ _ s _ _ (λ i. record s { sessions = e i; next_session = f i })
-    (is_wanting s (command.Logon name user) room (ap leaves (verdict-room s (command.Logon name user) room ∙ logon_free s name user false free limit)))
+    (is_wanting s (command.Logon name user) room (ap leaves (verdict-room (outcome_in s.stored) s (command.Logon name user) room ∙ logon_free s name user false free limit)))
 
 pub logs_on : (s : State) (sessions : List Session) (next : ℕ) (name user : List ℕ) → s.sessions ≡ sessions → s.next_session ≡ next → closed s ≡ None → is_some (session_at sessions name) ≡ false → nat_le 1024 (length sessions) ≡ false → IsAct s (command.Logon name user) (record s { sessions = sessions ++ record { name = name; user = user; number = next; luw = 1 } ∷ []; next_session = next + 1 }) reply.Done
 logs_on s sessions next name user e f room free limit =
@@ -95,7 +98,7 @@ logs_on s sessions next name user e f room free limit =
 
 -- ---- calls of a session
 
-pub knows_no_session : (s : State) (sessions : List Session) (name : List ℕ) (c : Command) → own_verdict s c ≡ call_of s name c → s.sessions ≡ sessions → closed s ≡ None → session_at sessions name ≡ None → IsAct s c s (reply.Refused refusal.UnknownSession)
+pub knows_no_session : (s : State) (sessions : List Session) (name : List ℕ) (c : Command) → own_verdict (outcome_in s.stored) s c ≡ call_of s name c → s.sessions ≡ sessions → closed s ≡ None → session_at sessions name ≡ None → IsAct s c s (reply.Refused refusal.UnknownSession)
 knows_no_session s sessions name c own e room none =
     refuses s c refusal.UnknownSession room (own ∙ ap (calling s c) (found_at s sessions name None e none)) refl refl
 
@@ -144,7 +147,7 @@ rolls_back s start sessions name x pair after entries k room e f =
 
 -- ---- converting
 
-turning : (s : State) (start : ℕ) (sessions : List Session) (name : List ℕ) (x : Session) (pair : Asker) (asked : List Asked) (entries : List Entry) (answer : Result Conversion AskFault) → Caller s start sessions name x pair → s.locks ≡ entries → converted entries pair asked ≡ answer → own_verdict s (command.Convert name asked) ≡ converting s answer
+turning : (s : State) (start : ℕ) (sessions : List Session) (name : List ℕ) (x : Session) (pair : Asker) (asked : List Asked) (entries : List Entry) (answer : Result Conversion AskFault) → Caller s start sessions name x pair → s.locks ≡ entries → converted entries pair asked ≡ answer → own_verdict (outcome_in s.stored) s (command.Convert name asked) ≡ converting s answer
 turning s start sessions name x pair asked entries answer k locks e =
     let own = own_pair s start sessions name x pair k in
     of_session s start sessions name x pair (command.Convert name asked) k
@@ -174,7 +177,7 @@ converts_in_vain s start sessions name x pair asked entries f r after k locks ro
 
 -- ---- asking
 
-asking : (s : State) (start : ℕ) (sessions : List Session) (name : List ℕ) (x : Session) (pair : Asker) (requests : List Request) (t : Table) (answer : Result (List Entry) AskFault) → Caller s start sessions name x pair → s.locks ≡ t.entries → s.limit ≡ t.limit → asked t pair x.user requests ≡ answer → own_verdict s (command.Ask name requests) ≡ granting s answer
+asking : (s : State) (start : ℕ) (sessions : List Session) (name : List ℕ) (x : Session) (pair : Asker) (requests : List Request) (t : Table) (answer : Result (List Entry) AskFault) → Caller s start sessions name x pair → s.locks ≡ t.entries → s.limit ≡ t.limit → asked t pair x.user requests ≡ answer → own_verdict (outcome_in s.stored) s (command.Ask name requests) ≡ granting s answer
 asking s start sessions name x pair requests t answer k locks limit e =
     let own = own_pair s start sessions name x pair k in
     of_session s start sessions name x pair (command.Ask name requests) k
@@ -207,7 +210,7 @@ asks_in_vain s start sessions name x pair requests t f r entries k locks limit r
     (at_state _ _ s _ _ (λ i. record s { locks = stays i }) (is_refused s start sessions name x pair requests t f k locks limit room h))
 
 -- an unknown session changes nothing
-pub unknown_session : (s : State) (sessions : List Session) (name : List ℕ) (c : Command) (after : State) (answer : Result Unit Refusal) (r : Refusal) → own_verdict s c ≡ call_of s name c → s.sessions ≡ sessions → closed s ≡ None → session_at sessions name ≡ None → s ≡ after → answer ≡ Err r → r ≡ refusal.UnknownSession → IsAct s c after (answer_of answer)
+pub unknown_session : (s : State) (sessions : List Session) (name : List ℕ) (c : Command) (after : State) (answer : Result Unit Refusal) (r : Refusal) → own_verdict (outcome_in s.stored) s c ≡ call_of s name c → s.sessions ≡ sessions → closed s ≡ None → session_at sessions name ≡ None → s ≡ after → answer ≡ Err r → r ≡ refusal.UnknownSession → IsAct s c after (answer_of answer)
 unknown_session s sessions name c after answer r own e room none same is what =
     let said : reply.Refused refusal.UnknownSession ≡ answer_of answer = sym (ap answer_of is ∙ ap reply.Refused what) in
     subst (λ a. IsAct s c after a) said (at_state s c s after _ same (knows_no_session s sessions name c own e room none))

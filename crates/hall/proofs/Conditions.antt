@@ -7,20 +7,16 @@ use Rattle.enq_base.specs.declared.owner.UnitKey.{UnitKey}
 use Rattle.enq_base.specs.declared.refusal.Refusal.{Refusal}
 use Rattle.enq_base.specs.declared.refusal.Refusal.TheVariants as refusal
 use Rattle.enq_base.specs.declared.unit.Parts.{Parts}
-use Rattle.module_effects.specs.Effects.{applied}
-use Rattle.module_effects.specs.Rows.{Tables}
-use Rattle.module_effects.specs.declared.fault.EffectFault.{EffectFault}
-use Rattle.module_effects.specs.declared.fault.EffectFault.TheVariants as effect
-use Rattle.update_records.specs.Business.{tables_of}
-use Rattle.update_records.specs.Marks.{v1_of}
 use Rattle.lock_entry.specs.declared.entry.Entry.{Entry}
 use Rattle.lock_entry.specs.declared.fault.AskFault.{AskFault}
 use Rattle.lock_entry.specs.Converting.{Conversion}
+use Rattle.posting.specs.declared.prepared.Outcome.{Outcome}
+use Rattle.hall.specs.Coming.{outcome_in}
 use Rattle.hall.specs.declared.command.Command.{Command}
 use Rattle.hall.specs.declared.command.Command.TheVariants as command
 use Rattle.hall.specs.declared.command.Reply.TheVariants as reply
 use Rattle.hall.specs.declared.command.Session.{Session}
-use Rattle.hall.specs.History.{DeviceOutcome, Well, Wanting, StoreFails, Served, failed, is_unrecorded, judged, past_entry, served, step}
+use Rattle.hall.specs.History.{DeviceOutcome, Well, Wanting, StoreFails, Comes, Served, failed, is_unrecorded, judged, past_entry, served, step}
 use Rattle.hall.specs.Orders.{order_of, without_order}
 use Rattle.hall.specs.Sessions.{session_at, unit_key}
 use Rattle.hall.specs.State.{State}
@@ -73,34 +69,28 @@ take-condition : (s : State) (worker : ℕ) (o found : Option UnitKey) → (judg
 take-condition s worker None found = taking-condition s worker found
 take-condition s worker (Some unit) found = refl
 
-posting-condition : (s : State) (worker : ℕ) (unit : UnitKey) (r : Result Tables EffectFault) → (judged s (posting s worker unit r)).state.condition ≡ s.condition
-posting-condition s worker unit (Ok tables) = refl
-posting-condition s worker unit (Err (effect.Refused index reason)) = refl
-posting-condition s worker unit (Err effect.NoMemory) = refl
-
-own-condition : (s : State) (c : Command) → (judged s (own_verdict s c)).state.condition ≡ s.condition
-own-condition s (command.Logon session user) = logon-condition s session user _ _
-own-condition s (command.Logoff session) = call-condition s session (command.Logoff session)
-own-condition s (command.Ask session requests) = call-condition s session (command.Ask session requests)
-own-condition s (command.Free session requests) = call-condition s session (command.Free session requests)
-own-condition s (command.FreeAll session) = call-condition s session (command.FreeAll session)
-own-condition s (command.Convert session asked) = call-condition s session (command.Convert session asked)
-own-condition s (command.Rollback session) = call-condition s session (command.Rollback session)
-own-condition s (command.Commit session parts) = call-condition s session (command.Commit session parts)
-own-condition s (command.Take1 worker) = take-condition s worker _ _
-own-condition s (command.Do1 worker) =
-    order-condition s (order_of s.orders worker) (λ unit. posting s worker unit (applied (v1_of s.stored.units unit) (tables_of s.stored.units s.stored.marks)))
-    (λ unit. posting-condition s worker unit _)
-own-condition s (command.DropOrder worker) =
+own-condition : (come : UnitKey → Outcome) (s : State) (c : Command) → (judged s (own_verdict come s c)).state.condition ≡ s.condition
+own-condition come s (command.Logon session user) = logon-condition s session user _ _
+own-condition come s (command.Logoff session) = call-condition s session (command.Logoff session)
+own-condition come s (command.Ask session requests) = call-condition s session (command.Ask session requests)
+own-condition come s (command.Free session requests) = call-condition s session (command.Free session requests)
+own-condition come s (command.FreeAll session) = call-condition s session (command.FreeAll session)
+own-condition come s (command.Convert session asked) = call-condition s session (command.Convert session asked)
+own-condition come s (command.Rollback session) = call-condition s session (command.Rollback session)
+own-condition come s (command.Commit session parts) = call-condition s session (command.Commit session parts)
+own-condition come s (command.Take1 worker) = take-condition s worker _ _
+own-condition come s (command.Do1 worker) =
+    order-condition s (order_of s.orders worker) (λ unit. posting s worker unit (come unit)) (λ unit. refl)
+own-condition come s (command.DropOrder worker) =
     order-condition s (order_of s.orders worker) (λ unit. Leaves (record s { orders = without_order s.orders worker }) (reply.Unit unit)) (λ unit. refl)
 
 unless-condition : (s : State) (o : Option Refusal) (v : Verdict) → (judged s v).state.condition ≡ s.condition → (judged s (unless_closed o v)).state.condition ≡ s.condition
 unless-condition s None v h = h
 unless-condition s (Some r) v h = refl
 
-verdict-condition : (s : State) (c : Command) → (judged s (verdict s c)).state.condition ≡ s.condition
+verdict-condition : (come : UnitKey → Outcome) (s : State) (c : Command) → (judged s (verdict come s c)).state.condition ≡ s.condition
 unfolding verdict
-verdict-condition s c = unless-condition s (closed s) (own_verdict s c) (own-condition s c)
+verdict-condition come s c = unless-condition s (closed s) (own_verdict come s c) (own-condition come s c)
 
 -- ---- a call
 
@@ -112,15 +102,17 @@ abbrev pub is_store_failure : DeviceOutcome → Bool
 is_store_failure Well = false
 is_store_failure Wanting = false
 is_store_failure StoreFails = true
+is_store_failure (Comes outcome) = false
 
 failed_becomes : (s : State) (v : Verdict) → Becomes true s.condition (failed s v).state.condition
 failed_becomes s (Refuses r) = inl refl
 failed_becomes s (Leaves after r) = inr (refl, (length s.past, refl))
 
 served_becomes : (d : DeviceOutcome) (s : State) (c : Command) → Becomes (is_store_failure d) s.condition (served d s c).state.condition
-served_becomes Well s c = inl (verdict-condition s c)
+served_becomes Well s c = inl (verdict-condition (outcome_in s.stored) s c)
 served_becomes Wanting s c = inl refl
-served_becomes StoreFails s c = failed_becomes s (verdict s c)
+served_becomes (Comes o) s c = inl (verdict-condition (λ unit. o) s c)
+served_becomes StoreFails s c = failed_becomes s (verdict (outcome_in s.stored) s c)
 
 noted_case : (n : ℕ) (c : Command) (r : Served) (b : Bool) → (if b then r else record r { state = record r.state { past = r.state.past ++ past_entry n c r.reply ∷ [] } }).state.condition ≡ r.state.condition
 noted_case n c r true = refl

@@ -1,12 +1,12 @@
 -- The state behind a call that writes the store, answered or in doubt.
-use Rattle.std.proofs.Common.{◌≡◌, ℕ, false, List, length, refl, sym, ap, ◌∙◌, subst}
+use Rattle.std.proofs.Common.{◌≡◌, ℕ, Bool, false, List, length, refl, sym, ap, ◌∙◌, subst}
 use Rattle.std.specs.Prelude.{Option, Some, None}
 use Rattle.std.specs.Option.{option_map}
 use Rattle.enq_base.specs.declared.condition.Condition.TheVariants.{Up}
 use Rattle.enq_base.specs.declared.owner.UnitKey.{UnitKey}
 use Rattle.lock_entry.specs.Table.{Table}
-use Rattle.posting.specs.Steps.{after_step}
-use Rattle.posting.specs.declared.prepared.Step.{Step}
+use Rattle.hall.specs.Flights.{landed}
+use Rattle.hall.specs.declared.units.InFlight.{InFlight}
 use Rattle.update_records.specs.Ledger.{Ledger}
 use Rattle.hall.specs.Acts.{IsAct, IsWritten, OnFailure, written_condition, written_pending, written_reply}
 use Rattle.enq_base.specs.declared.refusal.Refusal.TheVariants as refusal
@@ -16,7 +16,10 @@ use Rattle.hall.specs.declared.command.Command.TheVariants as command
 use Rattle.hall.specs.declared.command.Reply.{Reply}
 use Rattle.hall.specs.declared.command.Reply.TheVariants as reply
 use Rattle.hall.specs.Kept.{IsKept}
-use Rattle.hall.specs.Step.{closed, own_verdict, take, verdict}
+use Rattle.hall.specs.Coming.{outcome_in}
+use Rattle.hall.specs.Orders.{first_unclaimed, order_of}
+use Rattle.hall.specs.Step.{Refuses, closed, take, taking, verdict}
+use Rattle.update_records.specs.Marks.{waiting}
 use Rattle.hall.specs.History.{IsAllowed, IsStep, Served, Well, doubted, is_unrecorded, judged, noted, served, shown}
 use Rattle.hall.specs.State.{State, state_of}
 use Rattle.hall.specs.declared.command.Command.{Command}
@@ -27,41 +30,47 @@ use Rattle.hall.specs.declared.units.Written.TheVariants.{Answered, Failed}
 
 abbrev pub written_state : State → State → Written → State
 written_state s after (Answered r) = after
-written_state s after (Failed step) = doubted s (after_step s.stored step)
+written_state s after (Failed step) = doubted s (landed s.stored step)
 
 pub written_act : (s : State) (c : Command) (after : State) (w : Written) → IsWritten s c after w → IsAct s c (written_state s after w) (written_reply w)
 written_act s c after (Answered r) h = h
 written_act s c after (Failed step) h = h
 
-none_before : (p : Option Step) (l : Ledger) → option_map (after_step l) p ≡ None → p ≡ None
+none_before : (p : Option InFlight) (l : Ledger) → option_map (landed l) p ≡ None → p ≡ None
 none_before None l h = refl
 none_before (Some step) l h = cc
 
 -- what the fields are behind it
-pub ends_as : (ss ss' : List Session) (n : ℕ) (os os' : List (Option UnitKey)) (t t' : Table) (l l' : Ledger) (p : Option Step) (past past' : List PastEntry) (w : Written)
-    → option_map (after_step l) p ≡ None → t'.limit ≡ t.limit → OnFailure w (ss' ≡ ss) → OnFailure w (os' ≡ os) → OnFailure w (l' ≡ l)
-    → state_of (written_condition Up (length past) w) ss' n os' t' l' (option_map (after_step l') (written_pending p w)) past'
-    ≡ record (written_state (state_of Up ss n os t l (option_map (after_step l) p) past) (record (state_of Up ss n os t l (option_map (after_step l) p) past) { sessions = ss'; orders = os'; locks = t'.entries; stored = l' }) w) { past = past' }
-ends_as ss ss' n os os' t t' l l' p past past' (Answered r) none limit a b c =
-    let same : option_map (after_step l') p ≡ option_map (after_step l) p = ap (option_map (after_step l')) (none_before p l none) ∙ sym none in
-    λ i. record (state_of Up ss' n os' t' l' (same i) past') { limit = limit i }
-ends_as ss ss' n os os' t t' l l' p past past' (Failed step) none limit a b c =
-    λ i. record (doubted (state_of Up (a i) n (b i) t (c i) None past) (after_step (c i) step)) { limit = limit i; past = past' }
+pub ends_as : (told told' : Bool) (ss ss' : List Session) (n : ℕ) (os os' : List (Option UnitKey)) (t t' : Table) (l l' : Ledger) (p : Option InFlight) (past past' : List PastEntry) (w : Written)
+    → told' ≡ told → option_map (landed l) p ≡ None → t'.limit ≡ t.limit → OnFailure w (ss' ≡ ss) → OnFailure w (os' ≡ os) → OnFailure w (l' ≡ l)
+    → state_of told' (written_condition Up (length past) w) ss' n os' t' l' (option_map (landed l') (written_pending p w)) past'
+    ≡ record (written_state (state_of told Up ss n os t l (option_map (landed l) p) past) (record (state_of told Up ss n os t l (option_map (landed l) p) past) { sessions = ss'; orders = os'; locks = t'.entries; stored = l' }) w) { past = past' }
+ends_as told told' ss ss' n os os' t t' l l' p past past' (Answered r) tells none limit a b c =
+    let same : option_map (landed l') p ≡ option_map (landed l) p = ap (option_map (landed l')) (none_before p l none) ∙ sym none in
+    λ i. record (state_of (tells i) Up ss' n os' t' l' (same i) past') { limit = limit i }
+ends_as told told' ss ss' n os os' t t' l l' p past past' (Failed step) tells none limit a b c =
+    λ i. record (doubted (state_of (tells i) Up (a i) n (b i) t (c i) None past) (landed (c i) step)) { limit = limit i; past = past' }
 
--- a call that is answered as its command says
-pub judged_act : (s : State) (c : Command) (after : State) (r : Reply) → closed s ≡ None → judged s (own_verdict s c) ≡ record { state = after; reply = r } → is_unrecorded r ≡ false → IsAct s c after r
-judged_act s c after r room h noted =
-    let e : judged s (verdict s c) ≡ record { state = after; reply = r } = ap (judged s) (verdict-room s c room) ∙ h in
-    let well : shown r ≡ Well = ap (λ (x : Served). shown x.reply) (sym e) ∙ (verdict-fair s c).well in
+taken-well : (s : State) (worker : ℕ) (o found : Option UnitKey) → shown (judged s (elim o [ Some unit ↦ Refuses (refusal.WorkerBusy unit) | None ↦ taking s worker found ])).reply ≡ Well
+taken-well s worker None None = refl
+taken-well s worker None (Some unit) = refl
+taken-well s worker (Some unit) found = refl
+
+-- an order that is answered as its command says
+pub taken_act : (s : State) (worker : ℕ) (after : State) (r : Reply) → closed s ≡ None → judged s (take s worker) ≡ record { state = after; reply = r } → is_unrecorded r ≡ false → IsAct s (command.Take1 worker) after r
+taken_act s worker after r room h noted =
+    let c = command.Take1 worker in
+    let e : judged s (verdict (outcome_in s.stored) s c) ≡ record { state = after; reply = r } = ap (judged s) (verdict-room (outcome_in s.stored) s c room) ∙ h in
+    let well : shown r ≡ Well = ap (λ (x : Served). shown x.reply) (sym h) ∙ taken-well s worker (order_of s.orders worker) (first_unclaimed s.orders (waiting s.stored.units s.stored.marks)) in
     record { same = ap (λ o. served o s c) well ∙ e; allowed = subst (λ o. IsAllowed o s c) (sym well) tt; noted = noted }
 
 -- a worker that finds no unit
 pub idle_call : (s : State) (line worker : ℕ) (after : State) → closed s ≡ None → judged s (take s worker) ≡ record { state = after; reply = reply.Refused refusal.Idle } → IsStep s after line (command.Take1 worker) (reply.Refused refusal.Idle)
 idle_call s line worker after room h =
-    record { same = sym (ap (noted line (command.Take1 worker)) (ap (judged s) (verdict-room s (command.Take1 worker) room) ∙ h)); allowed = tt }
+    record { same = sym (ap (noted line (command.Take1 worker)) (ap (judged s) (verdict-room (outcome_in s.stored) s (command.Take1 worker) room) ∙ h)); allowed = tt }
 
 pub idle_kept : (s : State) (worker : ℕ) (after : State) → closed s ≡ None → judged s (take s worker) ≡ record { state = after; reply = reply.Refused refusal.Idle } → IsKept s → IsKept after
 idle_kept s worker after room h kept =
-    let e : judged s (verdict s (command.Take1 worker)) ≡ record { state = after; reply = reply.Refused refusal.Idle } = ap (judged s) (verdict-room s (command.Take1 worker) room) ∙ h in
-    let same : after ≡ s = ap (λ (x : Served). x.state) (sym e) ∙ (verdict-fair s (command.Take1 worker)).quiet (ap (λ (x : Served). is_unrecorded x.reply) e) in
+    let e : judged s (verdict (outcome_in s.stored) s (command.Take1 worker)) ≡ record { state = after; reply = reply.Refused refusal.Idle } = ap (judged s) (verdict-room (outcome_in s.stored) s (command.Take1 worker) room) ∙ h in
+    let same : after ≡ s = ap (λ (x : Served). x.state) (sym e) ∙ (verdict-fair (outcome_in s.stored) s (command.Take1 worker)).quiet (ap (λ (x : Served). is_unrecorded x.reply) e) in
     subst IsKept (sym same) kept

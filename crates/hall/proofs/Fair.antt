@@ -1,20 +1,12 @@
 -- No verdict wants memory, and each keeps the locks sound.
-use Rattle.std.proofs.Common.{◌≡◌, ℕ, ◌+◌, ◌<◌, ◌^◌, arith, Bool, true, false, cond, List, [], ◌∷◌, length, map, fold, refl, sym, ◌∙◌}
+use Rattle.std.proofs.Common.{◌≡◌, ℕ, ◌<◌, ◌^◌, arith, Bool, true, false, cond, List, [], ◌∷◌, length, map, fold, refl, sym, ◌∙◌}
 use Rattle.std.specs.Prelude.{if◌then◌else◌, Option, Some, None, Result, Ok, Err}
 use Rattle.std.proofs.lemmas.Bool.{and_from, eq-eqb}
-use Rattle.std.specs.FinMap.{get}
 use Rattle.enq_base.specs.declared.condition.Condition.{Condition}
 use Rattle.enq_base.specs.declared.condition.Condition.TheVariants as condition
 use Rattle.enq_base.specs.declared.owner.Owner.TheVariants.{Upd}
 use Rattle.enq_base.specs.declared.owner.UnitKey.{UnitKey}
-use Rattle.enq_base.specs.declared.unit.Effect.{Effect}
 use Rattle.enq_base.specs.declared.unit.Parts.{Parts}
-use Rattle.module_effects.specs.Effects.{applied, applied_from, row_after}
-use Rattle.module_effects.specs.Rows.{Tables, row_of, with_row}
-use Rattle.module_effects.specs.declared.fault.EffectFault.{EffectFault}
-use Rattle.module_effects.specs.declared.fault.EffectFault.TheVariants as effect
-use Rattle.update_records.specs.Business.{tables_of}
-use Rattle.update_records.specs.Marks.{v1_of}
 use Rattle.enq_base.specs.declared.refusal.Refusal.{Refusal}
 use Rattle.enq_base.specs.declared.refusal.Refusal.TheVariants as refusal
 use Rattle.lock_entry.specs.declared.entry.Asker.{Asker}
@@ -32,34 +24,45 @@ use Rattle.lock_entry.specs.Table.{Table, IsTable, with_entries}
 use Rattle.lock_entry.proofs.ConversionSound.{IsTable-converted}
 use Rattle.lock_entry.proofs.Frees.{IsTable-freed, IsTable-freed_owner, IsTable-handed_over}
 use Rattle.lock_entry.proofs.GrantSound.{IsTable-asked}
+use Rattle.posting.specs.declared.prepared.Outcome.{Outcome}
+use Rattle.posting.specs.declared.prepared.Outcome.TheVariants as outcome
 use Rattle.hall.specs.declared.command.Command.{Command}
 use Rattle.hall.specs.declared.command.Command.TheVariants as command
 use Rattle.hall.specs.declared.command.Reply.{Reply}
 use Rattle.hall.specs.declared.command.Reply.TheVariants as reply
 use Rattle.hall.specs.declared.command.Session.{Session}
-use Rattle.hall.specs.History.{Well, failed, is_unrecorded, judged, shown}
+use Rattle.hall.specs.History.{DeviceOutcome, Well, failed, is_post, is_unrecorded, judged, shown}
 use Rattle.hall.specs.Orders.{order_of, without_order}
 use Rattle.hall.specs.Sessions.{pair_of, session_at, unit_key}
 use Rattle.hall.specs.State.{State}
-use Rattle.hall.specs.Step.{Verdict, Refuses, Leaves, ask_refusal, call_of, committed, converting, entered, granting, own_verdict, posting, session_call, taking, unless_closed, verdict}
+use Rattle.hall.specs.Step.{Verdict, Refuses, Leaves, ask_refusal, call_of, committed, converting, entered, granting, own_verdict, posted_reply, posting, session_call, taking, unless_closed, verdict}
 
 abbrev pub table_of : State → Table
 table_of s = record { entries = s.locks; limit = s.limit }
 
--- neither memory is wanting nor does the store fail, a good table stays good, and a call that isn't noted leaves the state
-pub record IsFair (s : State) (v : Verdict) : Type 0 where
-  pub well : shown (judged s v).reply ≡ Well
+-- But for a post neither is memory wanting nor does the store fail. A good table stays good, and a call that isn't noted leaves the state
+-- the answer of a call shows that all went well; that of a post shows what its part came to
+abbrev pub IsPlain : Bool → DeviceOutcome → Type 0
+IsPlain true outcome = Unit {0}
+IsPlain false outcome = outcome ≡ Well
+
+pub record IsFair (post : Bool) (s : State) (v : Verdict) : Type 0 where
+  pub well : IsPlain post (shown (judged s v).reply)
   pub quiet : is_unrecorded (judged s v).reply ≡ true → (judged s v).state ≡ s
   pub sound : IsTable (table_of s) → IsTable (table_of (judged s v).state)
 
-refused_fairly : (s : State) (r : Refusal) → shown (reply.Refused r) ≡ Well → IsFair s (Refuses r)
-refused_fairly s r e = record { well = e; quiet = λ _. refl; sound = λ h. h }
+plain : (post : Bool) (outcome : DeviceOutcome) → outcome ≡ Well → IsPlain post outcome
+plain true outcome e = tt
+plain false outcome e = e
 
-left_fairly : (s after : State) → (IsTable (table_of s) → IsTable (table_of after)) → IsFair s (Leaves after reply.Done)
-left_fairly s after h = record { well = refl; quiet = λ e. absurd (cc); sound = h }
+refused_fairly : {post : Bool} (s : State) (r : Refusal) → shown (reply.Refused r) ≡ Well → IsFair post s (Refuses r)
+refused_fairly {post} s r e = record { well = plain post _ e; quiet = λ _. refl; sound = λ h. h }
 
-told_fairly : (s after : State) (r : Reply) → shown r ≡ Well → is_unrecorded r ≡ false → (IsTable (table_of s) → IsTable (table_of after)) → IsFair s (Leaves after r)
-told_fairly s after r well noted h = record { well = well; quiet = λ e. absurd (let no : false ≡ true = sym noted ∙ e in cc); sound = h }
+left_fairly : {post : Bool} (s after : State) → (IsTable (table_of s) → IsTable (table_of after)) → IsFair post s (Leaves after reply.Done)
+left_fairly {post} s after h = record { well = plain post _ refl; quiet = λ e. absurd (cc); sound = h }
+
+told_fairly : {post : Bool} (s after : State) (r : Reply) → shown r ≡ Well → is_unrecorded r ≡ false → (IsTable (table_of s) → IsTable (table_of after)) → IsFair post s (Leaves after r)
+told_fairly {post} s after r well noted h = record { well = plain post _ well; quiet = λ e. absurd (let no : false ≡ true = sym noted ∙ e in cc); sound = h }
 
 -- the grant rule refuses for its own reasons alone
 abbrev IsOfRule : {X : Type 0} → Result X AskFault → Type 0
@@ -88,12 +91,12 @@ converted-of_rule entries asker asked =
 pair_of-IsPair : (start : ℕ) (x : Session) → IsPair (pair_of start x)
 pair_of-IsPair start x = and_from _ _ (eq-eqb start start refl) (eq-eqb x.number x.number refl)
 
-granting-fair : (s : State) (x : Session) (rs : List Request) (r : Result (List Entry) AskFault) → asked (table_of s) (pair_of s.stored.start x) x.user rs ≡ r → IsOfRule r → IsFair s (granting s r)
+granting-fair : {post : Bool} (s : State) (x : Session) (rs : List Request) (r : Result (List Entry) AskFault) → asked (table_of s) (pair_of s.stored.start x) x.user rs ≡ r → IsOfRule r → IsFair post s (granting s r)
 granting-fair s x rs (Ok es) e h =
     left_fairly s (record s { locks = es }) (λ good. IsTable-asked (table_of s) (pair_of s.stored.start x) x.user rs good (pair_of-IsPair s.stored.start x) es e)
 granting-fair s x rs (Err f) e h = refused_fairly s (ask_refusal f) h
 
-converting-fair : (s : State) (x : Session) (asked : List Asked) (r : Result Conversion AskFault) → converted s.locks (pair_of s.stored.start x) asked ≡ r → IsOfRule r → IsFair s (converting s r)
+converting-fair : {post : Bool} (s : State) (x : Session) (asked : List Asked) (r : Result Conversion AskFault) → converted s.locks (pair_of s.stored.start x) asked ≡ r → IsOfRule r → IsFair post s (converting s r)
 converting-fair s x asked (Ok c) e h =
     left_fairly s (record s { locks = c.entries }) (λ good. IsTable-converted (table_of s) (pair_of s.stored.start x) asked c good (pair_of-IsPair s.stored.start x) e)
 converting-fair s x asked (Err f) e h = refused_fairly s (ask_refusal f) h
@@ -102,13 +105,13 @@ freed-good : (t : Table) (names : List LockName) → IsTable t → IsTable (with
 freed-good t [] h = h
 freed-good t (n ∷ ns) h = freed-good (with_entries t (freed t.entries n)) ns (IsTable-freed t n h)
 
-commit-fair : (s : State) (x : Session) (parts : Parts) (large none : Bool) → IsFair s (if large then Refuses refusal.UnitTooLarge else (if none then Leaves s reply.Done else Leaves (committed s x parts) (reply.Unit (unit_key s.stored.start x))))
+commit-fair : {post : Bool} (s : State) (x : Session) (parts : Parts) (large none : Bool) → IsFair post s (if large then Refuses refusal.UnitTooLarge else (if none then Leaves s reply.Done else Leaves (committed s x parts) (reply.Unit (unit_key s.stored.start x))))
 commit-fair s x parts true none = refused_fairly s _ refl
 commit-fair s x parts false true = left_fairly s s (λ good. good)
 commit-fair s x parts false false =
     told_fairly s (committed s x parts) _ refl refl (λ good. IsTable-handed_over (table_of s) (unit_key s.stored.start x) good)
 
-session-fair : (s : State) (x : Session) (c : Command) → IsFair s (session_call s x c)
+session-fair : {post : Bool} (s : State) (x : Session) (c : Command) → IsFair post s (session_call s x c)
 session-fair s x (command.Logon session user) = refused_fairly s _ refl
 session-fair s x (command.Logoff session) =
     let pair = pair_of s.stored.start x in
@@ -126,75 +129,66 @@ session-fair s x (command.Take1 worker) = refused_fairly s _ refl
 session-fair s x (command.Do1 worker) = refused_fairly s _ refl
 session-fair s x (command.DropOrder worker) = refused_fairly s _ refl
 
-call-fair : (s : State) (name : List ℕ) (c : Command) → IsFair s (call_of s name c)
-call-fair s name c =
-    elim (session_at s.sessions name) as (λ o. IsFair s (elim o [ None ↦ Refuses refusal.UnknownSession | Some x ↦ session_call s x c ])) [ None ↦ refused_fairly s _ refl | Some x ↦ session-fair s x c ]
+call-fair : {post : Bool} (s : State) (name : List ℕ) (c : Command) → IsFair post s (call_of s name c)
+call-fair {post} s name c =
+    elim (session_at s.sessions name) as (λ o. IsFair post s (elim o [ None ↦ Refuses refusal.UnknownSession | Some x ↦ session_call s x c ])) [ None ↦ refused_fairly s _ refl | Some x ↦ session-fair s x c ]
 
-logon-fair : (s : State) (name user : List ℕ) (known full : Bool) → IsFair s (if known then Refuses refusal.SessionExists else (if full then Refuses refusal.SessionsFull else Leaves (entered s name user) reply.Done))
+logon-fair : {post : Bool} (s : State) (name user : List ℕ) (known full : Bool) → IsFair post s (if known then Refuses refusal.SessionExists else (if full then Refuses refusal.SessionsFull else Leaves (entered s name user) reply.Done))
 logon-fair s name user true full = refused_fairly s _ refl
 logon-fair s name user false true = refused_fairly s _ refl
 logon-fair s name user false false = left_fairly s _ (λ good. good)
 
-order-fair : (s : State) (o : Option UnitKey) (act : UnitKey → Verdict) → ((unit : UnitKey) → IsFair s (act unit)) → IsFair s (elim o [ None ↦ Refuses refusal.NoOrder | Some unit ↦ act unit ])
+order-fair : {post : Bool} (s : State) (o : Option UnitKey) (act : UnitKey → Verdict) → ((unit : UnitKey) → IsFair post s (act unit)) → IsFair post s (elim o [ None ↦ Refuses refusal.NoOrder | Some unit ↦ act unit ])
 order-fair s None act h = refused_fairly s _ refl
 order-fair s (Some unit) act h = h unit
 
-taking-fair : (s : State) (worker : ℕ) (o : Option UnitKey) → IsFair s (taking s worker o)
+taking-fair : {post : Bool} (s : State) (worker : ℕ) (o : Option UnitKey) → IsFair post s (taking s worker o)
 taking-fair s worker None = refused_fairly s _ refl
 taking-fair s worker (Some unit) = told_fairly s _ _ refl refl (λ good. good)
 
-take-fair : (s : State) (worker : ℕ) (o found : Option UnitKey) → IsFair s (elim o [ Some unit ↦ Refuses (refusal.WorkerBusy unit) | None ↦ taking s worker found ])
+take-fair : {post : Bool} (s : State) (worker : ℕ) (o found : Option UnitKey) → IsFair post s (elim o [ Some unit ↦ Refuses (refusal.WorkerBusy unit) | None ↦ taking s worker found ])
 take-fair s worker None found = taking-fair s worker found
 take-fair s worker (Some unit) found = refused_fairly s _ refl
 
--- effects are refused for reasons of their own alone
-abbrev IsOfEffects : Result Tables EffectFault → Type 0
-IsOfEffects (Ok tables) = Unit {0}
-IsOfEffects (Err (effect.Refused index reason)) = Unit {0}
-IsOfEffects (Err effect.NoMemory) = ⊥
+pub posted-noted : (unit : UnitKey) (o : Outcome) → is_unrecorded (posted_reply unit o) ≡ false
+posted-noted unit outcome.Done = refl
+posted-noted unit (outcome.Refused index reason) = refl
 
-applied-of_effects : (n : ℕ) (effects : List Effect) (tables : Tables) → IsOfEffects (applied_from n effects tables)
-applied-of_effects n [] tables = tt
-applied-of_effects n (e ∷ effects) tables =
-    elim (row_after (get tables (row_of e)) e.deed) as (λ r. IsOfEffects (elim r [
-      | Ok row ↦ applied_from (n + 1) effects (with_row tables (row_of e) row)
-      | Err reason ↦ Err (effect.Refused n reason)
-    ])) [ Ok row ↦ applied-of_effects (n + 1) effects (with_row tables (row_of e) row) | Err reason ↦ tt ]
+posting-fair : (s : State) (worker : ℕ) (unit : UnitKey) (o : Outcome) → IsFair true s (posting s worker unit o)
+posting-fair s worker unit o = record {
+  well = tt;
+  quiet = λ e. absurd (let no : false ≡ true = sym (posted-noted unit o) ∙ e in cc);
+  sound = λ good. IsTable-freed_owner (table_of s) (Upd unit) good;
+}
 
-posting-fair : (s : State) (worker : ℕ) (unit : UnitKey) (r : Result Tables EffectFault) → IsOfEffects r → IsFair s (posting s worker unit r)
-posting-fair s worker unit (Ok tables) h = told_fairly s _ _ refl refl (λ good. IsTable-freed_owner (table_of s) (Upd unit) good)
-posting-fair s worker unit (Err (effect.Refused index reason)) h = told_fairly s _ _ refl refl (λ good. IsTable-freed_owner (table_of s) (Upd unit) good)
-posting-fair s worker unit (Err effect.NoMemory) h = absurd h
-
-own-fair : (s : State) (c : Command) → IsFair s (own_verdict s c)
-own-fair s (command.Logon session user) = logon-fair s session user _ _
-own-fair s (command.Logoff session) = call-fair s session (command.Logoff session)
-own-fair s (command.Ask session rs) = call-fair s session (command.Ask session rs)
-own-fair s (command.Free session rs) = call-fair s session (command.Free session rs)
-own-fair s (command.FreeAll session) = call-fair s session (command.FreeAll session)
-own-fair s (command.Convert session asked) = call-fair s session (command.Convert session asked)
-own-fair s (command.Rollback session) = call-fair s session (command.Rollback session)
-own-fair s (command.Commit session parts) = call-fair s session (command.Commit session parts)
-own-fair s (command.Take1 worker) = take-fair s worker _ _
-own-fair s (command.Do1 worker) =
-    order-fair s (order_of s.orders worker) (λ unit. posting s worker unit (applied (v1_of s.stored.units unit) (tables_of s.stored.units s.stored.marks)))
-    (λ unit. posting-fair s worker unit _ (applied-of_effects 1 (v1_of s.stored.units unit) (tables_of s.stored.units s.stored.marks)))
-own-fair s (command.DropOrder worker) =
+own-fair : (come : UnitKey → Outcome) (s : State) (c : Command) → IsFair (is_post c) s (own_verdict come s c)
+own-fair come s (command.Logon session user) = logon-fair s session user _ _
+own-fair come s (command.Logoff session) = call-fair s session (command.Logoff session)
+own-fair come s (command.Ask session rs) = call-fair s session (command.Ask session rs)
+own-fair come s (command.Free session rs) = call-fair s session (command.Free session rs)
+own-fair come s (command.FreeAll session) = call-fair s session (command.FreeAll session)
+own-fair come s (command.Convert session asked) = call-fair s session (command.Convert session asked)
+own-fair come s (command.Rollback session) = call-fair s session (command.Rollback session)
+own-fair come s (command.Commit session parts) = call-fair s session (command.Commit session parts)
+own-fair come s (command.Take1 worker) = take-fair s worker _ _
+own-fair come s (command.Do1 worker) =
+    order-fair s (order_of s.orders worker) (λ unit. posting s worker unit (come unit)) (λ unit. posting-fair s worker unit (come unit))
+own-fair come s (command.DropOrder worker) =
     order-fair s (order_of s.orders worker) (λ unit. Leaves (record s { orders = without_order s.orders worker }) (reply.Unit unit))
     (λ unit. told_fairly s _ _ refl refl (λ good. good))
 
-down-fair : (s : State) (c : Condition) (v : Verdict) → IsFair s v → IsFair s (unless_closed (elim c [ condition.Up ↦ None | condition.NoServer ↦ None | condition.Doubt k ↦ Some (refusal.Down k) ]) v)
+down-fair : {post : Bool} (s : State) (c : Condition) (v : Verdict) → IsFair post s v → IsFair post s (unless_closed (elim c [ condition.Up ↦ None | condition.NoServer ↦ None | condition.Doubt k ↦ Some (refusal.Down k) ]) v)
 down-fair s condition.Up v h = h
 down-fair s condition.NoServer v h = h
 down-fair s (condition.Doubt k) v h = refused_fairly s _ refl
 
-closed-fair : (s : State) (full : Bool) (v : Verdict) → IsFair s v → IsFair s (unless_closed (if full then Some refusal.LogFull else elim s.condition [ condition.Up ↦ None | condition.NoServer ↦ None | condition.Doubt k ↦ Some (refusal.Down k) ]) v)
+closed-fair : {post : Bool} (s : State) (full : Bool) (v : Verdict) → IsFair post s v → IsFair post s (unless_closed (if full then Some refusal.LogFull else elim s.condition [ condition.Up ↦ None | condition.NoServer ↦ None | condition.Doubt k ↦ Some (refusal.Down k) ]) v)
 closed-fair s true v h = refused_fairly s _ refl
 closed-fair s false v h = down-fair s s.condition v h
 
-pub verdict-fair : (s : State) (c : Command) → IsFair s (verdict s c)
+pub verdict-fair : (come : UnitKey → Outcome) (s : State) (c : Command) → IsFair (is_post c) s (verdict come s c)
 unfolding verdict
-verdict-fair s c = closed-fair s _ (own_verdict s c) (own-fair s c)
+verdict-fair come s c = closed-fair s _ (own_verdict come s c) (own-fair come s c)
 
 none_stands : (limit : ℕ) → limit < 2 ^ 32 → IsTable (record { entries = []; limit = limit })
 none_stands limit fits = record { sound = record { names = refl; counts = refl; conflicts = refl }; within = omega arith; limit_fits = fits }

@@ -13,17 +13,15 @@ use Rattle.lock_entry.proofs.Naming.{bytes_eq-same}
 use Rattle.lock_entry.specs.declared.entry.Entry.{Entry}
 use Rattle.lock_entry.specs.declared.fault.AskFault.{AskFault}
 use Rattle.lock_entry.specs.Converting.{Conversion}
-use Rattle.module_effects.specs.Effects.{applied}
-use Rattle.module_effects.specs.Rows.{Tables}
-use Rattle.module_effects.specs.declared.fault.EffectFault.{EffectFault}
-use Rattle.module_effects.specs.declared.fault.EffectFault.TheVariants as effect
 use Rattle.posting.specs.Steps.{IsOpenUnit}
-use Rattle.update_records.specs.Business.{tables_of}
 use Rattle.update_records.specs.Growing.{next_mark}
 use Rattle.update_records.specs.Ledger.{Ledger}
-use Rattle.update_records.specs.Marks.{v1_of, waiting}
+use Rattle.update_records.specs.Marks.{waiting}
 use Rattle.update_records.specs.declared.records.MarkKind.{MarkKind}
 use Rattle.update_records.specs.declared.records.MarkKind.TheVariants as mark
+use Rattle.posting.specs.Steps.{post_kind}
+use Rattle.posting.specs.declared.prepared.Outcome.{Outcome}
+use Rattle.hall.specs.Coming.{outcome_in}
 use Rattle.hall.specs.declared.command.Command.{Command}
 use Rattle.hall.specs.declared.command.Command.TheVariants as command
 use Rattle.hall.specs.declared.command.PastEntry.{PastEntry}
@@ -31,7 +29,7 @@ use Rattle.hall.specs.declared.command.Reply.{Reply}
 use Rattle.hall.specs.declared.command.Reply.TheVariants as reply
 use Rattle.hall.specs.declared.command.Session.{Session}
 use Rattle.hall.specs.Acts.{IsAct}
-use Rattle.hall.specs.History.{DeviceOutcome, Well, Wanting, StoreFails, doubted, failed, judged, noted, past_entry, served, shown}
+use Rattle.hall.specs.History.{DeviceOutcome, Well, Wanting, StoreFails, Comes, doubted, failed, judged, noted, past_entry, served, shown}
 use Rattle.hall.specs.Kept.{HasFew, IsKept, IsSteady, IsYoung}
 use Rattle.hall.specs.Orders.{first_unclaimed, is_claimed, order_of, without_order}
 use Rattle.hall.specs.Sessions.{is_called, session_at, unit_key, with_next_unit, with_session, without_session}
@@ -267,14 +265,9 @@ marked-holds n s worker unit kind e h =
       };
     }
 
-posting-holds : (n : ℕ) (s : State) (worker : ℕ) (unit : UnitKey) (r : Result Tables EffectFault) → order_of s.orders worker ≡ Some unit → IsModest n s (posting s worker unit r)
-posting-holds n s worker unit (Ok tables) e h = marked-holds n s worker unit mark.V1 e h
-posting-holds n s worker unit (Err (effect.Refused index reason)) e h = marked-holds n s worker unit (mark.Bad1 index reason) e h
-posting-holds n s worker unit (Err effect.NoMemory) e h = holds_more n s h
-
-post-holds : (n : ℕ) (s : State) (worker : ℕ) (o : Option UnitKey) → order_of s.orders worker ≡ o → IsModest n s (elim o [ None ↦ Refuses refusal.NoOrder | Some unit ↦ posting s worker unit (applied (v1_of s.stored.units unit) (tables_of s.stored.units s.stored.marks)) ])
-post-holds n s worker None e h = holds_more n s h
-post-holds n s worker (Some unit) e h = posting-holds n s worker unit _ e h
+post-holds : (n : ℕ) (come : UnitKey → Outcome) (s : State) (worker : ℕ) (o : Option UnitKey) → order_of s.orders worker ≡ o → IsModest n s (elim o [ None ↦ Refuses refusal.NoOrder | Some unit ↦ posting s worker unit (come unit) ])
+post-holds n come s worker None e h = holds_more n s h
+post-holds n come s worker (Some unit) e h = marked-holds n s worker unit (post_kind (come unit)) e h
 
 drop-holds : (n : ℕ) (s : State) (worker : ℕ) (o : Option UnitKey) → IsModest n s (elim o [ None ↦ Refuses refusal.NoOrder | Some unit ↦ Leaves (record s { orders = without_order s.orders worker }) (reply.Unit unit) ])
 drop-holds n s worker None h = holds_more n s h
@@ -282,26 +275,26 @@ drop-holds n s worker (Some unit) h = dropped-holds n s worker h
 
 -- ---- all calls
 
-own-holds : (n : ℕ) (s : State) (c : Command) → IsModest n s (own_verdict s c)
-own-holds n s (command.Logon session user) = logon-holds n s session user _ _
-own-holds n s (command.Logoff session) = call-holds n s session (command.Logoff session)
-own-holds n s (command.Ask session requests) = call-holds n s session (command.Ask session requests)
-own-holds n s (command.Free session requests) = call-holds n s session (command.Free session requests)
-own-holds n s (command.FreeAll session) = call-holds n s session (command.FreeAll session)
-own-holds n s (command.Convert session asked) = call-holds n s session (command.Convert session asked)
-own-holds n s (command.Rollback session) = call-holds n s session (command.Rollback session)
-own-holds n s (command.Commit session parts) = call-holds n s session (command.Commit session parts)
-own-holds n s (command.Take1 worker) = take-holds n s worker (order_of s.orders worker)
-own-holds n s (command.Do1 worker) = post-holds n s worker (order_of s.orders worker) refl
-own-holds n s (command.DropOrder worker) = drop-holds n s worker (order_of s.orders worker)
+own-holds : (n : ℕ) (come : UnitKey → Outcome) (s : State) (c : Command) → IsModest n s (own_verdict come s c)
+own-holds n come s (command.Logon session user) = logon-holds n s session user _ _
+own-holds n come s (command.Logoff session) = call-holds n s session (command.Logoff session)
+own-holds n come s (command.Ask session requests) = call-holds n s session (command.Ask session requests)
+own-holds n come s (command.Free session requests) = call-holds n s session (command.Free session requests)
+own-holds n come s (command.FreeAll session) = call-holds n s session (command.FreeAll session)
+own-holds n come s (command.Convert session asked) = call-holds n s session (command.Convert session asked)
+own-holds n come s (command.Rollback session) = call-holds n s session (command.Rollback session)
+own-holds n come s (command.Commit session parts) = call-holds n s session (command.Commit session parts)
+own-holds n come s (command.Take1 worker) = take-holds n s worker (order_of s.orders worker)
+own-holds n come s (command.Do1 worker) = post-holds n come s worker (order_of s.orders worker) refl
+own-holds n come s (command.DropOrder worker) = drop-holds n s worker (order_of s.orders worker)
 
 unless-holds : (n : ℕ) (s : State) (o : Option Refusal) (v : Verdict) → IsModest n s v → IsModest n s (unless_closed o v)
 unless-holds n s None v h = h
 unless-holds n s (Some r) v h = holds_more n s
 
-verdict-holds : (n : ℕ) (s : State) (c : Command) → IsModest n s (verdict s c)
+verdict-holds : (n : ℕ) (come : UnitKey → Outcome) (s : State) (c : Command) → IsModest n s (verdict come s c)
 unfolding verdict
-verdict-holds n s c = unless-holds n s (closed s) (own_verdict s c) (own-holds n s c)
+verdict-holds n come s c = unless-holds n s (closed s) (own_verdict come s c) (own-holds n come s c)
 
 doubted-holds : (n : ℕ) (s : State) (pending : Ledger) → Holds n s → Holds (n + 1) (doubted s pending)
 doubted-holds n s pending h =
@@ -324,9 +317,10 @@ failed-holds n s (Refuses r) h = holds_more n s h
 failed-holds n s (Leaves after r) h = doubted-holds n s after.stored h
 
 pub served-holds : (n : ℕ) (o : DeviceOutcome) (s : State) (c : Command) → Holds n s → Holds (n + 1) (served o s c).state
-served-holds n Well s c h = verdict-holds n s c h
+served-holds n Well s c h = verdict-holds n (outcome_in s.stored) s c h
 served-holds n Wanting s c h = holds_more n s h
-served-holds n StoreFails s c h = failed-holds n s (verdict s c) h
+served-holds n (Comes o) s c h = verdict-holds n (λ unit. o) s c h
+served-holds n StoreFails s c h = failed-holds n s (verdict (outcome_in s.stored) s c) h
 
 below_limit : (n : ℕ) → nat_le 262144 n ≡ false → n + 1 ≤ 262144
 below_limit n h = grind (arith, nat_tests)

@@ -11,15 +11,17 @@ use Rattle.keeper_api.specs.Keeping.{IsOnly, IsWithin}
 use Rattle.keeper_api.specs.Rows.{Rows}
 use Rattle.posting.specs.Shelf.{Shelf, IsUsable, StandForEither}
 use Rattle.posting.specs.Steps.{after_step}
+use Rattle.posting.specs.declared.prepared.Step.{Step}
+use Rattle.hall.specs.Flights.{landed}
 use Rattle.posting.specs.declared.prepared.Outcome.{Outcome}
 use Rattle.posting.specs.declared.prepared.Outcome.TheVariants as outcome
-use Rattle.posting.specs.declared.prepared.Step.{Step}
+use Rattle.hall.specs.declared.units.InFlight.{InFlight}
 use Rattle.update_records.specs.Ledger.{Ledger, StandFor}
-use Rattle.hall.specs.Acts.{OnAnswer, OnFailure, posted_reply, written_condition, written_pending}
+use Rattle.hall.specs.Acts.{OnAnswer, OnFailure, written_condition, written_pending}
 use Rattle.hall.specs.Kept.{WhileUp}
-use Rattle.hall.specs.Leaving.{HasStoreCause, LeavesWritten, StandForPending, StandForWritten}
+use Rattle.hall.specs.Leaving.{HasStoreCause, LeavesWritten, StandForLanded, StandForPending, StandForWritten}
 use Rattle.hall.specs.State.{State}
-use Rattle.hall.specs.Step.{closed, is_full}
+use Rattle.hall.specs.Step.{closed, is_full, posted_reply}
 use Rattle.hall.specs.declared.command.Reply.TheVariants as reply
 use Rattle.hall.specs.declared.units.Written.{Written}
 use Rattle.hall.specs.declared.units.Written.TheVariants.{Answered, Failed}
@@ -51,33 +53,42 @@ answered_leaves held is_open may_leave shelf settled usable =
     settled_stands (held shelf.keeper) (may_leave shelf.keeper) shelf.ledger (settled shelf.keeper usable.opened) usable.stands
 
 -- where rows are told after a call, they were told before it
-told_too : (held before : Option Rows) (P : Type 0) → is_some held ≡ is_some before → IfSome before (λ _. P) → IfSome held (λ _. P)
+pub told_too : (held before : Option Rows) (P : Type 0) → is_some held ≡ is_some before → IfSome before (λ _. P) → IfSome held (λ _. P)
 told_too None before P e h = tt
 told_too (Some rows) None P e h = cc
 told_too (Some rows) (Some other) P e h = h
 
--- a write that failed
-pub failed_leaves : (held before : Option Rows) (may_leave : Rows → Type 0) (ledger old : Ledger) (step said : Step) → is_some held ≡ is_some before → ledger ≡ old → said ≡ step
+lands : (before : Option Rows) (may_leave : Rows → Type 0) (old : Ledger) (said : Step) (change : InFlight) → IfSome before (λ _. after_step old said ≡ landed old change)
     → IfSome before (λ _. (left : Rows) → may_leave left → StandForEither left old said)
-    → IfSome held (λ _. (left : Rows) → may_leave left → StandForEither left ledger step)
-failed_leaves held before may_leave ledger old step said told kept is h =
-    told_too held before ((left : Rows) → may_leave left → StandForEither left ledger step) told
-    (subst (λ l. IfSome before (λ _. (left : Rows) → may_leave left → StandForEither left l step)) (sym kept)
-    (subst (λ x. IfSome before (λ _. (left : Rows) → may_leave left → StandForEither left old x)) is h))
+    → IfSome before (λ _. (left : Rows) → may_leave left → StandForLanded left old change)
+lands None may_leave old said change is h = tt
+lands (Some rows) may_leave old said change is h = λ left may. subst (λ l. StandFor left old ⊎ StandFor left l) is (h left may)
 
-before_step : (before : Option Rows) (may_leave was : Rows → Type 0) (ledger old : Ledger) (step : Step) → ledger ≡ old → IsWithin may_leave was
+pub where_told : (told : Option Rows) (P : Type 0) → P → IfSome told (λ _. P)
+where_told None P h = tt
+where_told (Some rows) P h = h
+
+-- a write that failed
+pub failed_leaves : (held before : Option Rows) (may_leave : Rows → Type 0) (ledger old : Ledger) (said : Step) (change : InFlight) → is_some held ≡ is_some before → ledger ≡ old → IfSome before (λ _. after_step old said ≡ landed old change)
+    → IfSome before (λ _. (left : Rows) → may_leave left → StandForEither left old said)
+    → IfSome held (λ _. (left : Rows) → may_leave left → StandForLanded left ledger change)
+failed_leaves held before may_leave ledger old said change told kept is h =
+    told_too held before ((left : Rows) → may_leave left → StandForLanded left ledger change) told
+    (subst (λ l. IfSome before (λ _. (left : Rows) → may_leave left → StandForLanded left l change)) (sym kept) (lands before may_leave old said change is h))
+
+before_change : (before : Option Rows) (may_leave was : Rows → Type 0) (ledger old : Ledger) (change : InFlight) → ledger ≡ old → IsWithin may_leave was
     → IfSome before (λ _. (left : Rows) → was left → StandFor left old)
-    → IfSome before (λ _. (left : Rows) → may_leave left → StandForEither left ledger step)
-before_step None may_leave was ledger old step kept within h = tt
-before_step (Some rows) may_leave was ledger old step kept within h =
+    → IfSome before (λ _. (left : Rows) → may_leave left → StandForLanded left ledger change)
+before_change None may_leave was ledger old change kept within h = tt
+before_change (Some rows) may_leave was ledger old change kept within h =
     λ left may. inl (subst (StandFor left) (sym kept) (h left (within left may)))
 
 -- a read that failed before the write
-pub unread_leaves : (held before : Option Rows) (may_leave was : Rows → Type 0) (ledger old : Ledger) (step : Step) → is_some held ≡ is_some before → ledger ≡ old → IsWithin may_leave was
+pub unread_leaves : (held before : Option Rows) (may_leave was : Rows → Type 0) (ledger old : Ledger) (change : InFlight) → is_some held ≡ is_some before → ledger ≡ old → IsWithin may_leave was
     → IfSome before (λ _. (left : Rows) → was left → StandFor left old)
-    → IfSome held (λ _. (left : Rows) → may_leave left → StandForEither left ledger step)
-unread_leaves held before may_leave was ledger old step told kept within h =
-    told_too held before ((left : Rows) → may_leave left → StandForEither left ledger step) told (before_step before may_leave was ledger old step kept within h)
+    → IfSome held (λ _. (left : Rows) → may_leave left → StandForLanded left ledger change)
+unread_leaves held before may_leave was ledger old change told kept within h =
+    told_too held before ((left : Rows) → may_leave left → StandForLanded left ledger change) told (before_change before may_leave was ledger old change kept within h)
 
 pub posted_quiet : (unit : UnitKey) (o : Outcome) (n m : ℕ) → m ≡ n → HasStoreCause n m (posted_reply unit o)
 posted_quiet unit outcome.Done n m h = h
@@ -85,19 +96,19 @@ posted_quiet unit (outcome.Refused index reason) n m h = h
 
 -- ---- the hall behind it
 
-stands_after : (left : Rows) (ledger : Ledger) (p : Option Step) (w : Written) → StandForWritten left ledger w → StandFor left ledger ⊎ StandForPending left (option_map (after_step ledger) (written_pending p w))
+stands_after : (left : Rows) (ledger : Ledger) (p : Option InFlight) (w : Written) → StandForWritten left ledger w → StandFor left ledger ⊎ StandForPending left (option_map (landed ledger) (written_pending p w))
 stands_after left ledger p (Answered r) h = inl h
 stands_after left ledger p (Failed step) h = h
 
-leaves_for : (held : Option Rows) (may_leave : Rows → Type 0) (ledger : Ledger) (p : Option Step) (w : Written) → IfSome held (λ _. (left : Rows) → may_leave left → StandForWritten left ledger w)
-    → IfSome held (λ _. (left : Rows) → may_leave left → StandFor left ledger ⊎ StandForPending left (option_map (after_step ledger) (written_pending p w)))
+leaves_for : (held : Option Rows) (may_leave : Rows → Type 0) (ledger : Ledger) (p : Option InFlight) (w : Written) → IfSome held (λ _. (left : Rows) → may_leave left → StandForWritten left ledger w)
+    → IfSome held (λ _. (left : Rows) → may_leave left → StandFor left ledger ⊎ StandForPending left (option_map (landed ledger) (written_pending p w)))
 leaves_for None may_leave ledger p w h = tt
 leaves_for (Some rows) may_leave ledger p w h = λ left may. stands_after left ledger p w (h left may)
 
-pub leaves_after : {K : Type 0} (held : K → Option Rows) (may_leave : K → Rows → Type 0) (shelf : Shelf K) (p pending : Option Step) (w : Written) → pending ≡ written_pending p w → LeavesWritten held may_leave shelf w
-    → IfSome (held shelf.keeper) (λ _. (left : Rows) → may_leave shelf.keeper left → StandFor left shelf.ledger ⊎ StandForPending left (option_map (after_step shelf.ledger) pending))
+pub leaves_after : {K : Type 0} (held : K → Option Rows) (may_leave : K → Rows → Type 0) (shelf : Shelf K) (p pending : Option InFlight) (w : Written) → pending ≡ written_pending p w → LeavesWritten held may_leave shelf w
+    → IfSome (held shelf.keeper) (λ _. (left : Rows) → may_leave shelf.keeper left → StandFor left shelf.ledger ⊎ StandForPending left (option_map (landed shelf.ledger) pending))
 leaves_after held may_leave shelf p pending w is h =
-    subst (λ q. IfSome (held shelf.keeper) (λ _. (left : Rows) → may_leave shelf.keeper left → StandFor left shelf.ledger ⊎ StandForPending left (option_map (after_step shelf.ledger) q))) (sym is)
+    subst (λ q. IfSome (held shelf.keeper) (λ _. (left : Rows) → may_leave shelf.keeper left → StandFor left shelf.ledger ⊎ StandForPending left (option_map (landed shelf.ledger) q))) (sym is)
     (leaves_for (held shelf.keeper) (may_leave shelf.keeper) shelf.ledger p w h)
 
 usable_for : (P : Type 0) (calls : ℕ) (w : Written) → OnAnswer w P → WhileUp (written_condition condition.Up calls w) P

@@ -26,26 +26,24 @@ use Rattle.lock_entry.specs.Names.{halves, is_of}
 use Rattle.lock_entry.specs.Pairs.{in_pair}
 use Rattle.mode_rules.specs.declared.Mode.TheVariants.{O}
 use Rattle.mode_rules.specs.Modes.{same_mode}
-use Rattle.module_effects.specs.Effects.{applied}
-use Rattle.module_effects.specs.Rows.{Tables}
-use Rattle.module_effects.specs.declared.fault.EffectFault.{EffectFault}
-use Rattle.module_effects.specs.declared.fault.EffectFault.TheVariants as effect
 use Rattle.posting.proofs.Status.{flip, one_unit, status_push, unit_refl}
 use Rattle.posting.specs.Steps.{IsOpenUnit}
-use Rattle.update_records.specs.Business.{tables_of}
 use Rattle.update_records.specs.Growing.{next_mark, with_mark, with_unit}
 use Rattle.update_records.specs.Ledger.{Ledger}
-use Rattle.update_records.specs.Marks.{given, has_no_v2, status_after, v1_of, waiting}
+use Rattle.update_records.specs.Marks.{given, has_no_v2, status_after, waiting}
 use Rattle.update_records.specs.declared.records.MarkKind.{MarkKind}
 use Rattle.update_records.specs.declared.records.MarkKind.TheVariants as mark
 use Rattle.update_records.specs.declared.records.Unit.{Unit as UnitOfWork}
+use Rattle.posting.specs.declared.prepared.Outcome.{Outcome}
+use Rattle.posting.specs.declared.prepared.Outcome.TheVariants as outcome
+use Rattle.hall.specs.Coming.{outcome_in}
 use Rattle.hall.specs.declared.command.Command.{Command}
 use Rattle.hall.specs.declared.command.Command.TheVariants as command
 use Rattle.hall.specs.declared.command.PastEntry.{PastEntry}
 use Rattle.hall.specs.declared.command.Reply.{Reply}
 use Rattle.hall.specs.declared.command.Reply.TheVariants as reply
 use Rattle.hall.specs.declared.command.Session.{Session}
-use Rattle.hall.specs.History.{DeviceOutcome, Well, Wanting, StoreFails, Served, doubted, failed, is_unrecorded, judged, noted, past_entry, served, shown, step}
+use Rattle.hall.specs.History.{DeviceOutcome, Well, Wanting, StoreFails, Comes, Served, doubted, failed, is_unrecorded, judged, noted, past_entry, served, shown, step}
 use Rattle.hall.specs.Kept.{AreOrders, HasFreshKeys, HasServer}
 use Rattle.hall.specs.Orders.{first_unclaimed, order_of, without_order}
 use Rattle.hall.specs.Recall.{AreModelAnswers, IsModelAnswer, recalled, state_after}
@@ -233,28 +231,26 @@ marked-stands s worker unit kind r ends told = record {
   waits = λ u on w. record { up = w.up; waits = marked_other s.stored unit u kind (sym (told u) ∙ on) ∙ w.waits };
 }
 
-posting-stands : (s : State) (worker : ℕ) (unit : UnitKey) (r : Result Tables EffectFault) → Stands s (judged s (posting s worker unit r))
-posting-stands s worker unit (Ok tables) = marked-stands s worker unit mark.V1 (reply.Posted unit) v1-ends (λ u. refl)
-posting-stands s worker unit (Err (effect.Refused index reason)) =
+posting-stands : (s : State) (worker : ℕ) (unit : UnitKey) (o : Outcome) → Stands s (judged s (posting s worker unit o))
+posting-stands s worker unit outcome.Done = marked-stands s worker unit mark.V1 (reply.Posted unit) v1-ends (λ u. refl)
+posting-stands s worker unit (outcome.Refused index reason) =
     marked-stands s worker unit (mark.Bad1 index reason) (reply.Bad unit index reason) (λ b before h. cc) (λ u. refl)
-posting-stands s worker unit (Err effect.NoMemory) = stands_still s _
 
 -- ---- all calls
 
-own-stands : (s : State) (c : Command) → HasFreshKeys s → Stands s (judged s (own_verdict s c))
-own-stands s (command.Logon session user) fresh = logon-stands s session user _ _
-own-stands s (command.Logoff session) fresh = call-stands s session (command.Logoff session) fresh
-own-stands s (command.Ask session rs) fresh = call-stands s session (command.Ask session rs) fresh
-own-stands s (command.Free session rs) fresh = call-stands s session (command.Free session rs) fresh
-own-stands s (command.FreeAll session) fresh = call-stands s session (command.FreeAll session) fresh
-own-stands s (command.Convert session asked) fresh = call-stands s session (command.Convert session asked) fresh
-own-stands s (command.Rollback session) fresh = call-stands s session (command.Rollback session) fresh
-own-stands s (command.Commit session parts) fresh = call-stands s session (command.Commit session parts) fresh
-own-stands s (command.Take1 worker) fresh = take-stands s worker (order_of s.orders worker) (first_unclaimed s.orders (waiting s.stored.units s.stored.marks))
-own-stands s (command.Do1 worker) fresh =
-    order-stands s (order_of s.orders worker) (λ unit. posting s worker unit (applied (v1_of s.stored.units unit) (tables_of s.stored.units s.stored.marks)))
-    (λ unit. posting-stands s worker unit _)
-own-stands s (command.DropOrder worker) fresh =
+own-stands : (come : UnitKey → Outcome) (s : State) (c : Command) → HasFreshKeys s → Stands s (judged s (own_verdict come s c))
+own-stands come s (command.Logon session user) fresh = logon-stands s session user _ _
+own-stands come s (command.Logoff session) fresh = call-stands s session (command.Logoff session) fresh
+own-stands come s (command.Ask session rs) fresh = call-stands s session (command.Ask session rs) fresh
+own-stands come s (command.Free session rs) fresh = call-stands s session (command.Free session rs) fresh
+own-stands come s (command.FreeAll session) fresh = call-stands s session (command.FreeAll session) fresh
+own-stands come s (command.Convert session asked) fresh = call-stands s session (command.Convert session asked) fresh
+own-stands come s (command.Rollback session) fresh = call-stands s session (command.Rollback session) fresh
+own-stands come s (command.Commit session parts) fresh = call-stands s session (command.Commit session parts) fresh
+own-stands come s (command.Take1 worker) fresh = take-stands s worker (order_of s.orders worker) (first_unclaimed s.orders (waiting s.stored.units s.stored.marks))
+own-stands come s (command.Do1 worker) fresh =
+    order-stands s (order_of s.orders worker) (λ unit. posting s worker unit (come unit)) (λ unit. posting-stands s worker unit (come unit))
+own-stands come s (command.DropOrder worker) fresh =
     order-stands s (order_of s.orders worker) (λ unit. Leaves (record s { orders = without_order s.orders worker }) (reply.Unit unit))
     (λ unit. stands_beside s _ _ refl refl refl)
 
@@ -262,9 +258,9 @@ unless-stands : (s : State) (o : Option Refusal) (v : Verdict) → Stands s (jud
 unless-stands s None v h = h
 unless-stands s (Some r) v h = stands_still s _
 
-verdict-stands : (s : State) (c : Command) → HasFreshKeys s → Stands s (judged s (verdict s c))
+verdict-stands : (come : UnitKey → Outcome) (s : State) (c : Command) → HasFreshKeys s → Stands s (judged s (verdict come s c))
 unfolding verdict
-verdict-stands s c fresh = unless-stands s (closed s) (own_verdict s c) (own-stands s c fresh)
+verdict-stands come s c fresh = unless-stands s (closed s) (own_verdict come s c) (own-stands come s c fresh)
 
 -- a server in doubt has no locks, and isn't up
 doubted-stands : (s : State) (pending : Ledger) → Stands s (record { state = doubted s pending; reply = reply.Refused refusal.StoreFault })
@@ -279,9 +275,10 @@ failed-stands s (Refuses r) = stands_still s _
 failed-stands s (Leaves after r) = doubted-stands s after.stored
 
 served-stands : (o : DeviceOutcome) (s : State) (c : Command) → HasFreshKeys s → Stands s (served o s c)
-served-stands Well s c fresh = verdict-stands s c fresh
+served-stands Well s c fresh = verdict-stands (outcome_in s.stored) s c fresh
 served-stands Wanting s c fresh = stands_still s _
-served-stands StoreFails s c fresh = failed-stands s (verdict s c)
+served-stands (Comes o) s c fresh = verdict-stands (λ unit. o) s c fresh
+served-stands StoreFails s c fresh = failed-stands s (verdict (outcome_in s.stored) s c)
 
 noted-stands : (s : State) (line : ℕ) (c : Command) (r : Served) (b : Bool) → Stands s r → Stands s (if b then r else record r { state = record r.state { past = r.state.past ++ past_entry line c r.reply ∷ [] } })
 noted-stands s line c r true h = h
@@ -309,8 +306,8 @@ none_ordered : (ledger : Ledger) (n : ℕ) → AreOrders ledger (replicate n Non
 none_ordered ledger zero = tt
 none_ordered ledger (suc n) = none_ordered ledger n
 
-reached_first : (limit : ℕ) → IsReached (opened limit)
-reached_first limit = record {
+reached_first : (limit : ℕ) (told : Bool) → IsReached (opened limit told)
+reached_first limit told = record {
   calls = 0;
   holds = record {
     few = record { sessions = omega arith; units = tt; marks = omega arith };
@@ -320,7 +317,7 @@ reached_first limit = record {
       settled = refl;
       fresh = record { numbered = tt; ahead = tt; later = λ session luw from. refl };
       places = length-replicate {A = Option UnitKey} 256 None;
-      orders = none_ordered (opened limit).stored 256;
+      orders = none_ordered (opened limit told).stored 256;
     };
   };
   sure = refl;
@@ -387,10 +384,10 @@ unless-hands : (unit : UnitKey) (s : State) (o : Option Refusal) (v : Verdict) �
 unless-hands unit s None v h e = h refl e
 unless-hands unit s (Some r) v h e = absurd (cc)
 
-verdict-hands : (unit : UnitKey) (s : State) (c : Command) → HasServer s.condition → is_commit c ≡ true → HandsIf unit s (judged s (verdict s c))
+verdict-hands : (unit : UnitKey) (s : State) (c : Command) → HasServer s.condition → is_commit c ≡ true → HandsIf unit s (judged s (verdict (outcome_in s.stored) s c))
 unfolding verdict
 verdict-hands unit s (command.Commit name parts) server is =
-    unless-hands unit s (closed s) (own_verdict s (command.Commit name parts))
+    unless-hands unit s (closed s) (own_verdict (outcome_in s.stored) s (command.Commit name parts))
     (λ room. call-hands unit s name parts (served_up (is_full s) s.condition server room))
 verdict-hands unit s _ server is = absurd (cc)
 
@@ -403,7 +400,7 @@ noted-hands unit s line c r false h e =
 recalled-hands : (unit : UnitKey) (s : State) (call : PastEntry) → HasServer s.condition → IsModelAnswer s call → IsCommitOf unit call → Hands unit s (recalled s call)
 recalled-hands unit s call server answer is =
     let well : shown call.reply ≡ Well = ap shown is.answered in
-    let r = judged s (verdict s call.command) in
+    let r = judged s (verdict (outcome_in s.stored) s call.command) in
     let same : step (shown call.reply) s call.line call.command ≡ noted call.line call.command r = ap (λ o. step o s call.line call.command) well in
     let told : (noted call.line call.command r).reply ≡ reply.Unit unit = ap (λ (x : Served). x.reply) (sym same) ∙ answer.reply ∙ is.answered in
     subst (λ (x : Served). Hands unit s x.state) (sym same)
@@ -448,12 +445,12 @@ called s call reached answer = record {
 }
 
 -- each call of a history that is answered as the model answers it keeps the locks of committed units
-pub calls_keep_locks : (limit : ℕ) (calls : List PastEntry) → AreModelAnswers (opened limit) calls → CallsKeepLocks (opened limit) calls
-calls_keep_locks limit calls answers earlier later call e =
-    let first = opened limit in
+pub calls_keep_locks : (limit : ℕ) (told : Bool) (calls : List PastEntry) → AreModelAnswers (opened limit told) calls → CallsKeepLocks (opened limit told) calls
+calls_keep_locks limit told calls answers earlier later call e =
+    let first = opened limit told in
     let s = state_after first earlier in
     subst (CallKeepsLocks s call) (sym (fold-append recalled first earlier (call ∷ [])))
-    (called s call (reached_after first earlier (reached_first limit)) (answers earlier later call e))
+    (called s call (reached_after first earlier (reached_first limit told)) (answers earlier later call e))
 
 -- each call is answered as the model answers it, from this state on
 abbrev AnswersFrom : State → List PastEntry → Type 0
@@ -495,14 +492,14 @@ rest_of calls earlier between later call done after other whole e =
     ∙ sym (append_assoc (earlier ++ call ∷ []) done (other ∷ (after ++ later)))
 
 -- in a history that is answered as the model answers it each committed unit waits with its locks until a call ends that
-pub locks_stand : (limit : ℕ) (calls : List PastEntry) → AreModelAnswers (opened limit) calls → LocksStand (opened limit) calls
-locks_stand limit calls answers earlier between later call unit whole is on =
-    let first = opened limit in
+pub locks_stand : (limit : ℕ) (told : Bool) (calls : List PastEntry) → AreModelAnswers (opened limit told) calls → LocksStand (opened limit told) calls
+locks_stand limit told calls answers earlier between later call unit whole is on =
+    let first = opened limit told in
     let s = state_after first earlier in
     let t = recalled s call in
     let leads : state_after first (earlier ++ call ∷ between) ≡ state_after t between = fold-append recalled first earlier (call ∷ between) in
     let to_here : state_after first (earlier ++ call ∷ []) ≡ t = fold-append recalled first earlier (call ∷ []) in
-    let reached = reached_after first earlier (reached_first limit) in
+    let reached = reached_after first earlier (reached_first limit told) in
     let hands = hands-over unit s t (recalled-hands unit s call reached.holds.steady.server (answers earlier (between ++ later) call whole) is) in
     let rest : AnswersFrom t between =
     subst (λ x. AnswersFrom x between) to_here

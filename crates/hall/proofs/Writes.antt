@@ -1,60 +1,70 @@
 -- Commits, orders and posts come to what their commands' verdicts say.
 use Rattle.std.proofs.Common.{◌≡◌, ℕ, zero, suc, ◌+◌, ◌-◌, ◌≤◌, ◌<◌, Bool, true, false, cond, not, List, [], ◌∷◌, length, drop, set, refl, sym, ap, ◌∙◌, subst, arith}
-use Rattle.std.specs.Prelude.{Option, Some, None, Result, Ok, Err, IsTrue, nat_eq, nat_le, nat_lt, slice_get, if◌then◌else◌}
-use Rattle.std.specs.List.{All, AllByRecursion, find}
-use Rattle.std.specs.Option.{option_map_or}
+use Rattle.std.specs.Prelude.{Option, Some, None, Result, Ok, Err, IsTrue, IfSome, is_some, nat_eq, nat_le, nat_lt, slice_get, if◌then◌else◌}
+use Rattle.std.specs.FinMap.{get}
+use Rattle.std.specs.List.{AllByRecursion, find}
 use Rattle.std.proofs.lemmas.Bool.Decides.{nat_tests}
+use Rattle.std.proofs.lemmas.List.Elements.{All-nil}
 use Rattle.enq_base.specs.declared.owner.Owner.TheVariants.{Upd}
 use Rattle.enq_base.specs.declared.owner.UnitKey.{UnitKey}
 use Rattle.enq_base.specs.declared.refusal.Refusal.{Refusal}
 use Rattle.enq_base.specs.declared.refusal.Refusal.TheVariants as refusal
+use Rattle.enq_base.specs.declared.unit.Effect.{Effect}
 use Rattle.enq_base.specs.declared.unit.Parts.{Parts}
+use Rattle.enq_base.specs.declared.unit.Reason.{Reason}
 use Rattle.lock_entry.specs.declared.entry.Entry.{Entry}
 use Rattle.lock_entry.specs.Freeing.{freed_owner, handed_over}
-use Rattle.module_effects.specs.Effects.{applied}
-use Rattle.module_effects.specs.Rows.{Tables}
+use Rattle.module_effects.specs.Effects.{applied, applied_from, row_after}
+use Rattle.module_effects.specs.Rows.{RowName, Tables, row_of, with_row}
 use Rattle.module_effects.specs.declared.fault.EffectFault.{EffectFault}
 use Rattle.module_effects.specs.declared.fault.EffectFault.TheVariants as effect
-use Rattle.posting.proofs.Makes.{post_outcome}
-use Rattle.posting.specs.Puts.{IsPutUnit, are_puts}
-use Rattle.posting.specs.Steps.{IsNewUnit, IsOutcome, at_place, post_kind}
+use Rattle.keeper_api.specs.Rows.{Rows}
+use Rattle.posting.specs.Posts.{MayCome}
+use Rattle.posting.specs.Steps.{IsNewUnit, IsOutcome, after_step, at_place, post_kind}
+use Rattle.posting.specs.declared.prepared.Step.{Step}
+use Rattle.posting.specs.declared.prepared.Step.TheVariants.{Note}
 use Rattle.posting.specs.declared.prepared.Outcome.{Outcome}
 use Rattle.posting.specs.declared.prepared.Outcome.TheVariants as outcome
 use Rattle.update_records.specs.Business.{tables_of}
+use Rattle.update_records.specs.Grammar.{IsHeldBy}
 use Rattle.update_records.specs.Growing.{with_mark, with_unit}
 use Rattle.update_records.specs.Ledger.{Ledger}
-use Rattle.update_records.specs.Marks.{unit_at, v1_of, waiting}
+use Rattle.update_records.specs.Marks.{v1_of, waiting}
 use Rattle.update_records.specs.declared.records.Unit.{Unit as UnitOfWork}
 use Rattle.hall.specs.declared.command.Command.{Command}
 use Rattle.hall.specs.declared.command.Command.TheVariants as command
 use Rattle.hall.specs.declared.command.Reply.{Reply}
 use Rattle.hall.specs.declared.command.Reply.TheVariants as reply
 use Rattle.hall.specs.declared.command.Session.{Session}
-use Rattle.hall.specs.Acts.{IsAct, posted_reply}
-use Rattle.hall.specs.History.{Well, IsAllowed, Served, doubted, failed, is_unrecorded, judged, leaves, served, shown, writes}
+use Rattle.hall.specs.declared.units.InFlight.TheVariants as flight
+use Rattle.hall.specs.Acts.{IsAct}
+use Rattle.hall.specs.Coming.{MayComeTo, outcome_in, outcome_of}
+use Rattle.hall.specs.Flights.{landed}
+use Rattle.hall.specs.History.{Well, Comes, IsAllowed, Served, doubted, failed, is_unrecorded, judged, leaves, served, shown, writes}
 use Rattle.hall.specs.Kept.{IsAhead}
 use Rattle.hall.specs.Orders.{first_unclaimed, is_claimed, order_of}
 use Rattle.hall.specs.Sessions.{is_called, session_at, unit_key, with_next_unit, with_session}
 use Rattle.hall.specs.State.{State}
-use Rattle.hall.specs.Step.{Verdict, Refuses, Leaves, closed, commit, committed, effects_in, marked, own_verdict, posting, take, taking, unit_of}
+use Rattle.hall.specs.Step.{Verdict, Refuses, Leaves, closed, commit, committed, effects_in, marked, own_verdict, posted_reply, posting, take, taking, unit_of}
 use Rattle.hall.proofs.Calls.{at_state, calling, found_at, refuses, verdict-room}
+use Rattle.hall.proofs.Fair.{posted-noted}
 use Rattle.hall.proofs.Fresh.{found_in}
 
 -- a call that leaves a state
-pub tells : (s : State) (c : Command) (after : State) (r : Reply) → closed s ≡ None → own_verdict s c ≡ Leaves after r → shown r ≡ Well → is_unrecorded r ≡ false → IsAct s c after r
+pub tells : (s : State) (c : Command) (after : State) (r : Reply) → closed s ≡ None → own_verdict (outcome_in s.stored) s c ≡ Leaves after r → shown r ≡ Well → is_unrecorded r ≡ false → IsAct s c after r
 tells s c after r room e well noted =
     record {
-      same = ap (λ o. served o s c) well ∙ ap (judged s) (verdict-room s c room ∙ e);
+      same = ap (λ o. served o s c) well ∙ ap (judged s) (verdict-room (outcome_in s.stored) s c room ∙ e);
       allowed = subst (λ o. IsAllowed o s c) (sym well) tt;
       noted = noted;
     }
 
 -- a call in which the store fails
-pub fails : (s : State) (c : Command) (after : State) (r : Reply) → closed s ≡ None → own_verdict s c ≡ Leaves after r → IsTrue (writes c) → IsAct s c (doubted s after.stored) (reply.Refused refusal.StoreFault)
+pub fails : (s : State) (c : Command) (after : State) (r : Reply) → closed s ≡ None → own_verdict (outcome_in s.stored) s c ≡ Leaves after r → IsTrue (writes c) → IsAct s c (doubted s after.stored) (reply.Refused refusal.StoreFault)
 fails s c after r room e w =
     record {
-      same = ap (failed s) (verdict-room s c room ∙ e);
-      allowed = (ap leaves (verdict-room s c room ∙ e), w);
+      same = ap (failed s) (verdict-room (outcome_in s.stored) s c room ∙ e);
+      allowed = (ap leaves (verdict-room (outcome_in s.stored) s c room ∙ e), w);
       noted = refl;
     }
 
@@ -149,55 +159,90 @@ takes s orders after ledger worker unit e f none is new =
 
 -- ---- posts
 
-abbrev pub Posting : State → ℕ → Option UnitKey → Verdict
-Posting s worker o = elim o [ None ↦ Refuses refusal.NoOrder | Some unit ↦ posting s worker unit (applied (v1_of s.stored.units unit) (tables_of s.stored.units s.stored.marks)) ]
+abbrev pub Posting : State → ℕ → (UnitKey → Outcome) → Option UnitKey → Verdict
+Posting s worker come o = elim o [ None ↦ Refuses refusal.NoOrder | Some unit ↦ posting s worker unit (come unit) ]
+
+pub own_post : (come : UnitKey → Outcome) (s : State) (orders : List (Option UnitKey)) (worker : ℕ) (o : Option UnitKey) → s.orders ≡ orders → order_of orders worker ≡ o → own_verdict come s (command.Do1 worker) ≡ Posting s worker come o
+own_post come s orders worker o e found = ap (Posting s worker come) (ordered s orders worker o e found)
 
 pub posts_none : (s : State) (orders : List (Option UnitKey)) (entries : List Entry) (ledger : Ledger) (worker : ℕ) → s.orders ≡ orders → s.locks ≡ entries → s.stored ≡ ledger → closed s ≡ None → order_of orders worker ≡ None → IsAct s (command.Do1 worker) (record s { orders = orders; locks = entries; stored = ledger }) (reply.Refused refusal.NoOrder)
 posts_none s orders entries ledger worker e f g room none =
     at_state _ _ s _ _ (λ i. record s { orders = e i; locks = f i; stored = g i })
-    (refuses s (command.Do1 worker) refusal.NoOrder room (ap (Posting s worker) (ordered s orders worker None e none)) refl refl)
+    (refuses s (command.Do1 worker) refusal.NoOrder room (own_post (outcome_in s.stored) s orders worker None e none) refl refl)
 
-outcome_case : (s : State) (worker : ℕ) (unit : UnitKey) (r : Result Tables EffectFault) (o : Outcome) → IsOutcome r o → posting s worker unit r ≡ Leaves (marked s worker unit (post_kind o)) (posted_reply unit o)
-outcome_case s worker unit (Ok tables) o h = ap (λ x. Leaves (marked s worker unit (post_kind x)) (posted_reply unit x)) (sym h)
-outcome_case s worker unit (Err (effect.Refused index reason)) o h = ap (λ x. Leaves (marked s worker unit (post_kind x)) (posted_reply unit x)) (sym h)
-outcome_case s worker unit (Err effect.NoMemory) o h = absurd h
+posted-shows : (unit : UnitKey) (o : Outcome) → shown (posted_reply unit o) ≡ Comes o
+posted-shows unit outcome.Done = refl
+posted-shows unit (outcome.Refused index reason) = refl
 
-own_post : (s : State) (orders : List (Option UnitKey)) (ledger : Ledger) (worker : ℕ) (unit : UnitKey) (o : Outcome) → s.orders ≡ orders → s.stored ≡ ledger → order_of orders worker ≡ Some unit → IsOutcome (applied (v1_of ledger.units unit) (tables_of ledger.units ledger.marks)) o → own_verdict s (command.Do1 worker) ≡ Leaves (marked s worker unit (post_kind o)) (posted_reply unit o)
-own_post s orders ledger worker unit o e g found h =
-    ap (Posting s worker) (ordered s orders worker (Some unit) e found)
-    ∙ outcome_case s worker unit _ o (subst (λ (l : Ledger). IsOutcome (applied (v1_of l.units unit) (tables_of l.units l.marks)) o) (sym g) h)
+-- a part that comes to this
+pub comes : (s : State) (worker : ℕ) (unit : UnitKey) (o : Outcome) → closed s ≡ None → order_of s.orders worker ≡ Some unit → MayComeTo s.told s.stored unit o → IsAct s (command.Do1 worker) (marked s worker unit (post_kind o)) (posted_reply unit o)
+comes s worker unit o room found may =
+    record {
+      same =
+          ap (λ d. served d s (command.Do1 worker)) (posted-shows unit o)
+          ∙ ap (judged s) (verdict-room (λ u. o) s (command.Do1 worker) room ∙ own_post (λ u. o) s s.orders worker (Some unit) refl found);
+      allowed = subst (λ d. IsAllowed d s (command.Do1 worker)) (sym (posted-shows unit o)) (subst (λ x. IfSome x (λ u. MayComeTo s.told s.stored u o)) (sym found) may);
+      noted = posted-noted unit o;
+    }
 
-posted-well : (unit : UnitKey) (o : Outcome) → shown (posted_reply unit o) ≡ Well
-posted-well unit outcome.Done = refl
-posted-well unit (outcome.Refused index reason) = refl
-
-posted-noted : (unit : UnitKey) (o : Outcome) → is_unrecorded (posted_reply unit o) ≡ false
-posted-noted unit outcome.Done = refl
-posted-noted unit (outcome.Refused index reason) = refl
-
-pub posts : (s : State) (orders after : List (Option UnitKey)) (entries left : List Entry) (ledger new : Ledger) (worker : ℕ) (unit : UnitKey) (o : Outcome) → s.orders ≡ orders → s.locks ≡ entries → s.stored ≡ ledger → closed s ≡ None → order_of orders worker ≡ Some unit → IsOutcome (applied (v1_of ledger.units unit) (tables_of ledger.units ledger.marks)) o → after ≡ set orders worker None → left ≡ freed_owner entries (Upd unit) → new ≡ with_mark ledger unit (post_kind o) → IsAct s (command.Do1 worker) (record s { orders = after; locks = left; stored = new }) (posted_reply unit o)
-posts s orders after entries left ledger new worker unit o e f g room found h a b c =
+pub posts : (s : State) (told : Bool) (orders after : List (Option UnitKey)) (entries left : List Entry) (ledger new : Ledger) (worker : ℕ) (unit : UnitKey) (o : Outcome) → s.told ≡ told → s.orders ≡ orders → s.locks ≡ entries → s.stored ≡ ledger → closed s ≡ None → order_of orders worker ≡ Some unit → MayComeTo told ledger unit o → after ≡ set orders worker None → left ≡ freed_owner entries (Upd unit) → new ≡ with_mark ledger unit (post_kind o) → IsAct s (command.Do1 worker) (record s { orders = after; locks = left; stored = new }) (posted_reply unit o)
+posts s told orders after entries left ledger new worker unit o t e f g room found may a b c =
     let e' : set s.orders worker None ≡ after = ap (λ xs. set xs worker None) e ∙ sym a in
     let f' : freed_owner s.locks (Upd unit) ≡ left = ap (λ xs. freed_owner xs (Upd unit)) f ∙ sym b in
     let g' : with_mark s.stored unit (post_kind o) ≡ new = ap (λ l. with_mark l unit (post_kind o)) g ∙ sym c in
+    let may' : MayComeTo s.told s.stored unit o = subst (λ x. MayComeTo x s.stored unit o) (sym t) (subst (λ l. MayComeTo told l unit o) (sym g) may) in
     at_state _ _ (marked s worker unit (post_kind o)) _ _ (λ i. record s { orders = e' i; locks = f' i; stored = g' i })
-    (tells s (command.Do1 worker) (marked s worker unit (post_kind o)) (posted_reply unit o) room (own_post s orders ledger worker unit o e g found h) (posted-well unit o) (posted-noted unit o))
+    (comes s worker unit o room (ordered s orders worker (Some unit) e found) may')
 
-pub posts_in_doubt : (s : State) (orders : List (Option UnitKey)) (ledger : Ledger) (worker : ℕ) (unit : UnitKey) (o : Outcome) → s.orders ≡ orders → s.stored ≡ ledger → closed s ≡ None → order_of orders worker ≡ Some unit → IsOutcome (applied (v1_of ledger.units unit) (tables_of ledger.units ledger.marks)) o → IsAct s (command.Do1 worker) (doubted s (with_mark s.stored unit (post_kind o))) (reply.Refused refusal.StoreFault)
-posts_in_doubt s orders ledger worker unit o e g room found h =
-    fails s (command.Do1 worker) (marked s worker unit (post_kind o)) (posted_reply unit o) room (own_post s orders ledger worker unit o e g found h) refl
+outcome_is : (r : Result Tables EffectFault) (o : Outcome) → IsOutcome r o → o ≡ outcome_of r
+outcome_is (Ok tables) o h = h
+outcome_is (Err (effect.Refused index reason)) o h = h
+outcome_is (Err effect.NoMemory) o h = absurd h
 
--- so far no part is refused, since its effects put rows
-pub never_refused : (ledger : Ledger) (key : UnitKey) → All IsPutUnit ledger.units → IsOutcome (applied (v1_of ledger.units key) (tables_of ledger.units ledger.marks)) outcome.Done
-never_refused ledger key puts =
-    elim (unit_at ledger.units key) as (λ o. unit_at ledger.units key ≡ o → IsOutcome (applied (v1_of ledger.units key) (tables_of ledger.units ledger.marks)) outcome.Done) [
-      | None ↦ λ e. subst (λ o. IsOutcome (applied (option_map_or (λ (unit : UnitOfWork). unit.parts.v1) o []) (tables_of ledger.units ledger.marks)) outcome.Done) (sym e) refl
-      | Some found ↦ λ e. post_outcome ledger key found e puts
-    ] refl
+-- what the books make ready may come
+pub may_come : (told : Bool) (held : Option Rows) (ledger : Ledger) (unit : UnitKey) (o : Outcome) → told ≡ is_some held → IfSome held (λ _. IsOutcome (applied (v1_of ledger.units unit) (tables_of ledger.units ledger.marks)) o) → MayCome (v1_of ledger.units unit) o → MayComeTo told ledger unit o
+may_come told None ledger unit o t known possible = subst (λ b. MayComeTo b ledger unit o) (sym t) possible
+may_come told (Some rows) ledger unit o t known possible = subst (λ b. MayComeTo b ledger unit o) (sym t) (outcome_is _ o known)
+
+-- an outcome of applying effects to these tables
+pub outcome_told : (r : Result Tables EffectFault) → (r ≡ Err effect.NoMemory → ⊥) → IsOutcome r (outcome_of r)
+outcome_told (Ok tables) told = refl
+outcome_told (Err (effect.Refused index reason)) told = refl
+outcome_told (Err effect.NoMemory) told = absurd (told refl)
+
+refused_told : (index : ℕ) (reason : Reason) → ◌≡◌ {A = Result Tables EffectFault} (Err (effect.Refused index reason)) (Err effect.NoMemory) → ⊥
+refused_told index reason e = cc
+
+abbrev TellsRow : (Tables → Result Tables EffectFault) → ℕ → Tables → RowName → Result (Option (List ℕ)) Reason → Type 0
+TellsRow rest index tables name o =
+    ◌≡◌ {A = Result Tables EffectFault} (elim o [ Ok row ↦ rest (with_row tables name row) | Err reason ↦ Err (effect.Refused index reason) ]) (Err effect.NoMemory)
+
+-- the model of applying effects doesn't want memory
+pub applied_told : (effects : List Effect) (index : ℕ) (tables : Tables) → applied_from index effects tables ≡ Err effect.NoMemory → ⊥
+applied_told [] index tables e = cc
+applied_told (x ∷ effects) index tables e =
+    elim (row_after (get tables (row_of x)) x.deed) as (λ o. TellsRow (applied_from (index + 1) effects) index tables (row_of x) o → ⊥) [
+      | Ok row ↦ λ h. applied_told effects (index + 1) (with_row tables (row_of x) row) h
+      | Err reason ↦ λ h. refused_told index reason h
+    ] e
+
+-- the change in flight that a prepared post is
+landed_post : (ledger old : Ledger) (said : Step) (unit : UnitKey) (o : Outcome) → ledger ≡ old → said ≡ Note unit (post_kind o) → o ≡ outcome_in old unit → after_step ledger said ≡ landed ledger (flight.Post unit)
+landed_post ledger old said unit o same is h =
+    ap (after_step ledger) is ∙ ap (λ x. with_mark ledger unit (post_kind x)) (h ∙ ap (λ l. outcome_in l unit) (sym same))
+
+pub landed_where_told : (told : Option Rows) (ledger old : Ledger) (said : Step) (unit : UnitKey) (o : Outcome) → ledger ≡ old → said ≡ Note unit (post_kind o) → IfSome told (λ _. IsOutcome (applied (v1_of old.units unit) (tables_of old.units old.marks)) o) → IfSome told (λ _. after_step ledger said ≡ landed ledger (flight.Post unit))
+landed_where_told None ledger old said unit o same is h = tt
+landed_where_told (Some rows) ledger old said unit o same is h = landed_post ledger old said unit o same is (outcome_is _ o h)
+
+pub posts_in_doubt : (s : State) (orders : List (Option UnitKey)) (worker : ℕ) (unit : UnitKey) → s.orders ≡ orders → closed s ≡ None → order_of orders worker ≡ Some unit → IsAct s (command.Do1 worker) (doubted s (landed s.stored (flight.Post unit))) (reply.Refused refusal.StoreFault)
+posts_in_doubt s orders worker unit e room found =
+    let o = outcome_in s.stored unit in
+    fails s (command.Do1 worker) (marked s worker unit (post_kind o)) (posted_reply unit o) room (own_post (outcome_in s.stored) s orders worker (Some unit) e found) refl
 
 -- ---- commits
 
-own_commit : (s : State) (sessions : List Session) (name : List ℕ) (x : Session) (parts : Parts) → s.sessions ≡ sessions → session_at sessions name ≡ Some x → own_verdict s (command.Commit name parts) ≡ commit s x parts
+own_commit : (s : State) (sessions : List Session) (name : List ℕ) (x : Session) (parts : Parts) → s.sessions ≡ sessions → session_at sessions name ≡ Some x → own_verdict (outcome_in s.stored) s (command.Commit name parts) ≡ commit s x parts
 own_commit s sessions name x parts e found = ap (calling s (command.Commit name parts)) (found_at s sessions name (Some x) e found)
 
 pub commits_unknown : (s : State) (sessions : List Session) (entries : List Entry) (ledger : Ledger) (name : List ℕ) (parts : Parts) (r : Refusal) → s.sessions ≡ sessions → s.locks ≡ entries → s.stored ≡ ledger → closed s ≡ None → session_at sessions name ≡ None → r ≡ refusal.UnknownSession → IsAct s (command.Commit name parts) (record s { sessions = sessions; locks = entries; stored = ledger }) (reply.Refused r)
@@ -235,7 +280,7 @@ commits_nothing s sessions entries ledger name x parts e f g room found none =
     (tells s (command.Commit name parts) s reply.Done room
     (own_commit s sessions name x parts e found ∙ tested s x parts false true (ap (nat_lt 200) none) (ap (λ n. nat_eq n 0) none)) refl refl)
 
-leaves_unit : (s : State) (sessions : List Session) (name : List ℕ) (x : Session) (parts : Parts) → s.sessions ≡ sessions → session_at sessions name ≡ Some x → 1 ≤ effects_in parts → effects_in parts ≤ 200 → own_verdict s (command.Commit name parts) ≡ Leaves (committed s x parts) (reply.Unit (unit_key s.stored.start x))
+leaves_unit : (s : State) (sessions : List Session) (name : List ℕ) (x : Session) (parts : Parts) → s.sessions ≡ sessions → session_at sessions name ≡ Some x → 1 ≤ effects_in parts → effects_in parts ≤ 200 → own_verdict (outcome_in s.stored) s (command.Commit name parts) ≡ Leaves (committed s x parts) (reply.Unit (unit_key s.stored.start x))
 leaves_unit s sessions name x parts e found some few =
     own_commit s sessions name x parts e found ∙ tested s x parts false false (not_over _ few) (is_some_effect _ some)
 
@@ -256,15 +301,16 @@ commits_in_doubt s sessions ledger name x parts unit e g room found some few is 
     (fails s (command.Commit name parts) (committed s x parts) _ room (leaves_unit s sessions name x parts e found some few) (is_written _ some))
 
 -- the unit of a session that is logged on may be recorded
-pub may_record : (ledger : Ledger) (sessions : List Session) (name : List ℕ) (x : Session) (parts : Parts) (start : ℕ) (unit : UnitOfWork) → start ≡ ledger.start → unit ≡ unit_of start x parts → session_at sessions name ≡ Some x → AllByRecursion (IsAhead ledger) sessions → 1 ≤ ledger.start → 1 ≤ effects_in parts → effects_in parts ≤ 200 → IsTrue (are_puts parts) → IsNewUnit ledger unit
-may_record ledger sessions name x parts start unit same is found ahead started some few puts =
+pub may_record : (ledger : Ledger) (sessions : List Session) (name : List ℕ) (x : Session) (parts : Parts) (start : ℕ) (unit : UnitOfWork) → start ≡ ledger.start → unit ≡ unit_of start x parts → session_at sessions name ≡ Some x → AllByRecursion (IsAhead ledger) sessions → 1 ≤ ledger.start → 1 ≤ effects_in parts → effects_in parts ≤ 200 → IsNewUnit ledger unit
+may_record ledger sessions name x parts start unit same is found ahead started some few =
     subst (IsNewUnit ledger) (sym (is ∙ ap (λ n. unit_of n x parts) same)) (record {
       fresh = found_in (IsAhead ledger) (is_called name) sessions x found ahead x.luw (omega arith);
       first = started;
       last = omega arith;
       some = some;
       few = few;
-      puts = puts;
       numbers = refl;
-      entries = refl;
+      few_entries = omega arith;
+      held = All-nil (IsHeldBy (unit_of ledger.start x parts));
+      distinct = refl;
     })

@@ -2,18 +2,15 @@
 use Rattle.std.specs.Prelude.{◌≡◌, ℕ, ◌+◌, false, Option, Some, None}
 use Rattle.enq_base.specs.declared.condition.Condition.{Condition}
 use Rattle.enq_base.specs.declared.condition.Condition.TheVariants as condition
-use Rattle.posting.specs.declared.prepared.Step.{Step}
+use Rattle.hall.specs.declared.units.InFlight.{InFlight}
 use Rattle.enq_base.specs.declared.refusal.Refusal.TheVariants as refusal
 use Rattle.hall.specs.declared.command.Command.{Command}
 use Rattle.hall.specs.declared.command.Reply.{Reply}
 use Rattle.hall.specs.declared.command.Reply.TheVariants as reply
 use Rattle.hall.specs.declared.units.Written.{Written}
 use Rattle.hall.specs.declared.units.Written.TheVariants.{Answered, Failed}
-use Rattle.posting.specs.Steps.{after_step}
+use Rattle.hall.specs.Flights.{landed}
 use Rattle.hall.specs.History.{IsAllowed, doubted, is_unrecorded, served, shown}
-use Rattle.enq_base.specs.declared.owner.UnitKey.{UnitKey}
-use Rattle.posting.specs.declared.prepared.Outcome.{Outcome}
-use Rattle.posting.specs.declared.prepared.Outcome.TheVariants as outcome
 use Rattle.hall.specs.State.{State}
 
 -- the call leaves this state, and is answered so
@@ -30,30 +27,26 @@ taken_reply (Some r) = r
 -- a call that writes the store leaves this state, or where the store fails a server in doubt
 abbrev pub IsWritten : State → Command → State → Written → Type 0
 IsWritten s c after (Answered r) = IsAct s c after r
-IsWritten s c after (Failed step) = IsAct s c (doubted s (after_step s.stored step)) (reply.Refused refusal.StoreFault)
+IsWritten s c after (Failed change) = IsAct s c (doubted s (landed s.stored change)) (reply.Refused refusal.StoreFault)
 
 -- where the store fails
 abbrev pub OnFailure : Written → Type 0 → Type 0
 OnFailure (Answered r) P = Unit {0}
-OnFailure (Failed step) P = P
+OnFailure (Failed change) P = P
 
 abbrev pub OnAnswer : Written → Type 0 → Type 0
 OnAnswer (Answered r) P = P
-OnAnswer (Failed step) P = Unit {0}
+OnAnswer (Failed change) P = Unit {0}
 
-abbrev pub posted_reply : UnitKey → Outcome → Reply
-posted_reply unit outcome.Done = reply.Posted unit
-posted_reply unit (outcome.Refused index reason) = reply.Bad unit index reason
-
--- what a call that writes the store is answered, and what it leaves of the condition and of the pending step
+-- what a call that writes the store is answered, and what it leaves of the condition and of the change in flight
 abbrev pub written_reply : Written → Reply
 written_reply (Answered r) = r
-written_reply (Failed step) = reply.Refused refusal.StoreFault
+written_reply (Failed change) = reply.Refused refusal.StoreFault
 
 abbrev pub written_condition : Condition → ℕ → Written → Condition
 written_condition before calls (Answered r) = before
-written_condition before calls (Failed step) = condition.Doubt (calls + 1)
+written_condition before calls (Failed change) = condition.Doubt (calls + 1)
 
-abbrev pub written_pending : Option Step → Written → Option Step
+abbrev pub written_pending : Option InFlight → Written → Option InFlight
 written_pending before (Answered r) = before
-written_pending before (Failed step) = Some step
+written_pending before (Failed change) = Some change

@@ -1,6 +1,6 @@
 -- A call with what the devices did in it, and the history that calls make.
 use Rattle.std.specs.Prelude.{◌≡◌, ℕ, ◌+◌, Bool, true, false, nat_le, IsTrue, if◌then◌else◌}
-use Rattle.std.specs.Prelude.{[], ◌∷◌, ◌++◌, length, Some, None, is_some}
+use Rattle.std.specs.Prelude.{[], ◌∷◌, ◌++◌, length, Some, None, is_some, IfSome}
 use Rattle.enq_base.specs.declared.condition.Condition.TheVariants as condition
 use Rattle.enq_base.specs.declared.refusal.Refusal.TheVariants as refusal
 use Rattle.hall.specs.declared.command.Command.{Command}
@@ -10,6 +10,9 @@ use Rattle.hall.specs.declared.command.Reply.{Reply}
 use Rattle.hall.specs.declared.command.Reply.TheVariants as reply
 use Rattle.hall.specs.declared.command.Who.{Who}
 use Rattle.hall.specs.declared.command.Who.TheVariants as who
+use Rattle.posting.specs.declared.prepared.Outcome.{Outcome}
+use Rattle.posting.specs.declared.prepared.Outcome.TheVariants as outcome
+use Rattle.hall.specs.Coming.{MayComeTo, outcome_in}
 use Rattle.hall.specs.Orders.{order_of}
 use Rattle.hall.specs.Sessions.{session_at}
 use Rattle.hall.specs.State.{State}
@@ -24,12 +27,21 @@ pub data DeviceOutcome : Type 0 where
   Wanting : DeviceOutcome
   -- the store failed
   StoreFails : DeviceOutcome
+  -- the V1 part of a unit came to this in the rows of the store
+  Comes : Outcome → DeviceOutcome
 
 -- what the answer of a call shows of it
 abbrev pub shown : Reply → DeviceOutcome
 shown (reply.Refused refusal.NoMemory) = Wanting
 shown (reply.Refused refusal.StoreFault) = StoreFails
+shown (reply.Posted unit) = Comes outcome.Done
+shown (reply.Bad unit index reason) = Comes (outcome.Refused index reason)
 shown _ = Well
+
+-- the calls that post a part
+abbrev pub is_post : Command → Bool
+is_post (command.Do1 worker) = true
+is_post command = false
 
 abbrev pub leaves : Verdict → Bool
 leaves (Refuses r) = false
@@ -38,7 +50,7 @@ leaves (Leaves s r) = true
 -- the calls in which memory may be wanting: a logon that is not refused, a request for locks, a conversion, a commit,
 -- and a post
 abbrev pub may_want : State → Command → Bool
-may_want s (command.Logon session user) = leaves (verdict s (command.Logon session user))
+may_want s (command.Logon session user) = leaves (verdict (outcome_in s.stored) s (command.Logon session user))
 may_want s (command.Ask session requests) = is_some (session_at s.sessions session)
 may_want s (command.Convert session asked) = is_some (session_at s.sessions session)
 may_want s (command.Commit session parts) = is_some (session_at s.sessions session)
@@ -51,11 +63,18 @@ writes (command.Commit session parts) = nat_le 1 (effects_in parts)
 writes (command.Do1 worker) = true
 writes command = false
 
+-- the unit that the worker has an order for may come to this
+abbrev pub PostMayCome : Outcome → State → Command → Type 0
+PostMayCome outcome s (command.Do1 worker) =
+    IfSome (order_of s.orders worker) (λ unit. MayComeTo s.told s.stored unit outcome)
+PostMayCome outcome s c = ⊥
+
 -- a call may have this outcome; one that is refused writes nothing, and one that isn't served wants no memory
 abbrev pub IsAllowed : DeviceOutcome → State → Command → Type 0
 IsAllowed Well s c = Unit {0}
 IsAllowed Wanting s c = (closed s ≡ None) × IsTrue (may_want s c)
-IsAllowed StoreFails s c = IsTrue (leaves (verdict s c)) × IsTrue (writes c)
+IsAllowed StoreFails s c = IsTrue (leaves (verdict (outcome_in s.stored) s c)) × IsTrue (writes c)
+IsAllowed (Comes outcome) s c = PostMayCome outcome s c
 
 -- the state after a call, and the answer
 pub record Served : Type 0 where
@@ -75,9 +94,10 @@ failed s (Refuses r) = record { state = s; reply = reply.Refused refusal.StoreFa
 failed s (Leaves after r) = record { state = doubted s after.stored; reply = reply.Refused refusal.StoreFault }
 
 abbrev pub served : DeviceOutcome → State → Command → Served
-served Well s c = judged s (verdict s c)
+served Well s c = judged s (verdict (outcome_in s.stored) s c)
 served Wanting s c = record { state = s; reply = reply.Refused refusal.NoMemory }
-served StoreFails s c = failed s (verdict s c)
+served StoreFails s c = failed s (verdict (outcome_in s.stored) s c)
+served (Comes outcome) s c = judged s (verdict (λ unit. outcome) s c)
 
 abbrev pub who_of : Command → Who
 who_of (command.Logon session user) = who.Session session

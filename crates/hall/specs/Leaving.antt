@@ -3,12 +3,14 @@ use Rattle.std.specs.Prelude.{ℕ, ◌≡◌, ◌⊎◌, ◌≤◌, Option, Some
 use Rattle.enq_base.specs.Causes.{Rose}
 use Rattle.enq_base.specs.declared.refusal.Refusal.TheVariants as refusal
 use Rattle.keeper_api.specs.Rows.{Rows}
-use Rattle.posting.specs.Shelf.{Shelf, StandForEither}
+use Rattle.posting.specs.Shelf.{Shelf}
 use Rattle.update_records.specs.Ledger.{Ledger, StandFor}
 use Rattle.hall.specs.declared.command.Reply.{Reply}
 use Rattle.hall.specs.declared.command.Reply.TheVariants as reply
 use Rattle.hall.specs.declared.units.Written.{Written}
 use Rattle.hall.specs.declared.units.Written.TheVariants.{Answered, Failed}
+use Rattle.hall.specs.declared.units.InFlight.{InFlight}
+use Rattle.hall.specs.Flights.{landed}
 use Rattle.hall.specs.State.{State, View}
 
 -- rows stand for the change in flight, if there is one
@@ -25,10 +27,14 @@ abbrev pub LeavesState : {K : Type 0} → (K → Option Rows) → (K → Rows �
 LeavesState held may_leave view =
     IfSome (held view.keeper) (λ _. (left : Rows) → may_leave view.keeper left → StandForState left view.state)
 
--- rows stand for the ledger, or where the store failed in a step for the ledger before it or after it
+-- rows stand for the ledger, without the change in flight or with it
+abbrev pub StandForLanded : Rows → Ledger → InFlight → Type 0
+StandForLanded rows ledger change = StandFor rows ledger ⊎ StandFor rows (landed ledger change)
+
+-- rows stand for the ledger, or where the store failed for the ledger without the change in flight or with it
 abbrev pub StandForWritten : Rows → Ledger → Written → Type 0
 StandForWritten rows ledger (Answered r) = StandFor rows ledger
-StandForWritten rows ledger (Failed step) = StandForEither rows ledger step
+StandForWritten rows ledger (Failed change) = StandForLanded rows ledger change
 
 -- the same of each map that a stop may leave
 abbrev pub LeavesWritten :

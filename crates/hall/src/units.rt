@@ -1,26 +1,24 @@
 ghost use Rattle.std.specs.Prelude.{◌≡◌, ◌≤◌, ◌<◌, None, IfOk, IsTrue, is_some, length};
 ghost use Rattle.std.specs.List.{AllByRecursion};
 ghost use Rattle.hall.specs.declared.command.Command.TheVariants as command;
-ghost use Rattle.hall.specs.Acts.{IsWritten, OnAnswer, OnFailure, posted_reply, written_reply};
+ghost use Rattle.hall.specs.Acts.{IsWritten, OnAnswer, OnFailure, written_reply};
 ghost use Rattle.hall.specs.Kept.{AreOrders, IsAhead, IsYoung};
 ghost use Rattle.hall.specs.Leaving.{HasStoreCause, LeavesWritten};
 ghost use Rattle.hall.specs.State.{State};
 ghost use Rattle.hall.specs.Step as step;
 ghost use Rattle.hall.specs.Step.{closed};
-ghost use Rattle.posting.specs.Puts.{are_puts};
 ghost use Rattle.posting.specs.Shelf.{IsUsable};
-ghost use Rattle.posting.specs.Steps.{HasMarksLeft, post_kind};
-ghost use Rattle.posting.specs.declared.prepared.Step.TheVariants.{Note};
+ghost use Rattle.posting.specs.Steps.{HasMarksLeft};
 
 use crate::command::{Reply, Session};
 use crate::orders::order_of;
-use crate::sessions::{begin_unit, session_of, unit_key};
+use crate::sessions::{Sessions, session_of, unit_key};
 use enq_base::{Items, Name, NoMemory, Owner, Parts, Refusal, UnitKey};
 use keeper_api::{KeepFault, Keeper};
 use lock_entry::LockStore;
-use posting::{Books, Outcome, Step};
+use posting::{Books, Outcome};
 use std::alloc::Global;
-use update_records::{MarkKind, Unit};
+use update_records::Unit;
 
 const EFFECTS_LIMIT: usize = 200;
 
@@ -28,8 +26,17 @@ const EFFECTS_LIMIT: usize = 200;
 #[derive(Drop)]
 pub(crate) enum Written {
     Answered(Reply),
-    /// The store failed in this step, which it may have taken or not.
-    Failed(Step),
+    /// The store failed with this change in flight, which it may have taken or not.
+    Failed(InFlight),
+}
+
+/// A change of the store.
+#[derive(Drop)]
+pub(crate) enum InFlight {
+    /// One more unit.
+    Unit(Unit),
+    /// The V1 part of a unit, or the mark of its refusal.
+    Post(UnitKey),
 }
 
 /// Posts the V1 part of the unit that a worker has an order for, or records where it is refused. The order goes, and
@@ -45,7 +52,7 @@ pub(crate) fn post<T: LockStore, K: Keeper>(
     requires marks { HasMarksLeft books.old.ledger }
     requires places { length orders.old.items ≡ 256 }
     requires orders { AreOrders books.old.ledger orders.old.items }
-    ensures act { (s : State) → s.orders ≡ orders.old.items → s.locks ≡ (T.table locks.old).entries
+    ensures act { (s : State) → s.told ≡ is_some (K.held books.old.keeper) → s.orders ≡ orders.old.items → s.locks ≡ (T.table locks.old).entries
         → s.stored ≡ books.old.ledger → closed s ≡ None
         → IsWritten s (command.Do1 worker)
         (record s { orders = orders.new.items; locks = (T.table locks.new).entries; stored = books.new.ledger })
@@ -64,7 +71,7 @@ pub(crate) fn post<T: LockStore, K: Keeper>(
     let (prepared, outcome) = match books.prepare_post1(alloc, &unit) {
         Ok(ready) => ready,
         Err(KeepFault::NoMemory) => return Written::Answered(Reply::Refused(Refusal::NoMemory)),
-        Err(KeepFault::Failed) => return Written::Failed(note_of(unit, Outcome::Done)),
+        Err(KeepFault::Failed) => return Written::Failed(InFlight::Post(unit)),
     };
     match books.write(prepared) {
         Ok(()) => {
@@ -72,22 +79,12 @@ pub(crate) fn post<T: LockStore, K: Keeper>(
             locks.free_owner(&Owner::Upd(unit));
             Written::Answered(posted(unit, outcome))
         }
-        Err(_) => Written::Failed(note_of(unit, outcome)),
+        Err(_) => Written::Failed(InFlight::Post(unit)),
     }
 }
 
-fn note_of(unit: UnitKey, outcome: Outcome) -> Step
-    ensures { result ≡ Note unit (post_kind outcome) }
-{
-    let kind = match outcome {
-        Outcome::Done => MarkKind::V1,
-        Outcome::Refused { index, reason } => MarkKind::Bad1 { index, reason },
-    };
-    Step::Note { unit, kind }
-}
-
 fn posted(unit: UnitKey, outcome: Outcome) -> Reply
-    ensures { result ≡ posted_reply unit outcome }
+    ensures { result ≡ step.posted_reply unit outcome }
 {
     match outcome {
         Outcome::Done => Reply::Posted(unit),
@@ -103,7 +100,7 @@ fn posted(unit: UnitKey, outcome: Outcome) -> Reply
 /// the update, and the session's next unit is open. Without effects nothing changes.
 pub(crate) fn commit<T: LockStore, K: Keeper>(
     alloc: Global,
-    sessions: &mut Vec<Session>,
+    sessions: &mut Sessions,
     locks: &mut T,
     books: &mut Books<K>,
     name: &Name,
@@ -112,23 +109,22 @@ pub(crate) fn commit<T: LockStore, K: Keeper>(
     requires usable { IsUsable K.held K.is_open books.old }
     requires marks { HasMarksLeft books.old.ledger }
     requires started { 1 ≤ books.old.ledger.start }
-    requires young { AllByRecursion (IsYoung 262145) sessions.old.items }
-    requires fresh { AllByRecursion (IsAhead books.old.ledger) sessions.old.items }
-    requires puts { IsTrue (are_puts parts.now) }
-    ensures act { (s : State) → s.sessions ≡ sessions.old.items → s.locks ≡ (T.table locks.old).entries
+    requires young { AllByRecursion (IsYoung 262145) sessions.old }
+    requires fresh { AllByRecursion (IsAhead books.old.ledger) sessions.old }
+    ensures act { (s : State) → s.sessions ≡ sessions.old → s.locks ≡ (T.table locks.old).entries
         → s.stored ≡ books.old.ledger → closed s ≡ None
         → IsWritten s (command.Commit name.now parts.now)
-        (record s { sessions = sessions.new.items; locks = (T.table locks.new).entries; stored = books.new.ledger })
+        (record s { sessions = sessions.new; locks = (T.table locks.new).entries; stored = books.new.ledger })
         result }
     ensures limit { (T.table locks.new).limit ≡ (T.table locks.old).limit }
-    ensures sessions { OnFailure result (sessions.new.items ≡ sessions.old.items) }
+    ensures sessions { OnFailure result (sessions.new ≡ sessions.old) }
     ensures ledger { OnFailure result (books.new.ledger ≡ books.old.ledger) }
     ensures usable { OnAnswer result (IsUsable K.held K.is_open books.new) }
     ensures told { is_some (K.held books.new.keeper) ≡ is_some (K.held books.old.keeper) }
     ensures left { LeavesWritten K.held K.may_leave books.new result }
     ensures cause { HasStoreCause (K.faults books.old.keeper) (K.faults books.new.keeper) (written_reply result) }
 {
-    let session = match session_of(sessions.as_slice(), name) {
+    let session = match session_of(sessions, name) {
         Ok(session) => session,
         Err(refusal) => return Written::Answered(Reply::Refused(refusal)),
     };
@@ -148,10 +144,10 @@ pub(crate) fn commit<T: LockStore, K: Keeper>(
     match books.write(prepared) {
         Ok(()) => {
             locks.hand(&unit.key);
-            begin_unit(sessions, &session.name);
+            sessions.begin_unit(&session.name);
             Written::Answered(Reply::Unit(unit.key))
         }
-        Err(_) => Written::Failed(Step::Record(unit)),
+        Err(_) => Written::Failed(InFlight::Unit(unit)),
     }
 }
 

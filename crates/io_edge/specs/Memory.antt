@@ -1,6 +1,6 @@
 -- Sources and sinks in memory, whose calls fail where they are told to.
 use Rattle.std.specs.Prelude.{◌≡◌, ◌⊎◌, ℕ, List, ◌++◌, drop, Contains}
-use Rattle.io_edge.specs.Counts.{one_more}
+use Rattle.enq_base.specs.Causes.{one_more}
 
 -- what a source in memory shows: the bytes that are left, the numbers of the calls that fail,
 -- how many calls were made, and how many of them failed

@@ -1,6 +1,6 @@
 ghost use Rattle.std.specs.Prelude.{◌≡◌, ◌<◌, ◌≤◌, length, IfOk, OnErr};
 ghost use Rattle.enq_base.specs.Causes.{HasCause};
-ghost use Rattle.io_edge.specs.Counts.{one_more};
+ghost use Rattle.enq_base.specs.Causes.{one_more};
 ghost use Rattle.io_edge.specs.Known.{Writes};
 
 use crate::sink::Sink;

@@ -2,7 +2,7 @@ ghost use Rattle.std.specs.Prelude.{◌≡◌, ◌≢◌, ◌<◌, [], length, m
 ghost use Rattle.std.specs.Io.{ReadsAtMost};
 ghost use Rattle.std.specs.Io.KnownBytes.{ReadConsumes, Keeps, IsAtEnd, prepend_known};
 ghost use Rattle.enq_base.specs.Causes.{HasCause};
-ghost use Rattle.io_edge.specs.Counts.{one_more};
+ghost use Rattle.enq_base.specs.Causes.{one_more};
 
 use crate::source::{Source, give};
 use enq_base::Failed;

@@ -1,7 +1,8 @@
 -- A keeper in memory, whose calls fail where they are told to.
-use Rattle.std.specs.Prelude.{ℕ, ◌≡◌, ◌⊎◌, ◌+◌, ◌-◌, ◌^◌, min, Bool, true, false, nat_eq, List, if◌then◌else◌, refl, Option, Some, Result, Ok, Err}
+use Rattle.std.specs.Prelude.{ℕ, ◌≡◌, ◌⊎◌, Bool, true, false, nat_eq, List, if◌then◌else◌, refl, Option, Some, Result, Ok, Err}
 use Rattle.std.specs.List.{list_any}
 use Rattle.std.specs.FinMap.{empty}
+use Rattle.enq_base.specs.Causes.{one_more}
 use Rattle.keeper_api.specs.declared.rows.Change.{Change}
 use Rattle.keeper_api.specs.Batch.{changed}
 use Rattle.keeper_api.specs.Rows.{Rows}
@@ -21,10 +22,6 @@ pub record KeeperView : Type 0 where
   pub after : List ℕ
   pub calls : ℕ
   pub faults : ℕ
-
--- one more, up to the count's end
-abbrev pub one_more : ℕ → ℕ
-one_more n = min (n + 1) (2 ^ 64 - 1)
 
 -- without rows, and not yet called
 abbrev pub fresh : List ℕ → List ℕ → KeeperView

@@ -9,6 +9,7 @@ mod spot;
 
 pub use effects::apply;
 pub use fault::EffectFault;
+pub use integer::read_integer;
 pub use spot::{Spot, covers};
 
 #[cfg(test)]

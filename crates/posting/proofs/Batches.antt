@@ -1,6 +1,6 @@
 -- The rows of one more unit, and of one more mark, make the rows of the ledger that has it.
-use Rattle.std.proofs.Common.{◌≡◌, ℕ, suc, zero, ◌+◌, ◌<◌, ◌≤◌, Bool, true, false, not, ◌&&◌, ◌||◌, map, nat_eq, nat_lt, List, [], ◌∷◌, ◌++◌, length, refl, sym, ap, subst, ◌∙◌, arith, append_assoc, length-append, if◌then◌else◌}
-use Rattle.std.specs.List.{flat_map, AllByRecursion}
+use Rattle.std.proofs.Common.{◌≡◌, ℕ, ◌+◌, ◌≤◌, Bool, true, false, not, ◌&&◌, ◌||◌, map, nat_eq, nat_lt, List, [], ◌∷◌, ◌++◌, length, refl, sym, ap, subst, ◌∙◌, arith, append_assoc, length-append, if◌then◌else◌}
+use Rattle.std.specs.List.{flat_map}
 use Rattle.std.specs.Option.{option_map_or}
 use Rattle.std.specs.FinMap.{empty}
 use Rattle.std.proofs.lemmas.Bool.{eqb-true}
@@ -20,8 +20,8 @@ use Rattle.update_records.specs.declared.records.MarkKind.TheVariants.{Num, Rec,
 use Rattle.update_records.specs.declared.records.Unit.{Unit as UnitOfWork}
 use Rattle.update_records.specs.Business.{posted, part_of, tables_after, tables_of}
 use Rattle.update_records.specs.Growing.{next_mark, with_mark, with_unit}
-use Rattle.update_records.specs.Ledger.{Ledger, Levels, map_rows, meta_rows, book_rows, rows_of}
-use Rattle.update_records.specs.Marks.{unit_at, v1_of, v2_of, decides, draws_alone}
+use Rattle.update_records.specs.Ledger.{Ledger, map_rows, meta_rows, book_rows, rows_of}
+use Rattle.update_records.specs.Marks.{draws_alone}
 use Rattle.update_records.specs.RecordRows.{header_row, unit_rows, step_rows, part_rows, mark_row, lock_rows, meta_row}
 use Rattle.posting.proofs.Status.{NoneOf, unit_other, flip}
 
@@ -85,7 +85,7 @@ meta_in : (p : ℕ → Bool) → p 0 ≡ true → (start n : ℕ) → InTables p
 meta_in p zero_in start n =
     elim (nat_eq start 0) as (λ b. InTables p (if b then [] else (meta_row start n ∷ []))) [ true ↦ tt | false ↦ (zero_in, tt) ]
 
-books_in : (p : ℕ → Bool) → p 0 ≡ true → p 1 ≡ true → p 2 ≡ true → p 3 ≡ true → p 4 ≡ true → p 7 ≡ true → (ledger : Ledger) → InTables p (book_rows ledger)
+pub books_in : (p : ℕ → Bool) → p 0 ≡ true → p 1 ≡ true → p 2 ≡ true → p 3 ≡ true → p 4 ≡ true → p 7 ≡ true → (ledger : Ledger) → InTables p (book_rows ledger)
 books_in p meta one two three four seven ledger =
     tables_append p _ _ (tables_append p _ _ (units_in p one two three seven ledger.units) (marks_in p four ledger.marks)) (meta_in p meta ledger.start (length ledger.marks))
 

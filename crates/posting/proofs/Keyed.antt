@@ -2,18 +2,20 @@
 use Rattle.std.proofs.Common.{◌≡◌, ℕ, Bool, true, false, cond, ◌&&◌, nat_eq, List, [], ◌∷◌, ◌++◌, length, take, drop, Option, Some, None, Decides, refl, sym, ap, subst, ◌∙◌}
 use Rattle.std.specs.Option.{option_map}
 use Rattle.std.specs.Ordering.{eq_by_cmp}
-use Rattle.std.specs.Cmp.{Equal-is, eq_by_cmp_equiv}
+use Rattle.std.specs.Cmp.{eq_by_cmp_equiv}
 use Rattle.std.specs.Str.{bytes_eq}
-use Rattle.std.specs.FinMap.{FinMap, empty, entries, get, insert, find, get-entries, get-insert, get-empty, same_map}
+use Rattle.std.specs.FinMap.{FinMap, empty, entries, get, find, get-entries, get-insert, get-empty, same_map}
 use Rattle.std.proofs.lemmas.Bool.{eqb-true, eq-eqb}
 use Rattle.std.proofs.lemmas.Bool.Decides.{same_from_decides}
 use Rattle.keeper_api.specs.Rows.{Spot, spot_cmp, Rows}
-use Rattle.keeper_api.specs.RowLaws.{spots_total, exact_spots, same_spot}
+use Rattle.keeper_api.specs.Batch.{changed_once, spot_of}
+use Rattle.keeper_api.specs.RowLaws.{spots_total, exact_spots, same_spot, get_once}
 use Rattle.lock_entry.proofs.Naming.{bytes_eq-refl, bytes_eq-same}
-use Rattle.module_effects.specs.Rows.{RowName, row_cmp, Tables}
-use Rattle.module_effects.proofs.Tables.{rows_total, same_row, same_row-Decides}
+use Rattle.module_effects.specs.Rows.{RowName, row_cmp, Tables, with_row}
+use Rattle.module_effects.proofs.Tables.{same_row, same_row-Decides, get-with_row}
 use Rattle.update_records.specs.Ledger.{Levels, with_entries, with_map, map_rows}
-use Rattle.update_records.specs.RecordRows.{row_name, level_value, Level}
+use Rattle.update_records.specs.RecordRows.{row_name, level_value}
+use Rattle.posting.specs.Posts.{row_left}
 
 -- the name that a key spells
 abbrev pub unname : List ℕ → RowName
@@ -99,28 +101,38 @@ pub get_map : {X : Type 0} (t : ℕ) (write : X → List ℕ) (xs : FinMap row_c
     → get (with_map t write xs rows) q ≡ cond (is_named t q) (or_else (option_map write (get xs (unname q.1))) (get rows q)) (get rows q)
 get_map t write xs rows q = get_with t write (entries xs) rows q ∙ ap (λ x. cond (is_named t q) (or_else (option_map write x) (get rows q)) (get rows q)) (sym (get-entries xs (unname q.1)))
 
-inner_put : (b c : Bool) (v : List ℕ) (x : Option (List ℕ)) → cond b (or_else (option_map (λ (text : List ℕ). text) (cond c (Some v) x)) None) None ≡ cond (b && c) (Some v) (cond b (or_else (option_map (λ (text : List ℕ). text) x) None) None)
-inner_put true true v x = refl
-inner_put true false v x = refl
-inner_put false c v x = refl
+-- where a change leaves what it leaves
+pub left_spot : (r : RowName) (text : Option (List ℕ)) → spot_of (row_left r text) ≡ (6, row_name r)
+left_spot r None = refl
+left_spot r (Some text) = refl
 
--- a business row that is put is a row of table 6
-inside_insert : (tables : Tables) (r : RowName) (text : List ℕ) → with_map 6 (λ (t : List ℕ). t) (insert tables r text) empty ≡ insert (with_map 6 (λ (t : List ℕ). t) tables empty) (6, row_name r) text
-inside_insert tables r text = same_map spots_total exact_spots _ _ (λ q.
-    get_map 6 (λ (t : List ℕ). t) (insert tables r text) empty q
-    ∙ ap (λ x. cond (is_named 6 q) (or_else (option_map (λ (t : List ℕ). t) (get (insert tables r text) (unname q.1))) x) x) (get-empty spot_cmp q)
-    ∙ ap (λ x. cond (is_named 6 q) (or_else (option_map (λ (t : List ℕ). t) x) None) None) (get-insert rows_total tables r text (unname q.1))
-    ∙ inner_put (is_named 6 q) (same_row (unname q.1) r) text (get tables (unname q.1))
-    ∙ ap (λ x. cond (is_named 6 q && same_row (unname q.1) r) (Some text) (cond (is_named 6 q) (or_else (option_map (λ (t : List ℕ). t) (get tables (unname q.1))) x) x)) (sym (get-empty spot_cmp q))
-    ∙ ap (cond (is_named 6 q && same_row (unname q.1) r) (Some text)) (sym (get_map 6 (λ (t : List ℕ). t) tables empty q))
-    ∙ ap (λ b. cond b (Some text) (get (with_map 6 (λ (t : List ℕ). t) tables empty) q)) (sym (named_is 6 r q))
-    ∙ sym (get-insert spots_total (with_map 6 (λ (t : List ℕ). t) tables empty) (6, row_name r) text q))
+pub get_left : (r : RowName) (text : Option (List ℕ)) (rows : Rows) (q : Spot) → get (changed_once (row_left r text) rows) q ≡ cond (eq_by_cmp spot_cmp q (6, row_name r)) text (get rows q)
+get_left r None rows q = get_once (row_left r None) rows q
+get_left r (Some text) rows q = get_once (row_left r (Some text)) rows q
 
-outer_put : {X : Type 0} (a d : Bool) (write : X → List ℕ) (v : List ℕ) (l : Option X) (x : Option (List ℕ)) → (a ≡ true → d ≡ true → ⊥)
-    → cond a (or_else (option_map write l) (cond d (Some v) x)) (cond d (Some v) x) ≡ cond d (Some v) (cond a (or_else (option_map write l) x) x)
-outer_put true true write v l x apart = absurd (apart refl refl)
-outer_put true false write v l x apart = refl
-outer_put false d write v l x apart = refl
+inner_left : (b c : Bool) (v x : Option (List ℕ)) → cond b (or_else (option_map (λ (text : List ℕ). text) (cond c v x)) None) None ≡ cond (b && c) v (cond b (or_else (option_map (λ (text : List ℕ). text) x) None) None)
+inner_left true true None x = refl
+inner_left true true (Some v) x = refl
+inner_left true false v x = refl
+inner_left false c v x = refl
+
+-- a business row that a part leaves is a row of table 6
+inside_left : (tables : Tables) (r : RowName) (text : Option (List ℕ)) → with_map 6 (λ (t : List ℕ). t) (with_row tables r text) empty ≡ changed_once (row_left r text) (with_map 6 (λ (t : List ℕ). t) tables empty)
+inside_left tables r text = same_map spots_total exact_spots _ _ (λ q.
+    get_map 6 (λ (t : List ℕ). t) (with_row tables r text) empty q
+    ∙ ap (λ x. cond (is_named 6 q) (or_else (option_map (λ (t : List ℕ). t) (get (with_row tables r text) (unname q.1))) x) x) (get-empty spot_cmp q)
+    ∙ ap (λ x. cond (is_named 6 q) (or_else (option_map (λ (t : List ℕ). t) x) None) None) (get-with_row tables r text (unname q.1))
+    ∙ inner_left (is_named 6 q) (same_row (unname q.1) r) text (get tables (unname q.1))
+    ∙ ap (λ x. cond (is_named 6 q && same_row (unname q.1) r) text (cond (is_named 6 q) (or_else (option_map (λ (t : List ℕ). t) (get tables (unname q.1))) x) x)) (sym (get-empty spot_cmp q))
+    ∙ ap (cond (is_named 6 q && same_row (unname q.1) r) text) (sym (get_map 6 (λ (t : List ℕ). t) tables empty q))
+    ∙ ap (λ b. cond b text (get (with_map 6 (λ (t : List ℕ). t) tables empty) q)) (sym (named_is 6 r q))
+    ∙ sym (get_left r text (with_map 6 (λ (t : List ℕ). t) tables empty) q))
+
+outer_left : {X : Type 0} (a d : Bool) (write : X → List ℕ) (v : Option (List ℕ)) (l : Option X) (x : Option (List ℕ)) → (a ≡ true → d ≡ true → ⊥)
+    → cond a (or_else (option_map write l) (cond d v x)) (cond d v x) ≡ cond d v (cond a (or_else (option_map write l) x) x)
+outer_left true true write v l x apart = absurd (apart refl refl)
+outer_left true false write v l x apart = refl
+outer_left false d write v l x apart = refl
 
 five_or_six : (q : Spot) (r : RowName) → is_named 5 q ≡ true → eq_by_cmp spot_cmp q (6, row_name r) ≡ true → ⊥
 five_or_six q r five six =
@@ -128,13 +140,29 @@ five_or_six q r five six =
     let b : q.0 ≡ 6 = ap (λ (s : Spot). s.0) (same_spot q (6, row_name r) six) in
     let wrong : 5 ≡ 6 = sym a ∙ b in cc
 
-pub business_insert : (levels : Levels) (tables : Tables) (r : RowName) (text : List ℕ) → map_rows levels (insert tables r text) ≡ insert (map_rows levels tables) (6, row_name r) text
-business_insert levels tables r text =
+pub business_left : (levels : Levels) (tables : Tables) (r : RowName) (text : Option (List ℕ)) → map_rows levels (with_row tables r text) ≡ changed_once (row_left r text) (map_rows levels tables)
+business_left levels tables r text =
     let inside = with_map 6 (λ (t : List ℕ). t) tables empty in
-    ap (with_map 5 level_value levels) (inside_insert tables r text)
+    ap (with_map 5 level_value levels) (inside_left tables r text)
     ∙ same_map spots_total exact_spots _ _ (λ q.
-    get_map 5 level_value levels (insert inside (6, row_name r) text) q
-    ∙ ap (λ x. cond (is_named 5 q) (or_else (option_map level_value (get levels (unname q.1))) x) x) (get-insert spots_total inside (6, row_name r) text q)
-    ∙ outer_put (is_named 5 q) (eq_by_cmp spot_cmp q (6, row_name r)) level_value text (get levels (unname q.1)) (get inside q) (five_or_six q r)
-    ∙ ap (cond (eq_by_cmp spot_cmp q (6, row_name r)) (Some text)) (sym (get_map 5 level_value levels inside q))
-    ∙ sym (get-insert spots_total (map_rows levels tables) (6, row_name r) text q))
+    get_map 5 level_value levels (changed_once (row_left r text) inside) q
+    ∙ ap (λ x. cond (is_named 5 q) (or_else (option_map level_value (get levels (unname q.1))) x) x) (get_left r text inside q)
+    ∙ outer_left (is_named 5 q) (eq_by_cmp spot_cmp q (6, row_name r)) level_value text (get levels (unname q.1)) (get inside q) (five_or_six q r)
+    ∙ ap (cond (eq_by_cmp spot_cmp q (6, row_name r)) text) (sym (get_map 5 level_value levels inside q))
+    ∙ sym (get_left r text (map_rows levels tables) q))
+
+or_id : (o : Option (List ℕ)) → or_else (option_map (λ (t : List ℕ). t) o) None ≡ o
+or_id None = refl
+or_id (Some t) = refl
+
+-- what stands in the row of a name
+pub get_business : (levels : Levels) (tables : Tables) (name : RowName) → get (map_rows levels tables) (6, row_name name) ≡ get tables name
+get_business levels tables name =
+    let q : Spot = (6, row_name name) in
+    let here : is_named 6 q ≡ true = first_of (is_named 6 q) (same_row (unname (row_name name)) name) (here_named 6 name) in
+    get_map 5 level_value levels (with_map 6 (λ (t : List ℕ). t) tables empty) q
+    ∙ get_map 6 (λ (t : List ℕ). t) tables empty q
+    ∙ ap (λ b. cond b (or_else (option_map (λ (t : List ℕ). t) (get tables (unname (row_name name)))) (get {R = spot_cmp} empty q)) (get {R = spot_cmp} empty q)) here
+    ∙ ap (λ n. or_else (option_map (λ (t : List ℕ). t) (get tables n)) (get {R = spot_cmp} empty q)) (unname_name name)
+    ∙ ap (or_else (option_map (λ (t : List ℕ). t) (get tables name))) (get-empty spot_cmp q)
+    ∙ or_id (get tables name)

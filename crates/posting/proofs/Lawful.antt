@@ -1,18 +1,14 @@
--- A ledger stays lawful with one unit more, and with the mark of a first part.
-use Rattle.std.proofs.Common.{◌≡◌, ◌⊎◌, inl, inr, ℕ, zero, suc, ◌+◌, ◌≤◌, ◌<◌, ◌^◌, Bool, true, false, cond, not, ◌&&◌, List, [], ◌∷◌, ◌++◌, map, length, if◌then◌else◌, Option, Some, None, IfSome, Result, Ok, Err, IsOk, IsTrue, refl, sym, ap, subst, ◌∙◌, arith, length-append, append_assoc}
-use Rattle.std.specs.List.{All, AllByRecursion, filter, flat_map, range_with_len}
-use Rattle.lock_entry.specs.declared.entry.Entry.{Entry}
-use Rattle.lock_entry.specs.Names.{has_distinct_names}
+-- A ledger stays lawful with one unit more, and with one mark more of a recorded unit.
+use Rattle.std.proofs.Common.{◌≡◌, ℕ, zero, suc, ◌+◌, ◌≤◌, Bool, true, false, cond, not, ◌&&◌, List, [], ◌∷◌, ◌++◌, map, length, if◌then◌else◌, Option, Some, None, IsSome, IsOk, refl, sym, ap, subst, ◌∙◌, arith, length-append}
+use Rattle.std.specs.List.{All, AllByRecursion, filter, range_with_len}
 use Rattle.std.specs.Option.{option_map_or}
 use Rattle.std.specs.FinMap.{empty}
 use Rattle.std.proofs.lemmas.List.{append-nil}
 use Rattle.std.proofs.lemmas.List.Elements.{All-push, All-nil, recursion_from_All}
-use Rattle.enq_base.specs.Grammar.{is_name}
 use Rattle.enq_base.specs.Owners.{same_unit}
 use Rattle.enq_base.specs.declared.owner.UnitKey.{UnitKey}
 use Rattle.enq_base.specs.declared.unit.Num.{Num as Number}
 use Rattle.enq_base.specs.declared.unit.Status.{Status}
-use Rattle.enq_base.specs.declared.unit.Status.TheVariants.{Open}
 use Rattle.module_effects.specs.Rows.{Tables}
 use Rattle.module_effects.specs.Effects.{applied}
 use Rattle.update_records.specs.declared.records.Mark.{Mark}
@@ -20,13 +16,14 @@ use Rattle.update_records.specs.declared.records.MarkKind.{MarkKind}
 use Rattle.update_records.specs.declared.records.MarkKind.TheVariants.{Num, Rec, V1, Bad1, Again1, V2, Bad2, Again2, Gone}
 use Rattle.update_records.specs.declared.records.Unit.{Unit as UnitOfWork}
 use Rattle.update_records.specs.Business.{posted, part_of, tables_after, tables_of, IsRightMark, AreRight, numbers_in, numbers_of}
-use Rattle.update_records.specs.Grammar.{IsUnit, IsUnitKey, IsEffect, IsNumber, IsEntryOf}
+use Rattle.update_records.specs.Grammar.{IsUnit, IsKind, IsNumber}
 use Rattle.update_records.specs.Growing.{next_mark, with_mark, with_unit}
-use Rattle.update_records.specs.Ledger.{Ledger, no_ledger, IsLawful, IsMarkUnder, LevelsAgree, recorded}
-use Rattle.update_records.specs.Marks.{unit_at, v1_of, v2_of, given, status_after, status_of, may_follow, IsLegal, is_rec, decides, draws_alone}
-use Rattle.posting.specs.Steps.{IsNewUnit, IsOpenUnit, HasMarksLeft, IsSpelt}
-use Rattle.posting.proofs.Batches.{tables_push, tables_grow, other_part, plain}
-use Rattle.posting.proofs.Status.{NoneOf, none_of, unit_other, flip, legal_grows, legal_push, status_grows, unit_new, one_unit}
+use Rattle.update_records.specs.Ledger.{Ledger, IsLawful, IsMarkUnder, LevelsAgree, recorded}
+use Rattle.update_records.specs.Marks.{unit_at, v1_of, v2_of, given, status_after, status_of, may_follow, is_rec, draws_alone}
+use Rattle.posting.specs.Steps.{IsNewUnit, MayGet, HasMarksLeft, IsSpelt}
+use Rattle.posting.proofs.Registers.{may_not_draw}
+use Rattle.posting.proofs.Batches.{other_part, plain}
+use Rattle.posting.proofs.Status.{NoneOf, none_of, unit_other, flip, legal_grows, legal_push, not_rec, status_grows, unit_new, one_unit}
 
 range_push : (a n : ℕ) → range_with_len a n ++ (a + n) ∷ [] ≡ range_with_len a (n + 1)
 range_push a zero = ap (λ k. k ∷ []) (omega arith)
@@ -152,9 +149,9 @@ new_unit ledger unit new spelt = record {
   second = spelt.second;
   few_numbers = subst (λ (ns : List Number). length ns ≤ 64) (sym new.numbers) (omega arith);
   numbers = subst (All IsNumber) (sym new.numbers) (All-nil IsNumber);
-  few_entries = subst (λ (es : List Entry). length es < 2 ^ 32) (sym new.entries) (omega arith);
-  entries = subst (All (IsEntryOf unit)) (sym new.entries) (All-nil (IsEntryOf unit));
-  distinct = subst (λ es. IsTrue (has_distinct_names es)) (sym new.entries) refl;
+  few_entries = new.few_entries;
+  entries = spelt.entries;
+  distinct = new.distinct;
 }
 
 -- the ledger stays lawful with one unit more
@@ -179,29 +176,50 @@ unit_lawful ledger unit law few new spelt =
       levels = subst (LevelsAgree ledger.levels) (sym (numbers_push units ledger.marks m (no_numbers ledger.units unit absent new.numbers) ∙ numbers_grow ledger.units unit ledger.marks none)) law.levels;
     }
 
-open_key : (start seq : ℕ) (b : Bool) (key : UnitKey) (s : Status) (marks : List Mark) → AllByRecursion (IsMarkUnder start) marks → status_after b key None marks ≡ Some s → IsMarkUnder start (record { seq = seq; unit = key; kind = V1 })
-open_key start seq b key s [] all h = cc
-open_key start seq b key s (m ∷ marks) all h =
-    elim (same_unit m.unit key) as (λ t. same_unit m.unit key ≡ t → status_after b key (if t then given b m.kind None else None) marks ≡ Some s → IsMarkUnder start (record { seq = seq; unit = key; kind = V1 })) [
-      | true ↦ λ e h2. subst (λ k. IsMarkUnder start (record { seq = seq; unit = k; kind = V1 })) (one_unit m.unit key e)
-          (record { kind = tt; first = all.0.first; last = all.0.last; session = all.0.session; luw = all.0.luw })
-      | false ↦ λ e h2. open_key start seq b key s marks all.1 h2
+known_key : (start seq : ℕ) (b : Bool) (key : UnitKey) (kind : MarkKind) (s : Status) (marks : List Mark) → IsKind kind → AllByRecursion (IsMarkUnder start) marks → status_after b key None marks ≡ Some s → IsMarkUnder start (record { seq = seq; unit = key; kind = kind })
+known_key start seq b key kind s [] is all h = cc
+known_key start seq b key kind s (m ∷ marks) is all h =
+    elim (same_unit m.unit key) as (λ t. same_unit m.unit key ≡ t → status_after b key (if t then given b m.kind None else None) marks ≡ Some s → IsMarkUnder start (record { seq = seq; unit = key; kind = kind })) [
+      | true ↦ λ e h2. subst (λ k. IsMarkUnder start (record { seq = seq; unit = k; kind = kind })) (one_unit m.unit key e)
+          (record { kind = is; first = all.0.first; last = all.0.last; session = all.0.session; luw = all.0.luw })
+      | false ↦ λ e h2. known_key start seq b key kind s marks is all.1 h2
     ] refl h
 
--- the ledger stays lawful with the mark of a first part
-pub post_lawful : (ledger : Ledger) (key : UnitKey) → IsLawful ledger → HasMarksLeft ledger → IsOpenUnit ledger key → IsOk (applied (v1_of ledger.units key) (tables_of ledger.units ledger.marks)) → IsLawful (with_mark ledger key V1)
-post_lawful ledger key law few waits ok =
-    let m : Mark = next_mark ledger key V1 in
+recorded_key : (start seq : ℕ) (b : Bool) (key : UnitKey) (kind : MarkKind) (o : Option Status) (marks : List Mark) → IsKind kind → AllByRecursion (IsMarkUnder start) marks → status_after b key None marks ≡ o → IsSome o → IsMarkUnder start (record { seq = seq; unit = key; kind = kind })
+recorded_key start seq b key kind None marks is all h some = cc
+recorded_key start seq b key kind (Some s) marks is all h some = known_key start seq b key kind s marks is all h
+
+no_recording : (o : Option Status) (kind : MarkKind) → IsSome o → may_follow o kind ≡ true → is_rec kind ≡ false
+no_recording None kind some h = cc
+no_recording (Some s) kind some h = not_rec s kind h
+
+draws_nothing : (units : List UnitOfWork) (seq : ℕ) (key : UnitKey) (kind : MarkKind) → draws_alone kind ≡ false → is_rec kind ≡ false → numbers_in units (record { seq = seq; unit = key; kind = kind }) ≡ []
+draws_nothing units seq key (Num numbers) h k = cc
+draws_nothing units seq key Rec h k = cc
+draws_nothing units seq key V1 h k = refl
+draws_nothing units seq key (Bad1 i r) h k = refl
+draws_nothing units seq key Again1 h k = refl
+draws_nothing units seq key V2 h k = refl
+draws_nothing units seq key (Bad2 i r) h k = refl
+draws_nothing units seq key Again2 h k = refl
+draws_nothing units seq key Gone h k = refl
+
+-- the ledger stays lawful with one more mark of a recorded unit
+pub note_lawful : (ledger : Ledger) (key : UnitKey) (kind : MarkKind) → IsLawful ledger → HasMarksLeft ledger → MayGet ledger key kind → IsKind kind → IsRightMark ledger.units (tables_of ledger.units ledger.marks) (next_mark ledger key kind) → IsLawful (with_mark ledger key kind)
+note_lawful ledger key kind law few may is right =
+    let m : Mark = next_mark ledger key kind in
     let n = length-append ledger.marks (m ∷ []) in
+    let no_rec : is_rec kind ≡ false = no_recording (status_of ledger.units ledger.marks key) kind may.recorded may.follows in
     record {
       started = law.started;
       start = law.start;
       few = omega (arith, n, few);
-      numbered = numbered_push ledger.marks key V1 law.numbered;
-      marks = All-push (IsMarkUnder ledger.start) ledger.marks m law.marks (open_key ledger.start (length ledger.marks + 1) _ key Open ledger.marks (recursion_from_All (IsMarkUnder ledger.start) ledger.marks law.marks) waits);
-      legal = legal_push ledger.units [] ledger.marks m law.legal (ap (λ s. may_follow s V1) waits);
+      numbered = numbered_push ledger.marks key kind law.numbered;
+      marks = All-push (IsMarkUnder ledger.start) ledger.marks m law.marks
+          (recorded_key ledger.start (length ledger.marks + 1) _ key kind (status_of ledger.units ledger.marks key) ledger.marks is (recursion_from_All (IsMarkUnder ledger.start) ledger.marks law.marks) refl may.recorded);
+      legal = legal_push ledger.units [] ledger.marks m law.legal may.follows;
       units = law.units;
-      recorded = law.recorded ∙ sym (append-nil (recorded ledger.marks)) ∙ sym (recorded_push ledger.marks m);
-      right = right_push ledger.units empty ledger.marks m law.right ok;
-      levels = subst (LevelsAgree ledger.levels) (sym (numbers_push ledger.units ledger.marks m refl)) law.levels;
+      recorded = law.recorded ∙ sym (append-nil (recorded ledger.marks)) ∙ ap (λ b. recorded ledger.marks ++ (if b then key ∷ [] else [])) (sym no_rec) ∙ sym (recorded_push ledger.marks m);
+      right = right_push ledger.units empty ledger.marks m law.right right;
+      levels = subst (LevelsAgree ledger.levels) (sym (numbers_push ledger.units ledger.marks m (draws_nothing ledger.units (length ledger.marks + 1) key kind (may_not_draw ledger key kind may) no_rec))) law.levels;
     }

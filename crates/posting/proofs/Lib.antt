@@ -10,3 +10,5 @@ pub mod Lawful
 pub mod Distinct
 pub mod Posts
 pub mod Makes
+pub mod Held
+pub mod Applies

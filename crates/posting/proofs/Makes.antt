@@ -1,35 +1,30 @@
 -- A prepared batch makes the rows of the ledger after its step.
-use Rattle.std.proofs.Common.{◌≡◌, ◌⊎◌, inl, inr, ℕ, ◌+◌, ◌≤◌, List, [], ◌∷◌, ◌++◌, length, Option, Some, None, IfSome, refl, sym, ap, subst, ◌∙◌, arith, append_assoc}
+use Rattle.std.proofs.Common.{◌≡◌, ◌⊎◌, inl, inr, ℕ, ◌+◌, ◌≤◌, true, false, List, [], ◌∷◌, ◌++◌, length, Option, Some, None, IfSome, IsSome, refl, sym, ap, subst, ◌∙◌, arith, append_assoc}
 use Rattle.keeper_api.specs.declared.rows.Change.{Change}
 use Rattle.keeper_api.specs.Batch.{changed, IsBatch}
 use Rattle.keeper_api.specs.Rows.{Rows}
-use Rattle.enq_base.specs.declared.owner.UnitKey.{UnitKey}
-use Rattle.update_records.specs.declared.records.MarkKind.{MarkKind}
-use Rattle.update_records.specs.declared.records.MarkKind.TheVariants.{Rec}
-use Rattle.update_records.specs.declared.records.Unit.{Unit as UnitOfWork}
-use Rattle.update_records.specs.Growing.{next_mark, with_mark, with_unit}
-use Rattle.update_records.specs.Ledger.{Ledger, no_ledger, own, rows_of, IsLawful, StandFor}
-use Rattle.update_records.specs.RecordRows.{unit_rows, mark_row, meta_row}
-use Rattle.posting.specs.Steps.{IsNewUnit, HasMarksLeft, IsSpelt}
-use Rattle.std.proofs.Common.{Bool, true, false, cond, IsOk}
-use Rattle.std.specs.List.{All, AllByRecursion}
-use Rattle.std.specs.Option.{option_map_or}
-use Rattle.std.proofs.lemmas.List.Elements.{recursion_from_All}
 use Rattle.keeper_api.specs.RowLaws.{AreApart}
-use Rattle.enq_base.specs.Owners.{same_unit}
-use Rattle.enq_base.specs.declared.unit.Effect.{Effect}
-use Rattle.module_effects.specs.Effects.{applied}
+use Rattle.enq_base.specs.declared.owner.UnitKey.{UnitKey}
+use Rattle.module_effects.specs.declared.spot.Spot.{Spot}
 use Rattle.update_records.specs.Business.{tables_of}
-use Rattle.update_records.specs.Marks.{unit_at, v1_of}
-use Rattle.update_records.specs.declared.records.MarkKind.TheVariants.{V1}
-use Rattle.posting.specs.Puts.{IsPutUnit, only_puts, last_posts}
-use Rattle.posting.specs.Steps.{IsOpenUnit, IsOutcome}
-use Rattle.posting.specs.declared.prepared.Outcome.TheVariants.{Done}
-use Rattle.posting.proofs.Posts.{posts_are, posts_in, posts_own, posts_distinct, puts_ok, and_first}
+use Rattle.update_records.specs.Grammar.{IsKind, MayMark}
+use Rattle.update_records.specs.Growing.{next_mark, with_mark, with_unit}
+use Rattle.update_records.specs.Ledger.{Ledger, no_ledger, map_rows, IsLawful, StandFor}
+use Rattle.update_records.specs.Marks.{draws_alone, status_of}
+use Rattle.update_records.specs.RecordRows.{unit_rows, mark_row, meta_row}
+use Rattle.update_records.specs.Spelling.{HasFields}
+use Rattle.update_records.specs.declared.records.Mark.{Mark}
+use Rattle.update_records.specs.declared.records.MarkKind.{MarkKind}
+use Rattle.update_records.specs.declared.records.MarkKind.TheVariants.{Num, Rec, V1, Bad1, Again1, V2, Bad2, Again2, Gone}
+use Rattle.update_records.specs.declared.records.Unit.{Unit as UnitOfWork}
+use Rattle.posting.specs.Posts.{HasDistinctRows, IsNote, note_changes, row_changes}
+use Rattle.posting.specs.Steps.{IsNewUnit, HasMarksLeft, IsSpelt, MayGet}
 use Rattle.posting.proofs.Batches.{unit_batch, unit_written, mark_written, is_business_table}
 use Rattle.posting.proofs.Distinct.{unit_own, unit_changes, own_append, own_keys, distinct_append, closing_distinct, tables_apart, is_closing_table, at_number}
-use Rattle.posting.proofs.Lawful.{unit_lawful, post_lawful}
+use Rattle.posting.proofs.Lawful.{unit_lawful, note_lawful}
 use Rattle.posting.proofs.Own.{AreOwn, own_changed}
+use Rattle.posting.proofs.Posts.{rows_are, rows_distinct, rows_in, rows_own}
+use Rattle.posting.proofs.Registers.{may_not_draw}
 use Rattle.posting.proofs.Status.{none_of}
 
 -- a ledger with a start number is lawful
@@ -44,7 +39,7 @@ unit_stands rows ledger unit few new spelt h =
     let started : 1 ≤ ledger.start = omega (arith, new.first, new.last) in
     let none = none_of _ unit.key ledger.marks new.fresh in
     record {
-      exact = own_changed (unit_batch ledger unit) rows (unit_own unit new.entries ledger.start (length ledger.marks + 1) (next_mark ledger unit.key Rec)) ∙ ap (changed (unit_batch ledger unit)) h.exact ∙ unit_written ledger unit started none;
+      exact = own_changed (unit_batch ledger unit) rows (unit_own unit ledger.start (length ledger.marks + 1) (next_mark ledger unit.key Rec)) ∙ ap (changed (unit_batch ledger unit)) h.exact ∙ unit_written ledger unit started none;
       lawful = inr (unit_lawful ledger unit (started_lawful ledger started h.lawful) few new spelt);
     }
 
@@ -63,67 +58,65 @@ unit_makes (Some rows) ledger unit copy batch start n few new spelt s m same is 
     (subst (λ b. StandFor (changed b rows) (with_unit ledger unit)) (sym (is ∙ ap (λ k. unit_rows_at k n unit) s ∙ ap (λ k. unit_rows_at ledger.start k unit) m)) (unit_stands rows ledger unit few new spelt h))
 
 pub unit_is_batch : (ledger : Ledger) (unit : UnitOfWork) (batch : List Change) (start n : ℕ) → IsNewUnit ledger unit → batch ≡ unit_rows_at start n unit → IsBatch batch
-unit_is_batch ledger unit batch start n new is = subst IsBatch (sym is) (unit_changes unit new.entries new.few start (n + 1) (record { seq = n + 1; unit = unit.key; kind = Rec }))
+unit_is_batch ledger unit batch start n new is = subst IsBatch (sym is) (unit_changes unit new.few_entries new.few start (n + 1) (record { seq = n + 1; unit = unit.key; kind = Rec }))
 
 business_and_closing : AreApart is_business_table is_closing_table
 business_and_closing n a b = let h : is_closing_table 6 ≡ true = at_number is_closing_table 6 n a b in cc
 
-open_lawful : (ledger : Ledger) (key : UnitKey) → IsOpenUnit ledger key → (ledger ≡ no_ledger) ⊎ IsLawful ledger → IsLawful ledger
-open_lawful ledger key waits known = elim known [
-  | inl none ↦ let nothing : IsOpenUnit no_ledger key = subst (λ l. IsOpenUnit l key) none waits in cc
+-- ---- one more mark
+
+recorded_lawful : (ledger : Ledger) (key : UnitKey) (kind : MarkKind) → MayGet ledger key kind → (ledger ≡ no_ledger) ⊎ IsLawful ledger → IsLawful ledger
+recorded_lawful ledger key kind may known = elim known [
+  | inl none ↦ let nothing : IsSome (status_of (no_ledger).units (no_ledger).marks key) = subst (λ (l : Ledger). IsSome (status_of l.units l.marks key)) none may.recorded in cc
   | inr law ↦ law
 ]
 
-abbrev pub post_rows_at : ℕ → ℕ → List Effect → UnitKey → List Change
-post_rows_at start n part key = last_posts part ++ mark_row (record { seq = n + 1; unit = key; kind = V1 }) ∷ meta_row start (n + 1) ∷ []
+note_own : (start : ℕ) (spots : List Spot) (m : Mark) → AreOwn (note_changes start spots m)
+note_own start spots m = own_append (row_changes spots) (mark_row m ∷ meta_row start m.seq ∷ []) (rows_own spots) (refl, (refl, tt))
 
-post_own : (start n : ℕ) (part : List Effect) (key : UnitKey) → AreOwn (post_rows_at start n part key)
-post_own start n part key = own_append (last_posts part) (mark_row (record { seq = n + 1; unit = key; kind = V1 }) ∷ meta_row start (n + 1) ∷ []) (posts_own part) (refl, (refl, tt))
-
-post_stands : (rows : Rows) (ledger : Ledger) (key : UnitKey) → HasMarksLeft ledger → IsOpenUnit ledger key → only_puts (v1_of ledger.units key) ≡ true → StandFor rows ledger
-    → StandFor (changed (post_rows_at ledger.start (length ledger.marks) (v1_of ledger.units key) key) rows) (with_mark ledger key V1)
-post_stands rows ledger key few waits puts h =
-    let part = v1_of ledger.units key in
-    let law = open_lawful ledger key waits h.lawful in
-    let tables = tables_of ledger.units ledger.marks in
-    record {
-      exact = own_changed (post_rows_at ledger.start (length ledger.marks) part key) rows (post_own ledger.start (length ledger.marks) part key) ∙ ap (changed (post_rows_at ledger.start (length ledger.marks) part key)) h.exact
-          ∙ mark_written ledger key V1 (last_posts part) law.started (posts_in part) (posts_are ledger.levels part tables puts);
-      lawful = inr (post_lawful ledger key law few waits (subst IsOk (sym (puts_ok part tables puts)) refl));
-    }
-
--- the part of a unit that is there
-part_there : (units : List UnitOfWork) (key : UnitKey) (unit : UnitOfWork) → unit_at units key ≡ Some unit → unit.parts.v1 ≡ v1_of units key
-part_there units key unit is = ap (λ o. option_map_or (λ (x : UnitOfWork). x.parts.v1) o []) (sym is)
-
-found_put : (key : UnitKey) (units : List UnitOfWork) (unit : UnitOfWork) → AllByRecursion IsPutUnit units → unit_at units key ≡ Some unit → IsPutUnit unit
-found_put key [] unit all h = cc
-found_put key (u ∷ units) unit all h =
-    elim (same_unit u.key key) as (λ b. cond b (Some u) (unit_at units key) ≡ Some unit → IsPutUnit unit) [
-      | true ↦ λ e. let same : u ≡ unit = cc in subst IsPutUnit same all.0
-      | false ↦ λ e. found_put key units unit all.1 e
-    ] h
-
-pub puts_there : (units : List UnitOfWork) (key : UnitKey) (unit : UnitOfWork) → All IsPutUnit units → unit_at units key ≡ Some unit → only_puts unit.parts.v1 ≡ true
-puts_there units key unit all is = and_first (only_puts unit.parts.v1) (only_puts unit.parts.v2) (found_put key units unit (recursion_from_All IsPutUnit units all) is)
-
-pub post_makes : (held : Option Rows) (ledger : Ledger) (key : UnitKey) (unit : UnitOfWork) (batch : List Change) (start n : ℕ) → HasMarksLeft ledger → IsOpenUnit ledger key → unit_at ledger.units key ≡ Some unit → All IsPutUnit ledger.units
-    → start ≡ ledger.start → n ≡ length ledger.marks → batch ≡ post_rows_at start n unit.parts.v1 key → IfSome held (λ rows. StandFor rows ledger) → IfSome held (λ rows. StandFor (changed batch rows) (with_mark ledger key V1))
-post_makes None ledger key unit batch start n few waits there puts s m is h = tt
-post_makes (Some rows) ledger key unit batch start n few waits there puts s m is h =
-    let part = part_there ledger.units key unit there in
-    subst (λ b. StandFor (changed b rows) (with_mark ledger key V1)) (sym (is ∙ ap (λ k. post_rows_at k n unit.parts.v1 key) s ∙ ap (λ k. post_rows_at ledger.start k unit.parts.v1 key) m ∙ ap (λ p. post_rows_at ledger.start (length ledger.marks) p key) part))
-    (post_stands rows ledger key few waits (subst (λ p. only_puts p ≡ true) part (puts_there ledger.units key unit puts there)) h)
-
-pub post_is_batch : (start n : ℕ) (part : List Effect) (key : UnitKey) (batch : List Change) → batch ≡ post_rows_at start n part key → IsBatch batch
-post_is_batch start n part key batch is = subst IsBatch (sym is) (record {
-  keys = own_keys (post_rows_at start n part key) (post_own start n part key);
-  distinct = distinct_append (last_posts part) (mark_row (record { seq = n + 1; unit = key; kind = V1 }) ∷ meta_row start (n + 1) ∷ []) (posts_distinct part) (closing_distinct start (n + 1) (record { seq = n + 1; unit = key; kind = V1 }))
-      (tables_apart is_business_table is_closing_table business_and_closing (last_posts part) (mark_row (record { seq = n + 1; unit = key; kind = V1 }) ∷ meta_row start (n + 1) ∷ []) (posts_in part) (refl, (refl, tt)));
+pub note_is_batch : (start : ℕ) (spots : List Spot) (m : Mark) (batch : List Change) → HasDistinctRows spots → batch ≡ note_changes start spots m → IsBatch batch
+note_is_batch start spots m batch distinct is = subst IsBatch (sym is) (record {
+  keys = own_keys (note_changes start spots m) (note_own start spots m);
+  distinct = distinct_append (row_changes spots) (mark_row m ∷ meta_row start m.seq ∷ []) (rows_distinct spots distinct) (closing_distinct start m.seq m)
+      (tables_apart is_business_table is_closing_table business_and_closing (row_changes spots) (mark_row m ∷ meta_row start m.seq ∷ []) (rows_in spots) (refl, (refl, tt)));
 })
 
-pub post_outcome : (ledger : Ledger) (key : UnitKey) (unit : UnitOfWork) → unit_at ledger.units key ≡ Some unit → All IsPutUnit ledger.units → IsOutcome (applied (v1_of ledger.units key) (tables_of ledger.units ledger.marks)) Done
-post_outcome ledger key unit there puts =
-    let part = part_there ledger.units key unit there in
+pub may_mark : (kind : MarkKind) → draws_alone kind ≡ false → MayMark kind
+may_mark (Num numbers) h = cc
+may_mark Rec h = tt
+may_mark V1 h = tt
+may_mark (Bad1 i r) h = tt
+may_mark Again1 h = tt
+may_mark V2 h = tt
+may_mark (Bad2 i r) h = tt
+may_mark Again2 h = tt
+may_mark Gone h = tt
+
+is_kind : (kind : MarkKind) → draws_alone kind ≡ false → HasFields kind → IsKind kind
+is_kind (Num numbers) h is = cc
+is_kind Rec h is = tt
+is_kind V1 h is = tt
+is_kind (Bad1 i r) h is = is
+is_kind Again1 h is = tt
+is_kind V2 h is = tt
+is_kind (Bad2 i r) h is = is
+is_kind Again2 h is = tt
+is_kind Gone h is = tt
+
+note_stands : (rows : Rows) (ledger : Ledger) (key : UnitKey) (kind : MarkKind) (spots : List Spot) → HasMarksLeft ledger → MayGet ledger key kind → HasFields kind → HasDistinctRows spots → IsNote ledger (next_mark ledger key kind) spots → StandFor rows ledger
+    → StandFor (changed (note_changes ledger.start spots (next_mark ledger key kind)) rows) (with_mark ledger key kind)
+note_stands rows ledger key kind spots few may fields distinct note h =
+    let m = next_mark ledger key kind in
+    let law = recorded_lawful ledger key kind may h.lawful in
     let tables = tables_of ledger.units ledger.marks in
-    subst (λ r. IsOutcome r Done) (sym (puts_ok (v1_of ledger.units key) tables (subst (λ p. only_puts p ≡ true) part (puts_there ledger.units key unit puts there)))) refl
+    record {
+      exact = own_changed (note_changes ledger.start spots m) rows (note_own ledger.start spots m) ∙ ap (changed (note_changes ledger.start spots m)) h.exact
+          ∙ mark_written ledger key kind (row_changes spots) law.started (rows_in spots) (rows_are ledger.levels spots tables distinct ∙ ap (map_rows ledger.levels) (sym note.leaves));
+      lawful = inr (note_lawful ledger key kind law few may (is_kind kind (may_not_draw ledger key kind may) fields) note.right);
+    }
+
+pub note_makes : (held : Option Rows) (ledger : Ledger) (key : UnitKey) (kind : MarkKind) (spots : List Spot) (batch : List Change) (start : ℕ) (m : Mark) → HasMarksLeft ledger → MayGet ledger key kind → HasFields kind → HasDistinctRows spots
+    → start ≡ ledger.start → m ≡ next_mark ledger key kind → batch ≡ note_changes start spots m → IfSome held (λ _. IsNote ledger (next_mark ledger key kind) spots) → IfSome held (λ rows. StandFor rows ledger) → IfSome held (λ rows. StandFor (changed batch rows) (with_mark ledger key kind))
+note_makes None ledger key kind spots batch start m few may fields distinct s is made note h = tt
+note_makes (Some rows) ledger key kind spots batch start m few may fields distinct s is made note h =
+    subst (λ b. StandFor (changed b rows) (with_mark ledger key kind)) (sym (made ∙ ap (λ n. note_changes n spots m) s ∙ ap (note_changes ledger.start spots) is)) (note_stands rows ledger key kind spots few may fields distinct note h)

@@ -1,13 +1,11 @@
 -- Rows of which no table has one.
-use Rattle.std.proofs.Common.{◌≡◌, ℕ, zero, suc, ◌+◌, ◌<◌, ◌≤◌, Bool, true, false, cond, ◌&&◌, nat_eq, nat_lt, IsTrue, List, [], ◌∷◌, map, length, take, Option, Some, None, IfSome, refl, sym, ap, subst, ◌∙◌, arith}
+use Rattle.std.proofs.Common.{◌≡◌, ℕ, ◌<◌, ◌≤◌, Bool, true, false, cond, ◌&&◌, nat_eq, nat_lt, List, [], ◌∷◌, map, take, Option, Some, None, IfSome, refl, sym, ap, subst, ◌∙◌, arith}
 use Rattle.std.specs.List.{filter}
-use Rattle.std.specs.Ordering.{eq_by_cmp, is_lt, nat_cmp}
-use Rattle.std.specs.Cmp.Lexicographic.{slice_cmp}
+use Rattle.std.specs.Ordering.{eq_by_cmp}
 use Rattle.std.specs.FinMap.{empty, entries, get, find, get-entries, get-empty, same_map}
-use Rattle.std.proofs.lemmas.Bool.{eqb-true, eq-eqb}
+use Rattle.std.proofs.lemmas.Bool.{eq-eqb}
 use borrow.Author.Tests.{ltb-true}
-use Rattle.keeper_api.specs.declared.rows.Row.{Row}
-use Rattle.keeper_api.specs.Rows.{Spot, spot_cmp, Rows, page_of, is_behind, is_below, row_of}
+use Rattle.keeper_api.specs.Rows.{Spot, spot_cmp, Rows, is_behind, is_below, row_of}
 use Rattle.keeper_api.specs.RowLaws.{spots_total, exact_spots, same_spot}
 use Rattle.update_records.specs.Ledger.{own, is_own, has_bytes}
 use Rattle.posting.specs.Opening.{AreBare, Finds}

@@ -1,14 +1,14 @@
 -- Changes of the store's own tables.
-use Rattle.std.proofs.Common.{◌≡◌, ℕ, ◌≤◌, Bool, true, false, cond, ◌&&◌, nat_lt, List, [], ◌∷◌, ◌++◌, length, Option, Some, None, refl, sym, ap, subst, ◌∙◌, arith}
+use Rattle.std.proofs.Common.{◌≡◌, Bool, true, false, cond, List, [], ◌∷◌, None, refl, sym, ap, ◌∙◌}
 use Rattle.std.specs.List.{AllByRecursion}
 use Rattle.std.specs.Ordering.{eq_by_cmp}
 use Rattle.std.specs.declared.cmp.Ordering.TheVariants.{Equal}
-use Rattle.std.specs.FinMap.{get, retain_keys, get-retain_keys, same_map}
+use Rattle.std.specs.FinMap.{get, get-retain_keys, same_map}
 use Rattle.keeper_api.specs.declared.rows.Change.{Change}
 use Rattle.keeper_api.specs.Rows.{Spot, spot_cmp, Rows}
 use Rattle.keeper_api.specs.Batch.{spot_of, changed, changed_once}
 use Rattle.keeper_api.specs.RowLaws.{spots_total, exact_spots, same_spot, get_once, value_in}
-use Rattle.update_records.specs.Ledger.{own, is_own, has_bytes}
+use Rattle.update_records.specs.Ledger.{own, is_own}
 
 within : {A : Type 0} (a b : Bool) (v x y : A) → (a ≡ true → b ≡ true) → cond b (cond a v x) y ≡ cond a v (cond b x y)
 within true true v x y h = refl

@@ -1,6 +1,6 @@
 -- What one more mark makes of the status of each unit, and of those that wait.
-use Rattle.std.proofs.Common.{◌≡◌, ◌≢◌, ℕ, ◌+◌, ◌≤◌, Bool, true, false, not, cond, ◌&&◌, ◌||◌, List, [], ◌∷◌, ◌++◌, length, if◌then◌else◌, Option, Some, None, refl, sym, ap, ◌∙◌, subst, arith}
-use Rattle.std.specs.List.{find, filter, list_any, AllByRecursion, IsDistinct}
+use Rattle.std.proofs.Common.{◌≡◌, Bool, true, false, not, cond, ◌&&◌, ◌||◌, List, [], ◌∷◌, ◌++◌, if◌then◌else◌, Option, Some, None, refl, sym, ap, ◌∙◌, subst}
+use Rattle.std.specs.List.{filter, list_any, AllByRecursion}
 use Rattle.std.proofs.lemmas.List.Folds.{find-append}
 use Rattle.std.proofs.lemmas.List.{append-nil}
 use Rattle.std.proofs.Common.{append_assoc}
@@ -9,13 +9,14 @@ use Rattle.enq_base.specs.Owners.{same_unit}
 use Rattle.enq_base.specs.declared.owner.Owner.TheVariants.{Upd}
 use Rattle.enq_base.specs.declared.owner.UnitKey.{UnitKey}
 use Rattle.enq_base.specs.declared.unit.Status.{Status}
-use Rattle.enq_base.specs.declared.unit.Status.TheVariants.{Open, Posted, Closed}
+use Rattle.enq_base.specs.declared.unit.Status.TheVariants.{Open, Posted, Bad, Closed, Bad2 as BadSecond, Cancelled}
+use Rattle.enq_base.specs.declared.unit.Num.{Num as Number}
 use Rattle.lock_entry.proofs.Naming.{same_owner-refl, same_owner-same}
 use Rattle.update_records.specs.declared.records.Mark.{Mark}
 use Rattle.update_records.specs.declared.records.MarkKind.{MarkKind}
 use Rattle.update_records.specs.declared.records.MarkKind.TheVariants.{Num, Rec, V1, Bad1, Again1, V2, Bad2, Again2, Gone}
 use Rattle.update_records.specs.declared.records.Unit.{Unit as UnitOfWork}
-use Rattle.update_records.specs.Marks.{unit_at, v2_of, has_no_v2, is_empty_part, given, status_after, status_of, may_follow, IsLegalAfter, IsLegal, draws_alone, decides, same_status, has_status, units_with, waiting}
+use Rattle.update_records.specs.Marks.{unit_at, has_no_v2, is_empty_part, given, status_after, status_of, may_follow, IsLegalAfter, is_rec, draws_alone, decides, has_status, units_with}
 
 pub unit_refl : (u : UnitKey) → same_unit u u ≡ true
 unit_refl u = same_owner-refl (Upd u)
@@ -74,6 +75,58 @@ given_alone b V2 s h = cc
 given_alone b (Bad2 i r) s h = cc
 given_alone b Again2 s h = cc
 given_alone b Gone s h = cc
+
+-- numbers alone follow no recorded unit
+numbers_never : (s : Status) (numbers : List Number) → may_follow (Some s) (Num numbers) ≡ true → ⊥
+numbers_never Open numbers h = cc
+numbers_never Posted numbers h = cc
+numbers_never Bad numbers h = cc
+numbers_never Closed numbers h = cc
+numbers_never BadSecond numbers h = cc
+numbers_never Cancelled numbers h = cc
+
+pub not_alone : (s : Status) (kind : MarkKind) → may_follow (Some s) kind ≡ true → draws_alone kind ≡ false
+not_alone s (Num numbers) h = absurd (numbers_never s numbers h)
+not_alone s Rec h = refl
+not_alone s V1 h = refl
+not_alone s (Bad1 i r) h = refl
+not_alone s Again1 h = refl
+not_alone s V2 h = refl
+not_alone s (Bad2 i r) h = refl
+not_alone s Again2 h = refl
+not_alone s Gone h = refl
+
+-- no recorded unit is recorded again
+rec_never : (s : Status) → may_follow (Some s) Rec ≡ true → ⊥
+rec_never Open h = cc
+rec_never Posted h = cc
+rec_never Bad h = cc
+rec_never Closed h = cc
+rec_never BadSecond h = cc
+rec_never Cancelled h = cc
+
+pub not_rec : (s : Status) (kind : MarkKind) → may_follow (Some s) kind ≡ true → is_rec kind ≡ false
+not_rec s (Num numbers) h = refl
+not_rec s Rec h = absurd (rec_never s h)
+not_rec s V1 h = refl
+not_rec s (Bad1 i r) h = refl
+not_rec s Again1 h = refl
+not_rec s V2 h = refl
+not_rec s (Bad2 i r) h = refl
+not_rec s Again2 h = refl
+not_rec s Gone h = refl
+
+-- a mark that gives a status gives it whatever the one before
+pub given_same : (b : Bool) (kind : MarkKind) (s : Option Status) → draws_alone kind ≡ false → given b kind None ≡ given b kind s
+given_same b (Num numbers) s h = cc
+given_same b Rec s h = refl
+given_same b V1 s h = refl
+given_same b (Bad1 i r) s h = refl
+given_same b Again1 s h = refl
+given_same b V2 s h = refl
+given_same b (Bad2 i r) s h = refl
+given_same b Again2 s h = refl
+given_same b Gone s h = refl
 
 none_or : (o : Option Status) → (o ≡ None) → (s : Status) → o ≡ Some s → ⊥
 none_or None h s e = cc

@@ -1,23 +1,20 @@
 -- When the books may be used after a call, and what a call may leave.
-use Rattle.std.proofs.Common.{◌≡◌, ◌⊎◌, inl, inr, ℕ, ◌≤◌, ◌<◌, Bool, true, false, IsTrue, List, [], ◌∷◌, ◌++◌, length, not, Option, Some, None, IfSome, refl, sym, ap, subst, ◌∙◌, arith}
-use Rattle.std.specs.FinMap.{empty, entries, get, get-empty, len-entries, len-empty}
+use Rattle.std.proofs.Common.{◌≡◌, ◌⊎◌, inl, inr, ℕ, Bool, true, false, List, [], ◌∷◌, length, Option, Some, None, IfSome, refl, sym, ap, subst, ◌∙◌, arith}
+use Rattle.std.specs.FinMap.{empty, entries, get-empty, len-entries, len-empty}
 use Rattle.std.specs.Option.{is_some}
-use Rattle.std.specs.List.{All, IsDistinct}
+use Rattle.std.specs.List.{IsDistinct}
 use Rattle.std.proofs.lemmas.List.Elements.{All-nil}
 use Rattle.keeper_api.specs.declared.rows.Change.{Change}
-use Rattle.keeper_api.specs.Batch.{changed, held_after, IsBatch, spot_of, is_same_spot}
+use Rattle.keeper_api.specs.Batch.{changed, held_after, IsBatch}
 use Rattle.keeper_api.specs.Keeping.{IsBeforeOrAfter, IsOnly, IsWithin}
-use Rattle.keeper_api.specs.Rows.{Rows, spot_cmp}
-use Rattle.module_effects.specs.Rows.{RowName, row_cmp}
+use Rattle.keeper_api.specs.Rows.{Rows}
+use Rattle.module_effects.specs.Rows.{row_cmp}
 use Rattle.update_records.specs.Growing.{with_start}
-use Rattle.update_records.specs.Ledger.{Ledger, no_ledger, own, rows_of, map_rows, with_map, with_entries, IsLawful, IsMarkUnder, IsRightLevel, LevelsAgree, StandFor}
+use Rattle.update_records.specs.Ledger.{Ledger, no_ledger, map_rows, with_map, with_entries, IsLawful, IsMarkUnder, IsRightLevel, StandFor}
 use Rattle.update_records.specs.Grammar.{IsUnit}
-use Rattle.update_records.specs.RecordRows.{meta_row, Level, level_value}
-use Rattle.posting.specs.Opening.{HasNoRows, WasBare, MayBeLeft, first_ledger}
-use Rattle.posting.specs.Puts.{IsPutUnit}
-use Rattle.posting.specs.Shelf.{Shelf, IsUsable, IsReady, StandForEither}
-use Rattle.posting.specs.Steps.{Plan, after_step}
-use Rattle.posting.specs.declared.prepared.Step.{Step}
+use Rattle.update_records.specs.RecordRows.{meta_row, level_value}
+use Rattle.posting.specs.Opening.{WasBare, MayBeLeft}
+use Rattle.posting.specs.Shelf.{Shelf, IsUsable}
 use Rattle.posting.proofs.Own.{own_changed}
 
 pub stands_again : (held other : Option Rows) (ledger same : Ledger) → other ≡ held → same ≡ ledger → IfSome held (λ rows. StandFor rows ledger) → IfSome other (λ rows. StandFor rows same)
@@ -28,7 +25,6 @@ pub usable_again : {K : Type 0} (held : K → Option Rows) (is_open : K → Type
 usable_again held is_open old new usable opened told same = record {
   opened = opened;
   stands = stands_again (held old.keeper) (held new.keeper) old.ledger new.ledger told same usable.stands;
-  puts = subst (λ (l : Ledger). All IsPutUnit l.units) (sym same) usable.puts;
 }
 
 -- what a commit makes of the rows that are told
@@ -141,7 +137,6 @@ pub bare_usable : {K : Type 0} (held : K → Option Rows) (is_open : K → Type 
 bare_usable held is_open before shelf is opened bare = record {
   opened = opened;
   stands = bare_stands (held shelf.keeper) before shelf.ledger is bare;
-  puts = subst (λ (l : Ledger). All IsPutUnit l.units) (sym is) (All-nil IsPutUnit);
 }
 
 pub opened_left : (held told : Option Rows) (before middle may_leave : Rows → Type 0) → IfSome held (WasBare before) → IsWithin middle before → is_some told ≡ is_some held

@@ -1,7 +1,6 @@
 -- Those that wait: each once, and no more than there are marks.
-use Rattle.std.proofs.Common.{◌≡◌, ℕ, suc, ◌+◌, ◌≤◌, Bool, true, false, not, cond, ◌&&◌, ◌||◌, List, [], ◌∷◌, ◌++◌, length, if◌then◌else◌, Option, Some, None, refl, sym, ap, ◌∙◌, subst, arith}
+use Rattle.std.proofs.Common.{◌≡◌, ℕ, suc, ◌≤◌, Bool, true, false, not, cond, ◌&&◌, ◌||◌, List, [], ◌∷◌, ◌++◌, length, if◌then◌else◌, Option, Some, None, refl, sym, ap, ◌∙◌, subst, arith}
 use Rattle.std.specs.List.{filter, list_any, position, remove, AllByRecursion, IsDistinct}
-use Rattle.std.specs.Option.{option_map}
 use Rattle.lock_entry.specs.Freeing.{replace_first}
 use Rattle.lock_entry.proofs.Places.{position-Some, position-None, replace_first-at}
 use Rattle.std.specs.Option.{OnSome, IsSome}
@@ -14,7 +13,7 @@ use Rattle.update_records.specs.declared.records.MarkKind.{MarkKind}
 use Rattle.update_records.specs.declared.records.MarkKind.TheVariants.{Num, Rec, V1, Bad1, Again1, V2, Bad2, Again2, Gone}
 use Rattle.update_records.specs.declared.records.Unit.{Unit as UnitOfWork}
 use Rattle.update_records.specs.Marks.{has_no_v2, given, draws_alone, decides, has_status, units_with}
-use Rattle.posting.proofs.Status.{NoneOf, flip, one_unit, unit_refl}
+use Rattle.posting.proofs.Status.{NoneOf, flip, one_unit}
 
 -- whether a mark gives its unit this status
 abbrev pub gives : Status → List UnitOfWork → Mark → Bool

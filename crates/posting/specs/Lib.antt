@@ -1,6 +1,6 @@
 pub mod Registers
 pub mod Standings
-pub mod Puts
 pub mod Steps
+pub mod Posts
 pub mod Shelf
 pub mod Opening

@@ -1,5 +1,5 @@
 -- What is found in a store that is opened, and what an opening leaves.
-use Rattle.std.specs.Prelude.{ℕ, ◌≡◌, ◌≢◌, ◌⊎◌, ◌≤◌, ◌<◌, Bool, true, false, List, [], Option, Some, None, if◌then◌else◌, IsTrue}
+use Rattle.std.specs.Prelude.{ℕ, ◌≡◌, ◌⊎◌, ◌≤◌, ◌<◌, Bool, true, [], Option, Some, None, if◌then◌else◌, IsTrue}
 use Rattle.std.specs.FinMap.{empty}
 use Rattle.enq_base.specs.Causes.{Rose}
 use Rattle.keeper_api.specs.Rows.{Rows, page_of}

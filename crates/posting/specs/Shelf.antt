@@ -1,16 +1,11 @@
 -- What a caller of the books sees.
-use Rattle.std.specs.Prelude.{ℕ, ◌≡◌, ◌⊎◌, ◌≤◌, List, Option, IfSome, is_some}
-use Rattle.std.specs.List.{All}
+use Rattle.std.specs.Prelude.{ℕ, ◌≡◌, ◌⊎◌, ◌≤◌, List, Option, IfSome}
 use Rattle.keeper_api.specs.declared.rows.Change.{Change}
 use Rattle.keeper_api.specs.Rows.{Rows}
 use Rattle.keeper_api.specs.Batch.{changed}
 use Rattle.keeper_api.specs.Keeping.{IsWithin}
-use Rattle.update_records.specs.declared.records.MarkKind.{MarkKind}
-use Rattle.update_records.specs.declared.records.MarkKind.TheVariants.{V1}
 use Rattle.update_records.specs.Ledger.{Ledger, StandFor}
-use Rattle.update_records.specs.Marks.{status_of}
-use Rattle.posting.specs.Puts.{IsPutUnit}
-use Rattle.posting.specs.Steps.{Plan, after_step, IsNewUnit, IsOpenUnit, HasMarksLeft}
+use Rattle.posting.specs.Steps.{Plan, after_step, IsNewUnit, HasMarksLeft, MayGet}
 use Rattle.posting.specs.declared.prepared.Step.{Step}
 use Rattle.posting.specs.declared.prepared.Step.TheVariants.{Start, Record, Note}
 
@@ -24,7 +19,6 @@ pub record Shelf (K : Type 0) : Type 0 where
 pub record IsUsable {K : Type 0} (held : K → Option Rows) (is_open : K → Type 0) (shelf : Shelf K) : Type 0 where
   pub opened : is_open shelf.keeper
   pub stands : IfSome (held shelf.keeper) (λ rows. StandFor rows shelf.ledger)
-  pub puts : All IsPutUnit shelf.ledger.units
 
 -- ledger, rows and faults are as before, and nothing new may be left
 pub record IsUnmoved {K : Type 0} (held : K → Option Rows) (may_leave : K → Rows → Type 0) (faults : K → ℕ) (old new : Shelf K) : Type 0 where
@@ -37,7 +31,7 @@ pub record IsUnmoved {K : Type 0} (held : K → Option Rows) (may_leave : K → 
 abbrev pub MayTake : Ledger → Step → Type 0
 MayTake ledger (Start start) = 1 ≤ start
 MayTake ledger (Record unit) = HasMarksLeft ledger × IsNewUnit ledger unit
-MayTake ledger (Note key kind) = HasMarksLeft ledger × IsOpenUnit ledger key × (kind ≡ V1)
+MayTake ledger (Note key kind) = HasMarksLeft ledger × MayGet ledger key kind
 
 -- the plan can be written: there is room for it, and it makes the rows of the ledger after its step
 pub record IsReady {K : Type 0} (held : K → Option Rows) (has_room : K → List Change → Type 0) (shelf : Shelf K) (plan : Plan) : Type 0 where

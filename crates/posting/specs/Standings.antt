@@ -1,13 +1,16 @@
 -- Where each unit stands, as it is looked up by its key.
-use Rattle.std.specs.Prelude.{ℕ, ◌≡◌, ◌≤◌, Bool, ◌==◌, ◌&&◌, List, length, Option, IfSome, ◌<◌}
+use Rattle.std.specs.Prelude.{ℕ, ◌≡◌, ◌≤◌, Bool, ◌==◌, ◌&&◌, List, [], ◌∷◌, length, if◌then◌else◌, Option, Some, None, IfSome, ◌<◌}
 use Rattle.std.specs.HashMap.{HashMap, get}
 use Rattle.std.specs.List.{slice_get}
 use Rattle.std.specs.Option.{option_map, option_and_then}
+use Rattle.enq_base.specs.Owners.{same_unit}
 use Rattle.enq_base.specs.declared.owner.UnitKey.{UnitKey}
-use Rattle.enq_base.specs.declared.unit.Status.{Status}
+use Rattle.enq_base.specs.declared.unit.Reason.{Reason}
 use Rattle.update_records.specs.declared.records.Mark.{Mark}
+use Rattle.update_records.specs.declared.records.MarkKind.{MarkKind}
+use Rattle.update_records.specs.declared.records.MarkKind.TheVariants.{Num, Bad1, Bad2}
 use Rattle.update_records.specs.declared.records.Unit.{Unit as UnitOfWork}
-use Rattle.update_records.specs.Marks.{status_of, unit_at, waiting}
+use Rattle.update_records.specs.Marks.{status_of, unit_at, waiting, waiting_again}
 use Rattle.posting.specs.declared.register.Standing.{Standing}
 use Rattle.posting.specs.declared.unit_id.UnitId.{UnitId}
 
@@ -23,12 +26,30 @@ Standings S = HashMap UnitId Standing S
 abbrev pub standing_at : {S : Type 0} → Standings S → UnitKey → Option Standing
 standing_at standings key = get same_id standings (id_of key)
 
+-- the refusal that a mark tells, by the one before it: the effect's number and the reason; numbers alone tell nothing new
+abbrev pub told : MarkKind → Option (ℕ × Reason) → Option (ℕ × Reason)
+told (Num numbers) before = before
+told (Bad1 index reason) before = Some (index, reason)
+told (Bad2 index reason) before = Some (index, reason)
+told kind before = None
+
+abbrev pub error_after : UnitKey → Option (ℕ × Reason) → List Mark → Option (ℕ × Reason)
+error_after key error [] = error
+error_after key error (m ∷ marks) = error_after key (if same_unit m.unit key then told m.kind error else error) marks
+
+-- the refusal that the last mark of a unit tells
+abbrev pub error_of : List Mark → UnitKey → Option (ℕ × Reason)
+error_of marks key = error_after key None marks
+
 -- what is kept beside the units and the marks agrees with them
-pub record IsRegister {S : Type 0} (start : ℕ) (units : List UnitOfWork) (marks : List Mark) (standings : Standings S) (queue : List UnitKey) : Type 0 where
+pub record IsRegister {S : Type 0} (start : ℕ) (units : List UnitOfWork) (marks : List Mark) (standings : Standings S) (queue again : List UnitKey) : Type 0 where
   pub begun : 1 ≤ length marks → 1 ≤ start
   pub few : length marks ≤ 1048576
   pub status : (key : UnitKey) → option_map (λ (s : Standing). s.status) (standing_at standings key) ≡ status_of units marks key
+  pub error : (key : UnitKey) → option_and_then (λ (s : Standing). s.error) (standing_at standings key) ≡ error_of marks key
   pub unit : (key : UnitKey) → option_and_then (λ (s : Standing). slice_get units s.place) (standing_at standings key) ≡ unit_at units key
   pub placed : (key : UnitKey) → IfSome (standing_at standings key) (λ (s : Standing). s.place < length units)
   pub waits : queue ≡ waiting units marks
   pub short : length queue ≤ 1048576
+  pub waits_again : again ≡ waiting_again units marks
+  pub short_again : length again ≤ 1048576

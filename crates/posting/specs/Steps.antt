@@ -1,21 +1,21 @@
 -- What a prepared change adds to the ledger.
-use Rattle.std.specs.Prelude.{ℕ, ◌≡◌, ◌≤◌, ◌+◌, ◌<◌, ◌-◌, nat_eq, List, [], length, if◌then◌else◌, Option, Some, None, Result, Ok, Err, IsTrue, slice_get}
+use Rattle.std.specs.Prelude.{ℕ, ◌≡◌, ◌≤◌, ◌+◌, ◌<◌, ◌-◌, ◌^◌, nat_eq, List, [], length, if◌then◌else◌, Option, Some, None, Result, Ok, Err, IsTrue, IsSome, true, slice_get}
 use Rattle.std.specs.List.{All}
 use Rattle.enq_base.specs.Grammar.{is_name}
-use Rattle.update_records.specs.Grammar.{IsUnitKey, IsEffect}
+use Rattle.update_records.specs.Grammar.{IsUnitKey, IsEffect, IsEntryOf, IsHeldBy}
 use Rattle.enq_base.specs.declared.owner.UnitKey.{UnitKey}
-use Rattle.enq_base.specs.declared.unit.Status.TheVariants.{Open}
+use Rattle.enq_base.specs.declared.unit.Status.TheVariants.{Open, Posted}
 use Rattle.keeper_api.specs.declared.rows.Change.{Change}
+use Rattle.lock_entry.specs.Names.{has_distinct_names}
 use Rattle.module_effects.specs.Rows.{Tables}
 use Rattle.module_effects.specs.declared.fault.EffectFault.{EffectFault}
 use Rattle.module_effects.specs.declared.fault.EffectFault.TheVariants as effect_fault
 use Rattle.update_records.specs.declared.records.MarkKind.{MarkKind}
-use Rattle.update_records.specs.declared.records.MarkKind.TheVariants.{V1, Bad1}
+use Rattle.update_records.specs.declared.records.MarkKind.TheVariants.{V1, Bad1, Again1, Again2, Gone}
 use Rattle.update_records.specs.declared.records.Unit.{Unit as UnitOfWork}
 use Rattle.update_records.specs.Growing.{with_mark, with_unit, with_start}
 use Rattle.update_records.specs.Ledger.{Ledger}
-use Rattle.update_records.specs.Marks.{status_of, waiting, waiting_again}
-use Rattle.posting.specs.Puts.{IsPutUnit}
+use Rattle.update_records.specs.Marks.{status_of, may_follow, waiting, waiting_again}
 use Rattle.posting.specs.declared.prepared.Outcome.{Outcome}
 use Rattle.posting.specs.declared.prepared.Outcome.TheVariants.{Done, Refused}
 use Rattle.posting.specs.declared.prepared.Step.{Step}
@@ -44,23 +44,25 @@ IsOutcome (Err (effect_fault.Refused index reason)) outcome = outcome ≡ Refuse
 IsOutcome (Err effect_fault.NoMemory) outcome = ⊥
 
 -- a unit that may be recorded next: nothing is marked of its key, its start is not past the ledger's, and it has 1 to
--- 200 effects, which put rows, no numbers and no locks
+-- 200 effects, no numbers, and locks that were handed to it
 pub record IsNewUnit (ledger : Ledger) (unit : UnitOfWork) : Type 0 where
   pub fresh : status_of ledger.units ledger.marks unit.key ≡ None
   pub first : 1 ≤ unit.key.start
   pub last : unit.key.start ≤ ledger.start
   pub some : 1 ≤ length unit.parts.v1 + length unit.parts.v2
   pub few : length unit.parts.v1 + length unit.parts.v2 ≤ 200
-  pub puts : IsPutUnit unit
   pub numbers : unit.numbers ≡ []
-  pub entries : unit.entries ≡ []
+  pub few_entries : length unit.entries < 2 ^ 32
+  pub held : All (IsHeldBy unit) unit.entries
+  pub distinct : IsTrue (has_distinct_names unit.entries)
 
--- key, names, keys and texts of a unit are in their grammars
+-- key, names, keys and texts of a unit and of its locks are in their grammars
 pub record IsSpelt (unit : UnitOfWork) : Type 0 where
   pub key : IsUnitKey unit.key
   pub user : IsTrue (is_name unit.user)
   pub first : All IsEffect unit.parts.v1
   pub second : All IsEffect unit.parts.v2
+  pub entries : All (IsEntryOf unit) unit.entries
 
 -- there is room for one more mark
 abbrev pub HasMarksLeft : Ledger → Type 0
@@ -68,6 +70,21 @@ HasMarksLeft ledger = length ledger.marks < 1048576
 
 abbrev pub IsOpenUnit : Ledger → UnitKey → Type 0
 IsOpenUnit ledger key = status_of ledger.units ledger.marks key ≡ Some Open
+
+abbrev pub IsPostedUnit : Ledger → UnitKey → Type 0
+IsPostedUnit ledger key = status_of ledger.units ledger.marks key ≡ Some Posted
+
+-- marks that an administrator sets: a refused part may be tried again, or the unit is cancelled
+abbrev pub IsSetByHand : MarkKind → Type 0
+IsSetByHand Again1 = Unit {0}
+IsSetByHand Again2 = Unit {0}
+IsSetByHand Gone = Unit {0}
+IsSetByHand kind = ⊥
+
+-- a mark that a recorded unit may get next
+pub record MayGet (ledger : Ledger) (key : UnitKey) (kind : MarkKind) : Type 0 where
+  pub recorded : IsSome (status_of ledger.units ledger.marks key)
+  pub follows : may_follow (status_of ledger.units ledger.marks key) kind ≡ true
 
 -- the units that wait for a part, the one whose last mark is oldest first
 abbrev pub waiting_for : ℕ → Ledger → List UnitKey

@@ -1,17 +1,19 @@
-ghost use Rattle.std.specs.Prelude.{◌≡◌, true, ◌≤◌, ◌+◌, ◌++◌, ◌∷◌, [], length, IfOk, OnOk};
-ghost use Rattle.update_records.specs.Grammar.{MayMark};
+ghost use Rattle.std.specs.Prelude.{◌≡◌, ◌≤◌, ◌<◌, ◌+◌, ◌^◌, ◌++◌, ◌∷◌, [], length, IfOk, OnOk, IsTrue};
+ghost use Rattle.std.specs.List.{All};
+ghost use Rattle.lock_entry.specs.Names.{has_distinct_names};
+ghost use Rattle.update_records.specs.Grammar.{IsHeldBy, MayMark};
 ghost use Rattle.update_records.specs.RecordRows.{mark_row, meta_row, unit_rows};
-ghost use Rattle.update_records.specs.declared.records.MarkKind.TheVariants.{Rec, V1};
-ghost use Rattle.std.specs.List.{list_any};
-ghost use Rattle.posting.specs.Puts.{is_put, last_posts, only_puts, post_row, touches};
+ghost use Rattle.update_records.specs.Spelling.{HasFields};
+ghost use Rattle.update_records.specs.declared.records.MarkKind.TheVariants.{Rec};
+ghost use Rattle.posting.specs.Posts.{note_changes};
 ghost use Rattle.posting.specs.Steps.{IsSpelt};
 
-use enq_base::{Deed, Effect, NoMemory, UnitKey};
+use crate::spots::encode_rows;
+use enq_base::{NoMemory, UnitKey};
 use keeper_api::Change;
+use module_effects::Spot;
 use std::alloc::Global;
-use update_records::{
-    Mark, MarkKind, Unit, encode_business, encode_mark, encode_meta, encode_unit,
-};
+use update_records::{Mark, MarkKind, Unit, encode_mark, encode_meta, encode_unit};
 
 /// The change that writes the first start number.
 pub fn start_batch(alloc: Global, start: u32) -> Result<Vec<Change>, NoMemory>
@@ -22,26 +24,30 @@ pub fn start_batch(alloc: Global, start: u32) -> Result<Vec<Change>, NoMemory>
     Ok(batch)
 }
 
-/// The row of the next mark, and the row that counts it, behind a batch.
+/// The mark with the number behind so many marks.
+pub fn mark_behind(marks: u32, unit: &UnitKey, kind: MarkKind) -> Mark
+    ensures { result ≡ record { seq = marks + 1; unit = unit.now; kind = kind } }
+{
+    Mark {
+        seq: marks as u64 + 1,
+        unit: *unit,
+        kind,
+    }
+}
+
+/// The row of a mark, and the row that counts it, behind a batch.
 fn push_mark(
     batch: &mut Vec<Change>,
     alloc: Global,
     start: u32,
-    marks: u32,
-    unit: &UnitKey,
-    kind: MarkKind,
+    mark: &Mark,
 ) -> Result<(), NoMemory>
-    requires { MayMark kind }
-    ensures { OnOk result (batch.new.items ≡ batch.old.items ++ mark_row (record { seq = marks + 1; unit = unit.now; kind = kind }) ∷ meta_row start (marks + 1) ∷ []) }
+    requires { MayMark mark.now.kind }
+    ensures rows { OnOk result (batch.new.items ≡ batch.old.items ++ mark_row mark.now ∷ meta_row start mark.now.seq ∷ []) }
+    ensures fields { OnOk result (HasFields mark.now.kind) }
 {
-    let seq = marks as u64 + 1;
-    let mark = Mark {
-        seq,
-        unit: *unit,
-        kind,
-    };
-    batch.push(encode_mark(alloc, &mark)?)?;
-    batch.push(encode_meta(alloc, start, seq)?)?;
+    batch.push(encode_mark(alloc, mark)?)?;
+    batch.push(encode_meta(alloc, start, mark.seq)?)?;
     Ok(())
 }
 
@@ -54,66 +60,31 @@ pub fn unit_batch(
 ) -> Result<Vec<Change>, NoMemory>
     requires effects { length unit.now.parts.v1 + length unit.now.parts.v2 ≤ 200 }
     requires numbers { unit.now.numbers ≡ [] }
-    requires entries { unit.now.entries ≡ [] }
+    requires entries { length unit.now.entries < 2 ^ 32 }
+    requires held { All (IsHeldBy unit.now) unit.now.entries }
+    requires distinct { IsTrue (has_distinct_names unit.now.entries) }
     ensures rows { IfOk result (λ batch. batch.items ≡ unit_rows unit.now
         ++ mark_row (record { seq = marks + 1; unit = unit.now.key; kind = Rec }) ∷ meta_row start (marks + 1) ∷ []) }
     ensures spelt { OnOk result (IsSpelt unit.now) }
 {
     let mut batch = encode_unit(alloc, unit)?;
-    push_mark(&mut batch, alloc, start, marks, &unit.key, MarkKind::Rec)?;
+    let mark = mark_behind(marks, &unit.key, MarkKind::Rec);
+    push_mark(&mut batch, alloc, start, &mark)?;
     Ok(batch)
 }
 
-/// Whether a later effect changes the same row.
-fn is_put_again(effect: &Effect, later: &[Effect]) -> bool
-    ensures { result ≡ list_any (touches effect.now) later.now }
-{
-    later.iter().any(|other| has_row_of(other, effect))
-}
-
-fn has_row_of(other: &Effect, effect: &Effect) -> bool
-    ensures { result ≡ touches effect.now other.now }
-{
-    other.table.bytes() == effect.table.bytes() && other.key.bytes() == effect.key.bytes()
-}
-
-fn encode_post(alloc: Global, effect: &Effect) -> Result<Change, NoMemory>
-    requires { is_put effect.now.deed ≡ true }
-    ensures { IfOk result (λ change. change ≡ post_row effect.now) }
-{
-    match &effect.deed {
-        Deed::Put(text) => encode_business(alloc, &effect.table, &effect.key, text),
-        _ => unreachable!(),
-    }
-}
-
-/// The rows that effects put, each once, with its last text.
-fn posts(alloc: Global, effects: &[Effect]) -> Result<Vec<Change>, NoMemory>
-    requires { only_puts effects.now ≡ true }
-    ensures { IfOk result (λ batch. batch.items ≡ last_posts effects.now) }
-{
-    let mut batch = Vec::new(alloc);
-    for (i, effect) in effects.iter().enumerate() {
-        if !is_put_again(effect, &effects[i + 1..]) {
-            batch.push(encode_post(alloc, effect)?)?;
-        }
-    }
-    Ok(batch)
-}
-
-/// The changes that post the V1 part of a unit behind so many marks.
-pub fn post_batch(
+/// The changes that note a mark, behind those of the rows that its part leaves.
+pub fn note_batch(
     alloc: Global,
     start: u32,
-    marks: u32,
-    unit: &UnitKey,
-    effects: &[Effect],
+    spots: &[Spot],
+    mark: &Mark,
 ) -> Result<Vec<Change>, NoMemory>
-    requires { only_puts effects.now ≡ true }
-    ensures { IfOk result (λ batch. batch.items ≡ last_posts effects.now
-        ++ mark_row (record { seq = marks + 1; unit = unit.now; kind = V1 }) ∷ meta_row start (marks + 1) ∷ []) }
+    requires { MayMark mark.now.kind }
+    ensures rows { IfOk result (λ batch. batch.items ≡ note_changes start spots.now mark.now) }
+    ensures fields { OnOk result (HasFields mark.now.kind) }
 {
-    let mut batch = posts(alloc, effects)?;
-    push_mark(&mut batch, alloc, start, marks, unit, MarkKind::V1)?;
+    let mut batch = encode_rows(alloc, spots)?;
+    push_mark(&mut batch, alloc, start, mark)?;
     Ok(batch)
 }

@@ -1,28 +1,34 @@
-ghost use Rattle.std.specs.Prelude.{◌≡◌, ◌≤◌, ◌⊎◌, List, [], length, Option, Some, None, IfSome, IfOk, IfErr, OnOk, OnErr, IsTrue, is_some};
-ghost use Rattle.std.specs.FinMap.{empty};
+ghost use Rattle.std.specs.Prelude.{◌≡◌, ◌≤◌, ◌⊎◌, List, [], length, nat_eq, if◌then◌else◌, Option, Some, None, IfSome, IfOk, IfErr, OnOk, OnErr, IsTrue, is_some};
+ghost use Rattle.std.specs.FinMap.{get};
 ghost use Rattle.enq_base.specs.Causes.{HasCause};
 ghost use Rattle.keeper_api.specs.Batch.{changed, IsBatch};
-ghost use Rattle.keeper_api.specs.Keeping.{IsWithin, HasFaultCause, UnlessFailed};
+ghost use Rattle.keeper_api.specs.Keeping.{IsWithin, HasFaultCause, Stays, UnlessFailed};
 ghost use Rattle.keeper_api.specs.Rows.{Rows};
 ghost use Rattle.module_effects.specs.Effects.{applied};
+ghost use Rattle.module_effects.specs.Rows.{Tables};
 ghost use Rattle.update_records.specs.Business.{tables_of};
 ghost use Rattle.update_records.specs.Ledger.{StandFor, no_ledger};
-ghost use Rattle.update_records.specs.Growing.{with_start};
-ghost use Rattle.update_records.specs.Marks.{status_of, v1_of};
+ghost use Rattle.update_records.specs.Growing.{next_mark, with_start};
+ghost use Rattle.update_records.specs.Marks.{status_of, v1_of, v2_of};
 ghost use Rattle.posting.specs.Opening.{HasNoRows, CountsFault, OnBad, IsBooksFault, MayBeFault, MayBeLeft, OnRefused, IsRaiseFault, first_ledger};
+ghost use Rattle.posting.specs.Posts.{HasDistinctRows, HoldsTables, IsNote, IsPost, MayCome, WaitsFor, effects_of, entries_of, kind_for, post2_kind};
 ghost use Rattle.posting.specs.Shelf.{IsUsable, IsUnmoved, IsReady, MayTake, StandForEither};
-ghost use Rattle.posting.specs.Steps.{after_step, at_place, post_kind, waiting_for, HasMarksLeft, IsNewUnit, IsOpenUnit, IsOutcome};
+ghost use Rattle.posting.specs.Standings.{error_of};
+ghost use Rattle.posting.specs.Steps.{after_step, at_place, post_kind, waiting_for, HasMarksLeft, IsNewUnit, IsOpenUnit, IsOutcome, IsPostedUnit, IsSetByHand, MayGet};
 ghost use Rattle.posting.specs.declared.prepared.Step.TheVariants.{Record, Note, Start};
 
-use crate::batch::{post_batch, start_batch, unit_batch};
+use crate::batch::{mark_behind, note_batch, start_batch, unit_batch};
 use crate::opening::{BooksFault, open_empty};
 use crate::prepared::{Outcome, Prepared, Step};
 use crate::register::Register;
-use enq_base::{Failed, Items, NoMemory, Status, UnitKey};
+use crate::spots::{apply_to_store, read_text};
+use enq_base::{Effect, Failed, Items, Key, Name, NoMemory, Parts, Reason, Status, Text, UnitKey};
 use keeper_api::{Change, KeepFault, Keeper};
+use lock_entry::Entry;
+use module_effects::Spot;
 use std::alloc::Global;
 use std::marker::Model;
-use update_records::{MarkKind, Unit};
+use update_records::{Mark, MarkKind, Unit};
 
 /// The books of update units, and the keeper of their rows (Updates in the SAP System).
 #[derive(Drop)]
@@ -103,21 +109,65 @@ impl<K: Keeper> Books<K> {
         self.register.status(unit)
     }
 
-    /// How many units wait for a part. So far the part is 1.
-    pub fn waiting(&self, part: u8) -> u32
-        requires { part ≡ 1 }
-        ensures { result ≡ length (waiting_for part self.now.ledger) }
+    /// Where the last mark of a unit tells of a refusal, the effect's number in its part from 1 on, and the reason.
+    pub fn error(&self, unit: &UnitKey) -> Option<(u32, Reason)>
+        ensures { result ≡ error_of self.now.ledger.marks unit.now }
     {
-        self.register.waiting()
+        self.register.error(unit)
     }
 
-    /// The unit at a place, counted from 1, of those that wait for a part: the one whose last mark is oldest first. So
-    /// far the part is 1.
+    /// How many units wait for part 1, V1, or for part 2, V2.
+    pub fn waiting(&self, part: u8) -> u32
+        requires { (part ≡ 1) ⊎ (part ≡ 2) }
+        ensures { result ≡ length (waiting_for part self.now.ledger) }
+    {
+        self.register.waiting(part)
+    }
+
+    /// The unit at a place, counted from 1, of those that wait for a part: the one whose last mark is oldest first, so
+    /// that one which may be tried again comes last.
     pub fn waiting_at(&self, part: u8, place: u32) -> Option<UnitKey>
-        requires { part ≡ 1 }
+        requires { (part ≡ 1) ⊎ (part ≡ 2) }
         ensures { result ≡ at_place place (waiting_for part self.now.ledger) }
     {
-        self.register.waiting_at(place)
+        self.register.waiting_at(part, place)
+    }
+
+    /// The text of a business row. After `Failed` only `into_keeper` is allowed.
+    pub fn read(
+        &mut self,
+        alloc: Global,
+        table: &Name,
+        key: &Key,
+    ) -> Result<Option<Text>, KeepFault>
+        requires usable { IsUsable K.held K.is_open self.old }
+        ensures text { IfOk result (λ text. IfSome (K.held self.old.keeper)
+            (λ _. text ≡ get (tables_of self.old.ledger.units self.old.ledger.marks) (table.now, key.now))) }
+        ensures usable { UnlessFailed result (IsUsable K.held K.is_open self.new) }
+        ensures unmoved { UnlessFailed result (IsUnmoved K.held K.may_leave K.faults self.old self.new) }
+        ensures ledger { self.new.ledger ≡ self.old.ledger }
+        ensures told { is_some (K.held self.new.keeper) ≡ is_some (K.held self.old.keeper) }
+        ensures crash { IsWithin (K.may_leave self.new.keeper) (K.may_leave self.old.keeper) }
+        ensures cause { HasFaultCause (K.faults self.old.keeper) (K.faults self.new.keeper) result }
+    {
+        read_text(alloc, &mut self.keeper, table, key)
+    }
+
+    /// The recorded units, in the order in which they were recorded.
+    pub fn units(&self) -> &[Unit]
+        ensures { result.now ≡ self.now.ledger.units }
+    {
+        self.register.units()
+    }
+
+    /// The locks that were handed to a unit. One that was never recorded has none.
+    pub fn unit_locks(&self, alloc: Global, unit: &UnitKey) -> Result<Vec<Entry>, NoMemory>
+        ensures { IfOk result (λ entries. entries.items ≡ entries_of self.now.ledger.units unit.now) }
+    {
+        let Some(found) = self.register.unit(unit) else {
+            return Ok(Vec::new(alloc));
+        };
+        Ok(Vec::from_slice(alloc, found.entries.as_slice())?)
     }
 
     /// Makes ready to record a unit. Nothing changes in the store.
@@ -147,7 +197,9 @@ impl<K: Keeper> Books<K> {
         requires waits { IsOpenUnit self.old.ledger unit.now }
         ensures ready { IfOk result (λ r. IsReady K.held K.has_room self.new r.0) }
         ensures step { IfOk result (λ r. r.0.step ≡ Note unit.now (post_kind r.1)) }
-        ensures outcome { IfOk result (λ r. IsOutcome (applied (v1_of self.old.ledger.units unit.now) (tables_of self.old.ledger.units self.old.ledger.marks)) r.1) }
+        ensures outcome { IfOk result (λ r. IfSome (K.held self.old.keeper) (λ _. IsOutcome (applied (v1_of self.old.ledger.units unit.now) (tables_of self.old.ledger.units self.old.ledger.marks)) r.1)) }
+        // Also where the keeper doesn't tell its rows.
+        ensures possible { IfOk result (λ r. MayCome (v1_of self.old.ledger.units unit.now) r.1) }
         ensures usable { UnlessFailed result (IsUsable K.held K.is_open self.new) }
         ensures unmoved { UnlessFailed result (IsUnmoved K.held K.may_leave K.faults self.old self.new) }
         ensures ledger { self.new.ledger ≡ self.old.ledger }
@@ -155,17 +207,50 @@ impl<K: Keeper> Books<K> {
         ensures crash { IsWithin (K.may_leave self.new.keeper) (K.may_leave self.old.keeper) }
         ensures cause { HasFaultCause (K.faults self.old.keeper) (K.faults self.new.keeper) result }
     {
-        let Some(found) = self.register.unit(unit) else {
-            unreachable!();
-        };
-        let effects = found.parts.v1.as_slice();
-        let batch = post_batch(alloc, self.start(), self.marks(), unit, effects)?;
-        let step = Step::Note {
-            unit: *unit,
-            kind: MarkKind::V1,
-        };
-        let prepared = self.prepare(alloc, batch, step)?;
-        Ok((prepared, Outcome::Done))
+        self.prepare_post(alloc, unit, 1)
+    }
+
+    /// The same for the V2 part of a unit whose V1 part is posted.
+    pub fn prepare_post2(
+        &mut self,
+        alloc: Global,
+        unit: &UnitKey,
+    ) -> Result<(Prepared, Outcome), KeepFault>
+        requires usable { IsUsable K.held K.is_open self.old }
+        requires marks { HasMarksLeft self.old.ledger }
+        requires waits { IsPostedUnit self.old.ledger unit.now }
+        ensures ready { IfOk result (λ r. IsReady K.held K.has_room self.new r.0) }
+        ensures step { IfOk result (λ r. r.0.step ≡ Note unit.now (post2_kind r.1)) }
+        ensures outcome { IfOk result (λ r. IfSome (K.held self.old.keeper) (λ _. IsOutcome (applied (v2_of self.old.ledger.units unit.now) (tables_of self.old.ledger.units self.old.ledger.marks)) r.1)) }
+        // Also where the keeper doesn't tell its rows.
+        ensures possible { IfOk result (λ r. MayCome (v2_of self.old.ledger.units unit.now) r.1) }
+        ensures usable { UnlessFailed result (IsUsable K.held K.is_open self.new) }
+        ensures unmoved { UnlessFailed result (IsUnmoved K.held K.may_leave K.faults self.old self.new) }
+        ensures ledger { self.new.ledger ≡ self.old.ledger }
+        ensures told { is_some (K.held self.new.keeper) ≡ is_some (K.held self.old.keeper) }
+        ensures crash { IsWithin (K.may_leave self.new.keeper) (K.may_leave self.old.keeper) }
+        ensures cause { HasFaultCause (K.faults self.old.keeper) (K.faults self.new.keeper) result }
+    {
+        self.prepare_post(alloc, unit, 2)
+    }
+
+    /// Makes ready to let a refused part of a unit be tried again, or to cancel a unit. Nothing changes in the store.
+    pub fn prepare_mark(
+        &mut self,
+        alloc: Global,
+        unit: &UnitKey,
+        kind: MarkKind,
+    ) -> Result<Prepared, NoMemory>
+        requires usable { IsUsable K.held K.is_open self.old }
+        requires marks { HasMarksLeft self.old.ledger }
+        requires kind { IsSetByHand kind }
+        requires follows { MayGet self.old.ledger unit.now kind }
+        ensures ready { IfOk result (λ prepared. IsReady K.held K.has_room self.new prepared) }
+        ensures step { IfOk result (λ prepared. prepared.step ≡ Note unit.now kind) }
+        ensures usable { IsUsable K.held K.is_open self.new }
+        ensures unmoved { IsUnmoved K.held K.may_leave K.faults self.old self.new }
+    {
+        self.prepare_note(alloc, &[], unit, kind)
     }
 
     /// Writes what was prepared last, in one commit. It takes no memory. After `Failed` only `into_keeper` is allowed.
@@ -195,6 +280,57 @@ impl<K: Keeper> Books<K> {
         let Books { register, keeper } = self;
         drop(register);
         keeper
+    }
+
+    /// Posts a part of a unit up to the writing.
+    fn prepare_post(
+        &mut self,
+        alloc: Global,
+        unit: &UnitKey,
+        part: u8,
+    ) -> Result<(Prepared, Outcome), KeepFault>
+        requires usable { IsUsable K.held K.is_open self.old }
+        requires marks { HasMarksLeft self.old.ledger }
+        requires waits { WaitsFor part self.old.ledger unit.now }
+        ensures ready { IfOk result (λ r. IsReady K.held K.has_room self.new r.0) }
+        ensures step { IfOk result (λ r. r.0.step ≡ Note unit.now (kind_for part r.1)) }
+        ensures outcome { IfOk result (λ r. IfSome (K.held self.old.keeper) (λ _. IsOutcome (applied (effects_of part self.old.ledger.units unit.now) (tables_of self.old.ledger.units self.old.ledger.marks)) r.1)) }
+        ensures possible { IfOk result (λ r. MayCome (effects_of part self.old.ledger.units unit.now) r.1) }
+        ensures usable { UnlessFailed result (IsUsable K.held K.is_open self.new) }
+        ensures unmoved { UnlessFailed result (IsUnmoved K.held K.may_leave K.faults self.old self.new) }
+        ensures ledger { self.new.ledger ≡ self.old.ledger }
+        ensures told { is_some (K.held self.new.keeper) ≡ is_some (K.held self.old.keeper) }
+        ensures crash { IsWithin (K.may_leave self.new.keeper) (K.may_leave self.old.keeper) }
+        ensures cause { HasFaultCause (K.faults self.old.keeper) (K.faults self.new.keeper) result }
+    {
+        let (spots, outcome) = post_part(alloc, &self.register, &mut self.keeper, unit, part)?;
+        let kind = kind_for(part, outcome);
+        let prepared = self.prepare_note(alloc, spots.as_slice(), unit, kind)?;
+        Ok((prepared, outcome))
+    }
+
+    /// Makes ready a mark of a unit, with the rows that its part leaves.
+    fn prepare_note(
+        &mut self,
+        alloc: Global,
+        spots: &[Spot],
+        unit: &UnitKey,
+        kind: MarkKind,
+    ) -> Result<Prepared, NoMemory>
+        requires usable { IsUsable K.held K.is_open self.old }
+        requires marks { HasMarksLeft self.old.ledger }
+        requires follows { MayGet self.old.ledger unit.now kind }
+        requires distinct { HasDistinctRows spots.now }
+        requires note { IfSome (K.held self.old.keeper) (λ _. IsNote self.old.ledger (next_mark self.old.ledger unit.now kind) spots.now) }
+        ensures ready { IfOk result (λ prepared. IsReady K.held K.has_room self.new prepared) }
+        ensures step { IfOk result (λ prepared. prepared.step ≡ Note unit.now kind) }
+        ensures usable { IsUsable K.held K.is_open self.new }
+        ensures unmoved { IsUnmoved K.held K.may_leave K.faults self.old self.new }
+    {
+        let mark = mark_behind(self.marks(), unit, kind);
+        let batch = note_batch(alloc, self.start(), spots, &mark)?;
+        let Mark { unit, kind, .. } = mark;
+        self.prepare(alloc, batch, Step::Note { unit, kind })
     }
 
     fn prepare(
@@ -243,5 +379,52 @@ impl<K: Keeper> Books<K> {
             Ok(()) => Ok(()),
             Err(_) => Err(BooksFault::StoreFault),
         }
+    }
+}
+
+/// Applies a part of a unit to the rows of the store.
+fn post_part<K: Keeper>(
+    alloc: Global,
+    register: &Register,
+    keeper: &mut K,
+    unit: &UnitKey,
+    part: u8,
+) -> Result<(Vec<Spot>, Outcome), KeepFault>
+    requires opened { K.is_open keeper.old }
+    requires waits { WaitsFor part register.now.ledger unit.now }
+    ensures distinct { IfOk result (λ r. HasDistinctRows r.0.items) }
+    ensures post { IfOk result (λ r. IfSome (K.held keeper.old) (λ rows. (tables : Tables) → HoldsTables rows tables
+        → IsPost (effects_of part register.now.ledger.units unit.now) tables r.1 r.0.items)) }
+    ensures possible { IfOk result (λ r. MayCome (effects_of part register.now.ledger.units unit.now) r.1) }
+    ensures stays { UnlessFailed result (Stays K.held K.is_open K.has_room keeper.old keeper.new) }
+    ensures told { is_some (K.held keeper.new) ≡ is_some (K.held keeper.old) }
+    ensures crash { IsWithin (K.may_leave keeper.new) (K.may_leave keeper.old) }
+    ensures cause { HasFaultCause (K.faults keeper.old) (K.faults keeper.new) result }
+{
+    let Some(found) = register.unit(unit) else {
+        unreachable!();
+    };
+    apply_to_store(alloc, keeper, effects_in(&found.parts, part))
+}
+
+fn effects_in(parts: &Parts, part: u8) -> &[Effect]
+    ensures { result.now ≡ (if nat_eq part 1 then parts.now.v1 else parts.now.v2) }
+{
+    if part == 1 {
+        parts.v1.as_slice()
+    } else {
+        parts.v2.as_slice()
+    }
+}
+
+/// The mark of a part that came to this.
+fn kind_for(part: u8, outcome: Outcome) -> MarkKind
+    ensures { result ≡ kind_for part outcome }
+{
+    match outcome {
+        Outcome::Done if part == 1 => MarkKind::V1,
+        Outcome::Done => MarkKind::V2,
+        Outcome::Refused { index, reason } if part == 1 => MarkKind::Bad1 { index, reason },
+        Outcome::Refused { index, reason } => MarkKind::Bad2 { index, reason },
     }
 }

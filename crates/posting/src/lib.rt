@@ -5,14 +5,13 @@ mod batch;
 mod books;
 mod opening;
 mod prepared;
-mod puts;
 mod register;
+mod spots;
 mod unit_id;
 
 pub use books::Books;
 pub use opening::BooksFault;
 pub use prepared::{Outcome, Prepared, Step};
-pub use puts::are_puts;
 
 #[cfg(test)]
 mod tests;

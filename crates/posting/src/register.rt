@@ -1,31 +1,34 @@
-ghost use Rattle.std.specs.Prelude.{◌≡◌, ◌≤◌, ◌<◌, ◌+◌, ◌++◌, ◌∷◌, [], ℕ, not, length, Some, None, IfSome, IfNone, OnOk, vec_len, vec_capacity, if◌then◌else◌};
+ghost use Rattle.std.specs.Prelude.{◌≡◌, ◌⊎◌, ◌≤◌, ◌<◌, ◌+◌, ◌++◌, ◌∷◌, [], ℕ, not, length, Some, None, IfSome, IfNone, OnOk, vec_len, vec_capacity, if◌then◌else◌};
 ghost use Rattle.std.specs.HashMap.{spare};
 ghost use Rattle.std.specs.List.{filter, position, IsDistinct};
 ghost use Rattle.enq_base.specs.Owners.{same_unit};
 ghost use Rattle.enq_base.specs.declared.owner.UnitKey.{UnitKey};
-ghost use Rattle.posting.specs.Standings.{standing_at};
+ghost use Rattle.posting.specs.Standings.{error_of, standing_at, told};
 ghost use Rattle.update_records.specs.Ledger.{no_ledger};
-ghost use Rattle.update_records.specs.Marks.{status_of, unit_at, waiting, is_empty_part};
+ghost use Rattle.std.specs.VecDeque.{deque_len, deque_capacity};
+ghost use Rattle.update_records.specs.Marks.{given, is_empty_part, same_status, status_of, unit_at};
 ghost use Rattle.posting.specs.Shelf.{MayTake};
-ghost use Rattle.posting.specs.Steps.{after_step, at_place};
+ghost use Rattle.posting.specs.Steps.{after_step, at_place, waiting_for};
 
 use crate::prepared::Step;
 use crate::unit_id::{UnitId, id_of};
-use enq_base::{NoMemory, Status, UnitKey};
+use enq_base::{NoMemory, Reason, Status, UnitKey};
 use std::alloc::Global;
 use std::collections::{HashMap, VecDeque};
 use std::marker::Model;
 use update_records::{Mark, MarkKind, Unit};
 
-/// The place of a unit in the order of recording, and its status.
+/// The place of a unit in the order of recording, its status, and where its last mark tells of one the refusal: the
+/// effect's number from 1 on, and the reason.
 #[derive(Clone, Copy, Debug, PartialEq, Eq)]
 pub struct Standing {
     pub place: usize,
     pub status: Status,
+    pub error: Option<(u32, Reason)>,
 }
 
 /// The ledger in memory: units and marks in order, each unit's standing by its key, and those that wait for their V1
-/// part.
+/// part and again for their V2 part.
 #[derive(Drop)]
 pub struct Register {
     start: u32,
@@ -33,6 +36,7 @@ pub struct Register {
     marks: Vec<Mark>,
     standings: HashMap<UnitId, Standing>,
     queue: VecDeque<UnitKey>,
+    again: VecDeque<UnitKey>,
 }
 
 impl Model for Register {
@@ -54,10 +58,11 @@ impl Model for Register {
     ghost view = { λ r. record {
       ledger = record { start = r.start; units = r.units.items; marks = r.marks.items; levels = map.empty };
       room = min (vec_capacity r.units - vec_len r.units) (min (vec_capacity r.marks - vec_len r.marks)
-          (min (spare r.standings) (deque_capacity r.queue - deque_len r.queue)));
+          (min (spare r.standings) (min (deque_capacity r.queue - deque_len r.queue)
+          (deque_capacity r.again - deque_len r.again))));
     } };
 
-    ghost invariant = { λ r. IsRegister r.start r.units.items r.marks.items r.standings r.queue.items };
+    ghost invariant = { λ r. IsRegister r.start r.units.items r.marks.items r.standings r.queue.items r.again.items };
 }
 
 impl Register {
@@ -71,6 +76,7 @@ impl Register {
             marks: Vec::new(alloc),
             standings: HashMap::new(alloc),
             queue: VecDeque::new(alloc),
+            again: VecDeque::new(alloc),
         }
     }
 
@@ -92,6 +98,18 @@ impl Register {
         Some(standing_of(&self.standings, key)?.status)
     }
 
+    pub fn error(&self, key: &UnitKey) -> Option<(u32, Reason)>
+        ensures { result ≡ error_of self.now.ledger.marks key.now }
+    {
+        standing_of(&self.standings, key)?.error
+    }
+
+    pub fn units(&self) -> &[Unit]
+        ensures { result.now ≡ self.now.ledger.units }
+    {
+        self.units.as_slice()
+    }
+
     /// The unit of this key.
     pub fn unit(&self, key: &UnitKey) -> Option<&Unit>
         ensures found { IfSome result (λ unit. unit_at self.now.ledger.units key.now ≡ Some unit.now) }
@@ -102,19 +120,30 @@ impl Register {
         self.units.as_slice().get(standing.place)
     }
 
-    pub fn waiting(&self) -> u32
-        ensures { result ≡ length (waiting self.now.ledger.units self.now.ledger.marks) }
+    /// Those that wait for a part.
+    fn queue_for(&self, part: u8) -> &VecDeque<UnitKey>
+        requires { (part ≡ 1) ⊎ (part ≡ 2) }
+        ensures items { result.now.items ≡ waiting_for part self.now.ledger }
+        ensures few { length result.now.items ≤ 1048576 }
     {
-        self.queue.len() as u32
+        if part == 1 { &self.queue } else { &self.again }
     }
 
-    pub fn waiting_at(&self, place: u32) -> Option<UnitKey>
-        ensures { result ≡ at_place place (waiting self.now.ledger.units self.now.ledger.marks) }
+    pub fn waiting(&self, part: u8) -> u32
+        requires { (part ≡ 1) ⊎ (part ≡ 2) }
+        ensures { result ≡ length (waiting_for part self.now.ledger) }
+    {
+        self.queue_for(part).len() as u32
+    }
+
+    pub fn waiting_at(&self, part: u8, place: u32) -> Option<UnitKey>
+        requires { (part ≡ 1) ⊎ (part ≡ 2) }
+        ensures { result ≡ at_place place (waiting_for part self.now.ledger) }
     {
         if place == 0 {
             return None;
         }
-        self.queue.get(place as usize - 1).copied()
+        self.queue_for(part).get(place as usize - 1).copied()
     }
 
     /// Takes the memory for one more unit and one more mark.
@@ -126,6 +155,7 @@ impl Register {
         self.marks.reserve(1)?;
         self.standings.reserve(1)?;
         self.queue.reserve(1)?;
+        self.again.reserve(1)?;
         Ok(())
     }
 
@@ -138,7 +168,7 @@ impl Register {
         match step {
             Step::Start(start) => self.start = start,
             Step::Record(unit) => self.record(unit),
-            Step::Note { unit, kind } => self.note_post(unit, kind),
+            Step::Note { unit, kind } => self.note(unit, kind),
         }
     }
 
@@ -151,6 +181,7 @@ impl Register {
         let standing = Standing {
             place: self.units.len(),
             status: Status::Open,
+            error: None,
         };
         push_mark(&mut self.marks, key, MarkKind::Rec);
         self.units.push_reserved(unit);
@@ -158,7 +189,7 @@ impl Register {
         self.queue.push_back_reserved(key);
     }
 
-    fn note_post(&mut self, key: UnitKey, kind: MarkKind)
+    fn note(&mut self, key: UnitKey, kind: MarkKind)
         requires room { 1 ≤ self.old.room }
         requires step { MayTake self.old.ledger (Step.Note key kind) }
         ensures { self.new.ledger ≡ after_step self.old.ledger (Step.Note key kind) }
@@ -166,13 +197,16 @@ impl Register {
         let Some(standing) = standing_of(&self.standings, &key) else {
             unreachable!();
         };
+        let status = status_after(&self.units[standing.place], &kind, standing.status);
         let standing = Standing {
             place: standing.place,
-            status: posted_status(&self.units[standing.place]),
+            status,
+            error: error_after(&kind, standing.error),
         };
         push_mark(&mut self.marks, key, kind);
         set_standing(&mut self.standings, &key, standing);
-        leave_queue(&mut self.queue, &key);
+        queue_again(&mut self.queue, &key, is_open(status));
+        queue_again(&mut self.again, &key, is_posted(status));
     }
 }
 
@@ -197,6 +231,34 @@ fn push_mark(marks: &mut Vec<Mark>, unit: UnitKey, kind: MarkKind)
     marks.push_reserved(Mark { seq, unit, kind });
 }
 
+/// The status that a mark gives, by the one before it.
+fn status_after(unit: &Unit, kind: &MarkKind, before: Status) -> Status
+    ensures { Some result ≡ given (is_empty_part unit.now.parts.v2) kind.now (Some before) }
+{
+    match kind {
+        MarkKind::Num(_) => before,
+        MarkKind::Rec | MarkKind::Again1 => Status::Open,
+        MarkKind::V1 => posted_status(unit),
+        MarkKind::Bad1 { .. } => Status::Bad,
+        MarkKind::V2 => Status::Closed,
+        MarkKind::Bad2 { .. } => Status::Bad2,
+        MarkKind::Again2 => Status::Posted,
+        MarkKind::Gone => Status::Cancelled,
+    }
+}
+
+/// The refusal that a mark tells, by the one before it.
+fn error_after(kind: &MarkKind, before: Option<(u32, Reason)>) -> Option<(u32, Reason)>
+    ensures { result ≡ told kind.now before }
+{
+    match kind {
+        MarkKind::Num(_) => before,
+        MarkKind::Bad1 { index, reason } => Some((*index, *reason)),
+        MarkKind::Bad2 { index, reason } => Some((*index, *reason)),
+        _ => None,
+    }
+}
+
 fn posted_status(unit: &Unit) -> Status
     ensures { result ≡ (if is_empty_part unit.now.parts.v2 then Status.Closed else Status.Posted) }
 {
@@ -205,6 +267,18 @@ fn posted_status(unit: &Unit) -> Status
     } else {
         Status::Posted
     }
+}
+
+fn is_open(status: Status) -> bool
+    ensures { result ≡ same_status Status.Open status }
+{
+    matches!(status, Status::Open)
+}
+
+fn is_posted(status: Status) -> bool
+    ensures { result ≡ same_status Status.Posted status }
+{
+    matches!(status, Status::Posted)
 }
 
 fn place_in_queue(queue: &VecDeque<UnitKey>, key: &UnitKey) -> Option<usize>
@@ -216,9 +290,24 @@ fn place_in_queue(queue: &VecDeque<UnitKey>, key: &UnitKey) -> Option<usize>
 /// Takes a unit out of those that wait.
 fn leave_queue(queue: &mut VecDeque<UnitKey>, key: &UnitKey)
     requires { IsDistinct same_unit queue.old.items }
-    ensures { queue.new.items ≡ filter (λ other. not (same_unit key.now other)) queue.old.items }
+    ensures items { queue.new.items ≡ filter (λ other. not (same_unit key.now other)) queue.old.items }
+    ensures len { deque_len queue.new ≤ deque_len queue.old }
+    ensures capacity { deque_capacity queue.new ≡ deque_capacity queue.old }
 {
     if let Some(place) = place_in_queue(queue, key) {
         queue.remove(place);
+    }
+}
+
+/// Takes a unit out of those that wait, and where it waits from now on puts it last.
+fn queue_again(queue: &mut VecDeque<UnitKey>, key: &UnitKey, waits: bool)
+    requires distinct { IsDistinct same_unit queue.old.items }
+    requires room { deque_len queue.old < deque_capacity queue.old }
+    ensures { queue.new.items ≡ filter (λ other. not (same_unit key.now other)) queue.old.items
+        ++ (if waits then key.now ∷ [] else []) }
+{
+    leave_queue(queue, key);
+    if waits {
+        queue.push_back_reserved(*key);
     }
 }

@@ -20,6 +20,8 @@ fn a_store_is_opened_once(rt: HostRuntime) -> Result<(), Fail> {
     assert_eq!(rt; books.marks(), 0);
     assert_eq!(rt; books.waiting(1), 0);
     assert_eq!(rt; books.waiting_at(1, 1), None);
+    assert_eq!(rt; books.waiting(2), 0);
+    assert_eq!(rt; books.waiting_at(2, 1), None);
     assert_eq!(rt; books.status(&KEY), None);
     match Books::open(alloc, books.into_keeper(), true) {
         Ok(_) => Err(Fail::from("opened")),

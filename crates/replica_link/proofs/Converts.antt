@@ -1,10 +1,9 @@
 -- Turns and drops that follow a conversion.
-use Rattle.std.proofs.Common.{◌≡◌, Bool, true, false, cond, not, ◌&&◌, List, [], ◌∷◌, ◌++◌, map, Option, Some, None, refl, sym, ap, ◌∙◌, inl, inr, append_assoc}
-use Rattle.std.specs.List.{filter, filter_map, flat_map, find, list_any, cons_option, AllByRecursion}
+use Rattle.std.proofs.Common.{◌≡◌, Bool, true, false, not, ◌&&◌, List, [], ◌∷◌, ◌++◌, map, Option, Some, None, refl, sym, ap, ◌∙◌, inl, inr, append_assoc}
+use Rattle.std.specs.List.{filter, filter_map, flat_map, find, list_any, cons_option}
 use Rattle.std.specs.Option.{option_map_or}
 use Rattle.std.proofs.lemmas.Bool.{false≢true, cases_Bool}
 use Rattle.std.proofs.lemmas.List.{append-nil}
-use Rattle.enq_base.specs.declared.owner.Owner.{Owner}
 use Rattle.mode_rules.specs.declared.Mode.{Mode}
 use Rattle.mode_rules.specs.declared.Mode.TheVariants.{S, E, X, O}
 use Rattle.mode_rules.specs.Modes.{same_mode}

@@ -1,11 +1,11 @@
 -- Lists in which no name stands twice.
-use Rattle.std.proofs.Common.{◌≡◌, Bool, true, false, not, ◌&&◌, ◌||◌, List, [], ◌∷◌, Option, Some, None, refl, sym, ap, ◌∙◌, inl, inr}
+use Rattle.std.proofs.Common.{◌≡◌, true, false, List, [], ◌∷◌, Some, refl, ap, ◌∙◌, inl, inr}
 use Rattle.std.specs.List.{list_all, find}
 use Rattle.std.proofs.lemmas.Bool.{cases_Bool, and_parts, or_from, or_left, or_right, not-true}
 use Rattle.std.proofs.lemmas.Option.{none-some, same_Some}
 use Rattle.lock_entry.specs.declared.entry.Entry.{Entry}
 use Rattle.lock_entry.specs.declared.entry.LockName.{LockName}
-use Rattle.lock_entry.specs.Names.{same_name, has_name, name_of, stands, all_pairs, names_differ, has_distinct_names}
+use Rattle.lock_entry.specs.Names.{has_name, name_of, stands, all_pairs, names_differ, has_distinct_names}
 use Rattle.lock_entry.proofs.Naming.{same_name-same}
 
 -- no entry has the name of one before it

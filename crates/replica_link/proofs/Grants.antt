@@ -1,11 +1,9 @@
 -- Puts that follow a grant.
-use Rattle.std.proofs.Common.{◌≡◌, ◌⊎◌, ℕ, ◌+◌, Bool, true, false, cond, not, ◌&&◌, ◌||◌, List, [], ◌∷◌, ◌++◌, map, length, drop, Option, Some, None, refl, sym, ap, ◌∙◌, subst, inl, inr, append_assoc, arith}
-use Rattle.std.specs.Prelude.{IsTrue}
-use Rattle.std.specs.List.{filter, list_all, find, flat_map}
+use Rattle.std.proofs.Common.{◌≡◌, ◌⊎◌, ℕ, Bool, true, false, cond, not, ◌||◌, List, [], ◌∷◌, ◌++◌, map, length, drop, Option, Some, None, refl, sym, ap, ◌∙◌, subst, inl, inr, append_assoc, arith}
+use Rattle.std.specs.List.{list_all, find}
 use Rattle.std.specs.Option.{option_map_or}
-use Rattle.std.proofs.lemmas.Bool.{false≢true, cases_Bool, and_parts, and_from, or_parts, or_left, or_right, not_from_false, not-true}
+use Rattle.std.proofs.lemmas.Bool.{false≢true, cases_Bool, and_parts, and_from, or_parts, or_left, or_right}
 use Rattle.std.proofs.lemmas.List.{length-map, map-append, append-nil}
-use Rattle.std.proofs.lemmas.Option.{none-some}
 use Rattle.enq_base.specs.Owners.{same_owner}
 use Rattle.enq_base.specs.declared.owner.Owner.{Owner}
 use Rattle.lock_entry.specs.declared.entry.Asker.{Asker}
@@ -19,8 +17,8 @@ use Rattle.lock_entry.proofs.Naming.{same_name-refl, same_name-same, same_name-s
 use Rattle.lock_entry.proofs.Lists.{find-None, all_pairs-filter, all_pairs-append}
 use Rattle.replica_link.specs.declared.operation.TableOp.{TableOp}
 use Rattle.replica_link.specs.declared.operation.TableOp.TheVariants.{Put}
-use Rattle.replica_link.specs.Operations.{after_op, replica, instead_of}
-use Rattle.replica_link.specs.Shipping.{put_ops, granted_ops, owner_ops, readmitted_ops}
+use Rattle.replica_link.specs.Operations.{replica, instead_of}
+use Rattle.replica_link.specs.Shipping.{granted_ops, owner_ops, readmitted_ops}
 use Rattle.replica_link.proofs.Distinct.{AreDistinct, distinct_from, found_here, found_later, found_named}
 use Rattle.replica_link.proofs.Drops.{replica-append, owner_ops-freed_owner}
 use Rattle.replica_link.proofs.Names.{is_in, newcomers, newcomers-new_names, is_in-stands, times_none, granted-distinct}

@@ -1,13 +1,13 @@
 -- The names that are new to a table.
 use Rattle.std.proofs.Common.{◌≡◌, ℕ, ◌+◌, Bool, true, false, cond, not, ◌&&◌, ◌||◌, List, [], ◌∷◌, ◌++◌, map, refl, sym, ap, ◌∙◌, inl, inr, arith}
-use Rattle.std.specs.List.{filter, list_any, list_all, count_by, AllByRecursion}
+use Rattle.std.specs.List.{filter, list_any, list_all, AllByRecursion}
 use Rattle.std.proofs.lemmas.Bool.{false≢true, cases_Bool, and_from, or_left, or_right, or_parts, not_from_false, false_from_ne_true}
 use Rattle.std.proofs.lemmas.List.Sums.{sum_by-cons}
 use Rattle.lock_entry.specs.declared.entry.Entry.{Entry}
 use Rattle.lock_entry.specs.declared.entry.LockName.{LockName}
 use Rattle.lock_entry.specs.Names.{same_name, name_of, stands, all_pairs, names_differ, each_once, times}
 use Rattle.lock_entry.specs.Granting.{new_names, new_entry, raised, granted}
-use Rattle.lock_entry.proofs.Naming.{same_name-refl, same_name-same, same_name-sym}
+use Rattle.lock_entry.proofs.Naming.{same_name-same, same_name-sym}
 use Rattle.lock_entry.proofs.Lists.{all_pairs-append, all_pairs-map}
 use Rattle.lock_entry.proofs.EachOnce.{list_all-each_once, all_pairs-each_once}
 use Rattle.replica_link.proofs.Drops.{filter_filter, filter_agree, everywhere, all_weaker}

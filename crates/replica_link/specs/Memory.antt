@@ -1,6 +1,7 @@
 -- A link in memory.
-use Rattle.std.specs.Prelude.{ℕ, ◌+◌, ◌-◌, ◌^◌, ◌≤◌, min, Bool, nat_eq, List, [], Option, Some, None}
+use Rattle.std.specs.Prelude.{ℕ, ◌+◌, ◌≤◌, Bool, nat_eq, List, [], Option, Some, None}
 use Rattle.std.specs.List.{list_any}
+use Rattle.enq_base.specs.Causes.{one_more}
 use Rattle.lock_entry.specs.declared.entry.Entry.{Entry}
 use Rattle.replica_link.specs.Operations.{after_op}
 use Rattle.replica_link.specs.declared.fault.LinkFault.{LinkFault}
@@ -15,10 +16,6 @@ pub record MemLinkState : Type 0 where
   pub calls : ℕ
   pub faults : ℕ
   pub refusals : ℕ
-
--- one more, up to the count's end
-abbrev pub one_more : ℕ → ℕ
-one_more n = min (n + 1) (2 ^ 64 - 1)
 
 -- not attached, and not yet called
 abbrev pub fresh : List ℕ → MemLinkState

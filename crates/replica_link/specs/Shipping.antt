@@ -1,5 +1,5 @@
 -- What is shipped where a table changes, so that its replica follows it.
-use Rattle.std.specs.Prelude.{ℕ, ◌-◌, cond, nat_le, List, [], ◌∷◌, ◌++◌, map}
+use Rattle.std.specs.Prelude.{◌-◌, cond, nat_le, List, [], ◌∷◌, ◌++◌, map}
 use Rattle.std.specs.List.{filter, find, flat_map}
 use Rattle.std.specs.Option.{option_map_or}
 use Rattle.enq_base.specs.declared.owner.Owner.{Owner}

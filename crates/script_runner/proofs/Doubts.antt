@@ -6,7 +6,7 @@ use Rattle.enq_base.specs.Causes.{Rose}
 use Rattle.enq_base.specs.declared.condition.Condition.{Condition}
 use Rattle.hall.proofs.Conditions.{Becomes, is_store_failure, step_becomes}
 use Rattle.hall.specs.declared.command.Reply.TheVariants as reply
-use Rattle.hall.specs.History.{DeviceOutcome, Well, Wanting, StoreFails, step}
+use Rattle.hall.specs.History.{DeviceOutcome, Well, Wanting, StoreFails, Comes, step}
 use Rattle.hall.specs.State.{State}
 use Rattle.script_lang.specs.Memory.{holds_lists}
 use Rattle.script_lang.specs.declared.script_line.ScriptLine.{ScriptLine}
@@ -41,6 +41,7 @@ same_failure : (d : DeviceOutcome) → is_store_failure d ≡ store_fails (Calle
 same_failure Well = refl
 same_failure Wanting = refl
 same_failure StoreFails = refl
+same_failure (Comes o) = refl
 
 abbrev LineBecomes : Bool → World → Turned → Type 0
 LineBecomes fails w t = Becomes fails w.hall.condition t.world.hall.condition

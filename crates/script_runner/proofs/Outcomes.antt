@@ -4,13 +4,14 @@ use Rattle.std.specs.Prelude.{◌||◌, if◌then◌else◌, Option, Some, None,
 use Rattle.enq_base.specs.declared.refusal.Refusal.TheVariants as refusal
 use Rattle.hall.specs.declared.command.Reply.{Reply}
 use Rattle.hall.specs.declared.command.Reply.TheVariants as reply
-use Rattle.hall.specs.History.{DeviceOutcome, Well, Wanting, StoreFails}
+use Rattle.hall.specs.History.{DeviceOutcome, Well, Wanting, StoreFails, Comes}
 use Rattle.script_lang.specs.Memory.{holds_lists}
 use Rattle.script_lang.specs.declared.script_line.ScriptLine.{ScriptLine}
 use Rattle.script_runner.specs.declared.runner.Why.{Why}
 use Rattle.script_runner.specs.declared.runner.Why.TheVariants.{BadLine, NoMemory}
 use Rattle.script_runner.specs.Lines.{Meaning, Calls, Declines, Changes, grows, line_in, meaning}
-use Rattle.script_runner.specs.Run.{LineOutcome, NoRoom, Called, Turned, answered, does, done, ends, said, line_does, store_fails}
+use Rattle.script_runner.specs.Run.{LineOutcome, MayHave, NoRoom, Called, Turned, answered, does, done, ends, said, line_does, store_fails}
+use Rattle.script_runner.specs.Whole.{IsCalm}
 use Rattle.script_runner.specs.World.{World}
 
 -- a run that goes on, or ends for want of memory
@@ -38,12 +39,35 @@ said_fine w n lists (Some l) (Called call) h = does_fine w n l (unwrap_or call W
 pub line_fine : (w : World) (n : ℕ) (bytes : List ℕ) (outcome : LineOutcome) → IsTrue (is_some (line_in bytes)) → IsFine (line_does w n bytes outcome).stop
 line_fine w n bytes outcome h = said_fine w n (holds_lists bytes) (line_in bytes) outcome h
 
-does_well : (w : World) (n : ℕ) (l : ScriptLine) (d : DeviceOutcome) (m : Meaning) → store_fails (Called (Some d)) ≡ false → (does w n l d m).stop ≡ None → does w n l d m ≡ does w n l Well m
-does_well w n l Well m off h = refl
-does_well w n l StoreFails m off h = absurd (cc)
-does_well w n l Wanting (Calls c) off h = cc
-does_well w n l Wanting (Declines r) off h = refl
-does_well w n l Wanting (Changes sides) off h = refl
+-- the same but for a want that changed nothing
+abbrev pub calmed : LineOutcome → LineOutcome
+calmed NoRoom = Called None
+calmed (Called None) = Called None
+calmed (Called (Some Wanting)) = Called None
+calmed (Called (Some Well)) = Called (Some Well)
+calmed (Called (Some StoreFails)) = Called (Some StoreFails)
+calmed (Called (Some (Comes o))) = Called (Some (Comes o))
+
+pub calmed_calm : (o : LineOutcome) → store_fails o ≡ false → IsCalm (calmed o)
+calmed_calm NoRoom off = tt
+calmed_calm (Called None) off = tt
+calmed_calm (Called (Some Well)) off = tt
+calmed_calm (Called (Some Wanting)) off = tt
+calmed_calm (Called (Some StoreFails)) off = absurd (cc)
+calmed_calm (Called (Some (Comes o))) off = tt
+
+pub calmed_may : (w : World) (known : Option ScriptLine) (o : LineOutcome) → MayHave w known o → MayHave w known (calmed o)
+calmed_may w known NoRoom h = tt
+calmed_may w known (Called None) h = tt
+calmed_may w known (Called (Some Wanting)) h = tt
+calmed_may w known (Called (Some Well)) h = h
+calmed_may w known (Called (Some StoreFails)) h = h
+calmed_may w known (Called (Some (Comes o))) h = h
+
+wanting_stops : (w : World) (n : ℕ) (l : ScriptLine) (m : Meaning) → (does w n l Wanting m).stop ≡ None → does w n l Wanting m ≡ does w n l Well m
+wanting_stops w n l (Calls c) h = cc
+wanting_stops w n l (Declines r) h = refl
+wanting_stops w n l (Changes sides) h = refl
 
 either_well : (b : Bool) (w : World) (y : Turned) → (if b then ends w NoMemory else y).stop ≡ None → (if b then ends w NoMemory else y) ≡ y
 either_well true w y h = cc
@@ -53,13 +77,20 @@ either_bad : (b : Bool) (w : World) (n : ℕ) → (if b then ends w NoMemory els
 either_bad true w n h = cc
 either_bad false w n h = refl
 
-said_well : (w : World) (n : ℕ) (lists : Bool) (known : Option ScriptLine) (outcome : LineOutcome) → store_fails outcome ≡ false → (said w n lists known outcome).stop ≡ None → said w n lists known outcome ≡ said w n lists known (Called None)
-said_well w n lists None NoRoom off h = either_bad lists w n h
-said_well w n lists None (Called call) off h = refl
-said_well w n lists (Some l) NoRoom off h = either_well (lists || grows l) w (done w n l Well) h
-said_well w n lists (Some l) (Called None) off h = refl
-said_well w n lists (Some l) (Called (Some d)) off h = does_well w n l d (meaning w l) off h
+said_well : (w : World) (n : ℕ) (lists : Bool) (known : Option ScriptLine) (outcome : LineOutcome) → (said w n lists known outcome).stop ≡ None → said w n lists known outcome ≡ said w n lists known (calmed outcome)
+said_well w n lists None NoRoom h = either_bad lists w n h
+said_well w n lists None (Called None) h = refl
+said_well w n lists None (Called (Some Well)) h = refl
+said_well w n lists None (Called (Some Wanting)) h = refl
+said_well w n lists None (Called (Some StoreFails)) h = refl
+said_well w n lists None (Called (Some (Comes o))) h = refl
+said_well w n lists (Some l) NoRoom h = either_well (lists || grows l) w (done w n l Well) h
+said_well w n lists (Some l) (Called None) h = refl
+said_well w n lists (Some l) (Called (Some Well)) h = refl
+said_well w n lists (Some l) (Called (Some Wanting)) h = wanting_stops w n l (meaning w l) h
+said_well w n lists (Some l) (Called (Some StoreFails)) h = refl
+said_well w n lists (Some l) (Called (Some (Comes o))) h = refl
 
--- a line in which the store didn't fail, and after which the run goes on, wanted nothing
-pub line_well : (w : World) (n : ℕ) (bytes : List ℕ) (outcome : LineOutcome) → store_fails outcome ≡ false → (line_does w n bytes outcome).stop ≡ None → line_does w n bytes outcome ≡ line_does w n bytes (Called None)
-line_well w n bytes outcome off h = said_well w n (holds_lists bytes) (line_in bytes) outcome off h
+-- a line after which the run goes on wanted nothing
+pub line_well : (w : World) (n : ℕ) (bytes : List ℕ) (outcome : LineOutcome) → (line_does w n bytes outcome).stop ≡ None → line_does w n bytes outcome ≡ line_does w n bytes (calmed outcome)
+line_well w n bytes outcome h = said_well w n (holds_lists bytes) (line_in bytes) outcome h

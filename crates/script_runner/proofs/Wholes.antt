@@ -9,15 +9,15 @@ use Rattle.std.specs.List.{AllByRecursion, list_any}
 use Rattle.io_edge.specs.Lines.{lines_of, onto_first, is_ended, IsUnbroken}
 use Rattle.script_runner.specs.declared.runner.Why.{Why}
 use Rattle.script_runner.specs.declared.runner.Why.TheVariants.{Done, BadWords, BadLine, SourceFault, SinkFault, LongLine, ManyLines, StoreFault, BadStore, NoMemory}
-use Rattle.script_runner.specs.Run.{Called, Turn, Progress, begun, next, run, moved, after_turn, line_does, store_fails_in}
+use Rattle.script_runner.specs.Run.{AreAllowed, Turn, Progress, begun, next, run, moved, after_turn, line_does, store_fails_in}
 use Rattle.script_runner.specs.World.{World}
 use Rattle.script_runner.specs.Replay.{Replays, Seen, IsEnd, IsReadToEnd}
 use Rattle.script_runner.specs.Turns.{HasCounted}
 use Rattle.script_runner.proofs.Doubts.{or_left, or_right, run_doubt}
 use Rattle.enq_base.specs.Causes.{Rose}
 use Rattle.script_runner.specs.Lines.{line_in}
-use Rattle.script_runner.proofs.Outcomes.{IsFine, line_fine, line_well}
-use Rattle.script_runner.specs.Whole.{IsAllDone, IsGood, IsScript, IsComplete, well_done}
+use Rattle.script_runner.proofs.Outcomes.{IsFine, calmed, calmed_calm, calmed_may, line_fine, line_well}
+use Rattle.script_runner.specs.Whole.{IsAllDone, IsCalm, IsGood, IsScript, IsComplete}
 
 -- ---- lines of bytes that are put together
 
@@ -100,31 +100,46 @@ run_fine : (p : Progress) (turns : List Turn) → AllByRecursion IsGood (lines_i
 run_fine p [] all fine = fine
 run_fine p (t ∷ ts) all fine = run_fine (next p t) ts all.1 (next_fine p t all.0.known fine)
 
-abbrev done_well : Turn → Turn
-done_well t = record { line = t.line; outcome = Called None }
+abbrev calm_turn : Turn → Turn
+calm_turn t = record { line = t.line; outcome = calmed t.outcome }
 
 stopped : (p : Progress) (t : Turn) (o : Option Why) → p.stop ≡ o → (after_turn o p t).stop ≡ None → o ≡ None
 stopped p t None e h = refl
 stopped p t (Some why) e h = sym e ∙ h
 
-next_well : (p : Progress) (t : Turn) → store_fails_in t ≡ false → (next p t).stop ≡ None → next p t ≡ next p (done_well t)
-next_well p t off h =
+next_well : (p : Progress) (t : Turn) → (next p t).stop ≡ None → next p t ≡ next p (calm_turn t)
+next_well p t h =
     let e : p.stop ≡ None = stopped p t p.stop refl h in
     let h : (line_does p.world (p.number + 1) t.line t.outcome).stop ≡ None = sym (ap (λ o. (after_turn o p t).stop) e) ∙ h in
-    ap (λ o. after_turn o p t) e ∙ ap (moved p) (line_well p.world (p.number + 1) t.line t.outcome off h) ∙ sym (ap (λ o. after_turn o p (done_well t)) e)
+    ap (λ o. after_turn o p t) e ∙ ap (moved p) (line_well p.world (p.number + 1) t.line t.outcome h) ∙ sym (ap (λ o. after_turn o p (calm_turn t)) e)
 
 pub run_stops : (p : Progress) (turns : List Turn) → (run_on p turns).stop ≡ None → p.stop ≡ None
 run_stops p [] h = h
 run_stops p (t ∷ ts) h = stopped p t p.stop refl (run_stops (next p t) ts h)
 
--- a run that goes on to the end, and in which the store didn't fail, is the run in which nothing was wanting
-run_well : (p : Progress) (turns : List Turn) → list_any store_fails_in turns ≡ false → (run_on p turns).stop ≡ None → run_on p turns ≡ run_on p (well_done (lines_in turns))
-run_well p [] off h = refl
-run_well p (t ∷ ts) off h =
+-- a run that goes on to the end is the run in which nothing was wanting
+run_well : (p : Progress) (turns : List Turn) → (run_on p turns).stop ≡ None → run_on p turns ≡ run_on p (map calm_turn turns)
+run_well p [] h = refl
+run_well p (t ∷ ts) h =
     let goes = run_stops (next p t) ts h in
-    let here = or_left (store_fails_in t) (list_any store_fails_in ts) off in
-    let below = or_right (store_fails_in t) (list_any store_fails_in ts) off in
-    run_well (next p t) ts below h ∙ ap (λ q. run_on q (well_done (lines_in ts))) (next_well p t here goes)
+    run_well (next p t) ts h ∙ ap (λ q. run_on q (map calm_turn ts)) (next_well p t goes)
+
+run_calm : (turns : List Turn) → list_any store_fails_in turns ≡ false → AllByRecursion (λ t. IsCalm t.outcome) (map calm_turn turns)
+run_calm [] off = tt
+run_calm (t ∷ ts) off =
+    (calmed_calm t.outcome (or_left (store_fails_in t) (list_any store_fails_in ts) off), run_calm ts (or_right (store_fails_in t) (list_any store_fails_in ts) off))
+
+run_allowed : (p : Progress) (turns : List Turn) → (run_on p turns).stop ≡ None → AreAllowed p turns → AreAllowed p (map calm_turn turns)
+run_allowed p [] h allowed = tt
+run_allowed p (t ∷ ts) h allowed =
+    let goes = run_stops (next p t) ts h in (
+      calmed_may p.world (line_in t.line) t.outcome allowed.0,
+      subst (λ q. AreAllowed q (map calm_turn ts)) (next_well p t goes) (run_allowed (next p t) ts h allowed.1),
+    )
+
+same_lines : (turns : List Turn) → lines_in (map calm_turn turns) ≡ lines_in turns
+same_lines [] = refl
+same_lines (t ∷ ts) = ap (λ ls. t.line ∷ ls) (same_lines ts)
 
 -- the store's count stood still, so that it didn't fail
 none_failed : (b : Bool) (f g : ℕ) → HasCounted b f g → (Rose f g → ⊥) → b ≡ false
@@ -172,35 +187,42 @@ too_long xs ys rest left e long unbroken all =
     omega (arith, good.fits.fits, l.long)
 
 -- what is seen at the end, over bytes that the source told
-all_done : (before after : World) (bytes left rest : List ℕ) (turns : List Turn) (old new : Seen) → new.left ≡ Some left → lines_of bytes ≡ lines_in turns ++ lines_of (rest ++ left) → list_any store_fails_in turns ≡ false → after ≡ (run before turns).world → IsReadToEnd before turns rest old new → IsAllDone before after.hall bytes old.written new.written
-all_done before after bytes left rest turns old new is all off hall end =
+all_done : (before after : World) (bytes left rest : List ℕ) (turns : List Turn) (old new : Seen) → AreAllowed (begun before) turns → new.left ≡ Some left → lines_of bytes ≡ lines_in turns ++ lines_of (rest ++ left) → list_any store_fails_in turns ≡ false → after ≡ (run before turns).world → IsReadToEnd before turns rest old new → IsAllDone before after.hall bytes old.written new.written
+all_done before after bytes left rest turns old new allowed is all off hall end =
     let at_end : left ≡ [] = subst IsAtEnd is end.1 in
     let each : lines_of bytes ≡ lines_in turns = all ∙ ap (λ x. lines_in turns ++ lines_of x) (ap (λ x. x ++ left) end.0 ∙ at_end) ∙ append-nil (lines_in turns) in
-    let same : run before turns ≡ run before (well_done (lines_of bytes)) = run_well (begun before) turns off end.2 ∙ ap (λ ls. run before (well_done ls)) (sym each) in
-    (ap (λ (x : World). x.hall) hall ∙ ap (λ (p : Progress). p.world.hall) same, subst (λ (p : Progress). Appends old.written new.written p.text) same end.3)
+    let same : run before turns ≡ run before (map calm_turn turns) = run_well (begun before) turns end.2 in
+    record {
+      turns = map calm_turn turns;
+      each = same_lines turns ∙ sym each;
+      calm = run_calm turns off;
+      allowed = run_allowed (begun before) turns end.2 allowed;
+      state = ap (λ (x : World). x.hall) hall ∙ ap (λ (p : Progress). p.world.hall) same;
+      text = subst (λ (p : Progress). Appends old.written new.written p.text) same end.3;
+    }
 
-ends : (before after : World) (bytes left lines rest : List ℕ) (turns : List Turn) (old new : Seen) (why : Why) → new.left ≡ Some left → lines_of bytes ≡ lines_in turns ++ lines_of (rest ++ left) → IsScript bytes → (Rose old.source_faults new.source_faults → ⊥) → (Rose old.sink_faults new.sink_faults → ⊥) → list_any store_fails_in turns ≡ false → after ≡ (run before turns).world → IsEnd before turns rest old new why → IsComplete before after.hall bytes old.written new.written why
-ends before after bytes left lines rest turns old new Done is all script quiet_source quiet_sink off hall end =
-    all_done before after bytes left rest turns old new is all off hall end.0
-ends before after bytes left lines rest turns old new (StoreFault k) is all script quiet_source quiet_sink off hall end =
-    (sym (run_doubt (begun before) turns off) ∙ end.1, all_done before after bytes left rest turns old new is all off hall end.0)
-ends before after bytes left lines rest turns old new (BadStore table row) is all script quiet_source quiet_sink off hall end = absurd end
-ends before after bytes left lines rest turns old new BadWords is all script quiet_source quiet_sink off hall end = absurd end
-ends before after bytes left lines rest turns old new (BadLine n) is all script quiet_source quiet_sink off hall end =
+ends : (before after : World) (bytes left lines rest : List ℕ) (turns : List Turn) (old new : Seen) (why : Why) → AreAllowed (begun before) turns → new.left ≡ Some left → lines_of bytes ≡ lines_in turns ++ lines_of (rest ++ left) → IsScript bytes → (Rose old.source_faults new.source_faults → ⊥) → (Rose old.sink_faults new.sink_faults → ⊥) → list_any store_fails_in turns ≡ false → after ≡ (run before turns).world → IsEnd before turns rest old new why → IsComplete before after.hall bytes old.written new.written why
+ends before after bytes left lines rest turns old new Done allowed is all script quiet_source quiet_sink off hall end =
+    all_done before after bytes left rest turns old new allowed is all off hall end.0
+ends before after bytes left lines rest turns old new (StoreFault k) allowed is all script quiet_source quiet_sink off hall end =
+    (sym (run_doubt (begun before) turns off) ∙ end.1, all_done before after bytes left rest turns old new allowed is all off hall end.0)
+ends before after bytes left lines rest turns old new (BadStore table row) allowed is all script quiet_source quiet_sink off hall end = absurd end
+ends before after bytes left lines rest turns old new BadWords allowed is all script quiet_source quiet_sink off hall end = absurd end
+ends before after bytes left lines rest turns old new (BadLine n) allowed is all script quiet_source quiet_sink off hall end =
     let good = recursion_from_All IsGood (lines_of bytes) script.each in
     let fine = run_fine (begun before) turns (good_front (lines_in turns) (lines_of (rest ++ left)) (subst (AllByRecursion IsGood) all good)) (inl refl) in
     let memory : BadLine n ≡ NoMemory = memory_is (BadLine n) (subst IsFine end.1 fine) in
     absurd (cc)
-ends before after bytes left lines rest turns old new SourceFault is all script quiet_source quiet_sink off hall end = absurd (quiet_source end.1)
-ends before after bytes left lines rest turns old new SinkFault is all script quiet_source quiet_sink off hall end = absurd (quiet_sink end.1)
-ends before after bytes left lines rest turns old new (LongLine n) is all script quiet_source quiet_sink off hall end =
+ends before after bytes left lines rest turns old new SourceFault allowed is all script quiet_source quiet_sink off hall end = absurd (quiet_source end.1)
+ends before after bytes left lines rest turns old new SinkFault allowed is all script quiet_source quiet_sink off hall end = absurd (quiet_sink end.1)
+ends before after bytes left lines rest turns old new (LongLine n) allowed is all script quiet_source quiet_sink off hall end =
     absurd (too_long (lines_in turns) (lines_of bytes) rest left all end.1 end.2 (recursion_from_All IsGood (lines_of bytes) script.each))
-ends before after bytes left lines rest turns old new ManyLines is all script quiet_source quiet_sink off hall end =
+ends before after bytes left lines rest turns old new ManyLines allowed is all script quiet_source quiet_sink off hall end =
     let counted = run_counts (begun before) turns in
     let some = some_tail rest left end.1 in
     let total = count_lines bytes turns (lines_of (rest ++ left)) all in
     absurd (omega (arith, end.0, script.few))
-ends before after bytes left lines rest turns old new NoMemory is all script quiet_source quiet_sink off hall end = tt
+ends before after bytes left lines rest turns old new NoMemory allowed is all script quiet_source quiet_sink off hall end = tt
 
 pub told : (bytes taken : List ℕ) (left : Option (List ℕ)) → Consumes (Some bytes) left taken → (rest : List ℕ) × (left ≡ Some rest) × (bytes ≡ taken ++ rest)
 told bytes taken None h = absurd h
@@ -218,4 +240,4 @@ pub completes : (before after : World) (old new : Seen) (why : Why) (bytes : Lis
 completes before after old new why bytes h is script quiet_source quiet_sink quiet_store =
     let rest = told bytes (h.lines ++ h.rest) new.left (subst (λ o. Consumes o new.left (h.lines ++ h.rest)) is h.read) in
     let all = begins bytes h.lines h.rest rest.0 h.turns rest.2 (known_whole h.lines h.rest rest.0 new.left rest.1 h.whole) h.each in
-    ends before after bytes rest.0 h.lines h.rest h.turns old new why rest.1 all script quiet_source quiet_sink (none_failed _ _ _ h.store quiet_store) h.world h.end
+    ends before after bytes rest.0 h.lines h.rest h.turns old new why h.allowed rest.1 all script quiet_source quiet_sink (none_failed _ _ _ h.store quiet_store) h.world h.end

@@ -1,5 +1,5 @@
 -- What a line of a script comes to.
-use Rattle.std.specs.Prelude.{ℕ, ◌+◌, Bool, true, false, ◌&&◌, nat_eq, nat_le, nat_lt, List, [], ◌∷◌, map, length, cond, if◌then◌else◌, Option, Some, None, is_some, option_and_then, Result, Ok, Err}
+use Rattle.std.specs.Prelude.{ℕ, ℤ, ◌+◌, Bool, true, false, ◌&&◌, nat_eq, nat_le, nat_lt, List, [], ◌∷◌, map, length, cond, if◌then◌else◌, Option, Some, None, is_some, option_and_then, Result, Ok, Err}
 use Rattle.std.specs.List.{find, list_all, list_any}
 use Rattle.std.specs.Str.{bytes_eq}
 use Rattle.enq_base.specs.Grammar.{is_key_byte, is_short, is_text_byte}
@@ -9,7 +9,8 @@ use Rattle.enq_base.specs.declared.refusal.ArgKind.{ArgKind}
 use Rattle.enq_base.specs.declared.refusal.ArgKind.TheVariants as kind
 use Rattle.enq_base.specs.declared.refusal.Refusal.{Refusal}
 use Rattle.enq_base.specs.declared.refusal.Refusal.TheVariants as refusal
-use Rattle.enq_base.specs.declared.unit.Deed.TheVariants.{Put}
+use Rattle.enq_base.specs.declared.unit.Deed.{Deed}
+use Rattle.enq_base.specs.declared.unit.Deed.TheVariants.{Put, Ins, Del, Add}
 use Rattle.enq_base.specs.declared.unit.Effect.{Effect}
 use Rattle.mode_rules.specs.declared.Mode.{Mode}
 use Rattle.mode_rules.specs.declared.Mode.TheVariants as mode
@@ -22,6 +23,7 @@ use Rattle.lock_objects.specs.declared.value.ArgFault.TheVariants as fault
 use Rattle.lock_objects.specs.declared.value.FieldValue.{FieldValue}
 use Rattle.lock_objects.specs.declared.value.Value.{Value}
 use Rattle.lock_objects.specs.declared.value.Value.TheVariants.{Given, Initial, Long}
+use Rattle.module_effects.specs.Integers.{integer_of}
 use Rattle.owner_scope.specs.Halves.{names_dialogue, names_update}
 use Rattle.dialogue_session.specs.Private.{Private, with_effect, with_requests, without_effects, without_requests}
 use Rattle.hall.specs.declared.command.Command.{Command}
@@ -33,6 +35,8 @@ use Rattle.script_lang.specs.Reading.{line_of}
 use Rattle.script_lang.specs.declared.script_line.RawValue.{RawValue}
 use Rattle.script_lang.specs.declared.script_line.ScriptLine.{ScriptLine}
 use Rattle.script_lang.specs.declared.script_line.ScriptLine.TheVariants as line
+use Rattle.script_runner.specs.declared.effects.Verb.{Verb}
+use Rattle.script_runner.specs.declared.effects.Verb.TheVariants as verb
 use Rattle.script_runner.specs.Sides.{container_of, parts_of, side_of, with_new_side, with_side, without_side}
 use Rattle.script_runner.specs.World.{World}
 
@@ -53,6 +57,9 @@ is_built (line.Deq s object m scope values) = true
 is_built (line.Collect s object m scope values) = true
 is_built (line.Convert s object values) = true
 is_built (line.Put s part table key text) = nat_eq part 1
+is_built (line.Ins s part table key text) = nat_eq part 1
+is_built (line.Del s part table key) = nat_eq part 1
+is_built (line.Add s part table key number) = nat_eq part 1
 is_built (line.Commit s) = true
 is_built (line.Take1 worker) = true
 is_built (line.Do1 worker) = true
@@ -130,14 +137,35 @@ key_in key = argument_in (has_key_length key) (list_all is_key_byte key) key
 abbrev pub text_in : List ℕ → Result (List ℕ) Refusal
 text_in text = argument_in (has_text_length text) (list_all is_text_byte text) text
 
-abbrev pub put_of : List ℕ → Result (List ℕ) Refusal → Result (List ℕ) Refusal → Result Effect Refusal
-put_of table (Ok key) (Ok text) = Ok (record { table = table; key = key; deed = Put text })
-put_of table (Ok key) (Err r) = Err r
-put_of table (Err r) text = Err r
+abbrev pub number_in : List ℕ → Result ℤ Refusal
+number_in text = elim (integer_of text) [ None ↦ Err (refusal.BadArgument kind.Number) | Some n ↦ Ok n ]
 
--- the effect that puts a row, or what is wrong: with its key, and then with its text
-abbrev pub putting : List ℕ → List ℕ → List ℕ → Result Effect Refusal
-putting table key text = put_of table (key_in key) (text_in text)
+abbrev pub then_deed : {X : Type 0} → (X → Deed) → Result X Refusal → Result Deed Refusal
+then_deed deed (Ok x) = Ok (deed x)
+then_deed deed (Err r) = Err r
+
+-- what an effect does, by its verb and what stands behind the key
+abbrev pub deed_in : Verb → List ℕ → Result Deed Refusal
+deed_in verb.Put text = then_deed Put (text_in text)
+deed_in verb.Ins text = then_deed Ins (text_in text)
+deed_in verb.Del text = Ok Del
+deed_in verb.Add text = then_deed Add (number_in text)
+
+abbrev pub effect_of : List ℕ → Result (List ℕ) Refusal → Result Deed Refusal → Result Effect Refusal
+effect_of table (Ok key) (Ok deed) = Ok (record { table = table; key = key; deed = deed })
+effect_of table (Ok key) (Err r) = Err r
+effect_of table (Err r) deed = Err r
+
+-- the effect of a line, or what is wrong: with its key, and then with its text or its number
+abbrev pub effect_in : Verb → List ℕ → List ℕ → List ℕ → Result Effect Refusal
+effect_in v table key text = effect_of table (key_in key) (deed_in v text)
+
+-- the line of an effect
+abbrev pub effect_line : Verb → List ℕ → ℕ → List ℕ → List ℕ → List ℕ → ScriptLine
+effect_line verb.Put s part table key text = line.Put s part table key text
+effect_line verb.Ins s part table key text = line.Ins s part table key text
+effect_line verb.Del s part table key text = line.Del s part table key
+effect_line verb.Add s part table key text = line.Add s part table key text
 
 -- what a line comes to
 pub data Meaning : Type 0 where
@@ -174,6 +202,9 @@ registering sides s part effect = unless_refused (registered sides s part effect
 abbrev pub collecting : List Private → List ℕ → List Request → Meaning
 collecting sides s requests = unless_refused (collected sides s requests) Changes
 
+abbrev pub effecting : World → List ℕ → ℕ → Result Effect Refusal → Meaning
+effecting w s part effect = of_session w.sides s (unless_refused effect (registering w.sides s part))
+
 abbrev pub meaning : World → ScriptLine → Meaning
 meaning w (line.Logon s user) = Calls (command.Logon s user)
 meaning w (line.Logoff s) = of_session w.sides s (Calls (command.Logoff s))
@@ -189,8 +220,10 @@ meaning w (line.Collect s object m scope values) =
     of_session w.sides s (unless_refused (requesting w.objects object m scope values) (collecting w.sides s))
 meaning w (line.Convert s object values) =
     of_session w.sides s (unless_refused (asking w.objects object mode.O values) (λ asked. Calls (command.Convert s asked)))
-meaning w (line.Put s part table key text) =
-    of_session w.sides s (unless_refused (putting table key text) (registering w.sides s part))
+meaning w (line.Put s part table key text) = effecting w s part (effect_in verb.Put table key text)
+meaning w (line.Ins s part table key text) = effecting w s part (effect_in verb.Ins table key text)
+meaning w (line.Del s part table key) = effecting w s part (effect_in verb.Del table key [])
+meaning w (line.Add s part table key number) = effecting w s part (effect_in verb.Add table key number)
 meaning w (line.Commit s) = of_session w.sides s (Calls (command.Commit s (parts_of w.sides s)))
 meaning w (line.Take1 worker) = Calls (command.Take1 worker)
 meaning w (line.Do1 worker) = Calls (command.Do1 worker)
@@ -216,5 +249,8 @@ grows (line.Deq s object m scope values) = true
 grows (line.Collect s object m scope values) = true
 grows (line.Convert s object values) = true
 grows (line.Put s part table key text) = true
+grows (line.Ins s part table key text) = true
+grows (line.Del s part table key) = true
+grows (line.Add s part table key number) = true
 grows (line.Commit s) = true
 grows _ = false

@@ -1,13 +1,19 @@
 -- The private sides of the sessions.
-use Rattle.std.specs.Prelude.{ℕ, Bool, not, List, [], ◌∷◌, ◌++◌, IsTrue, Option}
+use Rattle.std.specs.Prelude.{ℕ, Bool, not, List, [], ◌∷◌, ◌++◌, IsTrue, Option, is_some}
 use Rattle.std.specs.List.{AllByRecursion, find, filter}
 use Rattle.std.specs.Option.{option_map_or}
 use Rattle.std.specs.Str.{bytes_eq}
 use Rattle.enq_base.specs.declared.unit.Parts.{Parts}
 use Rattle.dialogue_session.specs.Private.{Private, fresh}
+use Rattle.hall.specs.Sessions.{session_at}
+use Rattle.hall.specs.declared.command.Session.{Session}
 use Rattle.lock_entry.specs.Freeing.{replace_first}
 use Rattle.lock_entry.specs.declared.entry.Request.{Request}
-use Rattle.posting.specs.Puts.{are_puts}
+
+-- what the private sides are seen as: those that there are, and for how many more there is room
+pub record SidesView : Type 0 where
+  pub items : List Private
+  pub room : ℕ
 
 abbrev pub is_side_of : List ℕ → Private → Bool
 is_side_of name p = bytes_eq p.session name
@@ -27,12 +33,9 @@ parts_in p = record { v1 = p.v1; v2 = p.v2 }
 abbrev pub parts_of : List Private → List ℕ → Parts
 parts_of sides name = option_map_or parts_in (side_of sides name) (record { v1 = []; v2 = [] })
 
--- each effect of the session's unit puts a row
-abbrev pub HasPuts : Private → Type 0
-HasPuts p = IsTrue (are_puts (parts_in p))
-
-abbrev pub HavePuts : List Private → Type 0
-HavePuts sides = AllByRecursion HasPuts sides
+-- the session of each side is logged on
+abbrev pub AreLoggedOn : List Session → List Private → Type 0
+AreLoggedOn sessions sides = AllByRecursion (λ p. IsTrue (is_some (session_at sessions p.session))) sides
 
 -- the sides, with that of this session changed
 abbrev pub with_side : List ℕ → (Private → Private) → List Private → List Private

@@ -1,6 +1,8 @@
 -- Scripts that are in order from the first line to the last, and what a run of one comes to.
 use Rattle.std.specs.Prelude.{◌≡◌, ℕ, ◌≤◌, List, map, length, Option, Some, None, is_some, All, IsTrue}
+use Rattle.std.specs.List.{AllByRecursion}
 use Rattle.std.specs.Io.KnownBytes.{Appends}
+use Rattle.hall.specs.History.{Well, Wanting, StoreFails, Comes}
 use Rattle.hall.specs.State.{State}
 use Rattle.io_edge.specs.Lines.{lines_of, IsLine}
 use Rattle.script_runner.specs.declared.runner.Why.{Why}
@@ -8,7 +10,7 @@ use Rattle.script_runner.specs.declared.runner.Why.TheVariants.{Done, BadWords, 
 use Rattle.script_runner.specs.declared.runner.Why.TheVariants.{LongLine, ManyLines, StoreFault, BadStore, NoMemory}
 use Rattle.script_runner.specs.Lines.{line_in}
 use Rattle.script_runner.specs.Replay.{doubt_of}
-use Rattle.script_runner.specs.Run.{Called, Turn, run}
+use Rattle.script_runner.specs.Run.{AreAllowed, Called, LineOutcome, NoRoom, Turn, begun, run}
 use Rattle.script_runner.specs.World.{World}
 
 -- a line that fits and can be done
@@ -21,15 +23,23 @@ pub record IsScript (bytes : List ℕ) : Type 0 where
   pub each : All IsGood (lines_of bytes)
   pub few : length (lines_of bytes) ≤ 200000
 
--- these lines, each done with nothing wanting
-abbrev pub well_done : List (List ℕ) → List Turn
-well_done lines = map (λ line. record { line = line; outcome = Called None }) lines
+-- nothing was wanting in a line, and nothing failed
+abbrev pub IsCalm : LineOutcome → Type 0
+IsCalm NoRoom = ⊥
+IsCalm (Called None) = Unit {0}
+IsCalm (Called (Some Well)) = Unit {0}
+IsCalm (Called (Some Wanting)) = ⊥
+IsCalm (Called (Some StoreFails)) = ⊥
+IsCalm (Called (Some (Comes outcome))) = Unit {0}
 
--- the run went through all lines of the bytes and wrote their whole text
-abbrev pub IsAllDone : World → State → List ℕ → Option (List ℕ) → Option (List ℕ) → Type 0
-IsAllDone before after bytes old new =
-    (after ≡ (run before (well_done (lines_of bytes))).world.hall)
-    × Appends old new (run before (well_done (lines_of bytes))).text
+-- the run went through all lines of the bytes, each done with nothing wanting, and wrote their whole text
+pub record IsAllDone (before : World) (after : State) (bytes : List ℕ) (old new : Option (List ℕ)) : Type 0 where
+  pub turns : List Turn
+  pub each : map (λ t. t.line) turns ≡ lines_of bytes
+  pub calm : AllByRecursion (λ t. IsCalm t.outcome) turns
+  pub allowed : AreAllowed (begun before) turns
+  pub state : after ≡ (run before turns).world.hall
+  pub text : Appends old new (run before turns).text
 
 -- all lines were done, by a server that is in doubt only where it was before, or memory was wanting
 abbrev pub IsComplete : World → State → List ℕ → Option (List ℕ) → Option (List ℕ) → Why → Type 0

@@ -2,18 +2,15 @@ ghost use Rattle.std.specs.Prelude.{◌≡◌, ◌⊎◌, ℕ, List};
 ghost use Rattle.dialogue_session.specs.Private.{Private};
 ghost use Rattle.hall.specs.State.{State};
 ghost use Rattle.lock_objects.specs.Objects.{Object};
-ghost use Rattle.script_runner.specs.Lines.{settled};
+ghost use Rattle.script_runner.specs.Lines.{effect_line, settled};
 ghost use Rattle.script_runner.specs.Turns.{DoesLine, IsDone};
-ghost use Rattle.script_runner.specs.Sides.{HavePuts};
+ghost use Rattle.script_runner.specs.Sides.{AreLoggedOn};
 ghost use Rattle.script_runner.specs.World.{StoreView, world};
 ghost use Rattle.script_lang.specs.declared.script_line.ScriptLine.TheVariants as line;
 
-use crate::puts::putting;
+use crate::effects::{Verb, effect_in};
 use crate::requests::{asked_of, requests_of};
-use crate::sides::{
-    clear, collect, container, drop_effects, enter, has_side, leave, parts, register, reset,
-};
-use dialogue_session::Dialogue;
+use crate::sides::Sides;
 use enq_base::{Name, Refusal, Scope};
 use hall::{Hall, Reply};
 use keeper_api::Keeper;
@@ -30,18 +27,19 @@ pub(crate) fn log_on<T: LockStore, K: Keeper>(
     session: Name,
     user: Name,
     hall: &mut Hall<T, K>,
-    sides: &mut Vec<Dialogue>,
+    sides: &mut Sides,
 ) -> Reply
+    requires logged_on { AreLoggedOn hall.old.state.sessions sides.old.items }
     ensures done { (objects : List Object) → DoesLine K.held K.faults
         objects hall.old hall.new sides.old.items sides.new.items number
         (line.Logon session user) result }
 {
-    if sides.reserve(1).is_err() {
+    if sides.make_room().is_err() {
         return Reply::Refused(Refusal::NoMemory);
     }
     let reply = hall.logon(number, session, user);
     if let Reply::Done = reply {
-        enter(alloc, sides, session);
+        sides.enter(alloc, session);
     }
     reply
 }
@@ -51,18 +49,18 @@ pub(crate) fn log_off<T: LockStore, K: Keeper>(
     number: u32,
     session: Name,
     hall: &mut Hall<T, K>,
-    sides: &mut Vec<Dialogue>,
+    sides: &mut Sides,
 ) -> Reply
     ensures done { (objects : List Object) → DoesLine K.held K.faults
         objects hall.old hall.new sides.old.items sides.new.items number
         (line.Logoff session) result }
 {
-    if !has_side(sides.as_slice(), &session) {
+    if !sides.has_side(&session) {
         return Reply::Refused(Refusal::UnknownSession);
     }
     let reply = hall.logoff(number, session);
     if let Reply::Done = reply {
-        leave(sides, &session);
+        sides.leave(&session);
     }
     reply
 }
@@ -72,13 +70,13 @@ pub(crate) fn free_all<T: LockStore, K: Keeper>(
     number: u32,
     session: Name,
     hall: &mut Hall<T, K>,
-    sides: &[Dialogue],
+    sides: &Sides,
 ) -> Reply
     ensures done { (objects : List Object) → DoesLine K.held K.faults
-        objects hall.old hall.new sides.now sides.now number
+        objects hall.old hall.new sides.now.items sides.now.items number
         (line.DeqAll session) result }
 {
-    if !has_side(sides, &session) {
+    if !sides.has_side(&session) {
         return Reply::Refused(Refusal::UnknownSession);
     }
     hall.free_all(number, session)
@@ -89,18 +87,18 @@ pub(crate) fn roll_back<T: LockStore, K: Keeper>(
     number: u32,
     session: Name,
     hall: &mut Hall<T, K>,
-    sides: &mut Vec<Dialogue>,
+    sides: &mut Sides,
 ) -> Reply
     ensures done { (objects : List Object) → DoesLine K.held K.faults
         objects hall.old hall.new sides.old.items sides.new.items number
         (line.Rollback session) result }
 {
-    if !has_side(sides.as_slice(), &session) {
+    if !sides.has_side(&session) {
         return Reply::Refused(Refusal::UnknownSession);
     }
     let reply = hall.rollback(number, session);
     if let Reply::Done = reply {
-        clear(sides, &session);
+        sides.clear(&session);
     }
     reply
 }
@@ -111,21 +109,21 @@ pub(crate) fn flush<T: LockStore, K: Keeper>(
     number: u32,
     session: Name,
     hall: &mut Hall<T, K>,
-    sides: &mut Vec<Dialogue>,
+    sides: &mut Sides,
 ) -> Reply
     ensures done { (objects : List Object) → DoesLine K.held K.faults
         objects hall.old hall.new sides.old.items sides.new.items number
         (line.Flush session) result }
 {
-    if !has_side(sides.as_slice(), &session) {
+    if !sides.has_side(&session) {
         return Reply::Refused(Refusal::UnknownSession);
     }
-    let Ok(requests) = container(alloc, sides.as_slice(), &session) else {
+    let Ok(requests) = sides.container(alloc, &session) else {
         return Reply::Refused(Refusal::NoMemory);
     };
     let granted = hall.ask(alloc, number, session, requests);
     if let Reply::Done = granted {
-        reset(sides, &session);
+        sides.reset(&session);
     }
     granted
 }
@@ -135,16 +133,16 @@ pub(crate) fn empty<T: LockStore, K: Keeper>(
     number: u32,
     session: Name,
     hall: &mut Hall<T, K>,
-    sides: &mut Vec<Dialogue>,
+    sides: &mut Sides,
 ) -> Reply
     ensures done { (objects : List Object) → DoesLine K.held K.faults
         objects hall.old hall.new sides.old.items sides.new.items number
         (line.Reset session) result }
 {
-    if !has_side(sides.as_slice(), &session) {
+    if !sides.has_side(&session) {
         return Reply::Refused(Refusal::UnknownSession);
     }
-    reset(sides, &session);
+    sides.reset(&session);
     Reply::Done
 }
 
@@ -159,13 +157,13 @@ pub(crate) fn enqueue<T: LockStore, K: Keeper>(
     scope: Scope,
     values: &[RawValue],
     hall: &mut Hall<T, K>,
-    sides: &[Dialogue],
+    sides: &Sides,
 ) -> Reply
     ensures done { DoesLine K.held K.faults
-        objects.now hall.old hall.new sides.now sides.now number
+        objects.now hall.old hall.new sides.now.items sides.now.items number
         (line.Enq session object mode scope values.now) result }
 {
-    if !has_side(sides, &session) {
+    if !sides.has_side(&session) {
         return Reply::Refused(Refusal::UnknownSession);
     }
     match requests_of(alloc, objects, &object, mode, scope, values) {
@@ -185,13 +183,13 @@ pub(crate) fn dequeue<T: LockStore, K: Keeper>(
     scope: Scope,
     values: &[RawValue],
     hall: &mut Hall<T, K>,
-    sides: &[Dialogue],
+    sides: &Sides,
 ) -> Reply
     ensures done { DoesLine K.held K.faults
-        objects.now hall.old hall.new sides.now sides.now number
+        objects.now hall.old hall.new sides.now.items sides.now.items number
         (line.Deq session object mode scope values.now) result }
 {
-    if !has_side(sides, &session) {
+    if !sides.has_side(&session) {
         return Reply::Refused(Refusal::UnknownSession);
     }
     match requests_of(alloc, objects, &object, mode, scope, values) {
@@ -211,20 +209,20 @@ pub(crate) fn collect_requests<T: LockStore, K: Keeper>(
     scope: Scope,
     values: &[RawValue],
     hall: &mut Hall<T, K>,
-    sides: &mut Vec<Dialogue>,
+    sides: &mut Sides,
 ) -> Reply
     ensures done { DoesLine K.held K.faults
         objects.now hall.old hall.new sides.old.items sides.new.items number
         (line.Collect session object mode scope values.now) result }
 {
-    if !has_side(sides.as_slice(), &session) {
+    if !sides.has_side(&session) {
         return Reply::Refused(Refusal::UnknownSession);
     }
     let requests = match requests_of(alloc, objects, &object, mode, scope, values) {
         Ok(requests) => requests,
         Err(refusal) => return Reply::Refused(refusal),
     };
-    match collect(sides, &session, requests.as_slice()) {
+    match sides.collect(&session, requests.as_slice()) {
         Ok(()) => Reply::Done,
         Err(refusal) => Reply::Refused(refusal),
     }
@@ -239,13 +237,13 @@ pub(crate) fn convert<T: LockStore, K: Keeper>(
     object: Name,
     values: &[RawValue],
     hall: &mut Hall<T, K>,
-    sides: &[Dialogue],
+    sides: &Sides,
 ) -> Reply
     ensures done { DoesLine K.held K.faults
-        objects.now hall.old hall.new sides.now sides.now number
+        objects.now hall.old hall.new sides.now.items sides.now.items number
         (line.Convert session object values.now) result }
 {
-    if !has_side(sides, &session) {
+    if !sides.has_side(&session) {
         return Reply::Refused(Refusal::UnknownSession);
     }
     match asked_of(alloc, objects, &object, Mode::O, values) {
@@ -254,29 +252,30 @@ pub(crate) fn convert<T: LockStore, K: Keeper>(
     }
 }
 
-/// Registers an effect that puts a row.
-pub(crate) fn put(
+/// Registers an effect. The text is what stands behind the key.
+pub(crate) fn effect(
     alloc: Global,
+    verb: Verb,
     session: Name,
     part: u8,
     table: Name,
     key: &[u8],
     text: &[u8],
-    sides: &mut Vec<Dialogue>,
+    sides: &mut Sides,
 ) -> Reply
     requires part { (part ≡ 1) ⊎ (part ≡ 2) }
     ensures done { (objects : List Object) (hall : State) (store : StoreView) (number : ℕ)
         → IsDone (world objects hall sides.old.items) (world objects hall sides.new.items) store store number
-        (line.Put session part table key.now text.now) result }
+        (effect_line verb session part table key.now text.now) result }
 {
-    if !has_side(sides.as_slice(), &session) {
+    if !sides.has_side(&session) {
         return Reply::Refused(Refusal::UnknownSession);
     }
-    let effect = match putting(alloc, table, key, text) {
+    let effect = match effect_in(alloc, verb, table, key, text) {
         Ok(effect) => effect,
         Err(refusal) => return Reply::Refused(refusal),
     };
-    match register(sides, &session, part, effect) {
+    match sides.register(&session, part, effect) {
         Ok(()) => Reply::Done,
         Err(refusal) => Reply::Refused(refusal),
     }
@@ -288,22 +287,21 @@ pub(crate) fn commit<T: LockStore, K: Keeper>(
     number: u32,
     session: Name,
     hall: &mut Hall<T, K>,
-    sides: &mut Vec<Dialogue>,
+    sides: &mut Sides,
 ) -> Reply
-    requires puts { HavePuts sides.old.items }
     ensures done { (objects : List Object) → DoesLine K.held K.faults
         objects hall.old hall.new sides.old.items sides.new.items number
         (line.Commit session) result }
 {
-    if !has_side(sides.as_slice(), &session) {
+    if !sides.has_side(&session) {
         return Reply::Refused(Refusal::UnknownSession);
     }
-    let Ok(parts) = parts(alloc, sides.as_slice(), &session) else {
+    let Ok(parts) = sides.parts(alloc, &session) else {
         return Reply::Refused(Refusal::NoMemory);
     };
     let reply = hall.commit(alloc, number, session, parts);
     if let Reply::Done | Reply::Unit(_) = reply {
-        drop_effects(sides, &session);
+        sides.drop_effects(&session);
     }
     reply
 }

@@ -47,6 +47,9 @@ pub(crate) fn is_built(line: &ScriptLine) -> bool
             | ScriptLine::Collect { .. }
             | ScriptLine::Convert { .. }
             | ScriptLine::Put { part: 1, .. }
+            | ScriptLine::Ins { part: 1, .. }
+            | ScriptLine::Del { part: 1, .. }
+            | ScriptLine::Add { part: 1, .. }
             | ScriptLine::Commit { .. }
             | ScriptLine::Take1 { .. }
             | ScriptLine::Do1 { .. }

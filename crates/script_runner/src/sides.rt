@@ -1,46 +1,157 @@
-ghost use Rattle.std.specs.Prelude.{◌≡◌, ◌⊎◌, ◌<◌, [], length, is_some, IfOk, IfSome, IsTrue, OnErr, vec_len, vec_capacity};
-ghost use Rattle.std.specs.List.{position};
+ghost use Rattle.std.specs.Prelude.{◌≡◌, ◌⊎◌, ◌≤◌, [], false, is_some, IfOk, IsTrue, OnErr, OnOk};
 ghost use Rattle.std.specs.Option.{option_copied};
 ghost use Rattle.dialogue_session.specs.Private.{without_effects, without_requests};
 ghost use Rattle.script_runner.specs.Answers.{IsGivenBy};
 ghost use Rattle.script_runner.specs.Lines.{collected, registered};
-ghost use Rattle.script_runner.specs.Sides.{container_of, is_side_of, parts_of, side_of, with_new_side, with_side, without_side};
+ghost use Rattle.script_runner.specs.Sides.{container_of, parts_of, side_of, with_new_side, with_side, without_side};
 
 use dialogue_session::Dialogue;
 use enq_base::{Effect, Items, Name, NoMemory, Parts, Refusal};
+use indexmap::IndexMap;
 use lock_entry::Request;
 use std::alloc::Global;
+use std::marker::Model;
 
-/// Whether the session has a private side.
-pub(crate) fn has_side(sides: &[Dialogue], name: &Name) -> bool
-    ensures { result ≡ is_some (side_of sides.now name.now) }
-{
-    side_of(sides, name).is_some()
+/// The private sides of the sessions that have logged on, in the order of their logons. Each is found by its session's
+/// name without a walk.
+#[derive(Drop)]
+pub(crate) struct Sides {
+    by_name: IndexMap<Name, Dialogue>,
 }
 
-fn side_of<'a>(sides: &'a [Dialogue], name: &Name) -> Option<&'a Dialogue>
-    ensures { option_copied result ≡ side_of sides.now name.now }
-{
-    sides.iter().find(|side| is_side_of(side, name))
+impl Model for Sides {
+    ghost use Rattle.indexmap.specs.IndexMap.{spare, values};
+    ghost use Rattle.hall.specs.Named.{AreNamed};
+    ghost use Rattle.script_runner.specs.Sides.{SidesView};
+
+    ghost Value = { SidesView };
+
+    ghost view = { λ s. record { items = values s.by_name; room = spare s.by_name } };
+
+    ghost invariant = { λ s. AreNamed (λ p. p.session) s.by_name.entries };
 }
 
-fn is_side_of(side: &Dialogue, name: &Name) -> bool
-    ensures { result ≡ is_side_of name.now side.now }
-{
-    side.session().is(name)
-}
+impl Sides {
+    /// No private side. It takes no memory.
+    pub(crate) fn new(alloc: Global) -> Sides
+        ensures { result.items ≡ [] }
+    {
+        Sides {
+            by_name: IndexMap::new(alloc),
+        }
+    }
 
-/// What the session has collected, copied.
-pub(crate) fn container(
-    alloc: Global,
-    sides: &[Dialogue],
-    name: &Name,
-) -> Result<Vec<Request>, NoMemory>
-    ensures { IfOk result (λ requests. requests.items ≡ container_of sides.now name.now) }
-{
-    match side_of(sides, name) {
-        Some(side) => copies(alloc, side.requests()),
-        None => Ok(Vec::new(alloc)),
+    /// Whether the session has a private side.
+    pub(crate) fn has_side(&self, name: &Name) -> bool
+        ensures { result ≡ is_some (side_of self.now.items name.now) }
+    {
+        self.side_of(name).is_some()
+    }
+
+    fn side_of(&self, name: &Name) -> Option<&Dialogue>
+        ensures { option_copied result ≡ side_of self.now.items name.now }
+    {
+        self.by_name.get(name)
+    }
+
+    /// What the session has collected, copied.
+    pub(crate) fn container(&self, alloc: Global, name: &Name) -> Result<Vec<Request>, NoMemory>
+        ensures { IfOk result (λ requests. requests.items ≡ container_of self.now.items name.now) }
+    {
+        match self.side_of(name) {
+            Some(side) => copies(alloc, side.requests()),
+            None => Ok(Vec::new(alloc)),
+        }
+    }
+
+    /// What the session has registered, copied.
+    pub(crate) fn parts(&self, alloc: Global, name: &Name) -> Result<Parts, NoMemory>
+        ensures { IfOk result (λ parts. parts ≡ parts_of self.now.items name.now) }
+    {
+        match self.side_of(name) {
+            Some(side) => side.parts(alloc),
+            None => Ok(Parts {
+                v1: Items::from_vec(Vec::new(alloc)),
+                v2: Items::from_vec(Vec::new(alloc)),
+            }),
+        }
+    }
+
+    /// Takes the memory for one more private side.
+    pub(crate) fn make_room(&mut self) -> Result<(), NoMemory>
+        ensures items { self.new.items ≡ self.old.items }
+        ensures room { OnOk result (1 ≤ self.new.room) }
+    {
+        self.by_name.reserve(1)?;
+        Ok(())
+    }
+
+    /// Makes the private side of a session that has logged on and has none yet. There is room for it.
+    pub(crate) fn enter(&mut self, alloc: Global, session: Name)
+        requires room { 1 ≤ self.old.room }
+        requires free { is_some (side_of self.old.items session) ≡ false }
+        ensures { self.new.items ≡ with_new_side session self.old.items }
+    {
+        let _ = self.by_name.insert(session, Dialogue::new(alloc, session));
+    }
+
+    /// Ends the private side of a session that has logged off.
+    pub(crate) fn leave(&mut self, name: &Name)
+        ensures { self.new.items ≡ without_side name.now self.old.items }
+    {
+        self.by_name.shift_remove(name);
+    }
+
+    /// Collects requests for the session, all or none.
+    pub(crate) fn collect(&mut self, name: &Name, requests: &[Request]) -> Result<(), Refusal>
+        requires { IsTrue (is_some (side_of self.old.items name.now)) }
+        ensures given { IsGivenBy (λ _. self.new.items) (collected self.old.items name.now requests.now) result }
+        ensures unchanged { OnErr result (self.new.items ≡ self.old.items) }
+    {
+        let Some(side) = self.by_name.get_mut(name) else {
+            unreachable!()
+        };
+        side.collect(requests)
+    }
+
+    /// Registers an effect for a part of the session's unit.
+    pub(crate) fn register(&mut self, name: &Name, part: u8, effect: Effect) -> Result<(), Refusal>
+        requires side { IsTrue (is_some (side_of self.old.items name.now)) }
+        requires part { (part ≡ 1) ⊎ (part ≡ 2) }
+        ensures given { IsGivenBy (λ _. self.new.items) (registered self.old.items name.now part effect) result }
+        ensures unchanged { OnErr result (self.new.items ≡ self.old.items) }
+    {
+        let Some(side) = self.by_name.get_mut(name) else {
+            unreachable!()
+        };
+        side.effect(part, effect)
+    }
+
+    /// Drops the session's effects, and keeps its container.
+    pub(crate) fn drop_effects(&mut self, name: &Name)
+        ensures { self.new.items ≡ with_side name.now without_effects self.old.items }
+    {
+        if let Some(side) = self.by_name.get_mut(name) {
+            side.drop_effects();
+        }
+    }
+
+    /// Empties the session's container.
+    pub(crate) fn reset(&mut self, name: &Name)
+        ensures { self.new.items ≡ with_side name.now without_requests self.old.items }
+    {
+        if let Some(side) = self.by_name.get_mut(name) {
+            side.reset();
+        }
+    }
+
+    /// Drops the session's effects and empties its container.
+    pub(crate) fn clear(&mut self, name: &Name)
+        ensures { self.new.items ≡ with_side name.now (λ p. without_requests (without_effects p)) self.old.items }
+    {
+        if let Some(side) = self.by_name.get_mut(name) {
+            side.clear();
+        }
     }
 }
 
@@ -50,105 +161,4 @@ fn copies(alloc: Global, requests: &[Request]) -> Result<Vec<Request>, NoMemory>
     let mut copies = Vec::new(alloc);
     copies.extend_from_slice(requests)?;
     Ok(copies)
-}
-
-/// Makes the private side of a session that has logged on. There is room for it.
-pub(crate) fn enter(alloc: Global, sides: &mut Vec<Dialogue>, session: Name)
-    requires { vec_len sides.old < vec_capacity sides.old }
-    ensures { sides.new.items ≡ with_new_side session sides.old.items }
-{
-    sides.push_reserved(Dialogue::new(alloc, session));
-}
-
-/// Ends the private side of a session that has logged off.
-pub(crate) fn leave(sides: &mut Vec<Dialogue>, name: &Name)
-    ensures { sides.new.items ≡ without_side name.now sides.old.items }
-{
-    sides.retain(|side| !is_side_of(side, name));
-}
-
-/// Collects requests for the session, all or none.
-pub(crate) fn collect(
-    sides: &mut Vec<Dialogue>,
-    name: &Name,
-    requests: &[Request],
-) -> Result<(), Refusal>
-    requires { IsTrue (is_some (side_of sides.old.items name.now)) }
-    ensures given { IsGivenBy (λ _. sides.new.items) (collected sides.old.items name.now requests.now) result }
-    ensures unchanged { OnErr result (sides.new.items ≡ sides.old.items) }
-{
-    let Some(place) = place_of(sides.as_slice(), name) else {
-        unreachable!()
-    };
-    let side = &mut sides[place];
-    side.collect(requests)
-}
-
-/// Registers an effect for a part of the session's unit.
-pub(crate) fn register(
-    sides: &mut Vec<Dialogue>,
-    name: &Name,
-    part: u8,
-    effect: Effect,
-) -> Result<(), Refusal>
-    requires side { IsTrue (is_some (side_of sides.old.items name.now)) }
-    requires part { (part ≡ 1) ⊎ (part ≡ 2) }
-    ensures given { IsGivenBy (λ _. sides.new.items) (registered sides.old.items name.now part effect) result }
-    ensures unchanged { OnErr result (sides.new.items ≡ sides.old.items) }
-{
-    let Some(place) = place_of(sides.as_slice(), name) else {
-        unreachable!()
-    };
-    let side = &mut sides[place];
-    side.effect(part, effect)
-}
-
-/// What the session has registered, copied.
-pub(crate) fn parts(alloc: Global, sides: &[Dialogue], name: &Name) -> Result<Parts, NoMemory>
-    ensures { IfOk result (λ parts. parts ≡ parts_of sides.now name.now) }
-{
-    match side_of(sides, name) {
-        Some(side) => side.parts(alloc),
-        None => Ok(Parts {
-            v1: Items::from_vec(Vec::new(alloc)),
-            v2: Items::from_vec(Vec::new(alloc)),
-        }),
-    }
-}
-
-/// Drops the session's effects, and keeps its container.
-pub(crate) fn drop_effects(sides: &mut Vec<Dialogue>, name: &Name)
-    ensures { sides.new.items ≡ with_side name.now without_effects sides.old.items }
-{
-    if let Some(place) = place_of(sides.as_slice(), name) {
-        let side = &mut sides[place];
-        side.drop_effects();
-    }
-}
-
-/// Empties the session's container.
-pub(crate) fn reset(sides: &mut Vec<Dialogue>, name: &Name)
-    ensures { sides.new.items ≡ with_side name.now without_requests sides.old.items }
-{
-    if let Some(place) = place_of(sides.as_slice(), name) {
-        let side = &mut sides[place];
-        side.reset();
-    }
-}
-
-/// Drops the session's effects and empties its container.
-pub(crate) fn clear(sides: &mut Vec<Dialogue>, name: &Name)
-    ensures { sides.new.items ≡ with_side name.now (λ p. without_requests (without_effects p)) sides.old.items }
-{
-    if let Some(place) = place_of(sides.as_slice(), name) {
-        let side = &mut sides[place];
-        side.clear();
-    }
-}
-
-fn place_of(sides: &[Dialogue], name: &Name) -> Option<usize>
-    ensures place { result ≡ position (is_side_of name.now) sides.now }
-    ensures within { IfSome result (λ i. i < length sides.now) }
-{
-    sides.iter().position(|side| is_side_of(side, name))
 }

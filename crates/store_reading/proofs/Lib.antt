@@ -2,4 +2,11 @@ pub mod Pages
 pub mod Spelled
 pub mod Stores
 pub mod Causes
-pub mod Numbered
+pub mod Firsts
+pub mod Statuses
+pub mod Ranges
+pub mod Twins
+pub mod Whole
+pub mod Draws
+pub mod Legal
+pub mod Levels

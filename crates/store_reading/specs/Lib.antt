@@ -1,4 +1,12 @@
 pub mod Tables
 pub mod Told
 pub mod Faults
+pub mod Ids
+pub mod Sameness
+pub mod First
 pub mod Rules
+pub mod Units
+pub mod Intervals
+pub mod Posts
+pub mod Lawful
+pub mod Standings

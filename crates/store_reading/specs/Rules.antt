@@ -1,6 +1,6 @@
 -- Rules of a good store, over the records of its tables, and the first place where a store breaks each.
-use Rattle.std.specs.Prelude.{ℕ, ◌+◌, Bool, false, not, ◌&&◌, nat_eq, nat_le, List, [], ◌∷◌, ◌++◌, Option, Some, None, if◌then◌else◌}
-use Rattle.std.specs.List.{list_any}
+use Rattle.std.specs.Prelude.{ℕ, ◌+◌, Bool, false, not, ◌&&◌, nat_eq, nat_le, List, [], ◌∷◌, length, Option, Some, None, if◌then◌else◌}
+use Rattle.std.specs.List.{flat_map, list_any}
 use Rattle.enq_base.specs.Owners.{same_unit}
 use Rattle.enq_base.specs.declared.owner.UnitKey.{UnitKey}
 use Rattle.enq_base.specs.declared.unit.Status.{Status}
@@ -8,6 +8,7 @@ use Rattle.update_records.specs.Marks.{may_follow, status_after}
 use Rattle.update_records.specs.declared.records.Mark.{Mark}
 use Rattle.update_records.specs.declared.stored.Record.{Record}
 use Rattle.update_records.specs.declared.stored.Record.TheVariants as rec
+use Rattle.store_reading.specs.First.{first_wrong}
 use Rattle.store_reading.specs.declared.rules.Place.{Place}
 
 -- ---- the meta row
@@ -33,31 +34,40 @@ abbrev pub has_number : ℕ → Record → Bool
 has_number n (rec.Mark m) = nat_eq m.seq n
 has_number n r = false
 
--- the marks are numbered from n on: the first that isn't
-abbrev pub number_fault : ℕ → List Record → Option Place
-number_fault n [] = None
-number_fault n (r ∷ marks) = if has_number n r then number_fault (n + 1) marks else Some (record { table = 4; row = n })
+-- the number of a mark is its place
+abbrev pub number_fault : List Record → Option Place
+number_fault marks = first_wrong (λ before. has_number (length before + 1)) 4 [] marks
 
 -- ---- what the marks say of their units
+
+abbrev pub mark_in : Record → List Mark
+mark_in (rec.Mark m) = m ∷ []
+mark_in r = []
+
+abbrev pub marks_in : List Record → List Mark
+marks_in records = flat_map mark_in records
 
 -- the header of this unit, with effects in its V2 part
 abbrev pub tells_second : UnitKey → Record → Bool
 tells_second key (rec.Header unit user v1 v2 locks numbers) = same_unit unit key && nat_le 1 v2
 tells_second key r = false
 
--- the status that marks give a unit, by the headers of table 1
+-- the headers of table 1 tell that this unit has a V2 part
+abbrev pub has_second : List Record → UnitKey → Bool
+has_second headers key = list_any (tells_second key) headers
+
+-- the status that marks give a unit
 abbrev pub status_in : List Record → List Mark → UnitKey → Option Status
-status_in headers marks key = status_after (not (list_any (tells_second key) headers)) key None marks
+status_in headers marks key = status_after (not (has_second headers key)) key None marks
 
--- a mark of a unit of this start or an earlier one, whose unit has the status that it needs
-abbrev pub is_right_mark : ℕ → List Record → List Mark → Mark → Bool
-is_right_mark start headers before m =
-    nat_le 1 m.unit.start && (nat_le m.unit.start start && may_follow (status_in headers before m.unit) m.kind)
+-- a unit of this start or an earlier one, which has the status that its mark needs
+abbrev pub may_mark : ℕ → Option Status → Mark → Bool
+may_mark start status m = nat_le 1 m.unit.start && (nat_le m.unit.start start && may_follow status m.kind)
 
--- the marks behind those before them: the first that isn't right, at its place from n on
-abbrev pub mark_fault : ℕ → List Record → List Mark → ℕ → List Record → Option Place
-mark_fault start headers before n [] = None
-mark_fault start headers before n (rec.Mark m ∷ marks) =
-    if is_right_mark start headers before m then mark_fault start headers (before ++ m ∷ []) (n + 1) marks
-    else Some (record { table = 4; row = n })
-mark_fault start headers before n (r ∷ marks) = Some (record { table = 4; row = n })
+abbrev pub is_right_mark : ℕ → List Record → List Record → Record → Bool
+is_right_mark start headers before (rec.Mark m) = may_mark start (status_in headers (marks_in before) m.unit) m
+is_right_mark start headers before r = false
+
+-- each mark follows the status that its unit has by the marks before it
+abbrev pub mark_fault : ℕ → List Record → List Record → Option Place
+mark_fault start headers marks = first_wrong (is_right_mark start headers) 4 [] marks

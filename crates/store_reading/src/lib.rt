@@ -1,17 +1,33 @@
 //! The rows of a whole store, read back into the records that they spell.
 #![tactic(auto)]
 
+mod counts;
 mod fault;
+mod interval_id;
 mod laws;
+mod level_rule;
+mod lock_id;
+mod lock_names;
+mod mark_rule;
+mod numbers;
 mod reading;
+mod row_id;
 mod rules;
 mod tables;
+mod unit_id;
+mod unit_rows;
+mod unit_rule;
 
 pub use fault::ReadingFault;
-pub use laws::stores_tell_one_answer;
+pub use laws::{
+    places_are_first, right_levels_are_lawful, right_marks_are_lawful, stores_tell_one_answer,
+};
+pub use level_rule::level_fault;
+pub use mark_rule::mark_fault;
 pub use reading::{StoredRecords, read_records};
 pub use rules::{Place, meta_fault, number_fault};
 pub use tables::read_table;
+pub use unit_rule::unit_fault;
 
 #[cfg(test)]
 mod tests;

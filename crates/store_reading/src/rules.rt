@@ -55,7 +55,7 @@ fn has_number(stored: &Record, number: u64) -> bool
 
 /// The first mark whose number isn't its place, counted from 1.
 pub fn number_fault(marks: &[Record]) -> Option<Place>
-    ensures { result ≡ number_fault 1 marks.now }
+    ensures { result ≡ number_fault marks.now }
 {
     let mut row = 1;
     for stored in marks {

@@ -1,6 +1,12 @@
 -- No two rows of a unit stand in one place.
-use Rattle.std.proofs.Common.{◌≡◌, ℕ, suc, ◌+◌, ◌^◌, ◌<◌, ◌≤◌, Bool, true, false, map, cond, eqb, List, [], ◌∷◌, ◌++◌, length, drop, get_or, refl, sym, ap, subst, ◌∙◌, arith}
-use Rattle.std.specs.List.{AllByRecursion, IsDistinct}
+use Rattle.std.proofs.Common.{◌≡◌, ℕ, ◌+◌, ◌^◌, ◌<◌, ◌≤◌, true, false, map, cond, eqb, List, [], ◌∷◌, ◌++◌, length, drop, get_or, refl, sym, ap, subst, ◌∙◌, arith}
+use Rattle.std.proofs.Common.{take, Some}
+use Rattle.std.specs.List.{AllByRecursion, Contains, IsDistinct}
+use Rattle.std.proofs.lemmas.List.Elements.{All-contains, All-from_recursion}
+use Rattle.update_records.specs.Grammar.{IsUnitKey}
+use Rattle.update_records.specs.Reading.{unit_at}
+use Rattle.update_records.proofs.FieldLaws.{some_is}
+use Rattle.update_records.proofs.RowLaws.{is_unit}
 use Rattle.std.proofs.lemmas.Map.Keys.{IsDistinct-head, IsDistinct-tail, IsDistinct-cons}
 use Rattle.byteorder.specs.Endian.{big_bytes, big_from}
 use Rattle.byteorder.specs.Numbers.{big_number-reads_back}
@@ -14,36 +20,36 @@ use Rattle.lock_entry.specs.declared.entry.Entry.{Entry as Lock}
 use Rattle.update_records.specs.declared.records.Unit.{Unit as UnitOfWork}
 use Rattle.update_records.specs.RecordRows.{header_row, unit_rows, module_row, step_row, step_rows, part_rows, lock_row, lock_rows, unit_bytes}
 
-abbrev spots : List Change → List Spot
+abbrev pub spots : List Change → List Spot
 spots cs = map spot_of cs
 
 -- the spot is none of these rows'
-abbrev IsApart : Spot → List Change → Type 0
+abbrev pub IsApart : Spot → List Change → Type 0
 IsApart s cs = AllByRecursion (λ y. is_same_spot s y ≡ false) (spots cs)
 
-abbrev AllApart : List Change → List Change → Type 0
+abbrev pub AllApart : List Change → List Change → Type 0
 AllApart xs ys = AllByRecursion (λ x. IsApart (spot_of x) ys) xs
 
-abbrev AreDistinct : List Change → Type 0
+abbrev pub AreDistinct : List Change → Type 0
 AreDistinct cs = IsDistinct is_same_spot (spots cs)
 
-not_same : (a b : Spot) → (a ≡ b → ⊥) → is_same_spot a b ≡ false
+pub not_same : (a b : Spot) → (a ≡ b → ⊥) → is_same_spot a b ≡ false
 not_same a b h = elim (is_same_spot a b) as (λ r. is_same_spot a b ≡ r → r ≡ false) [ true ↦ λ e. absurd (h (same_spot a b e)) | false ↦ λ e. refl ] refl
 
 spots_append : (xs ys : List Change) → spots (xs ++ ys) ≡ spots xs ++ spots ys
 spots_append [] ys = refl
 spots_append (x ∷ xs) ys = ap (λ r. spot_of x ∷ r) (spots_append xs ys)
 
-all_append : {X : Type 0} (P : X → Type 0) (xs ys : List X) → AllByRecursion P xs → AllByRecursion P ys → AllByRecursion P (xs ++ ys)
+pub all_append : {X : Type 0} (P : X → Type 0) (xs ys : List X) → AllByRecursion P xs → AllByRecursion P ys → AllByRecursion P (xs ++ ys)
 all_append P [] ys a b = b
 all_append P (x ∷ xs) ys a b = (a.0, all_append P xs ys a.1 b)
 
-none_distinct : AreDistinct []
+pub none_distinct : AreDistinct []
 unfolding IsDistinct
 none_distinct = tt
 
 -- two lists of rows, of which no row is in both
-distinct_append : (xs ys : List Change) → AreDistinct xs → AreDistinct ys → AllApart xs ys → AreDistinct (xs ++ ys)
+pub distinct_append : (xs ys : List Change) → AreDistinct xs → AreDistinct ys → AllApart xs ys → AreDistinct (xs ++ ys)
 distinct_append [] ys dx dy apart = dy
 distinct_append (x ∷ xs) ys dx dy apart =
     let head = IsDistinct-head is_same_spot (spot_of x) (spots xs) dx in
@@ -169,7 +175,7 @@ locks_distinct key index (lock ∷ locks) fits =
 
 -- ---- units
 
-unit_distinct : (unit : UnitOfWork) → length unit.parts.v1 + length unit.parts.v2 ≤ 200 → length unit.entries < 2 ^ 32 → AreDistinct (unit_rows unit)
+pub unit_distinct : (unit : UnitOfWork) → length unit.parts.v1 + length unit.parts.v2 ≤ 200 → length unit.entries < 2 ^ 32 → AreDistinct (unit_rows unit)
 unit_distinct unit few few_locks =
     let v1 = part_rows unit.key 1 unit.parts.v1 in
     let v2 = part_rows unit.key 2 unit.parts.v2 in
@@ -207,3 +213,46 @@ unit_batch unit few few_locks =
       keys = (omega arith, all_append HasKey (v1 ++ v2) locks (all_append HasKey v1 v2 (part_keyed unit.key 1 unit.parts.v1) (part_keyed unit.key 2 unit.parts.v2)) (locks_keyed unit.key 1 unit.entries));
       distinct = unit_distinct unit few few_locks;
     }
+
+-- ---- two units
+
+-- the row's key begins with the unit
+abbrev IsRowOf : UnitKey → Change → Type 0
+IsRowOf key c = take 12 (spot_of c).1 ≡ unit_bytes key
+
+begins : (key : UnitKey) (rest : List ℕ) → take 12 (unit_bytes key ++ rest) ≡ unit_bytes key
+begins key rest = refl
+
+whole_key : (key : UnitKey) → take 12 (unit_bytes key) ≡ unit_bytes key
+whole_key key = refl
+
+steps_begin : (key : UnitKey) (part index : ℕ) (effects : List Effect) → AllByRecursion (IsRowOf key) (step_rows key part index effects)
+steps_begin key part index [] = tt
+steps_begin key part index (effect ∷ effects) = (begins key (part ∷ big_bytes 2 index), steps_begin key part (index + 1) effects)
+
+part_begins : (key : UnitKey) (part : ℕ) (effects : List Effect) → AllByRecursion (IsRowOf key) (part_rows key part effects)
+part_begins key part [] = tt
+part_begins key part (effect ∷ effects) = (begins key (part ∷ []), steps_begin key part 1 (effect ∷ effects))
+
+locks_begin : (key : UnitKey) (index : ℕ) (locks : List Lock) → AllByRecursion (IsRowOf key) (lock_rows key index locks)
+locks_begin key index [] = tt
+locks_begin key index (lock ∷ locks) = (begins key (big_bytes 4 index), locks_begin key (index + 1) locks)
+
+unit_begins : (unit : UnitOfWork) → AllByRecursion (IsRowOf unit.key) (unit_rows unit)
+unit_begins unit =
+    let v1 = part_rows unit.key 1 unit.parts.v1 in
+    let v2 = part_rows unit.key 2 unit.parts.v2 in
+    let locks = lock_rows unit.key 1 unit.entries in
+    (whole_key unit.key, all_append (IsRowOf unit.key) (v1 ++ v2) locks (all_append (IsRowOf unit.key) v1 v2 (part_begins unit.key 1 unit.parts.v1) (part_begins unit.key 2 unit.parts.v2)) (locks_begin unit.key 1 unit.entries))
+
+one_key : (a b : UnitKey) → IsUnitKey a → IsUnitKey b → unit_bytes a ≡ unit_bytes b → a ≡ b
+one_key a b is_a is_b same =
+    let both : Some (a, []) ≡ Some (b, []) = sym (is_unit.again a [] is_a) ∙ ap (λ (bytes : List ℕ). unit_at (bytes ++ [])) same ∙ is_unit.again b [] is_b in
+    ap (λ (p : UnitKey × List ℕ). p.0) (some_is (a, []) (b, []) both)
+
+-- rows of two units stand in two places
+pub units_apart : (u v : UnitOfWork) → IsUnitKey u.key → IsUnitKey v.key → (u.key ≡ v.key → ⊥) → (c d : Change) → Contains (unit_rows u) c → Contains (unit_rows v) d → spot_of c ≡ spot_of d → ⊥
+units_apart u v is_u is_v differ c d in_u in_v same =
+    let a : IsRowOf u.key c = All-contains (IsRowOf u.key) (unit_rows u) c (All-from_recursion (IsRowOf u.key) (unit_rows u) (unit_begins u)) in_u in
+    let b : IsRowOf v.key d = All-contains (IsRowOf v.key) (unit_rows v) d (All-from_recursion (IsRowOf v.key) (unit_rows v) (unit_begins v)) in_v in
+    differ (one_key u.key v.key is_u is_v (sym a ∙ ap (λ (s : Spot). take 12 s.1) same ∙ b))

@@ -1,6 +1,5 @@
 -- The row of a mark.
-use Rattle.std.proofs.Common.{◌≡◌, ℕ, ◌+◌, ◌^◌, ◌<◌, ◌≤◌, Bool, true, false, cond, eqb, List, [], ◌∷◌, ◌++◌, length, Option, Some, None, refl, sym, ap, subst, ◌∙◌, arith}
-use Rattle.std.specs.Int.{w16, w32, w64}
+use Rattle.std.proofs.Common.{◌≡◌, ℕ, ◌^◌, ◌<◌, List, [], ◌∷◌, ◌++◌, Option, Some, None, refl, sym, ap, subst, arith}
 use Rattle.byteorder.specs.Endian.{big_bytes}
 use Rattle.keeper_api.specs.declared.rows.Change.TheVariants.{Put as PutRow}
 use Rattle.enq_base.specs.declared.owner.UnitKey.{UnitKey}
@@ -15,7 +14,7 @@ use Rattle.update_records.specs.declared.stored.Record.TheVariants as rec
 use Rattle.update_records.specs.Grammar.{IsWord, IsUnitKey}
 use Rattle.update_records.specs.RecordRows.{unit_bytes, kind_number, reason_number, mark_tail}
 use Rattle.update_records.specs.Spelling.{IsRecord, record_row, AreNumbers, HasFields}
-use Rattle.update_records.specs.Fields.{◌>>=◌, Field, ◌then◌, ◌&◌, ◌giving◌, whole, number_at, code_at}
+use Rattle.update_records.specs.Fields.{◌>>=◌, ◌&◌, ◌giving◌}
 use Rattle.update_records.specs.Reading.{byte_at, unit_at, nums_at, reason_of, refusal_at, bare_kind, kind_at, mark_key, mark_value, mark_at}
 use Rattle.update_records.proofs.FieldLaws.{IsBytes, some_is, bind_some, Takes, IsField, IsWhole, is_then, is_both, is_giving, is_whole, IsCode, is_code, code_first}
 use Rattle.update_records.proofs.RowLaws.{is_byte, is_32, is_64, is_unit, row_takes, row_again}

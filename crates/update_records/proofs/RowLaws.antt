@@ -1,22 +1,20 @@
 -- A row that is read is the row of its record, and the row of a record is read again.
-use Rattle.std.proofs.Common.{◌≡◌, ◌⊎◌, ℕ, zero, suc, ◌+◌, ◌^◌, ◌<◌, ◌≤◌, Bool, true, false, ◌&&◌, cond, ltb, eqb, leb, List, [], ◌∷◌, ◌++◌, length, Option, Some, None, refl, sym, ap, subst, ◌∙◌, arith, inl, inr}
+use Rattle.std.proofs.Common.{◌≡◌, ℕ, ◌^◌, ◌<◌, ◌≤◌, Bool, true, false, ◌&&◌, eqb, leb, List, [], ◌∷◌, ◌++◌, length, Option, Some, None, refl, sym, ap, subst, ◌∙◌, arith}
 use Rattle.std.specs.Prelude.{IsTrue}
 use Rattle.std.specs.List.{list_all}
 use Rattle.std.specs.Int.{w16, w32, w64}
 use Rattle.std.proofs.lemmas.Bool.{leb-true, le-leb, eqb-true}
 use Rattle.byteorder.specs.Endian.{big_bytes}
-use Rattle.keeper_api.specs.declared.rows.Change.{Change}
 use Rattle.keeper_api.specs.declared.rows.Change.TheVariants.{Put as PutRow}
 use Rattle.enq_base.specs.Grammar.{is_name, is_key, is_text, is_pattern, is_digit, is_letter, is_name_byte, is_key_byte, is_text_byte}
-use Rattle.enq_base.specs.declared.owner.UnitKey.{UnitKey}
 use Rattle.update_records.specs.declared.stored.Record.{Record}
 use Rattle.update_records.specs.declared.stored.Record.TheVariants as rec
-use Rattle.update_records.specs.Grammar.{IsWord, IsUnitKey, IsNr}
+use Rattle.update_records.specs.Grammar.{IsUnitKey, IsNr}
 use Rattle.update_records.specs.RecordRows.{short, row_name, unit_bytes, level_value, flag}
 use Rattle.update_records.specs.Spelling.{IsRecord, record_row, IsPart}
-use Rattle.update_records.specs.Fields.{◌>>=◌, Field, ◌then◌, ◌&◌, ◌giving◌, ◌if_it◌, whole, all_if, bytes_at, number_at, code_at}
+use Rattle.update_records.specs.Fields.{◌>>=◌, all_if, bytes_at, number_at}
 use Rattle.update_records.specs.Reading.{byte_at, short_at, name_at, key_at, pattern_at, unit_at, nr_at, part_at, meta_key, meta_value, meta_at, flag_of, level_key, level_tail, level_at, business_key, business_at}
-use Rattle.update_records.proofs.FieldLaws.{IsBytes, some_is, bind_some, pass_some, Takes, IsField, IsWhole, is_then, is_both, is_giving, is_tested, is_whole, is_all, is_bytes, wide16, wide32, wide64, is_number, IsCode, is_code, code_first}
+use Rattle.update_records.proofs.FieldLaws.{IsBytes, some_is, bind_some, IsField, IsWhole, is_then, is_both, is_giving, is_tested, is_whole, is_all, is_bytes, wide16, wide32, wide64, is_number, IsCode, is_code, code_first}
 
 -- ---- fields of every table
 

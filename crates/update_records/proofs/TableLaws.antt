@@ -1,10 +1,8 @@
 -- The rows of every table.
-use Rattle.std.proofs.Common.{◌≡◌, ℕ, ◌<◌, Bool, true, false, cond, eqb, List, [], ◌∷◌, ◌++◌, Option, Some, None, Result, Ok, Err, refl, sym, ap, subst, ◌∙◌, arith}
+use Rattle.std.proofs.Common.{◌≡◌, ℕ, Bool, true, false, cond, eqb, List, Option, Some, None, Result, Ok, Err, refl, sym, ap, ◌∙◌}
 use Rattle.std.specs.Prelude.{IfOk}
 use Rattle.std.proofs.lemmas.Bool.{eqb-true}
-use Rattle.keeper_api.specs.declared.rows.Change.{Change}
 use Rattle.keeper_api.specs.declared.rows.Change.TheVariants.{Put as PutRow}
-use Rattle.keeper_api.specs.declared.rows.Row.{Row}
 use Rattle.update_records.specs.declared.fault.RowFault.{RowFault}
 use Rattle.update_records.specs.declared.fault.RowFault.TheVariants as faults
 use Rattle.update_records.specs.declared.stored.Record.{Record}

@@ -1,5 +1,5 @@
 -- The rows of a unit are those of its records, which are in the grammar.
-use Rattle.std.proofs.Common.{◌≡◌, ℕ, ◌+◌, ◌^◌, ◌<◌, ◌≤◌, map, List, [], ◌∷◌, ◌++◌, length, refl, sym, ap, subst, ◌∙◌, arith}
+use Rattle.std.proofs.Common.{◌≡◌, ℕ, ◌+◌, ◌^◌, ◌<◌, ◌≤◌, map, List, [], ◌∷◌, ◌++◌, length, refl, ap, ◌∙◌, arith}
 use Rattle.std.specs.Prelude.{IsTrue}
 use Rattle.std.specs.List.{All, AllByRecursion}
 use Rattle.std.proofs.lemmas.List.Elements.{recursion_from_All, All-from_recursion}
@@ -8,11 +8,13 @@ use Rattle.enq_base.specs.Grammar.{is_name}
 use Rattle.enq_base.specs.declared.owner.UnitKey.{UnitKey}
 use Rattle.enq_base.specs.declared.unit.Effect.{Effect}
 use Rattle.lock_entry.specs.declared.entry.Entry.{Entry as Lock}
+use Rattle.update_records.specs.declared.records.MarkKind.{MarkKind}
+use Rattle.update_records.specs.declared.records.MarkKind.TheVariants.{Num, Rec, V1, Bad1, Again1, V2, Bad2, Again2, Gone}
 use Rattle.update_records.specs.declared.records.Unit.{Unit as UnitOfWork}
 use Rattle.update_records.specs.declared.stored.Record.{Record}
-use Rattle.update_records.specs.Grammar.{IsUnitKey, IsEffect, IsNumber, IsEntryOf, IsHeldBy, HasNames}
+use Rattle.update_records.specs.Grammar.{IsKind, IsUnitKey, IsEffect, IsNumber, IsEntryOf, IsHeldBy, HasNames}
 use Rattle.update_records.specs.RecordRows.{header_row, module_row, step_row, step_rows, part_rows, lock_row, lock_rows, unit_rows}
-use Rattle.update_records.specs.Spelling.{IsRecord, IsPart, record_row, header_of, steps_of, part_of, locks_of, records_of}
+use Rattle.update_records.specs.Spelling.{HasFields, IsRecord, IsPart, record_row, header_of, steps_of, part_of, locks_of, records_of}
 
 -- ---- rows
 
@@ -89,3 +91,15 @@ held_are unit locks held named i d h =
     let a = held i d h in
     let b = named i d h in
     record { owner = a.owner; user = a.user; table = b.0; pattern = b.1; mode = a.mode; low = a.low; high = a.high; handed = a.handed }
+
+-- a kind that a ledger may have is in the grammar
+pub kind_fits : (kind : MarkKind) → IsKind kind → HasFields kind
+kind_fits (Num numbers) is = record { few = omega (arith, is.1); each = is.2 }
+kind_fits Rec is = tt
+kind_fits V1 is = tt
+kind_fits (Bad1 index reason) is = is
+kind_fits Again1 is = tt
+kind_fits V2 is = tt
+kind_fits (Bad2 index reason) is = is
+kind_fits Again2 is = tt
+kind_fits Gone is = tt

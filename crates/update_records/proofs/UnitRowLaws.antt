@@ -1,8 +1,8 @@
 -- The rows of a unit: its header, its parts and its locks.
-use Rattle.std.proofs.Common.{◌≡◌, ℕ, ◌+◌, ◌^◌, ◌<◌, ◌≤◌, Bool, true, false, ◌&&◌, cond, eqb, leb, List, [], ◌∷◌, ◌++◌, length, Option, Some, None, refl, sym, ap, subst, ◌∙◌, append_assoc, arith}
+use Rattle.std.proofs.Common.{◌≡◌, ℕ, ◌^◌, ◌<◌, ◌≤◌, false, ◌&&◌, leb, List, [], ◌∷◌, ◌++◌, length, Some, None, refl, sym, ap, subst, ◌∙◌, append_assoc, arith}
 use Rattle.std.specs.Prelude.{IsTrue}
 use Rattle.std.specs.List.{flat_map, AllByRecursion}
-use Rattle.std.specs.Int.{w16, w32}
+use Rattle.std.specs.Int.{w16}
 use Rattle.std.proofs.lemmas.Bool.{leb-true, le-leb}
 use Rattle.std.proofs.lemmas.List.Elements.{recursion_from_All, All-from_recursion}
 use Rattle.byteorder.specs.Endian.{big_bytes}
@@ -14,11 +14,11 @@ use Rattle.mode_rules.specs.declared.Mode.{Mode}
 use Rattle.mode_rules.specs.declared.Mode.TheVariants.{S, E, X, O}
 use Rattle.update_records.specs.declared.stored.Record.{Record}
 use Rattle.update_records.specs.declared.stored.Record.TheVariants as rec
-use Rattle.update_records.specs.Grammar.{IsUnitKey, IsNr, IsNumber, is_optimistic}
+use Rattle.update_records.specs.Grammar.{IsUnitKey, IsNumber, is_optimistic}
 use Rattle.update_records.specs.RecordRows.{short, unit_bytes, number_bytes, numbers_bytes, header_value, mode_number, lock_value}
 use Rattle.update_records.specs.Spelling.{IsRecord, record_row, IsPart, IsPlace, AreNumbers}
-use Rattle.update_records.specs.Fields.{◌>>=◌, Field, ◌then◌, ◌&◌, ◌giving◌, ◌if_it◌, whole, number_at, code_at, many}
-use Rattle.update_records.specs.Reading.{name_at, unit_at, part_at, pattern_at, num_at, nums_at, unit_key, header_tail, header_at, module_key, module_tail, module_at, lock_key, mode_of, count_at, lock_tail, lock_at}
+use Rattle.update_records.specs.Fields.{Field, ◌if_it◌, number_at, many}
+use Rattle.update_records.specs.Reading.{num_at, nums_at, unit_key, header_tail, header_at, module_key, module_tail, module_at, lock_key, mode_of, count_at, lock_tail, lock_at}
 use Rattle.update_records.proofs.FieldLaws.{IsBytes, IsField, IsWhole, is_then, is_both, is_giving, is_tested, is_whole, is_many, IsCode, is_code, code_first}
 use Rattle.update_records.proofs.RowLaws.{IsName, both_true, is_name_field, is_pattern_field, is_16, is_32, is_64, is_unit, is_nr, is_part, row_takes, row_again}
 

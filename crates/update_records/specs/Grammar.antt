@@ -89,7 +89,7 @@ IsKind kind = Unit {0}
 abbrev pub HasDigits : Number → Type 0
 HasDigits num = IsNr num.nr
 
--- names and keys apart, the same as `IsEntryOf`
+-- a lock that was handed to its unit, whatever its table and its argument are
 pub record IsHeldBy (unit : UnitOfWork) (entry : Entry) : Type 0 where
   pub owner : entry.owner ≡ Upd unit.key
   pub user : entry.user ≡ unit.user
@@ -98,9 +98,11 @@ pub record IsHeldBy (unit : UnitOfWork) (entry : Entry) : Type 0 where
   pub high : entry.count ≤ 9999
   pub handed : entry.handed ≡ true
 
+-- its table and its argument are in their grammars
 abbrev pub HasNames : Entry → Type 0
 HasNames entry = IsTrue (is_name entry.table) × IsTrue (is_pattern entry.pattern)
 
+-- a mark of numbers alone has 1 to 64, each with two digits
 abbrev pub MayMark : MarkKind → Type 0
 MayMark (Num numbers) = (1 ≤ length numbers) × (length numbers ≤ 64) × All HasDigits numbers
 MayMark kind = Unit {0}

@@ -1,5 +1,5 @@
 -- Reading a row of each table.
-use Rattle.std.specs.Prelude.{ℕ, ◌≡◌, Bool, true, false, ◌&&◌, nat_le, ◌==◌, List, [], ◌∷◌, length, Option, Some, None, if◌then◌else◌, ℤ}
+use Rattle.std.specs.Prelude.{ℕ, Bool, true, false, ◌&&◌, nat_le, ◌==◌, List, Option, Some, None, if◌then◌else◌, ℤ}
 use Rattle.std.specs.Int.{w16, w32, w64, cast_signed}
 use Rattle.std.specs.List.{list_all}
 use Rattle.enq_base.specs.Grammar.{is_name, is_key, is_text, is_pattern, is_digit}
@@ -12,7 +12,6 @@ use Rattle.enq_base.specs.declared.unit.Reason.{Reason}
 use Rattle.enq_base.specs.declared.unit.Reason.TheVariants.{Duplicate, Missing, NotNumber, Overflow}
 use Rattle.mode_rules.specs.declared.Mode.{Mode}
 use Rattle.mode_rules.specs.declared.Mode.TheVariants.{S, E, X}
-use Rattle.update_records.specs.declared.records.Mark.{Mark}
 use Rattle.update_records.specs.declared.records.MarkKind.{MarkKind}
 use Rattle.update_records.specs.declared.records.MarkKind.TheVariants.{Num, Rec, V1, Bad1, Again1, V2, Bad2, Again2, Gone}
 use Rattle.update_records.specs.declared.stored.Record.{Record}

@@ -9,7 +9,6 @@ use Rattle.enq_base.specs.declared.owner.UnitKey.{UnitKey}
 use Rattle.enq_base.specs.declared.unit.Effect.{Effect}
 use Rattle.enq_base.specs.declared.unit.Num.{Num as Number}
 use Rattle.lock_entry.specs.declared.entry.Entry.{Entry}
-use Rattle.update_records.specs.declared.records.Mark.{Mark}
 use Rattle.update_records.specs.declared.records.MarkKind.{MarkKind}
 use Rattle.update_records.specs.declared.records.MarkKind.TheVariants.{Num, Bad1, Bad2}
 use Rattle.update_records.specs.declared.records.Unit.{Unit as UnitOfWork}

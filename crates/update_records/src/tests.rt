@@ -387,3 +387,27 @@ fn the_rows_of_a_unit_are_written(rt: HostRuntime) -> Result<(), Fail> {
     }
     Ok(())
 }
+
+#[test]
+fn the_row_of_an_interval_is_written(rt: HostRuntime) -> Result<(), Fail> {
+    let alloc = rt.alloc();
+    let Some(object) = read_name(b"RF") else {
+        return Err(Fail::from("a name"));
+    };
+    let interval = Interval {
+        from: 1,
+        to: 99,
+        level: 42,
+        buffered: true,
+    };
+    let Change::Put { table, key, value } = encode_level(alloc, &object, *b"01", &interval)? else {
+        return Err(Fail::from("a row that is put"));
+    };
+    assert_eq!(rt; table, 5);
+    assert_eq!(rt; key.as_slice(), b"\x02RF01".as_slice());
+    assert_eq!(rt;
+        value.as_slice(),
+        b"\x00\x00\x00\x00\x00\x00\x00\x01\x00\x00\x00\x00\x00\x00\x00\x63\x00\x00\x00\x00\x00\x00\x00\x2a\x01".as_slice()
+    );
+    Ok(())
+}

@@ -1,23 +1,30 @@
-use Rattle.std.proofs.Common.{◌+◌, sym, rules}
+use Rattle.std.proofs.Common.{◌+◌, sym, ap, ◌∙◌, subst, rules}
+use Rattle.std.specs.Prelude.{Err}
+use Rattle.std.proofs.lemmas.Result.{err_from_is_err_and}
+use Rattle.hall.specs.declared.command.Command.TheVariants as command
+use Rattle.hall.specs.Acts.{IsAct}
+use Rattle.hall.specs.Step.{answer_of}
 use Rattle.hall.proofs.Calls.{at_state, logs_on_twice, logs_on_full, logs_on_wanting, logs_on}
 use Rattle.hall.proofs.sessions.log_on.Goals as goal
 
 pub returns-then-is_some : goal.returns-then-is_some
-returns-then-is_some c = record { act = λ s sessions next room. logs_on_twice s c.args.sessions.now.items c.args.next.now c.args.name c.args.user sessions next room (search rules) }
+returns-then-is_some c = record { act = λ s sessions next room. logs_on_twice s c.args.sessions.now c.args.next.now c.args.name c.args.user sessions next room (search rules) }
 
 pub returns-then-len-ge-SESSIONS_LIMIT : goal.returns-then-len-ge-SESSIONS_LIMIT
-returns-then-len-ge-SESSIONS_LIMIT c = record { act = λ s sessions next room. logs_on_full s c.args.sessions.now.items c.args.next.now c.args.name c.args.user sessions next room (search rules) (search rules) }
+returns-then-len-ge-SESSIONS_LIMIT c = record { act = λ s sessions next room. logs_on_full s c.args.sessions.now c.args.next.now c.args.name c.args.user sessions next room (search rules) (search rules) }
 
-pub returns-in-Ok : goal.returns-in-Ok
-returns-in-Ok c = record {
+pub returns-in_err-push : goal.returns-in_err-push
+returns-in_err-push c = record {
   act = λ s sessions next room.
-      at_state _ _ _ _ _ (λ i. record s { sessions = sym c.in-Ok.ensures.items i; next_session = c.args.next.now + 1 })
-      (logs_on s c.args.sessions.now.items c.args.next.now c.args.name c.args.user sessions next room (search rules) (search rules));
+      let p = err_from_is_err_and c.from_residual.result c.from_residual.ensures.1 in
+      subst (λ r. IsAct s (command.Logon c.args.name c.args.user) (record s { sessions = c.push.new.self; next_session = c.args.next.now }) (answer_of r)) (sym (p.1 ∙ ap Err (p.2 ∙ c.in_err-push.ensures.refused)))
+      (at_state _ _ _ _ _ (λ i. record s { sessions = sym c.in_err-push.ensures.unchanged i; next_session = c.args.next.now })
+      (logs_on_wanting s c.args.sessions.now c.args.next.now c.args.name c.args.user sessions next room (search rules) (search rules)));
 }
 
-pub returns-in-Err : goal.returns-in-Err
-returns-in-Err c = record {
+pub returns : goal.returns
+returns c = record {
   act = λ s sessions next room.
-      at_state _ _ _ _ _ (λ i. record s { sessions = sym c.in-Err.ensures.items i; next_session = c.args.next.now })
-      (logs_on_wanting s c.args.sessions.now.items c.args.next.now c.args.name c.args.user sessions next room (search rules) (search rules));
+      at_state _ _ _ _ _ (λ i. record s { sessions = sym c.in_ok-push.ensures.pushed i; next_session = c.args.next.now + 1 })
+      (logs_on s c.args.sessions.now c.args.next.now c.args.name c.args.user sessions next room (search rules) (search rules));
 }

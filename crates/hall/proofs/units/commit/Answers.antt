@@ -2,39 +2,38 @@ use Rattle.std.proofs.Common.{◌≤◌, sym, refl, ap, ◌∙◌, subst, arith}
 use Rattle.std.specs.Prelude.{is_some}
 use Rattle.enq_base.specs.Causes.{Rose}
 use Rattle.posting.specs.Steps.{after_step}
-use Rattle.posting.specs.declared.prepared.Step.TheVariants.{Record}
 use Rattle.update_records.specs.Growing.{with_unit}
 use Rattle.update_records.specs.declared.records.Unit.{Unit as UnitOfWork}
 use Rattle.hall.proofs.Writes.{commits, commits_in_doubt, commits_nothing, commits_too_much, commits_unknown, may_record}
-use Rattle.hall.proofs.Leaves.{answered_leaves, failed_leaves}
+use Rattle.hall.proofs.Leaves.{answered_leaves, failed_leaves, where_told}
 use Rattle.hall.specs.Leaving.{HasStoreCause}
-use Rattle.hall.specs.Sessions.{session_at}
 use Rattle.hall.specs.Step.{unit_of}
 use Rattle.hall.specs.declared.command.Reply.TheVariants as reply
+use Rattle.hall.specs.declared.units.InFlight.TheVariants as flight
 use Rattle.hall.proofs.units.commit.Goals as goal
 
 pub returns-in-Err-clause-act : goal.returns-in-Err-clause-act
 returns-in-Err-clause-act g c s e f l room =
-    commits_unknown s c.args.sessions.now.items (g.T.LockStore.table c.args.locks.now).entries c.args.books.now.ledger c.args.name.now c.args.parts.now c.in-Err.refusal e f l room
-    (ap (λ xs. session_at xs c.args.name.now) (sym c.as_slice.ensures.value) ∙ c.in-Err.ensures.unknown.0) c.in-Err.ensures.unknown.1
+    commits_unknown s c.args.sessions.now (g.T.LockStore.table c.args.locks.now).entries c.args.books.now.ledger c.args.name.now c.args.parts.now c.in-Err.refusal e f l room
+    c.in-Err.ensures.unknown.0 c.in-Err.ensures.unknown.1
 
 pub returns-then-effects-gt-EFFECTS_LIMIT-clause-act : goal.returns-then-effects-gt-EFFECTS_LIMIT-clause-act
 returns-then-effects-gt-EFFECTS_LIMIT-clause-act g c s e f l room =
-    commits_too_much s c.args.sessions.now.items (g.T.LockStore.table c.args.locks.now).entries c.args.books.now.ledger c.args.name.now c.in-Ok.session c.args.parts.now e f l room
-    (ap (λ xs. session_at xs c.args.name.now) (sym c.as_slice.ensures.value) ∙ c.in-Ok.ensures.found)
+    commits_too_much s c.args.sessions.now (g.T.LockStore.table c.args.locks.now).entries c.args.books.now.ledger c.args.name.now c.in-Ok.session c.args.parts.now e f l room
+    c.in-Ok.ensures.found
     (omega (arith, c.if-effects-gt-EFFECTS_LIMIT.true, c.effects_in-effects.ensures))
 
 pub returns-then-effects-eq0-clause-act : goal.returns-then-effects-eq0-clause-act
 returns-then-effects-eq0-clause-act g c s e f l room =
-    commits_nothing s c.args.sessions.now.items (g.T.LockStore.table c.args.locks.now).entries c.args.books.now.ledger c.args.name.now c.in-Ok.session c.args.parts.now e f l room
-    (ap (λ xs. session_at xs c.args.name.now) (sym c.as_slice.ensures.value) ∙ c.in-Ok.ensures.found)
+    commits_nothing s c.args.sessions.now (g.T.LockStore.table c.args.locks.now).entries c.args.books.now.ledger c.args.name.now c.in-Ok.session c.args.parts.now e f l room
+    c.in-Ok.ensures.found
     (sym c.effects_in-effects.ensures ∙ c.if-effects-eq0.true)
 
 pub prepare_unit-requires-clause-unit : goal.prepare_unit-requires-clause-unit
 prepare_unit-requires-clause-unit g c =
-    may_record c.args.books.now.ledger c.args.sessions.now.items c.args.name.now c.in-Ok.session c.args.parts.now c.start.result c.in-Ok-unit_of.unit c.start.ensures c.in-Ok-unit_of.ensures
-    (ap (λ xs. session_at xs c.args.name.now) (sym c.as_slice.ensures.value) ∙ c.in-Ok.ensures.found)
-    c.requires.fresh c.requires.started (omega (arith, c.if-effects-eq0.false, c.effects_in-effects.ensures)) (omega (arith, c.if-effects-gt-EFFECTS_LIMIT.false, c.effects_in-effects.ensures)) c.requires.puts
+    may_record c.args.books.now.ledger c.args.sessions.now c.args.name.now c.in-Ok.session c.args.parts.now c.start.result c.in-Ok-unit_of.unit c.start.ensures c.in-Ok-unit_of.ensures
+    c.in-Ok.ensures.found
+    c.requires.fresh c.requires.started (omega (arith, c.if-effects-eq0.false, c.effects_in-effects.ensures)) (omega (arith, c.if-effects-gt-EFFECTS_LIMIT.false, c.effects_in-effects.ensures))
 
 pub returns-in-Ok-write-clause-act : goal.returns-in-Ok-write-clause-act
 returns-in-Ok-write-clause-act g c s e f l room =
@@ -44,15 +43,15 @@ returns-in-Ok-write-clause-act g c s e f l room =
     let new =
     c.in-Ok-write.ensures.done ∙ ap (after_step c.prepare_unit.new.self.ledger) c.in-Ok-prepare_unit.ensures.step ∙ ap (λ ledger. with_unit ledger c.in-Ok-unit_of.unit) c.prepare_unit.ensures.unmoved.ledger
     ∙ ap (with_unit c.args.books.now.ledger) unit_is in
-    commits s c.args.sessions.now.items c.begin_unit.new.sessions.items (table c.args.locks.now).entries (table c.hand.new.self).entries c.args.books.now.ledger c.write.new.self.ledger c.args.name.now x c.args.parts.now c.in-Ok-unit_of.unit.key e f l room
-    (ap (λ xs. session_at xs c.args.name.now) (sym c.as_slice.ensures.value) ∙ c.in-Ok.ensures.found)
+    commits s c.args.sessions.now c.begin_unit.new.self (table c.args.locks.now).entries (table c.hand.new.self).entries c.args.books.now.ledger c.write.new.self.ledger c.args.name.now x c.args.parts.now c.in-Ok-unit_of.unit.key e f l room
+    c.in-Ok.ensures.found
     (omega (arith, c.if-effects-eq0.false, c.effects_in-effects.ensures)) (omega (arith, c.if-effects-gt-EFFECTS_LIMIT.false, c.effects_in-effects.ensures))
     (ap (λ (u : UnitOfWork). u.key) unit_is) c.begin_unit.ensures (ap (λ t. t.entries) c.hand.ensures.after) new
 
 pub returns-in-Err-write-clause-act : goal.returns-in-Err-write-clause-act
 returns-in-Err-write-clause-act g c s e f l room =
-    commits_in_doubt s c.args.sessions.now.items c.args.books.now.ledger c.args.name.now c.in-Ok.session c.args.parts.now c.in-Ok-unit_of.unit e l room
-    (ap (λ xs. session_at xs c.args.name.now) (sym c.as_slice.ensures.value) ∙ c.in-Ok.ensures.found)
+    commits_in_doubt s c.args.sessions.now c.args.books.now.ledger c.args.name.now c.in-Ok.session c.args.parts.now c.in-Ok-unit_of.unit e l room
+    c.in-Ok.ensures.found
     (omega (arith, c.if-effects-eq0.false, c.effects_in-effects.ensures)) (omega (arith, c.if-effects-gt-EFFECTS_LIMIT.false, c.effects_in-effects.ensures))
     (c.in-Ok-unit_of.ensures ∙ ap (λ n. unit_of n c.in-Ok.session c.args.parts.now) c.start.ensures)
 
@@ -99,8 +98,9 @@ pub returns-in-Err-write-clause-left : goal.returns-in-Err-write-clause-left
 returns-in-Err-write-clause-left g c =
     let held = g.K.Keeper.held in
     failed_leaves (held c.write.new.self.keeper) (held c.prepare_unit.new.self.keeper) (g.K.Keeper.may_leave c.write.new.self.keeper)
-    c.write.new.self.ledger c.prepare_unit.new.self.ledger (Record c.in-Ok-unit_of.unit) c.in-Ok-prepare_unit.prepared.step
-    c.write.ensures.told c.in-Err-write.ensures.kept c.in-Ok-prepare_unit.ensures.step c.write.ensures.left
+    c.write.new.self.ledger c.prepare_unit.new.self.ledger c.in-Ok-prepare_unit.prepared.step (flight.Unit c.in-Ok-unit_of.unit)
+    c.write.ensures.told c.in-Err-write.ensures.kept
+    (where_told (held c.prepare_unit.new.self.keeper) _ (ap (after_step c.prepare_unit.new.self.ledger) c.in-Ok-prepare_unit.ensures.step)) c.write.ensures.left
 
 pub returns-in-Err-write-clause-cause : goal.returns-in-Err-write-clause-cause
 returns-in-Err-write-clause-cause g c =

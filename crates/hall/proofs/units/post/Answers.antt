@@ -1,23 +1,20 @@
 use Rattle.std.proofs.Common.{◌≤◌, sym, refl, ap, ◌∙◌, subst}
-use Rattle.std.specs.Prelude.{None, slice_set}
+use Rattle.std.specs.Prelude.{None, is_some, slice_set}
 use Rattle.enq_base.specs.Causes.{Rose}
-use Rattle.enq_base.specs.declared.refusal.Refusal.TheVariants as refusal
 use Rattle.posting.specs.Steps.{after_step, post_kind}
-use Rattle.posting.specs.declared.prepared.Outcome.TheVariants as outcome
 use Rattle.update_records.specs.Growing.{with_mark}
 use Rattle.hall.proofs.Claims.{held_open}
-use Rattle.hall.proofs.Writes.{never_refused, posts, posts_in_doubt, posts_none}
+use Rattle.hall.proofs.Writes.{landed_where_told, may_come, posts, posts_in_doubt, posts_none}
 use Rattle.hall.specs.Leaving.{HasStoreCause}
-use Rattle.hall.proofs.Leaves.{posted_quiet, answered_leaves, failed_leaves, unread_leaves}
+use Rattle.hall.proofs.Leaves.{posted_quiet, answered_leaves, failed_leaves, told_too, unread_leaves}
 use Rattle.hall.specs.Acts.{IsAct}
-use Rattle.hall.specs.History.{doubted}
+use Rattle.hall.specs.declared.units.InFlight.TheVariants as flight
 use Rattle.hall.specs.Orders.{order_of}
 use Rattle.hall.specs.declared.command.Command.TheVariants as command
-use Rattle.hall.specs.declared.command.Reply.TheVariants as reply
 use Rattle.hall.proofs.units.post.Goals as goal
 
 pub returns-in_default-clause-act : goal.returns-in_default-clause-act
-returns-in_default-clause-act g c s e f l room =
+returns-in_default-clause-act g c s t e f l room =
     posts_none s c.args.orders.now.items (g.T.LockStore.table c.args.locks.now).entries c.args.books.now.ledger c.args.worker e f l room
     (ap (λ xs. order_of xs c.args.worker) (sym c.as_slice.ensures.value) ∙ sym c.order_of.ensures ∙ c.in_default.is)
 
@@ -27,28 +24,25 @@ prepare_post1-requires-clause-waits g c =
     (ap (λ xs. order_of xs c.args.worker) (sym c.as_slice.ensures.value) ∙ sym c.order_of.ensures ∙ c.in-Some.is)
 
 pub returns-in-Err-Failed-clause-act : goal.returns-in-Err-Failed-clause-act
-returns-in-Err-Failed-clause-act g c s e f l room =
-    subst (λ step. IsAct s (command.Do1 c.args.worker) (doubted s (after_step s.stored step)) (reply.Refused refusal.StoreFault)) (sym c.note_of.ensures)
-    (posts_in_doubt s c.args.orders.now.items c.args.books.now.ledger c.args.worker c.in-Some.unit outcome.Done e l room
+returns-in-Err-Failed-clause-act g c s t e f l room =
+    posts_in_doubt s c.args.orders.now.items c.args.worker c.in-Some.unit e room
     (ap (λ xs. order_of xs c.args.worker) (sym c.as_slice.ensures.value) ∙ sym c.order_of.ensures ∙ c.in-Some.is)
-    (never_refused c.args.books.now.ledger c.in-Some.unit c.requires.usable.puts))
 
 pub returns-in-Ok-write-clause-act : goal.returns-in-Ok-write-clause-act
-returns-in-Ok-write-clause-act g c s e f l room =
+returns-in-Ok-write-clause-act g c s t e f l room =
     let table = g.T.LockStore.table in
     let kind = post_kind c.in-Ok.ready.1 in
     let new = c.in-Ok-write.ensures.done ∙ ap (after_step c.prepare_post1.new.self.ledger) c.in-Ok.ensures.step ∙ ap (λ x. with_mark x c.in-Some.unit kind) c.in-Ok.ensures.ledger in
     subst (λ r. IsAct s (command.Do1 c.args.worker) (record s { orders = slice_set c.args.orders.now.items c.args.worker None; locks = (table c.free_owner.new.self).entries; stored = c.write.new.self.ledger }) r) (sym c.posted.ensures)
-    (posts s c.args.orders.now.items _ (table c.args.locks.now).entries (table c.free_owner.new.self).entries c.args.books.now.ledger c.write.new.self.ledger c.args.worker c.in-Some.unit c.in-Ok.ready.1 e f l room
+    (posts s (is_some (g.K.Keeper.held c.args.books.now.keeper)) c.args.orders.now.items _ (table c.args.locks.now).entries (table c.free_owner.new.self).entries c.args.books.now.ledger c.write.new.self.ledger c.args.worker c.in-Some.unit c.in-Ok.ready.1 t e f l room
     (ap (λ xs. order_of xs c.args.worker) (sym c.as_slice.ensures.value) ∙ sym c.order_of.ensures ∙ c.in-Some.is)
-    c.in-Ok.ensures.outcome refl (ap (λ t. t.entries) c.free_owner.ensures.after) new)
+    (may_come _ (g.K.Keeper.held c.args.books.now.keeper) c.args.books.now.ledger c.in-Some.unit c.in-Ok.ready.1 refl c.in-Ok.ensures.outcome c.in-Ok.ensures.possible)
+    refl (ap (λ t. t.entries) c.free_owner.ensures.after) new)
 
 pub returns-in-Err-clause-act : goal.returns-in-Err-clause-act
-returns-in-Err-clause-act g c s e f l room =
-    subst (λ step. IsAct s (command.Do1 c.args.worker) (doubted s (after_step s.stored step)) (reply.Refused refusal.StoreFault)) (sym c.note_of-in-Err.ensures)
-    (posts_in_doubt s c.args.orders.now.items c.args.books.now.ledger c.args.worker c.in-Some.unit c.in-Ok.ready.1 e l room
+returns-in-Err-clause-act g c s t e f l room =
+    posts_in_doubt s c.args.orders.now.items c.args.worker c.in-Some.unit e room
     (ap (λ xs. order_of xs c.args.worker) (sym c.as_slice.ensures.value) ∙ sym c.order_of.ensures ∙ c.in-Some.is)
-    c.in-Ok.ensures.outcome)
 
 pub returns-in_default-clause-told : goal.returns-in_default-clause-told
 returns-in_default-clause-told g c = refl
@@ -77,7 +71,7 @@ returns-in-Err-Failed-clause-left g c =
     let held = g.K.Keeper.held in
     let may_leave = g.K.Keeper.may_leave in
     unread_leaves (held c.prepare_post1.new.self.keeper) (held c.args.books.now.keeper) (may_leave c.prepare_post1.new.self.keeper) (may_leave c.args.books.now.keeper)
-    c.prepare_post1.new.self.ledger c.args.books.now.ledger c.note_of.result
+    c.prepare_post1.new.self.ledger c.args.books.now.ledger (flight.Post c.in-Some.unit)
     c.prepare_post1.ensures.told c.prepare_post1.ensures.ledger c.prepare_post1.ensures.crash
     (answered_leaves held g.K.Keeper.is_open may_leave c.args.books.now g.met.K.Keeper.settled c.requires.usable)
 
@@ -104,8 +98,12 @@ pub returns-in-Err-clause-left : goal.returns-in-Err-clause-left
 returns-in-Err-clause-left g c =
     let held = g.K.Keeper.held in
     failed_leaves (held c.write.new.self.keeper) (held c.prepare_post1.new.self.keeper) (g.K.Keeper.may_leave c.write.new.self.keeper)
-    c.write.new.self.ledger c.prepare_post1.new.self.ledger c.note_of-in-Err.result c.in-Ok.ready.0.step
-    c.write.ensures.told c.in-Err.ensures.kept (c.in-Ok.ensures.step ∙ sym c.note_of-in-Err.ensures) c.write.ensures.left
+    c.write.new.self.ledger c.prepare_post1.new.self.ledger c.in-Ok.ready.0.step (flight.Post c.in-Some.unit)
+    c.write.ensures.told c.in-Err.ensures.kept
+    (told_too (held c.prepare_post1.new.self.keeper) (held c.args.books.now.keeper) _ c.prepare_post1.ensures.told
+    (landed_where_told (held c.args.books.now.keeper) c.prepare_post1.new.self.ledger c.args.books.now.ledger c.in-Ok.ready.0.step c.in-Some.unit c.in-Ok.ready.1
+    c.in-Ok.ensures.ledger c.in-Ok.ensures.step c.in-Ok.ensures.outcome))
+    c.write.ensures.left
 
 pub returns-in-Err-clause-cause : goal.returns-in-Err-clause-cause
 returns-in-Err-clause-cause g c =

@@ -1,10 +1,10 @@
 use Rattle.std.proofs.Common.{refl, sym, ap, ◌∙◌, subst}
 use Rattle.script_runner.specs.Faults.{end_of}
 use Rattle.script_runner.specs.Run.{begun}
-use Rattle.script_runner.specs.Sides.{HavePuts}
+use Rattle.script_runner.specs.Sides.{AreLoggedOn}
 use Rattle.script_runner.specs.World.{World}
 use Rattle.script_runner.proofs.Loop.{begins, goes_on, ends_done, ends_fault, ends_turn}
-use Rattle.script_runner.proofs.PutSides.{run_puts}
+use Rattle.script_runner.proofs.LoggedSides.{run_logged}
 use Rattle.script_runner.proofs.TurnLemmas.{taken_at}
 use Rattle.script_runner.proofs.runner.replay_lines.Goals as goal
 
@@ -14,7 +14,9 @@ lines-init g c = (begins _ _ _ c.new-reader.ensures.number c.new-reader.ensures.
 pub take_turn-requires : goal.take_turn-requires
 take_turn-requires g c =
     let run = c.lines.invariant.0 in
-    record { puts = subst (λ (w : World). HavePuts w.sides) (sym run.world) (run_puts (begun _) run.turns c.requires.puts) }
+    record {
+      logged_on = subst (λ (w : World). AreLoggedOn w.hall.sessions w.sides) (sym run.world) (run_logged (begun _) run.turns c.requires.logged_on);
+    }
 
 pub lines-preserved : goal.lines-preserved
 lines-preserved g c = (

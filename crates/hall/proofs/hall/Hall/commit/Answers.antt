@@ -1,5 +1,5 @@
 use Rattle.std.proofs.Common.{◌≡◌, refl, sym, ap, ◌∙◌, subst, rules}
-use Rattle.std.specs.Prelude.{None}
+use Rattle.std.specs.Prelude.{None, is_some}
 use Rattle.enq_base.specs.declared.condition.Condition.{Condition}
 use Rattle.enq_base.specs.declared.condition.Condition.TheVariants.{Up}
 use Rattle.hall.proofs.Endings.{ending, state_with}
@@ -23,13 +23,13 @@ invariant_of-self g c =
     let table = g.T.LockStore.table in
     let called = c.commit-written in
     let ended = c.ended-reply in
-    let before : Condition → State = λ k. state_with k old.sessions.items old.next_session old.orders.items (table old.locks) old.books.ledger old.pending old.past.items in
+    let before : Condition → State = λ k. state_with (is_some (g.K.Keeper.held old.books.keeper)) k old.sessions old.next_session old.orders.items (table old.locks) old.books.ledger old.pending old.past.items in
     let shut : closed (before old.condition) ≡ None = ap (λ v. closed v.state) c.self.view_is ∙ sym c.closed.ensures.refusal ∙ c.in_default.is in
     let up : old.condition ≡ Up = ap (λ v. v.state.condition) c.self.view_is ∙ c.in_default.ensures.up in
     let ends =
-    ending old.condition ended.new.condition old.sessions.items called.new.sessions.items old.next_session old.orders.items old.orders.items (table old.locks) (table called.new.locks) old.books.ledger called.new.books.ledger
+    ending (is_some (g.K.Keeper.held old.books.keeper)) (is_some (g.K.Keeper.held called.new.books.keeper)) old.condition ended.new.condition old.sessions called.new.sessions old.next_session old.orders.items old.orders.items (table old.locks) (table called.new.locks) old.books.ledger called.new.books.ledger
     old.pending ended.new.pending old.past.items c.note.new.past.items called.result c.args.line (command.Commit c.args.session c.args.parts) ended.result c.note.result
-    up ended.ensures.condition ended.ensures.pending ended.ensures.reply c.note.ensures.noted c.note.ensures.answer
+    called.ensures.told up ended.ensures.condition ended.ensures.pending ended.ensures.reply c.note.ensures.noted c.note.ensures.answer
     called.ensures.limit called.ensures.sessions (also_failed _ called.result refl) called.ensures.ledger
     c.self.invariant.1 shut (λ room. called.ensures.act (before Up) refl refl refl room) in (
       search rules,
@@ -46,16 +46,16 @@ returns-clause-step g c =
     let table = g.T.LockStore.table in
     let called = c.commit-written in
     let ended = c.ended-reply in
-    let before : Condition → State = λ k. state_with k old.sessions.items old.next_session old.orders.items (table old.locks) old.books.ledger old.pending old.past.items in
+    let before : Condition → State = λ k. state_with (is_some (g.K.Keeper.held old.books.keeper)) k old.sessions old.next_session old.orders.items (table old.locks) old.books.ledger old.pending old.past.items in
     let shut : closed (before old.condition) ≡ None = ap (λ v. closed v.state) c.self.view_is ∙ sym c.closed.ensures.refusal ∙ c.in_default.is in
     let up : old.condition ≡ Up = ap (λ v. v.state.condition) c.self.view_is ∙ c.in_default.ensures.up in
     let ends =
-    ending old.condition ended.new.condition old.sessions.items called.new.sessions.items old.next_session old.orders.items old.orders.items (table old.locks) (table called.new.locks) old.books.ledger called.new.books.ledger
+    ending (is_some (g.K.Keeper.held old.books.keeper)) (is_some (g.K.Keeper.held called.new.books.keeper)) old.condition ended.new.condition old.sessions called.new.sessions old.next_session old.orders.items old.orders.items (table old.locks) (table called.new.locks) old.books.ledger called.new.books.ledger
     old.pending ended.new.pending old.past.items c.note.new.past.items called.result c.args.line (command.Commit c.args.session c.args.parts) ended.result c.note.result
-    up ended.ensures.condition ended.ensures.pending ended.ensures.reply c.note.ensures.noted c.note.ensures.answer
+    called.ensures.told up ended.ensures.condition ended.ensures.pending ended.ensures.reply c.note.ensures.noted c.note.ensures.answer
     called.ensures.limit called.ensures.sessions (also_failed _ called.result refl) called.ensures.ledger
     c.self.invariant.1 shut (λ room. called.ensures.act (before Up) refl refl refl room) in
-    let new = state_with ended.new.condition called.new.sessions.items old.next_session old.orders.items (table called.new.locks) called.new.books.ledger ended.new.pending c.note.new.past.items in
+    let new = state_with (is_some (g.K.Keeper.held called.new.books.keeper)) ended.new.condition called.new.sessions old.next_session old.orders.items (table called.new.locks) called.new.books.ledger ended.new.pending c.note.new.past.items in
     subst (λ v. IsStep v.state new c.args.line (command.Commit c.args.session c.args.parts) c.note.result) c.self.view_is ends.1
 
 pub returns-clause-left : goal.returns-clause-left

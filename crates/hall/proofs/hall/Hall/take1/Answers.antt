@@ -1,8 +1,8 @@
 use Rattle.std.proofs.Common.{◌≡◌, refl, sym, ap, ◌∙◌, subst, rules}
-use Rattle.std.specs.Prelude.{None, IfSome, false}
+use Rattle.std.specs.Prelude.{None, IfSome, false, is_some}
 use Rattle.std.specs.Option.{option_map}
-use Rattle.posting.specs.Steps.{after_step}
-use Rattle.hall.proofs.Ends.{idle_call, idle_kept, judged_act}
+use Rattle.hall.specs.Flights.{landed}
+use Rattle.hall.proofs.Ends.{idle_call, idle_kept, taken_act}
 use Rattle.hall.proofs.Few.{has_room, stays_kept}
 use Rattle.hall.proofs.Steps.{into_history}
 use Rattle.hall.specs.Acts.{taken_reply}
@@ -18,7 +18,7 @@ take-requires g c = c.self.invariant.1.steady.places
 pub invariant_of-self : goal.invariant_of-self
 invariant_of-self g c =
     let table = g.T.LockStore.table in
-    let s = state_of c.self.inside.condition c.self.inside.sessions.items c.self.inside.next_session c.self.inside.orders.items (table c.self.inside.locks) c.self.inside.books.ledger (option_map (after_step c.self.inside.books.ledger) c.self.inside.pending) c.self.inside.past.items in
+    let s = state_of (is_some (g.K.Keeper.held c.self.inside.books.keeper)) c.self.inside.condition c.self.inside.sessions c.self.inside.next_session c.self.inside.orders.items (table c.self.inside.locks) c.self.inside.books.ledger (option_map (landed c.self.inside.books.ledger) c.self.inside.pending) c.self.inside.past.items in
     let after : State = record s { orders = c.take.new.orders.items } in
     let shut : closed s ≡ None = ap (λ v. closed v.state) c.self.view_is ∙ sym c.closed.ensures.refusal ∙ c.in_default.is in
     let idle = c.take.ensures.verdict s refl refl ∙ ap (λ o. record { state = after; reply = taken_reply o }) c.in_default-take.is in
@@ -27,7 +27,7 @@ invariant_of-self g c =
 pub returns-in_default-take-clause-step : goal.returns-in_default-take-clause-step
 returns-in_default-take-clause-step g c =
     let table = g.T.LockStore.table in
-    let s = state_of c.self.inside.condition c.self.inside.sessions.items c.self.inside.next_session c.self.inside.orders.items (table c.self.inside.locks) c.self.inside.books.ledger (option_map (after_step c.self.inside.books.ledger) c.self.inside.pending) c.self.inside.past.items in
+    let s = state_of (is_some (g.K.Keeper.held c.self.inside.books.keeper)) c.self.inside.condition c.self.inside.sessions c.self.inside.next_session c.self.inside.orders.items (table c.self.inside.locks) c.self.inside.books.ledger (option_map (landed c.self.inside.books.ledger) c.self.inside.pending) c.self.inside.past.items in
     let after : State = record s { orders = c.take.new.orders.items } in
     let shut : closed s ≡ None = ap (λ v. closed v.state) c.self.view_is ∙ sym c.closed.ensures.refusal ∙ c.in_default.is in
     let idle = c.take.ensures.verdict s refl refl ∙ ap (λ o. record { state = after; reply = taken_reply o }) c.in_default-take.is in
@@ -36,23 +36,23 @@ returns-in_default-take-clause-step g c =
 pub invariant_of-self-2 : goal.invariant_of-self-2
 invariant_of-self-2 g c =
     let table = g.T.LockStore.table in
-    let s = state_of c.self.inside.condition c.self.inside.sessions.items c.self.inside.next_session c.self.inside.orders.items (table c.self.inside.locks) c.self.inside.books.ledger (option_map (after_step c.self.inside.books.ledger) c.self.inside.pending) c.self.inside.past.items in
+    let s = state_of (is_some (g.K.Keeper.held c.self.inside.books.keeper)) c.self.inside.condition c.self.inside.sessions c.self.inside.next_session c.self.inside.orders.items (table c.self.inside.locks) c.self.inside.books.ledger (option_map (landed c.self.inside.books.ledger) c.self.inside.pending) c.self.inside.past.items in
     let after : State = record s { orders = c.take.new.orders.items } in
     let shut : closed s ≡ None = ap (λ v. closed v.state) c.self.view_is ∙ sym c.closed.ensures.refusal ∙ c.in_default.is in
     let verdict = c.take.ensures.verdict s refl refl ∙ ap (λ o. record { state = after; reply = taken_reply o }) c.in-Some-take.is in
     let noted : is_unrecorded c.in-Some-take.reply ≡ false = subst (λ o. IfSome o (λ r. is_unrecorded r ≡ false)) c.in-Some-take.is c.take.ensures.recorded in
-    let act = judged_act s (command.Take1 c.args.worker) after c.in-Some-take.reply shut verdict noted in
+    let act = taken_act s c.args.worker after c.in-Some-take.reply shut verdict noted in
     (search rules, stays_kept s c.args.line _ _ _ _ _ c.self.invariant.1 (has_room s shut) refl act c.note.ensures.noted, c.self.invariant.2)
 
 pub returns-clause-step : goal.returns-clause-step
 returns-clause-step g c =
     let table = g.T.LockStore.table in
-    let s = state_of c.self.inside.condition c.self.inside.sessions.items c.self.inside.next_session c.self.inside.orders.items (table c.self.inside.locks) c.self.inside.books.ledger (option_map (after_step c.self.inside.books.ledger) c.self.inside.pending) c.self.inside.past.items in
+    let s = state_of (is_some (g.K.Keeper.held c.self.inside.books.keeper)) c.self.inside.condition c.self.inside.sessions c.self.inside.next_session c.self.inside.orders.items (table c.self.inside.locks) c.self.inside.books.ledger (option_map (landed c.self.inside.books.ledger) c.self.inside.pending) c.self.inside.past.items in
     let after : State = record s { orders = c.take.new.orders.items } in
     let shut : closed s ≡ None = ap (λ v. closed v.state) c.self.view_is ∙ sym c.closed.ensures.refusal ∙ c.in_default.is in
     let verdict = c.take.ensures.verdict s refl refl ∙ ap (λ o. record { state = after; reply = taken_reply o }) c.in-Some-take.is in
     let noted : is_unrecorded c.in-Some-take.reply ≡ false = subst (λ o. IfSome o (λ r. is_unrecorded r ≡ false)) c.in-Some-take.is c.take.ensures.recorded in
-    let act = judged_act s (command.Take1 c.args.worker) after c.in-Some-take.reply shut verdict noted in
+    let act = taken_act s c.args.worker after c.in-Some-take.reply shut verdict noted in
     let new : State = record after { past = c.note.new.past.items } in
     subst (λ v. IsStep v.state new c.args.line (command.Take1 c.args.worker) c.note.result) c.self.view_is
     (into_history s c.args.line (command.Take1 c.args.worker) after new c.in-Some-take.reply c.note.result act c.note.ensures.answer (λ i. record after { past = c.note.ensures.noted i }))

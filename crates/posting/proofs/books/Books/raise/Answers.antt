@@ -1,6 +1,5 @@
 use Rattle.std.proofs.Common.{ap, ◌∙◌}
 use Rattle.update_records.specs.Growing.{with_start}
-use Rattle.update_records.specs.Ledger.{Ledger}
 use Rattle.posting.specs.Steps.{after_step}
 use Rattle.posting.proofs.Usable.{first_makes, one_batch, raised_from}
 use Rattle.posting.proofs.books.Books.raise.Goals as goal

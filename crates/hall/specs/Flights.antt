@@ -1,0 +1,12 @@
+-- The change that was in flight when the store failed.
+use Rattle.update_records.specs.Growing.{with_mark, with_unit}
+use Rattle.update_records.specs.Ledger.{Ledger}
+use Rattle.posting.specs.Steps.{post_kind}
+use Rattle.hall.specs.Coming.{outcome_in}
+use Rattle.hall.specs.declared.units.InFlight.{InFlight}
+use Rattle.hall.specs.declared.units.InFlight.TheVariants as flight
+
+-- what the store has where it took the change
+abbrev pub landed : Ledger → InFlight → Ledger
+landed ledger (flight.Unit unit) = with_unit ledger unit
+landed ledger (flight.Post key) = with_mark ledger key (post_kind (outcome_in ledger key))

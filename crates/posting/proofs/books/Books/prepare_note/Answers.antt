@@ -1,0 +1,23 @@
+use Rattle.std.proofs.Common.{ℕ, ◌+◌, IfSome, sym, ap, subst, ◌∙◌}
+use Rattle.keeper_api.specs.Batch.{changed}
+use Rattle.update_records.specs.Growing.{with_mark}
+use Rattle.update_records.specs.Ledger.{StandFor}
+use Rattle.update_records.specs.Spelling.{HasFields}
+use Rattle.update_records.specs.declared.records.Mark.{Mark}
+use Rattle.posting.proofs.Makes.{note_is_batch, note_makes}
+use Rattle.posting.proofs.books.Books.prepare_note.Goals as goal
+
+pub prepare-requires-clause-batch : goal.prepare-requires-clause-batch
+prepare-requires-clause-batch g c = note_is_batch c.start.result c.args.spots.now c.mark_behind-mark.result c.in_ok-batch.batch.items c.requires.distinct c.in_ok-batch.ensures.rows
+
+pub prepare-requires-clause-makes : goal.prepare-requires-clause-makes
+prepare-requires-clause-makes g c =
+    let ledger = c.args.self.now.ledger in
+    let held = g.K.Keeper.held c.args.self.now.keeper in
+    let unit = c.args.unit.now in
+    let kind = c.args.kind in
+    let batch = c.in_ok-batch.batch.items in
+    let is = c.mark_behind-mark.ensures ∙ ap (λ (n : ℕ). record { seq = n + 1; unit = unit; kind = kind }) c.marks.ensures in
+    subst (λ (m : Mark). IfSome held (λ rows. StandFor (changed batch rows) (with_mark ledger m.unit m.kind))) (sym is)
+    (note_makes held ledger unit kind c.args.spots.now batch c.start.result c.mark_behind-mark.result c.requires.marks c.requires.follows (subst (λ (m : Mark). HasFields m.kind) is c.in_ok-batch.ensures.fields) c.requires.distinct
+    c.start.ensures is c.in_ok-batch.ensures.rows c.requires.note c.requires.usable.stands)
