@@ -5,7 +5,7 @@ use Rattle.std.specs.List.{AllByRecursion, find}
 use Rattle.std.specs.Option.{option_and_then}
 use Rattle.enq_base.specs.Owners.{same_unit}
 use Rattle.enq_base.specs.declared.owner.UnitKey.{UnitKey}
-use Rattle.posting.proofs.Status.{flip, one_unit, unit_refl}
+use Rattle.update_records.proofs.Status.{flip, one_unit, unit_refl}
 use Rattle.posting.specs.Steps.{IsOpenUnit}
 use Rattle.update_records.specs.Growing.{with_mark, with_unit}
 use Rattle.update_records.specs.Ledger.{Ledger}

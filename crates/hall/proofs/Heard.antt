@@ -6,7 +6,7 @@ use Rattle.enq_base.specs.Owners.{same_unit}
 use Rattle.enq_base.specs.declared.owner.UnitKey.{UnitKey}
 use Rattle.enq_base.specs.declared.unit.Status.{Status}
 use Rattle.enq_base.specs.declared.unit.Status.TheVariants.{Open, Posted, Bad, Closed, Bad2, Cancelled}
-use Rattle.posting.proofs.Status.{none_of, one_unit, status_grows, status_push, unit_refl}
+use Rattle.update_records.proofs.Status.{none_of, one_unit, status_grows, status_push, unit_refl}
 use Rattle.posting.specs.Steps.{IsOpenUnit}
 use Rattle.update_records.specs.Growing.{next_mark, with_mark, with_unit}
 use Rattle.update_records.specs.Ledger.{Ledger}

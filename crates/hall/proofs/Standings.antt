@@ -26,7 +26,7 @@ use Rattle.lock_entry.specs.Names.{halves, is_of}
 use Rattle.lock_entry.specs.Pairs.{in_pair}
 use Rattle.mode_rules.specs.declared.Mode.TheVariants.{O}
 use Rattle.mode_rules.specs.Modes.{same_mode}
-use Rattle.posting.proofs.Status.{flip, one_unit, status_push, unit_refl}
+use Rattle.update_records.proofs.Status.{flip, one_unit, status_push, unit_refl}
 use Rattle.posting.specs.Steps.{IsOpenUnit}
 use Rattle.update_records.specs.Growing.{next_mark, with_mark, with_unit}
 use Rattle.update_records.specs.Ledger.{Ledger}

@@ -96,7 +96,7 @@ fn posted(unit: UnitKey, outcome: Outcome) -> Reply
     }
 }
 
-/// Records a unit of a session with the effects of its two parts, all of which put rows. Its locks are handed over to
+/// Records a unit of a session with the effects of its two parts. Its locks are handed over to
 /// the update, and the session's next unit is open. Without effects nothing changes.
 pub(crate) fn commit<T: LockStore, K: Keeper>(
     alloc: Global,

@@ -37,10 +37,10 @@ use Rattle.update_records.specs.declared.records.MarkKind.TheVariants.{Num, Rec,
 use Rattle.update_records.specs.declared.records.MarkKind.{MarkKind}
 use Rattle.update_records.specs.declared.records.Unit.{Unit as UnitOfWork}
 use Rattle.posting.specs.Posts.{HoldsTables, text_at, text_in}
-use Rattle.posting.proofs.Batches.{is_book_table, is_business_table, books_and_business, books_in}
-use Rattle.posting.proofs.Distinct.{not_same}
-use Rattle.posting.proofs.Keyed.{get_business}
-use Rattle.posting.proofs.Own.{get_own}
+use Rattle.update_records.proofs.Books.{is_book_table, is_business_table, books_and_business, books_in}
+use Rattle.update_records.proofs.Apart.{not_same}
+use Rattle.update_records.proofs.Keyed.{get_business}
+use Rattle.update_records.proofs.Own.{get_own}
 
 -- ---- the row of a name
 

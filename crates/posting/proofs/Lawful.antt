@@ -22,8 +22,8 @@ use Rattle.update_records.specs.Ledger.{Ledger, IsLawful, IsMarkUnder, LevelsAgr
 use Rattle.update_records.specs.Marks.{unit_at, v1_of, v2_of, given, status_after, status_of, may_follow, is_rec, draws_alone}
 use Rattle.posting.specs.Steps.{IsNewUnit, MayGet, HasMarksLeft, IsSpelt}
 use Rattle.posting.proofs.Registers.{may_not_draw}
-use Rattle.posting.proofs.Batches.{other_part, plain}
-use Rattle.posting.proofs.Status.{NoneOf, none_of, unit_other, flip, legal_grows, legal_push, not_rec, status_grows, unit_new, one_unit}
+use Rattle.update_records.proofs.Books.{other_part, plain}
+use Rattle.update_records.proofs.Status.{NoneOf, none_of, unit_other, flip, legal_grows, legal_push, not_rec, status_grows, unit_new, one_unit}
 
 range_push : (a n : ℕ) → range_with_len a n ++ (a + n) ∷ [] ≡ range_with_len a (n + 1)
 range_push a zero = ap (λ k. k ∷ []) (omega arith)
@@ -55,7 +55,7 @@ split : (b : Bool) (x : Mark) (rest : List Mark) → map (λ (y : Mark). y.unit)
 split true x rest = refl
 split false x rest = refl
 
-recorded_push : (marks : List Mark) (m : Mark) → recorded (marks ++ m ∷ []) ≡ recorded marks ++ (if is_rec m.kind then m.unit ∷ [] else [])
+pub recorded_push : (marks : List Mark) (m : Mark) → recorded (marks ++ m ∷ []) ≡ recorded marks ++ (if is_rec m.kind then m.unit ∷ [] else [])
 recorded_push [] m = elim (is_rec m.kind) as (λ b. map (λ (y : Mark). y.unit) (cond b (m ∷ []) []) ≡ (if b then m.unit ∷ [] else [])) [ true ↦ refl | false ↦ refl ]
 recorded_push (x ∷ marks) m =
     let more = if is_rec m.kind then m.unit ∷ [] else [] in
@@ -124,11 +124,11 @@ rec_case key unit (Bad2 i r) rest m is h all = all
 rec_case key unit Again2 rest m is h all = all
 rec_case key unit Gone rest m is h all = all
 
-none_recorded : (key : UnitKey) (marks : List Mark) → NoneOf key marks → AllByRecursion (λ k. same_unit k key ≡ false) (recorded marks)
+pub none_recorded : (key : UnitKey) (marks : List Mark) → NoneOf key marks → AllByRecursion (λ k. same_unit k key ≡ false) (recorded marks)
 none_recorded key [] none = tt
 none_recorded key (m ∷ marks) none = rec_case key m.unit m.kind (filter (λ (y : Mark). is_rec y.kind) marks) m refl none.0 (none_recorded key marks none.1)
 
-none_among : (key : UnitKey) (units : List UnitOfWork) → AllByRecursion (λ k. same_unit k key ≡ false) (map (λ (x : UnitOfWork). x.key) units) → unit_at units key ≡ None
+pub none_among : (key : UnitKey) (units : List UnitOfWork) → AllByRecursion (λ k. same_unit k key ≡ false) (map (λ (x : UnitOfWork). x.key) units) → unit_at units key ≡ None
 none_among key [] h = refl
 none_among key (u ∷ units) h = ap (λ b. cond b (Some u) (unit_at units key)) h.0 ∙ none_among key units h.1
 

@@ -19,13 +19,13 @@ use Rattle.update_records.specs.declared.records.MarkKind.TheVariants.{Num, Rec,
 use Rattle.update_records.specs.declared.records.Unit.{Unit as UnitOfWork}
 use Rattle.posting.specs.Posts.{HasDistinctRows, IsNote, note_changes, row_changes}
 use Rattle.posting.specs.Steps.{IsNewUnit, HasMarksLeft, IsSpelt, MayGet}
-use Rattle.posting.proofs.Batches.{unit_batch, unit_written, mark_written, is_business_table}
-use Rattle.posting.proofs.Distinct.{unit_own, unit_changes, own_append, own_keys, distinct_append, closing_distinct, tables_apart, is_closing_table, at_number}
+use Rattle.update_records.proofs.Books.{unit_batch, unit_written, mark_written, is_business_table}
+use Rattle.update_records.proofs.Apart.{unit_own, unit_changes, own_append, own_keys, distinct_append, closing_distinct, tables_apart, is_closing_table, at_number}
 use Rattle.posting.proofs.Lawful.{unit_lawful, note_lawful}
-use Rattle.posting.proofs.Own.{AreOwn, own_changed}
+use Rattle.update_records.proofs.Own.{AreOwn, own_changed}
 use Rattle.posting.proofs.Posts.{rows_are, rows_distinct, rows_in, rows_own}
 use Rattle.posting.proofs.Registers.{may_not_draw}
-use Rattle.posting.proofs.Status.{none_of}
+use Rattle.update_records.proofs.Status.{none_of}
 
 -- a ledger with a start number is lawful
 started_lawful : (ledger : Ledger) → 1 ≤ ledger.start → (ledger ≡ no_ledger) ⊎ IsLawful ledger → IsLawful ledger

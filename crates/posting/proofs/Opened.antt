@@ -9,7 +9,7 @@ use Rattle.keeper_api.specs.Rows.{Spot, spot_cmp, Rows, is_behind, is_below, row
 use Rattle.keeper_api.specs.RowLaws.{spots_total, exact_spots, same_spot}
 use Rattle.update_records.specs.Ledger.{own, is_own, has_bytes}
 use Rattle.posting.specs.Opening.{AreBare, Finds}
-use Rattle.posting.proofs.Own.{get_own}
+use Rattle.update_records.proofs.Own.{get_own}
 
 no_rows : (es : List (Spot × List ℕ)) → take 1 (map row_of es) ≡ [] → es ≡ []
 no_rows [] h = refl

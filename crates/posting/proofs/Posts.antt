@@ -12,11 +12,12 @@ use Rattle.module_effects.specs.Spots.{row_at, with_spots}
 use Rattle.module_effects.specs.declared.spot.Spot.{Spot}
 use Rattle.module_effects.proofs.Tables.{same_row, same_row-Decides}
 use Rattle.update_records.specs.Ledger.{Levels, map_rows, is_own}
-use Rattle.posting.specs.Posts.{HasDistinctRows, row_left, row_change, row_changes}
-use Rattle.posting.proofs.Batches.{is_business_table}
-use Rattle.posting.proofs.Distinct.{AreDistinct, IsApart, spots, none_distinct, not_same}
-use Rattle.posting.proofs.Keyed.{business_left, left_spot, spot-Decides, unname, unname_name}
-use Rattle.posting.proofs.Own.{AreOwn}
+use Rattle.update_records.specs.RecordRows.{row_left}
+use Rattle.posting.specs.Posts.{HasDistinctRows, row_change, row_changes}
+use Rattle.update_records.proofs.Books.{is_business_table}
+use Rattle.update_records.proofs.Apart.{AreDistinct, IsApart, spots, none_distinct, not_same}
+use Rattle.update_records.proofs.Keyed.{business_left, left_spot, spot-Decides, unname, unname_name}
+use Rattle.update_records.proofs.Own.{AreOwn}
 
 -- a change may be made before changes of other rows
 past : (c : Change) (ds : List Change) (rows : Rows) → IsApart (spot_of c) ds → changed ds (changed_once c rows) ≡ changed_once c (changed ds rows)

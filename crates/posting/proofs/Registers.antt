@@ -12,13 +12,12 @@ use Rattle.update_records.specs.declared.records.Mark.{Mark}
 use Rattle.update_records.specs.declared.records.MarkKind.TheVariants.{Rec}
 use Rattle.update_records.specs.declared.records.Unit.{Unit as UnitOfWork}
 use Rattle.update_records.specs.Marks.{unit_at, has_no_v2, is_empty_part, given, status_of, may_follow, draws_alone, decides, same_status, has_status, units_with, waiting, waiting_again}
-use Rattle.std.specs.FinMap.{empty}
 use Rattle.update_records.specs.declared.records.MarkKind.{MarkKind}
-use Rattle.update_records.specs.Ledger.{Ledger}
+use Rattle.update_records.specs.Ledger.{Ledger, Levels}
 use Rattle.posting.specs.Steps.{HasMarksLeft, IsNewUnit, MayGet}
 use Rattle.posting.specs.Standings.{Standings, standing_at, told, error_after, error_of, IsRegister}
 use Rattle.posting.specs.declared.register.Standing.{Standing}
-use Rattle.posting.proofs.Status.{NoneOf, none_of, one_unit, status_push, status_grows, unit_other, unit_new, units_push, units_grow, given_same, not_alone}
+use Rattle.update_records.proofs.Status.{NoneOf, none_of, one_unit, status_push, status_grows, unit_other, unit_new, units_push, units_grow, given_same, not_alone}
 use Rattle.posting.proofs.Waiting.{none_with, none_dropped, plain_filter, few_with}
 
 abbrev status_in : Standing → Status
@@ -59,7 +58,7 @@ rec_of seq key = record { seq = seq; unit = key; kind = Rec }
 abbrev error_in : Standing → Option (ℕ × Reason)
 error_in s = s.error
 
-error_push : (key : UnitKey) (error : Option (ℕ × Reason)) (marks : List Mark) (m : Mark) → error_after key error (marks ++ m ∷ []) ≡ (if same_unit m.unit key then told m.kind (error_after key error marks) else error_after key error marks)
+pub error_push : (key : UnitKey) (error : Option (ℕ × Reason)) (marks : List Mark) (m : Mark) → error_after key error (marks ++ m ∷ []) ≡ (if same_unit m.unit key then told m.kind (error_after key error marks) else error_after key error marks)
 error_push key error [] m = refl
 error_push key error (x ∷ marks) m = error_push key (if same_unit x.unit key then told x.kind error else error) marks m
 
@@ -175,7 +174,7 @@ Gave unit kind before after = Some after ≡ given (is_empty_part unit.parts.v2)
 has_part : (units : List UnitOfWork) (key : UnitKey) (unit : UnitOfWork) → unit_at units key ≡ Some unit → is_empty_part unit.parts.v2 ≡ has_no_v2 units key
 has_part units key unit there = ap (λ o. is_empty_part (option_map_or (λ (x : UnitOfWork). x.parts.v2) o [])) (sym there)
 
-noted_status : {S : Type 0} (units : List UnitOfWork) (marks : List Mark) (old new : Standings S) (unit : UnitOfWork) (key : UnitKey) (kind : MarkKind) (place seq : ℕ) (before after : Status) (error : Option (ℕ × Reason)) → unit_at units key ≡ Some unit
+pub noted_status : {S : Type 0} (units : List UnitOfWork) (marks : List Mark) (old new : Standings S) (unit : UnitOfWork) (key : UnitKey) (kind : MarkKind) (place seq : ℕ) (before after : Status) (error : Option (ℕ × Reason)) → unit_at units key ≡ Some unit
     → ((other : UnitKey) → option_map status_in (standing_at old other) ≡ status_of units marks other) → Some before ≡ status_of units marks key → Gave unit kind before after → Sets old new key (stands_at place after error)
     → (other : UnitKey) → option_map status_in (standing_at new other) ≡ status_of units (marks ++ mark_of seq key kind ∷ []) other
 noted_status units marks old new unit key kind place seq before after error there known was gave sets other =
@@ -187,7 +186,7 @@ noted_status units marks old new unit key kind place seq before after error ther
     ] refl
     ∙ sym (status_push (has_no_v2 units other) other None marks (mark_of seq key kind))
 
-noted_error : {S : Type 0} (marks : List Mark) (old new : Standings S) (key : UnitKey) (kind : MarkKind) (seq : ℕ) (s : Standing) (after : Status) (error : Option (ℕ × Reason)) → standing_at old key ≡ Some s
+pub noted_error : {S : Type 0} (marks : List Mark) (old new : Standings S) (key : UnitKey) (kind : MarkKind) (seq : ℕ) (s : Standing) (after : Status) (error : Option (ℕ × Reason)) → standing_at old key ≡ Some s
     → ((other : UnitKey) → option_and_then error_in (standing_at old other) ≡ error_of marks other) → error ≡ told kind s.error → Sets old new key (stands_at s.place after error)
     → (other : UnitKey) → option_and_then error_in (standing_at new other) ≡ error_of (marks ++ mark_of seq key kind ∷ []) other
 noted_error marks old new key kind seq s after error stands known gave sets other =
@@ -212,7 +211,7 @@ noted_waits status units marks queue unit key kind seq before after there alone 
     ∙ ap (λ b. filter (λ other. not (decides other (mark_of seq key kind))) rest ++ (if b then key ∷ [] else [])) (sym last)
     ∙ sym (units_push status units marks (mark_of seq key kind))
 
-noted_unit : {S : Type 0} (units : List UnitOfWork) (old new : Standings S) (unit : UnitOfWork) (key : UnitKey) (place : ℕ) (status : Status) (error : Option (ℕ × Reason)) → slice_get units place ≡ Some unit → unit_at units key ≡ Some unit
+pub noted_unit : {S : Type 0} (units : List UnitOfWork) (old new : Standings S) (unit : UnitOfWork) (key : UnitKey) (place : ℕ) (status : Status) (error : Option (ℕ × Reason)) → slice_get units place ≡ Some unit → unit_at units key ≡ Some unit
     → ((other : UnitKey) → option_and_then (λ (s : Standing). slice_get units s.place) (standing_at old other) ≡ unit_at units other) → Sets old new key (stands_at place status error)
     → (other : UnitKey) → option_and_then (λ (s : Standing). slice_get units s.place) (standing_at new other) ≡ unit_at units other
 noted_unit units old new unit key place status error at there known sets other =
@@ -222,7 +221,7 @@ noted_unit units old new unit key place status error at there known sets other =
       | false ↦ λ e. known other
     ] refl
 
-noted_placed : {S : Type 0} (units : List UnitOfWork) (old new : Standings S) (key : UnitKey) (place : ℕ) (status : Status) (error : Option (ℕ × Reason)) → place < length units
+pub noted_placed : {S : Type 0} (units : List UnitOfWork) (old new : Standings S) (key : UnitKey) (place : ℕ) (status : Status) (error : Option (ℕ × Reason)) → place < length units
     → ((other : UnitKey) → IfSome (standing_at old other) (λ (s : Standing). s.place < length units)) → Sets old new key (stands_at place status error)
     → (other : UnitKey) → IfSome (standing_at new other) (λ (s : Standing). s.place < length units)
 noted_placed units old new key place status error in_range placed sets other =
@@ -266,7 +265,7 @@ noted_register start units marks queue again old new unit key kind s seq after e
       short_again = short_with Posted units marks (mark_of seq key kind) _ waits_again few;
     }
 
-within_get : {X : Type 0} (xs : List X) (i : ℕ) (x : X) → i < length xs → x ≡ get_or xs i x → slice_get xs i ≡ Some x
+pub within_get : {X : Type 0} (xs : List X) (i : ℕ) (x : X) → i < length xs → x ≡ get_or xs i x → slice_get xs i ≡ Some x
 within_get [] i x h is = absurd (omega arith)
 within_get (y ∷ ys) zero x h is = ap Some (sym is)
 within_get (y ∷ ys) (suc i) x h is = within_get ys i x (omega arith) is
@@ -277,9 +276,9 @@ has_marks units [] key s h = cc
 has_marks units (m ∷ marks) key s h = omega arith
 
 -- the same of what the code has at hand
-pub recorded_anew : {S : Type 0} (start : ℕ) (units : List UnitOfWork) (marks : List Mark) (queue again : List UnitKey) (old new : Standings S) (unit : UnitOfWork) (seq : ℕ) (ledger : Ledger)
+pub recorded_anew : {S : Type 0} {levels : Levels} (start : ℕ) (units : List UnitOfWork) (marks : List Mark) (queue again : List UnitKey) (old new : Standings S) (unit : UnitOfWork) (seq : ℕ) (ledger : Ledger)
     (place : ℕ) (units' : List UnitOfWork) (marks' : List Mark) (queue' : List UnitKey)
-    → (record { start = start; units = units; marks = marks; levels = empty }) ≡ ledger → IsRegister start units marks old queue again → HasMarksLeft ledger × IsNewUnit ledger unit
+    → (record { start = start; units = units; marks = marks; levels = levels }) ≡ ledger → IsRegister start units marks old queue again → HasMarksLeft ledger × IsNewUnit ledger unit
     → Sets old new unit.key (open_at place) → place ≡ length units → units' ≡ units ++ unit ∷ [] → marks' ≡ marks ++ rec_of seq unit.key ∷ [] → queue' ≡ queue ++ unit.key ∷ []
     → IsRegister start units' marks' new queue' again
 recorded_anew start units marks queue again old new unit seq ledger place units' marks' queue' is reg may sets at u m q =
@@ -305,9 +304,9 @@ follows_alone (Some s) kind h f = not_alone s kind f
 pub may_not_draw : (ledger : Ledger) (key : UnitKey) (kind : MarkKind) → MayGet ledger key kind → draws_alone kind ≡ false
 may_not_draw ledger key kind may = follows_alone (status_of ledger.units ledger.marks key) kind may.recorded may.follows
 
-pub noted_anew : {S : Type 0} (start : ℕ) (units : List UnitOfWork) (marks : List Mark) (queue again : List UnitKey) (old new : Standings S) (unit : UnitOfWork) (key : UnitKey) (kind : MarkKind) (s : Standing) (seq : ℕ) (ledger : Ledger)
+pub noted_anew : {S : Type 0} {levels : Levels} (start : ℕ) (units : List UnitOfWork) (marks : List Mark) (queue again : List UnitKey) (old new : Standings S) (unit : UnitOfWork) (key : UnitKey) (kind : MarkKind) (s : Standing) (seq : ℕ) (ledger : Ledger)
     (status : Status) (error : Option (ℕ × Reason)) (o : Option Standing) (opened posted : Bool) (marks' : List Mark) (queue' again' : List UnitKey)
-    → (record { start = start; units = units; marks = marks; levels = empty }) ≡ ledger → IsRegister start units marks old queue again → HasMarksLeft ledger × MayGet ledger key kind
+    → (record { start = start; units = units; marks = marks; levels = levels }) ≡ ledger → IsRegister start units marks old queue again → HasMarksLeft ledger × MayGet ledger key kind
     → o ≡ Some s → o ≡ standing_at old key → unit ≡ get_or units s.place unit → Gave unit kind s.status status → error ≡ told kind s.error → opened ≡ same_status Open status → posted ≡ same_status Posted status
     → Sets old new key (stands_at s.place status error)
     → marks' ≡ marks ++ mark_of seq key kind ∷ [] → queue' ≡ filter (λ other. not (same_unit key other)) queue ++ (if opened then key ∷ [] else [])

@@ -15,7 +15,7 @@ use Rattle.update_records.specs.Grammar.{IsUnit}
 use Rattle.update_records.specs.RecordRows.{meta_row, level_value}
 use Rattle.posting.specs.Opening.{WasBare, MayBeLeft}
 use Rattle.posting.specs.Shelf.{Shelf, IsUsable}
-use Rattle.posting.proofs.Own.{own_changed}
+use Rattle.update_records.proofs.Own.{own_changed}
 
 pub stands_again : (held other : Option Rows) (ledger same : Ledger) → other ≡ held → same ≡ ledger → IfSome held (λ rows. StandFor rows ledger) → IfSome other (λ rows. StandFor rows same)
 stands_again held other ledger same told is h =

@@ -1,5 +1,5 @@
 -- What is found in a store that is opened, and what an opening leaves.
-use Rattle.std.specs.Prelude.{ℕ, ◌≡◌, ◌⊎◌, ◌≤◌, ◌<◌, Bool, true, [], Option, Some, None, if◌then◌else◌, IsTrue}
+use Rattle.std.specs.Prelude.{ℕ, ◌≡◌, ◌⊎◌, ◌+◌, ◌≤◌, ◌<◌, Bool, true, [], Option, Some, None, if◌then◌else◌, IsTrue}
 use Rattle.std.specs.FinMap.{empty}
 use Rattle.enq_base.specs.Causes.{Rose}
 use Rattle.keeper_api.specs.Rows.{Rows, page_of}
@@ -37,9 +37,13 @@ Finds rows (Some table) = IsLowestTable rows table
 abbrev pub WasBare : (Rows → Type 0) → Rows → Type 0
 WasBare before rows = before rows × HasNoRows rows
 
+-- a ledger that was opened: at its next start, where one is raised
+abbrev pub raised : Bool → Ledger → Ledger
+raised raise ledger = if raise then with_start ledger (ledger.start + 1) else ledger
+
 -- the ledger of a store without rows, at its first start where one is raised
 abbrev pub first_ledger : Bool → Ledger
-first_ledger raise = if raise then with_start no_ledger 1 else no_ledger
+first_ledger raise = raised raise no_ledger
 
 abbrev pub books_fault : KeepFault → BooksFault
 books_fault keep.Failed = StoreFault
@@ -84,9 +88,9 @@ OnBad NoMemory P = Unit {0}
 abbrev pub MayBeLeft : (Rows → Type 0) → Bool → Rows → Type 0
 MayBeLeft before raise left = before left ⊎ (IsTrue raise × StandFor left (first_ledger true) × (bare : Rows) × WasBare before bare)
 
--- the faults of raising the start number
-abbrev pub IsRaiseFault : BooksFault → Type 0
-IsRaiseFault StoreFault = Unit {0}
-IsRaiseFault (BadStore table row) = ⊥
-IsRaiseFault NoStart = ⊥
-IsRaiseFault NoMemory = Unit {0}
+-- the faults of raising the start number: there is none behind the last
+abbrev pub IsRaiseFault : Ledger → BooksFault → Type 0
+IsRaiseFault ledger StoreFault = Unit {0}
+IsRaiseFault ledger (BadStore table row) = ⊥
+IsRaiseFault ledger NoStart = ledger.start ≡ 4294967295
+IsRaiseFault ledger NoMemory = Unit {0}

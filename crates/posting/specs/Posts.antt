@@ -10,7 +10,6 @@ use Rattle.enq_base.specs.declared.unit.Effect.{Effect}
 use Rattle.enq_base.specs.declared.unit.Status.{Status}
 use Rattle.enq_base.specs.declared.unit.Status.TheVariants.{Open, Posted}
 use Rattle.keeper_api.specs.declared.rows.Change.{Change}
-use Rattle.keeper_api.specs.declared.rows.Change.TheVariants.{Del}
 use Rattle.keeper_api.specs.Rows.{Rows, value_at}
 use Rattle.lock_entry.specs.declared.entry.Entry.{Entry}
 use Rattle.module_effects.specs.Rows.{RowName, Tables, row_cmp}
@@ -22,7 +21,7 @@ use Rattle.update_records.specs.Business.{IsRightMark, part_of, posted, tables_o
 use Rattle.update_records.specs.Fields.{all_if}
 use Rattle.update_records.specs.Ledger.{Ledger}
 use Rattle.update_records.specs.Marks.{status_of, unit_at, v1_of, v2_of}
-use Rattle.update_records.specs.RecordRows.{row_name, business_row, mark_row, meta_row}
+use Rattle.update_records.specs.RecordRows.{row_name, row_left, mark_row, meta_row}
 use Rattle.update_records.specs.declared.records.Mark.{Mark}
 use Rattle.update_records.specs.declared.records.MarkKind.{MarkKind}
 use Rattle.update_records.specs.declared.records.MarkKind.TheVariants.{V2, Bad2}
@@ -89,11 +88,6 @@ IsPost effects tables Done spots = applied effects tables ≡ Ok (with_spots spo
 IsPost effects tables (Refused index reason) spots = (applied effects tables ≡ Err (effect_fault.Refused index reason)) × (spots ≡ [])
 
 -- ---- writing
-
--- the change that leaves this in a row
-abbrev pub row_left : RowName → Option (List ℕ) → Change
-row_left name None = Del 6 (row_name name)
-row_left name (Some text) = business_row name text
 
 abbrev pub row_change : Spot → Change
 row_change spot = row_left (row_at spot) spot.text

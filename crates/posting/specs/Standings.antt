@@ -1,24 +1,19 @@
 -- Where each unit stands, as it is looked up by its key.
-use Rattle.std.specs.Prelude.{ℕ, ◌≡◌, ◌≤◌, Bool, ◌==◌, ◌&&◌, List, [], ◌∷◌, length, if◌then◌else◌, Option, Some, None, IfSome, ◌<◌}
+use Rattle.std.specs.Prelude.{ℕ, ◌≡◌, ◌≤◌, List, [], ◌∷◌, length, if◌then◌else◌, Option, Some, None, IfSome, ◌<◌}
 use Rattle.std.specs.HashMap.{HashMap, get}
 use Rattle.std.specs.List.{slice_get}
 use Rattle.std.specs.Option.{option_map, option_and_then}
 use Rattle.enq_base.specs.Owners.{same_unit}
 use Rattle.enq_base.specs.declared.owner.UnitKey.{UnitKey}
 use Rattle.enq_base.specs.declared.unit.Reason.{Reason}
+use Rattle.update_records.specs.Ids.{id_of, same_id}
 use Rattle.update_records.specs.declared.records.Mark.{Mark}
 use Rattle.update_records.specs.declared.records.MarkKind.{MarkKind}
 use Rattle.update_records.specs.declared.records.MarkKind.TheVariants.{Num, Bad1, Bad2}
 use Rattle.update_records.specs.declared.records.Unit.{Unit as UnitOfWork}
 use Rattle.update_records.specs.Marks.{status_of, unit_at, waiting, waiting_again}
+use Rattle.update_records.specs.declared.unit_id.UnitId.{UnitId}
 use Rattle.posting.specs.declared.register.Standing.{Standing}
-use Rattle.posting.specs.declared.unit_id.UnitId.{UnitId}
-
-abbrev pub id_of : UnitKey → UnitId
-id_of key = record { start = key.start; session = key.session; luw = key.luw }
-
-abbrev pub same_id : UnitId → UnitId → Bool
-same_id a b = (a.start == b.start && a.session == b.session) && a.luw == b.luw
 
 abbrev pub Standings : Type 0 → Type 0
 Standings S = HashMap UnitId Standing S

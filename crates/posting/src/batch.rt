@@ -15,12 +15,12 @@ use module_effects::Spot;
 use std::alloc::Global;
 use update_records::{Mark, MarkKind, Unit, encode_mark, encode_meta, encode_unit};
 
-/// The change that writes the first start number.
-pub fn start_batch(alloc: Global, start: u32) -> Result<Vec<Change>, NoMemory>
-    ensures { IfOk result (λ batch. batch.items ≡ meta_row start 0 ∷ []) }
+/// The change that writes a start number beside so many marks.
+pub fn start_batch(alloc: Global, start: u32, marks: u32) -> Result<Vec<Change>, NoMemory>
+    ensures { IfOk result (λ batch. batch.items ≡ meta_row start marks ∷ []) }
 {
     let mut batch = Vec::new(alloc);
-    batch.push(encode_meta(alloc, start, 0)?)?;
+    batch.push(encode_meta(alloc, start, marks as u64)?)?;
     Ok(batch)
 }
 

@@ -1,4 +1,4 @@
-ghost use Rattle.std.specs.Prelude.{◌≡◌, ◌≤◌, ◌⊎◌, List, [], length, nat_eq, if◌then◌else◌, Option, Some, None, IfSome, IfOk, IfErr, OnOk, OnErr, IsTrue, is_some};
+ghost use Rattle.std.specs.Prelude.{◌≡◌, ◌≤◌, ◌⊎◌, List, [], length, nat_eq, true, if◌then◌else◌, Option, Some, None, IfSome, IfOk, IfErr, OnOk, OnErr, IsTrue, is_some};
 ghost use Rattle.std.specs.FinMap.{get};
 ghost use Rattle.enq_base.specs.Causes.{HasCause};
 ghost use Rattle.keeper_api.specs.Batch.{changed, IsBatch};
@@ -10,15 +10,17 @@ ghost use Rattle.update_records.specs.Business.{tables_of};
 ghost use Rattle.update_records.specs.Ledger.{StandFor, no_ledger};
 ghost use Rattle.update_records.specs.Growing.{next_mark, with_start};
 ghost use Rattle.update_records.specs.Marks.{status_of, v1_of, v2_of};
-ghost use Rattle.posting.specs.Opening.{HasNoRows, CountsFault, OnBad, IsBooksFault, MayBeFault, MayBeLeft, OnRefused, IsRaiseFault, first_ledger};
+ghost use Rattle.posting.specs.Opening.{HasNoRows, CountsFault, OnBad, IsBooksFault, MayBeFault, MayBeLeft, OnRefused, IsRaiseFault, first_ledger, raised};
 ghost use Rattle.posting.specs.Posts.{HasDistinctRows, HoldsTables, IsNote, IsPost, MayCome, WaitsFor, effects_of, entries_of, kind_for, post2_kind};
+ghost use Rattle.posting.specs.Reopening.{HasStood, IsOpeningFault, IsRaised, MayBeLeftBy, MayBeOpeningFault};
+ghost use Rattle.store_reading.specs.Good.{IsSound, ledger_of};
 ghost use Rattle.posting.specs.Shelf.{IsUsable, IsUnmoved, IsReady, MayTake, StandForEither};
 ghost use Rattle.posting.specs.Standings.{error_of};
 ghost use Rattle.posting.specs.Steps.{after_step, at_place, post_kind, waiting_for, HasMarksLeft, IsNewUnit, IsOpenUnit, IsOutcome, IsPostedUnit, IsSetByHand, MayGet};
 ghost use Rattle.posting.specs.declared.prepared.Step.TheVariants.{Record, Note, Start};
 
 use crate::batch::{mark_behind, note_batch, start_batch, unit_batch};
-use crate::opening::{BooksFault, open_empty};
+use crate::opening::{BooksFault, open_empty, open_ledger, restored};
 use crate::prepared::{Outcome, Prepared, Step};
 use crate::register::Register;
 use crate::spots::{apply_to_store, read_text};
@@ -53,7 +55,7 @@ impl<K: Keeper> Model for Books<K> {
 impl<K: Keeper> Books<K> {
     /// Opens a store without rows, and with `raise` writes the first start number. Any row of tables 0 to 7 makes it a
     /// bad store.
-    pub fn open(alloc: Global, keeper: K, raise: bool) -> Result<Books<K>, (BooksFault, K)>
+    pub fn open_bare(alloc: Global, keeper: K, raise: bool) -> Result<Books<K>, (BooksFault, K)>
         ensures usable { IfOk result (λ books. IsUsable K.held K.is_open books) }
         ensures ledger { IfOk result (λ books. books.ledger ≡ first_ledger raise) }
         ensures told { IfOk result (λ books. is_some (K.held books.keeper) ≡ is_some (K.held keeper)) }
@@ -79,6 +81,47 @@ impl<K: Keeper> Books<K> {
             register: Register::new(alloc),
             keeper,
         };
+        if !raise {
+            return Ok(books);
+        }
+        match books.raise(alloc) {
+            Ok(()) => Ok(books),
+            Err(fault) => Err((fault, books.into_keeper())),
+        }
+    }
+
+    /// Opens a store of any rows, and with `raise` writes the next start number. A store that isn't good is `BadStore`
+    /// at its first bad place; with `raise` one at the last start is `NoStart`. Both keep their rows.
+    ///
+    /// Each row is read once; the time is linear in the rows but for sorting.
+    pub fn open(alloc: Global, keeper: K, raise: bool) -> Result<Books<K>, (BooksFault, K)>
+        ensures usable { IfOk result (λ books. IsUsable K.held K.is_open books) }
+        ensures ledger { IfOk result (λ books. IfSome (K.held books.keeper) (λ _. IsRaised (HasStood (K.may_leave keeper)) raise books.ledger)) }
+        // Also where the keeper doesn't tell its rows.
+        ensures sound { IfOk result (λ books. IsRaised IsSound raise books.ledger) }
+        ensures told { IfOk result (λ books. is_some (K.held books.keeper) ≡ is_some (K.held keeper)) }
+        ensures left { IfOk result (λ books. IfSome (K.held books.keeper)
+            (λ _. (left : Rows) → K.may_leave books.keeper left → MayBeLeftBy (K.may_leave keeper) raise left)) }
+        ensures counts { IfOk result (λ books. K.faults books.keeper ≡ K.faults keeper) }
+        ensures fault { IfErr result (λ e. IfSome (K.held e.1) (λ rows. IsOpeningFault raise rows e.0)) }
+        ensures untold_fault { IfErr result (λ e. MayBeOpeningFault raise e.0) }
+        // The rows of a bad store are some that a crash might have left.
+        ensures found { IfErr result (λ e. OnBad e.0 (IfSome (K.held e.1) (K.may_leave keeper))) }
+        ensures told_after { IfErr result (λ e. is_some (K.held e.1) ≡ is_some (K.held keeper)) }
+        ensures left_after { IfErr result (λ e. IfSome (K.held e.1)
+            (λ _. (left : Rows) → K.may_leave e.1 left → MayBeLeftBy (K.may_leave keeper) raise left)) }
+        ensures unchanged { IfErr result (λ e. OnRefused e.0 (IsWithin (K.may_leave e.1) (K.may_leave keeper))) }
+        ensures cause { IfErr result (λ e. CountsFault e.0 (K.faults keeper) (K.faults e.1)) }
+    {
+        let mut keeper = keeper;
+        let stored = match open_ledger(alloc, &mut keeper) {
+            Ok(stored) => stored,
+            Err(fault) => return Err((fault, keeper)),
+        };
+        let Ok(register) = restored(alloc, stored) else {
+            return Err((BooksFault::NoMemory, keeper));
+        };
+        let mut books = Books { register, keeper };
         if !raise {
             return Ok(books);
         }
@@ -356,23 +399,28 @@ impl<K: Keeper> Books<K> {
         })
     }
 
+    /// Writes the next start number.
     fn raise(&mut self, alloc: Global) -> Result<(), BooksFault>
         requires usable { IsUsable K.held K.is_open self.old }
-        requires none { self.old.ledger ≡ no_ledger }
         ensures usable { OnOk result (IsUsable K.held K.is_open self.new) }
-        ensures ledger { OnOk result (self.new.ledger ≡ with_start no_ledger 1) }
+        ensures ledger { OnOk result (self.new.ledger ≡ raised true self.old.ledger) }
         ensures told { is_some (K.held self.new.keeper) ≡ is_some (K.held self.old.keeper) }
         ensures left { IfSome (K.held self.old.keeper) (λ _. (left : Rows) → K.may_leave self.new.keeper left
-            → K.may_leave self.old.keeper left ⊎ StandFor left (with_start no_ledger 1)) }
+            → K.may_leave self.old.keeper left ⊎ StandFor left (raised true self.old.ledger)) }
         ensures counts { OnOk result (K.faults self.new.keeper ≡ K.faults self.old.keeper) }
-        ensures fault { IfErr result IsRaiseFault }
+        ensures fault { IfErr result (IsRaiseFault self.old.ledger) }
+        ensures rows { IfErr result (λ fault. OnRefused fault (K.held self.new.keeper ≡ K.held self.old.keeper)) }
         ensures unchanged { IfErr result (λ fault. OnRefused fault (IsWithin (K.may_leave self.new.keeper) (K.may_leave self.old.keeper))) }
         ensures cause { IfErr result (λ fault. CountsFault fault (K.faults self.old.keeper) (K.faults self.new.keeper)) }
     {
-        let Ok(batch) = start_batch(alloc, 1) else {
+        let start = self.start();
+        if start == u32::MAX {
+            return Err(BooksFault::NoStart);
+        }
+        let Ok(batch) = start_batch(alloc, start + 1, self.marks()) else {
             return Err(BooksFault::NoMemory);
         };
-        let Ok(prepared) = self.prepare(alloc, batch, Step::Start(1)) else {
+        let Ok(prepared) = self.prepare(alloc, batch, Step::Start(start + 1)) else {
             return Err(BooksFault::NoMemory);
         };
         match self.write(prepared) {

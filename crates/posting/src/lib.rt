@@ -6,8 +6,8 @@ mod books;
 mod opening;
 mod prepared;
 mod register;
+mod restoring;
 mod spots;
-mod unit_id;
 
 pub use books::Books;
 pub use opening::BooksFault;

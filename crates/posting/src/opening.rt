@@ -1,9 +1,15 @@
-ghost use Rattle.std.specs.Prelude.{◌≡◌, ◌≤◌, ◌<◌, Option, IfSome, IfOk, IfErr, OnOk, is_some};
+ghost use Rattle.std.specs.Prelude.{◌≡◌, ◌≤◌, ◌<◌, false, Option, IfSome, IfOk, IfErr, OnOk, is_some};
 ghost use Rattle.keeper_api.specs.Keeping.{HasFaultCause, IsWithin, Stays, UnlessFailed};
 ghost use Rattle.posting.specs.Opening.{CountsFault, Finds, IsBooksFault, MayBeFault, OnBad, WasBare, books_fault};
+ghost use Rattle.posting.specs.Reopening.{IsOpeningFault, MayBeOpeningFault, opening_fault};
+ghost use Rattle.store_reading.specs.Good.{IsSound, ledger_of};
+ghost use Rattle.update_records.specs.Ledger.{StandFor};
 
+use crate::register::Register;
+use enq_base::NoMemory;
 use keeper_api::{KeepFault, Keeper};
 use std::alloc::Global;
+use store_reading::{ReadingFault, StoredLedger, read_ledger};
 
 /// Why a store isn't opened.
 #[derive(Clone, Copy, Debug, PartialEq, Eq)]
@@ -69,4 +75,50 @@ pub fn open_empty<K: Keeper>(alloc: Global, keeper: &mut K) -> Result<(), BooksF
         Ok(Some(table)) => Err(BooksFault::BadStore { table, row: 1 }),
         Ok(None) => Ok(()),
     }
+}
+
+fn opening_fault(fault: ReadingFault) -> BooksFault
+    ensures { result ≡ opening_fault fault }
+{
+    match fault {
+        ReadingFault::Failed => BooksFault::StoreFault,
+        ReadingFault::Bad { table, row } => BooksFault::BadStore { table, row },
+        ReadingFault::NoMemory => BooksFault::NoMemory,
+    }
+}
+
+/// Opens a keeper, and reads the ledger of its rows.
+pub fn open_ledger<K: Keeper>(alloc: Global, keeper: &mut K) -> Result<StoredLedger, BooksFault>
+    ensures opened { OnOk result (K.is_open keeper.new) }
+    ensures stands { IfOk result (λ stored. IfSome (K.held keeper.new) (λ rows. K.may_leave keeper.old rows × StandFor rows (ledger_of stored))) }
+    ensures sound { IfOk result (λ stored. IsSound (ledger_of stored)) }
+    ensures counts { OnOk result (K.faults keeper.new ≡ K.faults keeper.old) }
+    ensures told { is_some (K.held keeper.new) ≡ is_some (K.held keeper.old) }
+    ensures crash { IsWithin (K.may_leave keeper.new) (K.may_leave keeper.old) }
+    ensures fault { IfErr result (λ fault. IfSome (K.held keeper.new) (λ rows. IsOpeningFault false rows fault)) }
+    ensures untold_fault { IfErr result (MayBeOpeningFault false) }
+    ensures found { IfErr result (λ fault. OnBad fault (IfSome (K.held keeper.new) (K.may_leave keeper.old))) }
+    ensures cause { IfErr result (λ fault. CountsFault fault (K.faults keeper.old) (K.faults keeper.new)) }
+{
+    if let Err(fault) = keeper.reopen(alloc) {
+        return Err(fault_of(fault));
+    }
+    match read_ledger(alloc, keeper) {
+        Ok(stored) => Ok(stored),
+        Err(fault) => Err(opening_fault(fault)),
+    }
+}
+
+/// The register of a ledger that a store may stand for.
+pub fn restored(alloc: Global, stored: StoredLedger) -> Result<Register, NoMemory>
+    requires { IsSound (ledger_of stored) }
+    ensures { IfOk result (λ register. register.ledger ≡ ledger_of stored) }
+{
+    let StoredLedger {
+        start,
+        units,
+        marks,
+        levels,
+    } = stored;
+    Register::restore(alloc, start, units, marks, levels)
 }

@@ -1,22 +1,25 @@
-ghost use Rattle.std.specs.Prelude.{◌≡◌, ◌⊎◌, ◌≤◌, ◌<◌, ◌+◌, ◌++◌, ◌∷◌, [], ℕ, not, length, Some, None, IfSome, IfNone, OnOk, vec_len, vec_capacity, if◌then◌else◌};
+ghost use Rattle.std.specs.Prelude.{◌≡◌, ◌⊎◌, ◌≤◌, ◌<◌, ◌+◌, ◌++◌, ◌∷◌, [], ℕ, not, length, map, Some, None, IfOk, IfSome, IfNone, OnOk, vec_len, vec_capacity, if◌then◌else◌};
 ghost use Rattle.std.specs.HashMap.{spare};
+ghost use Rattle.std.specs.FinMap.{empty};
 ghost use Rattle.std.specs.List.{filter, position, IsDistinct};
 ghost use Rattle.enq_base.specs.Owners.{same_unit};
 ghost use Rattle.enq_base.specs.declared.owner.UnitKey.{UnitKey};
 ghost use Rattle.posting.specs.Standings.{error_of, standing_at, told};
-ghost use Rattle.update_records.specs.Ledger.{no_ledger};
+ghost use Rattle.update_records.specs.Intervals.{levels_of};
+ghost use Rattle.update_records.specs.Ledger.{no_ledger, recorded};
 ghost use Rattle.std.specs.VecDeque.{deque_len, deque_capacity};
-ghost use Rattle.update_records.specs.Marks.{given, is_empty_part, same_status, status_of, unit_at};
+ghost use Rattle.update_records.specs.Marks.{given, is_empty_part, same_status, status_of, unit_at, IsLegal};
+ghost use Rattle.update_records.specs.declared.records.Unit.{Unit as UnitOfWork};
 ghost use Rattle.posting.specs.Shelf.{MayTake};
 ghost use Rattle.posting.specs.Steps.{after_step, at_place, waiting_for};
 
 use crate::prepared::Step;
-use crate::unit_id::{UnitId, id_of};
+use crate::restoring::{standings_of, units_with};
 use enq_base::{NoMemory, Reason, Status, UnitKey};
 use std::alloc::Global;
 use std::collections::{HashMap, VecDeque};
 use std::marker::Model;
-use update_records::{Mark, MarkKind, Unit};
+use update_records::{Mark, MarkKind, StoredInterval, Unit, UnitId, id_of};
 
 /// The place of a unit in the order of recording, its status, and where its last mark tells of one the refusal: the
 /// effect's number from 1 on, and the reason.
@@ -27,8 +30,8 @@ pub struct Standing {
     pub error: Option<(u32, Reason)>,
 }
 
-/// The ledger in memory: units and marks in order, each unit's standing by its key, and those that wait for their V1
-/// part and again for their V2 part.
+/// The ledger in memory: units and marks in order, each unit's standing by its key, those that wait for their V1 part
+/// and again for their V2 part, and the stored intervals.
 #[derive(Drop)]
 pub struct Register {
     start: u32,
@@ -37,13 +40,14 @@ pub struct Register {
     standings: HashMap<UnitId, Standing>,
     queue: VecDeque<UnitKey>,
     again: VecDeque<UnitKey>,
+    intervals: Vec<StoredInterval>,
 }
 
 impl Model for Register {
     ghost use Rattle.std.specs.Prelude.{◌-◌, min, vec_len, vec_capacity};
     ghost use Rattle.std.specs.HashMap.{spare};
     ghost use Rattle.std.specs.VecDeque.{deque_len, deque_capacity};
-    ghost use Rattle.std.specs.FinMap as map;
+    ghost use Rattle.update_records.specs.Intervals.{levels_of};
     ghost use Rattle.posting.specs.Registers.{RegisterView};
 
     ghost Value = { RegisterView };
@@ -56,7 +60,7 @@ impl Model for Register {
     ghost use Rattle.posting.specs.Standings.{IsRegister};
 
     ghost view = { λ r. record {
-      ledger = record { start = r.start; units = r.units.items; marks = r.marks.items; levels = map.empty };
+      ledger = record { start = r.start; units = r.units.items; marks = r.marks.items; levels = levels_of r.intervals.items };
       room = min (vec_capacity r.units - vec_len r.units) (min (vec_capacity r.marks - vec_len r.marks)
           (min (spare r.standings) (min (deque_capacity r.queue - deque_len r.queue)
           (deque_capacity r.again - deque_len r.again))));
@@ -77,7 +81,48 @@ impl Register {
             standings: HashMap::new(alloc),
             queue: VecDeque::new(alloc),
             again: VecDeque::new(alloc),
+            intervals: Vec::new(alloc),
         }
+    }
+
+    /// The register of all units, marks and intervals of a store.
+    pub fn restore(
+        alloc: Global,
+        start: u32,
+        units: Vec<Unit>,
+        marks: Vec<Mark>,
+        intervals: Vec<StoredInterval>,
+    ) -> Result<Register, NoMemory>
+        requires begun { 1 ≤ length marks.items → 1 ≤ start }
+        requires few { length marks.items < 1048577 }
+        requires legal { IsLegal units.items marks.items }
+        requires recorded { map (λ (unit : UnitOfWork). unit.key) units.items ≡ recorded marks.items }
+        ensures { IfOk result (λ register. register.ledger ≡ record { start = start; units = units.items; marks = marks.items; levels = levels_of intervals.items }) }
+    {
+        let standings = standings_of(alloc, units.as_slice(), marks.as_slice())?;
+        let queue = units_with(
+            alloc,
+            Status::Open,
+            units.as_slice(),
+            marks.as_slice(),
+            &standings,
+        )?;
+        let again = units_with(
+            alloc,
+            Status::Posted,
+            units.as_slice(),
+            marks.as_slice(),
+            &standings,
+        )?;
+        Ok(Register {
+            start,
+            units,
+            marks,
+            standings,
+            queue,
+            again,
+            intervals,
+        })
     }
 
     pub fn start(&self) -> u32
@@ -210,13 +255,13 @@ impl Register {
     }
 }
 
-fn standing_of(standings: &HashMap<UnitId, Standing>, key: &UnitKey) -> Option<Standing>
+pub fn standing_of(standings: &HashMap<UnitId, Standing>, key: &UnitKey) -> Option<Standing>
     ensures { result ≡ standing_at standings.now key.now }
 {
     standings.get(&id_of(key)).copied()
 }
 
-fn set_standing(standings: &mut HashMap<UnitId, Standing>, key: &UnitKey, standing: Standing)
+pub fn set_standing(standings: &mut HashMap<UnitId, Standing>, key: &UnitKey, standing: Standing)
     requires { 1 ≤ spare standings.old }
     ensures { (other : UnitKey) → standing_at standings.new other ≡ (if same_unit key.now other then Some standing else standing_at standings.old other) }
 {
@@ -232,7 +277,7 @@ fn push_mark(marks: &mut Vec<Mark>, unit: UnitKey, kind: MarkKind)
 }
 
 /// The status that a mark gives, by the one before it.
-fn status_after(unit: &Unit, kind: &MarkKind, before: Status) -> Status
+pub fn status_after(unit: &Unit, kind: &MarkKind, before: Status) -> Status
     ensures { Some result ≡ given (is_empty_part unit.now.parts.v2) kind.now (Some before) }
 {
     match kind {
@@ -248,7 +293,7 @@ fn status_after(unit: &Unit, kind: &MarkKind, before: Status) -> Status
 }
 
 /// The refusal that a mark tells, by the one before it.
-fn error_after(kind: &MarkKind, before: Option<(u32, Reason)>) -> Option<(u32, Reason)>
+pub fn error_after(kind: &MarkKind, before: Option<(u32, Reason)>) -> Option<(u32, Reason)>
     ensures { result ≡ told kind.now before }
 {
     match kind {

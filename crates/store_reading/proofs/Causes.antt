@@ -1,16 +1,16 @@
 -- What a call leaves, by the answer that is made of its own.
-use Rattle.std.proofs.Common.{◌≡◌, ℕ, ◌<◌, List, Option, Some, None, IfSome, Result, Ok, Err, IfOk, IfErr, Vec, Global, sym, subst, ◌∙◌, arith}
+use Rattle.std.proofs.Common.{◌≡◌, ℕ, ◌<◌, List, [], Option, Some, None, IfSome, Result, Ok, Err, IfOk, IfErr, Vec, Global, sym, subst, ◌∙◌, arith}
 use Rattle.keeper_api.specs.declared.fault.KeepFault.{KeepFault}
 use Rattle.keeper_api.specs.declared.fault.KeepFault.TheVariants as keep
 use Rattle.keeper_api.specs.declared.rows.Change.{Change}
 use Rattle.keeper_api.specs.declared.rows.Row.{Row}
 use Rattle.keeper_api.specs.Keeping as keeping
 use Rattle.keeper_api.specs.Keeping.{HasFaultCause, Stays}
-use Rattle.keeper_api.specs.Rows.{Rows}
+use Rattle.keeper_api.specs.Rows.{Rows, RiseFrom}
 use Rattle.update_records.specs.declared.stored.Record.{Record}
 use Rattle.store_reading.specs.Faults.{reading_fault, HasReadingCause, MayBeFault, OnBad, OnFailed, UnlessFailed}
 use Rattle.store_reading.specs.Tables.{rows_in}
-use Rattle.store_reading.specs.Told.{IsFirstBad, SpellEach}
+use Rattle.store_reading.specs.Told.{IsFirstBad, IsTableRead, SpellEach}
 use Rattle.store_reading.specs.declared.fault.ReadingFault.{ReadingFault}
 use Rattle.store_reading.specs.declared.fault.ReadingFault.TheVariants.{Failed, Bad, NoMemory}
 
@@ -44,6 +44,11 @@ pub decoded_records : (held : Option Rows) (table : ℕ) (items slice : List Row
 decoded_records held table items slice (Err e) same read each = tt
 decoded_records None table items slice (Ok records) same read each = tt
 decoded_records (Some rows) table items slice (Ok records) same read each = subst (λ xs. SpellEach table xs records.items) (same ∙ read) each
+
+pub decoded_read : (table : ℕ) (items slice : List Row) (r : Decoded) → slice ≡ items → RiseFrom [] items
+    → IfOk r (λ records. SpellEach table slice records.items) → IfOk r (λ records. IsTableRead table records.items)
+decoded_read table items slice (Err e) same rise each = tt
+decoded_read table items slice (Ok records) same rise each = (slice, subst (RiseFrom []) (sym same) rise, each)
 
 pub decoded_bad : (held : Option Rows) (table : ℕ) (items slice : List Row) (r : Decoded) → slice ≡ items → IfSome held (λ rows. items ≡ rows_in rows table)
     → IfErr r (λ fault. OnBad fault (λ t row. (t ≡ table) × IsFirstBad table slice row)) → IfErr r (λ fault. IfSome held (λ rows. OnBad fault (λ t row. (t ≡ table) × IsFirstBad table (rows_in rows table) row)))

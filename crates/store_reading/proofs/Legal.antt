@@ -104,7 +104,7 @@ numbered_from before (rec.Level object nr from to level buffered ∷ records) h 
 numbered_from before (rec.Business table key text ∷ records) h = let odd : false ≡ true = h.0 in cc
 numbered_from before (rec.Lock u index table mode count pattern ∷ records) h = let odd : false ≡ true = h.0 in cc
 
-all_marks : (before records : List Record) → AreRight (λ before. has_number (length before + 1)) before records → length (marks_in records) ≡ length records
+pub all_marks : (before records : List Record) → AreRight (λ before. has_number (length before + 1)) before records → length (marks_in records) ≡ length records
 all_marks before [] h = refl
 all_marks before (rec.Mark m ∷ records) h = ap suc (all_marks (before ++ rec.Mark m ∷ []) records h.1)
 all_marks before (rec.Meta s n ∷ records) h = let odd : false ≡ true = h.0 in cc

@@ -24,10 +24,10 @@ less_of Less h = refl
 less_of Equal h = cc
 less_of Greater h = cc
 
-below_trans : (a b c : List ℕ) → is_below a b ≡ true → is_below b c ≡ true → is_below a c ≡ true
+pub below_trans : (a b c : List ℕ) → is_below a b ≡ true → is_below b c ≡ true → is_below a c ≡ true
 below_trans a b c ab bc = ap is_lt (nat_list_cmp_total.trans a b c (less_of _ ab) (less_of _ bc))
 
-not_below_itself : (a : List ℕ) → is_below a a ≡ false
+pub not_below_itself : (a : List ℕ) → is_below a a ≡ false
 not_below_itself a = ap is_lt (tied_itself nat_list_cmp_total a)
 
 not_both : (b : Bool) → b ≡ true → b ≡ false → ⊥

@@ -12,10 +12,10 @@ use Rattle.update_records.specs.Marks.{given, status_after}
 use Rattle.update_records.specs.declared.records.Mark.{Mark}
 use Rattle.update_records.specs.declared.stored.Record.{Record}
 use Rattle.update_records.specs.declared.stored.Record.TheVariants as rec
-use Rattle.store_reading.specs.Ids.{id_of, same_id}
+use Rattle.update_records.specs.Ids.{id_of, same_id}
 use Rattle.store_reading.specs.Rules.{has_second, mark_in, marks_in, status_in}
 use Rattle.store_reading.specs.Standings.{AreSecond, AreStatuses}
-use Rattle.store_reading.specs.declared.unit_id.UnitId.{UnitId}
+use Rattle.update_records.specs.declared.unit_id.UnitId.{UnitId}
 
 pub one_unit : (u v : UnitKey) → same_unit u v ≡ true → u ≡ v
 one_unit u v h = let e = same_owner-same (Upd u) (Upd v) h in cc

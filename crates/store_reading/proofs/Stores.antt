@@ -9,7 +9,7 @@ use Rattle.update_records.specs.Spelling.{Spells}
 use Rattle.update_records.specs.declared.stored.Record.{Record}
 use Rattle.store_reading.specs.Faults.{OnBad, IsReadingFault}
 use Rattle.store_reading.specs.Tables.{rows_in}
-use Rattle.store_reading.specs.Told.{IsSpelled, IsFirstBad, IsFirstBadRow, SpellAll, SpellBelow, SpellEach}
+use Rattle.store_reading.specs.Told.{AreRead, AreReadBelow, IsSpelled, IsFirstBad, IsFirstBadRow, IsTableRead, SpellAll, SpellBelow, SpellEach}
 use Rattle.store_reading.specs.declared.fault.ReadingFault.{ReadingFault}
 use Rattle.store_reading.specs.declared.fault.ReadingFault.TheVariants.{Failed, Bad, NoMemory}
 use Rattle.store_reading.proofs.Spelled.{all_spelled}
@@ -36,6 +36,22 @@ below_more rows n lists new records long pushed below here = λ table low. elim 
       let last : get_or new n [] ≡ records = ap (λ l. get_or l n []) pushed ∙ get_last lists n records long in
       subst (λ k. SpellEach k (rows_in rows k) (get_or new k [])) same (subst (SpellEach n (rows_in rows n)) (sym last) here)
 ]
+
+-- the same of records of any rows
+pub read_more : (n : ℕ) (lists new : Lists) (records : List Record) → length lists ≡ n → new ≡ lists ++ records ∷ []
+    → AreReadBelow n lists → IsTableRead n records → AreReadBelow (n + 1) new
+read_more n lists new records long pushed below here = λ table low. elim (cases_lt table n) as (λ _. IsTableRead table (get_or new table [])) [
+  | inl h ↦
+      let kept : get_or new table [] ≡ get_or lists table [] = ap (λ l. get_or l table []) pushed ∙ get_before lists table records (omega arith) in
+      subst (IsTableRead table) (sym kept) (below table h)
+  | inr h ↦
+      let same : n ≡ table = omega arith in
+      let last : get_or new n [] ≡ records = ap (λ l. get_or l n []) pushed ∙ get_last lists n records long in
+      subst (λ k. IsTableRead k (get_or new k [])) same (subst (IsTableRead n) (sym last) here)
+]
+
+pub all_read : (n : ℕ) (lists : Lists) → 8 ≤ n → AreReadBelow n lists → AreRead lists
+all_read n lists h below = λ table low. below table (omega arith)
 
 pub tables_more : (held now : Option Rows) (n : ℕ) (lists new : Lists) (records : List Record) → now ≡ held → length lists ≡ n → new ≡ lists ++ records ∷ []
     → IfSome held (λ rows. SpellBelow n rows lists) → IfSome now (λ rows. SpellEach n (rows_in rows n) records) → IfSome held (λ rows. SpellBelow (n + 1) rows new)

@@ -17,13 +17,14 @@ use Rattle.mode_rules.specs.Modes.{same_mode}
 use Rattle.mode_rules.specs.declared.Mode.{Mode}
 use Rattle.mode_rules.specs.declared.Mode.TheVariants.{S, E, X, O}
 use Rattle.update_records.specs.RecordRows.{mode_number}
-use Rattle.store_reading.specs.Ids.{id_of, lock_id, same_id, same_lock}
+use Rattle.store_reading.specs.Ids.{lock_id, same_lock}
+use Rattle.update_records.specs.Ids.{id_of, same_id}
 use Rattle.store_reading.specs.Standings.{AreNames, AreTwins}
 use Rattle.update_records.specs.declared.stored.Record.{Record}
 use Rattle.update_records.specs.declared.stored.Record.TheVariants as rec
 use Rattle.store_reading.specs.Units.{are_distinct, differ, is_counted, is_named_for, names_in}
 use Rattle.store_reading.specs.declared.lock_id.LockId.{LockId}
-use Rattle.store_reading.specs.declared.unit_id.UnitId.{UnitId}
+use Rattle.update_records.specs.declared.unit_id.UnitId.{UnitId}
 use Rattle.store_reading.proofs.Statuses.{one_unit}
 
 -- ---- modes by their numbers

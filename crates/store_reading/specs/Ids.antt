@@ -1,22 +1,21 @@
--- Keys of units, as maps and sets look them up.
-use Rattle.std.specs.Prelude.{ℕ, Bool, ◌==◌, ◌&&◌, Option, Some, None}
+-- Rows, locks and intervals of units, as maps and sets look them up.
+use Rattle.std.specs.Prelude.{ℕ, Bool, ◌==◌, ◌&&◌, List, Option, Some, None}
+use Rattle.std.specs.Cmp.Lexicographic.{slice_cmp}
+use Rattle.std.specs.Ordering.{eq_by_cmp, nat_cmp, on}
 use Rattle.std.specs.Str.{bytes_eq}
+use Rattle.std.specs.declared.cmp.Ordering.{Ordering}
 use Rattle.enq_base.specs.declared.owner.UnitKey.{UnitKey}
 use Rattle.lock_entry.specs.declared.entry.Asked.{Asked}
 use Rattle.module_effects.specs.Rows.{RowName}
-use Rattle.update_records.specs.RecordRows.{mode_number}
+use Rattle.update_records.specs.Ids.{id_of, same_id}
+use Rattle.update_records.specs.RecordRows.{mode_number, row_name}
 use Rattle.update_records.specs.declared.stored.Record.{Record}
 use Rattle.update_records.specs.declared.stored.Record.TheVariants as rec
 use Rattle.store_reading.specs.declared.interval_id.IntervalId.{IntervalId}
 use Rattle.store_reading.specs.declared.lock_id.LockId.{LockId}
+use Rattle.store_reading.specs.declared.part_id.PartId.{PartId}
 use Rattle.store_reading.specs.declared.row_id.RowId.{RowId}
-use Rattle.store_reading.specs.declared.unit_id.UnitId.{UnitId}
-
-abbrev pub id_of : UnitKey → UnitId
-id_of key = record { start = key.start; session = key.session; luw = key.luw }
-
-abbrev pub same_id : UnitId → UnitId → Bool
-same_id a b = (a.start == b.start && a.session == b.session) && a.luw == b.luw
+use Rattle.store_reading.specs.declared.text_id.TextId.{TextId}
 
 abbrev pub row_id : UnitKey → ℕ → ℕ → RowId
 row_id key part n = record { start = key.start; session = key.session; luw = key.luw; part = part; number = n }
@@ -43,3 +42,24 @@ interval_id name = record { object = name.0; nr = name.1 }
 
 abbrev pub same_interval : IntervalId → IntervalId → Bool
 same_interval a b = bytes_eq a.object b.object && bytes_eq a.nr b.nr
+
+abbrev pub part_id : UnitKey → ℕ → PartId
+part_id key part = record { unit = id_of key; part = part }
+
+abbrev pub same_part : PartId → PartId → Bool
+same_part a b = same_id a.unit b.unit && a.part == b.part
+
+-- the name of a business row
+abbrev pub text_id : RowName → TextId
+text_id name = record { table = name.0; key = name.1 }
+
+-- the bytes of its key in table 6
+abbrev pub text_name : TextId → List ℕ
+text_name id = row_name (id.table, id.key)
+
+-- in the order of these
+abbrev pub text_cmp : TextId → TextId → Ordering
+text_cmp = on text_name (slice_cmp nat_cmp)
+
+abbrev pub same_text : TextId → TextId → Bool
+same_text a b = eq_by_cmp text_cmp a b

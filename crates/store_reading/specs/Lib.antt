@@ -9,4 +9,8 @@ pub mod Units
 pub mod Intervals
 pub mod Posts
 pub mod Lawful
+pub mod Stores
+pub mod Good
+pub mod Gathered
 pub mod Standings
+pub mod Posting

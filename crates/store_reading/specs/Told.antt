@@ -2,7 +2,7 @@
 use Rattle.std.specs.Prelude.{ℕ, ◌≡◌, ◌+◌, ◌<◌, List, [], ◌∷◌, ◌++◌, length, slice_index_or}
 use Rattle.std.specs.List.{AllByRecursion}
 use Rattle.keeper_api.specs.declared.rows.Row.{Row}
-use Rattle.keeper_api.specs.Rows.{Rows}
+use Rattle.keeper_api.specs.Rows.{Rows, RiseFrom}
 use Rattle.update_records.specs.Spelling.{Spells}
 use Rattle.update_records.specs.declared.stored.Record.{Record}
 use Rattle.store_reading.specs.Tables.{rows_in}
@@ -45,3 +45,14 @@ SpellBelow n rows records = (table : ℕ) → table < n → SpellEach table (row
 -- the rows of tables 0 to 7 spell these records
 abbrev pub SpellAll : Rows → List (List Record) → Type 0
 SpellAll rows records = SpellBelow 8 rows records
+
+-- the records are those of a table's rows, whose keys rise
+abbrev pub IsTableRead : ℕ → List Record → Type 0
+IsTableRead table records = (rows : List Row) × RiseFrom [] rows × SpellEach table rows records
+
+abbrev pub AreReadBelow : ℕ → List (List Record) → Type 0
+AreReadBelow n records = (table : ℕ) → table < n → IsTableRead table (records_in records table)
+
+-- the records of tables 0 to 7, also where it isn't told which rows a store has
+abbrev pub AreRead : List (List Record) → Type 0
+AreRead records = AreReadBelow 8 records

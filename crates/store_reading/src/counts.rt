@@ -4,11 +4,10 @@ ghost use Rattle.store_reading.specs.Standings.{counts_for, AreCounts};
 ghost use Rattle.store_reading.specs.Units.{counts_at, effects_in, is_counted, no_counts, told};
 ghost use Rattle.update_records.specs.declared.stored.Record.{Record};
 
-use crate::unit_id::{UnitId, id_of};
 use enq_base::{NoMemory, UnitKey};
 use std::alloc::Global;
 use std::collections::HashMap;
-use update_records::Record;
+use update_records::{Record, UnitId, id_of};
 
 /// What a header counts of its unit.
 #[derive(Clone, Copy, Debug, PartialEq, Eq)]

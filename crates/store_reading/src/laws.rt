@@ -1,4 +1,4 @@
-ghost use Rattle.std.specs.Prelude.{◌≡◌, ◌↔◌, ℕ, Bool, not, List, [], Some, None, map, length};
+ghost use Rattle.std.specs.Prelude.{◌≡◌, ◌↔◌, ℕ, Bool, false, not, List, [], Some, None, map, length};
 ghost use Rattle.enq_base.specs.declared.owner.UnitKey.{UnitKey};
 ghost use Rattle.keeper_api.specs.Rows.{Rows};
 ghost use Rattle.keeper_api.specs.declared.rows.Row.{Row};
@@ -6,15 +6,16 @@ ghost use Rattle.store_reading.specs.First.{first_wrong, AreRight, IsFirstWrong}
 ghost use Rattle.store_reading.specs.Intervals.{committed, level_fault};
 ghost use Rattle.store_reading.specs.Lawful.{IsRightRow};
 ghost use Rattle.store_reading.specs.Rules.{has_second, mark_fault, marks_in, number_fault};
+ghost use Rattle.store_reading.specs.Stores.{is_bare, ledger_in, rule_fault};
 ghost use Rattle.store_reading.specs.declared.rules.Place.{Place};
 ghost use Rattle.std.specs.List.{All, range_with_len};
 ghost use Rattle.store_reading.specs.Units.{unit_fault};
-ghost use Rattle.update_records.specs.Ledger.{IsMarkUnder};
+ghost use Rattle.update_records.specs.Ledger.{IsLawful, IsMarkUnder};
 ghost use Rattle.update_records.specs.Spelling.{IsRecord};
 ghost use Rattle.update_records.specs.declared.records.Mark.{Mark};
 ghost use Rattle.update_records.specs.Marks.{has_no_v2, IsLegal};
 ghost use Rattle.update_records.specs.declared.records.Unit.{Unit as UnitOfWork};
-ghost use Rattle.store_reading.specs.Told.{IsFirstBadRow, SpellAll, SpellEach};
+ghost use Rattle.store_reading.specs.Told.{AreRead, IsFirstBadRow, SpellAll, SpellEach};
 ghost use Rattle.update_records.specs.declared.stored.Record.{Record};
 
 use update_records::rows_tell_records;
@@ -49,4 +50,11 @@ pub fn right_marks_are_lawful()
 /// Stored intervals of which none is wrong are those of a lawful ledger.
 pub fn right_levels_are_lawful()
     ensures { (headers marks levels : List Record) → All IsRecord levels → level_fault headers marks levels ≡ None → All (IsRightRow (committed headers marks)) levels }
+{}
+
+/// Records that break no rule spell a lawful ledger, unless there are none. It takes the keys of each table's rows to
+/// rise, as those of a store do.
+pub fn right_records_are_lawful()
+    ensures { (records : List (List Record)) → AreRead records → is_bare records ≡ false
+        → rule_fault records ≡ None → IsLawful (ledger_in records) }
 {}

@@ -2,9 +2,9 @@ ghost use Rattle.std.specs.Prelude.{◌≡◌};
 ghost use Rattle.store_reading.specs.Ids.{lock_id};
 ghost use Rattle.update_records.specs.RecordRows.{mode_number};
 
-use crate::unit_id::{UnitId, id_of};
 use enq_base::{Name, Pattern, ShortBytes, UnitKey};
 use lock_entry::Mode;
+use update_records::{UnitId, id_of};
 
 /// The name of a lock of a unit.
 #[derive(Clone, Copy, Debug, Hash)]

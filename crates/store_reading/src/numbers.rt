@@ -3,18 +3,17 @@ ghost use Rattle.module_effects.specs.Rows.{RowName};
 ghost use Rattle.std.specs.HashMap.{get};
 ghost use Rattle.std.specs.List.{slice_get};
 ghost use Rattle.enq_base.specs.declared.owner.UnitKey.{UnitKey};
-ghost use Rattle.store_reading.specs.Ids.{id_of, same_id};
+ghost use Rattle.update_records.specs.Ids.{id_of, same_id};
 ghost use Rattle.store_reading.specs.Intervals.{committed, numbers_at, numbers_by, numbers_told};
 ghost use Rattle.store_reading.specs.Standings.{numbers_for, numbers_in_header, numbers_there, AreNumbers, ArePlaces};
 ghost use Rattle.update_records.specs.declared.stored.Record.{Record};
 ghost use Rattle.update_records.specs.Business.{is_from};
 
 use crate::interval_id::{IntervalId, interval_id};
-use crate::unit_id::{UnitId, id_of};
 use enq_base::{Name, NoMemory, Num, UnitKey};
 use std::alloc::Global;
 use std::collections::HashMap;
-use update_records::{MarkKind, Record};
+use update_records::{MarkKind, Record, UnitId, id_of};
 
 fn add_number(
     alloc: Global,
@@ -69,7 +68,7 @@ fn add_place(
     Ok(())
 }
 
-fn places_of(alloc: Global, headers: &[Record]) -> Result<HashMap<UnitId, usize>, NoMemory>
+pub fn places_of(alloc: Global, headers: &[Record]) -> Result<HashMap<UnitId, usize>, NoMemory>
     ensures { IfOk result (λ places. ArePlaces places headers.now) }
 {
     let mut places = HashMap::new(alloc);
@@ -88,7 +87,7 @@ fn header_numbers(stored: &Record) -> &[Num]
     }
 }
 
-fn numbers_there(headers: &[Record], place: Option<usize>) -> &[Num]
+pub fn numbers_there(headers: &[Record], place: Option<usize>) -> &[Num]
     ensures { result.now ≡ numbers_there headers.now place }
 {
     let Some(place) = place else {
@@ -100,7 +99,7 @@ fn numbers_there(headers: &[Record], place: Option<usize>) -> &[Num]
     }
 }
 
-fn place_of(places: &HashMap<UnitId, usize>, key: &UnitKey) -> Option<usize>
+pub fn place_of(places: &HashMap<UnitId, usize>, key: &UnitKey) -> Option<usize>
     ensures { result ≡ get same_id places.now (id_of key.now) }
 {
     places.get(&id_of(key)).copied()

@@ -2,7 +2,7 @@ ghost use Rattle.std.specs.Prelude.{◌≡◌, ◌≤◌, ◌<◌, IfSome, IfOk,
 ghost use Rattle.keeper_api.specs.Keeping.{IsWithin, Stays};
 ghost use Rattle.store_reading.specs.Faults.{reading_fault, HasReadingCause, IsReadingFault, MayBeFault, OnBad, OnFailed, UnlessFailed};
 ghost use Rattle.store_reading.specs.Tables.{rows_in};
-ghost use Rattle.store_reading.specs.Told.{records_in, IsFirstBad, SpellAll, SpellEach};
+ghost use Rattle.store_reading.specs.Told.{records_in, AreRead, IsFirstBad, IsTableRead, SpellAll, SpellEach};
 
 use crate::fault::ReadingFault;
 use crate::tables::read_table;
@@ -76,6 +76,7 @@ fn records_of<K: Keeper>(
     requires opened { K.is_open keeper.old }
     requires own { table < 8 }
     ensures records { IfOk result (λ records. IfSome (K.held keeper.old) (λ rows. SpellEach table (rows_in rows table) records.items)) }
+    ensures read { IfOk result (λ records. IsTableRead table records.items) }
     ensures bad { IfErr result (λ fault. IfSome (K.held keeper.old)
         (λ rows. OnBad fault (λ t row. (t ≡ table) × IsFirstBad table (rows_in rows table) row))) }
     ensures untold_bad { IfErr result MayBeFault }
@@ -97,6 +98,8 @@ fn records_of<K: Keeper>(
 pub fn read_records<K: Keeper>(alloc: Global, keeper: &mut K) -> Result<StoredRecords, ReadingFault>
     requires { K.is_open keeper.old }
     ensures records { IfOk result (λ records. IfSome (K.held keeper.old) (λ rows. SpellAll rows records)) }
+    // Also where the keeper doesn't tell its rows.
+    ensures read { IfOk result AreRead }
     ensures fault { IfErr result (λ fault. IfSome (K.held keeper.old) (λ rows. IsReadingFault rows fault)) }
     ensures untold_fault { IfErr result MayBeFault }
     ensures stays { UnlessFailed result (Stays K.held K.is_open K.has_room keeper.old keeper.new) }

@@ -3,7 +3,7 @@ ghost use Rattle.keeper_api.specs.Batch.{IsBatch};
 ghost use Rattle.keeper_mem.specs.Memory.{IsSettled};
 
 use super::*;
-use enq_base::{Deed, Effect, Items, Key, Name, Num, Parts, Pattern, UnitKey, read_name};
+use enq_base::{Deed, Effect, Items, Key, Name, Num, Parts, Pattern, Reason, UnitKey, read_name};
 use keeper_api::{Change, Keeper};
 use keeper_mem::MemKeeper;
 use lock_entry::Mode;
@@ -101,6 +101,14 @@ fn kind(letter: u8) -> MarkKind {
         b'1' => MarkKind::V1,
         b'2' => MarkKind::V2,
         b'a' => MarkKind::Again1,
+        b'm' => MarkKind::Bad1 {
+            index: 1,
+            reason: Reason::Missing,
+        },
+        b'd' => MarkKind::Bad1 {
+            index: 1,
+            reason: Reason::Duplicate,
+        },
         _ => MarkKind::Gone,
     }
 }
@@ -386,5 +394,178 @@ fn an_interval_has_the_numbers_that_marks_commit(rt: HostRuntime) -> Result<(), 
         let fault = level_fault_in(rt.alloc(), draws)?;
         assert_eq!(rt; place_of(fault), draws.wanted);
     }
+    Ok(())
+}
+
+#[test]
+fn a_mark_of_a_post_says_what_its_part_gives(rt: HostRuntime) -> Result<(), Fail> {
+    let alloc = rt.alloc();
+    let steps = vec![in alloc; step(1)?]?;
+    let cases: [(&[u8], (u8, u64)); 4] = [
+        (b"rm", (0, 0)),
+        (b"r1", (4, 2)),
+        (b"rd", (4, 2)),
+        (b"rm2", (0, 0)),
+    ];
+    for (kinds, wanted) in cases {
+        let marks = marks(alloc, kinds)?;
+        let fault = wrong_post(alloc, steps.as_slice(), marks.as_slice())?;
+        assert_eq!(rt; place_of(fault), wanted);
+    }
+    Ok(())
+}
+
+/// A row of a store: its table, its key and its value.
+#[derive(Clone, Copy)]
+struct Line {
+    table: u8,
+    key: &'static [u8],
+    value: &'static [u8],
+}
+
+/// A unit with one effect, which is recorded and posted.
+const GOOD: [Line; 7] = [
+    Line {
+        table: 0,
+        key: b"S",
+        value: b"\0\0\0\x01\0\0\0\0\0\0\0\x02",
+    },
+    Line {
+        table: 1,
+        key: b"\0\0\0\x01\0\0\0\x02\0\0\0\x03",
+        value: b"\x04ANNA\0\x01\0\0\0\0\0\0\0\0",
+    },
+    Line {
+        table: 2,
+        key: b"\0\0\0\x01\0\0\0\x02\0\0\0\x03\x01",
+        value: b"\0\x01",
+    },
+    Line {
+        table: 3,
+        key: b"\0\0\0\x01\0\0\0\x02\0\0\0\x03\x01\0\x01",
+        value: b"\x01\x04STAT\x01A\0\x01X",
+    },
+    Line {
+        table: 4,
+        key: b"\0\0\0\0\0\0\0\x01",
+        value: b"\x02\0\0\0\x01\0\0\0\x02\0\0\0\x03",
+    },
+    Line {
+        table: 4,
+        key: b"\0\0\0\0\0\0\0\x02",
+        value: b"\x03\0\0\0\x01\0\0\0\x02\0\0\0\x03",
+    },
+    Line {
+        table: 6,
+        key: b"\x04STATA",
+        value: b"X",
+    },
+];
+
+fn put_line(alloc: Global, keeper: &mut MemKeeper, line: &Line) -> Result<(), Fail>
+    requires { IsSettled keeper.old }
+    ensures { OnOk result (IsSettled keeper.new) }
+{
+    if line.key.is_empty() {
+        return Err(Fail::from("a key"));
+    }
+    let change = Change::Put {
+        table: line.table,
+        key: Items::from_vec(Vec::from_slice(alloc, line.key)?),
+        value: Items::from_vec(Vec::from_slice(alloc, line.value)?),
+    };
+    let batch = vec![in alloc; change]?;
+    put(alloc, keeper, batch.as_slice())
+}
+
+fn put_lines(alloc: Global, keeper: &mut MemKeeper, lines: &[Line]) -> Result<(), Fail>
+    requires { IsSettled keeper.old }
+    ensures { OnOk result (IsSettled keeper.new) }
+{
+    for line in lines {
+        put_line(alloc, keeper, line)?;
+    }
+    Ok(())
+}
+
+/// The place where a store with these rows breaks a rule, where `over` is put over `lines`.
+fn fault_of(alloc: Global, lines: &[Line], over: &[Line]) -> Result<(u8, u64), Fail> {
+    let mut keeper = MemKeeper::new(alloc, Vec::new(alloc), Vec::new(alloc))?;
+    put_lines(alloc, &mut keeper, lines)?;
+    put_lines(alloc, &mut keeper, over)?;
+    let Ok(records) = read_records(alloc, &mut keeper) else {
+        return Err(Fail::from("a reading"));
+    };
+    Ok(place_of(store_fault(alloc, &records)?))
+}
+
+/// Rows that are put over those of the good store, and the place that is broken then.
+#[derive(Clone, Copy)]
+struct Breach {
+    over: [Line; 2],
+    wanted: (u8, u64),
+}
+
+/// One row that is put over the good store.
+fn broken(line: Line, wanted: (u8, u64)) -> Breach {
+    Breach {
+        over: [line, line],
+        wanted,
+    }
+}
+
+const META: Line = Line {
+    table: 0,
+    key: b"S",
+    value: b"\0\0\0\x01\0\0\0\0\0\0\0\x03",
+};
+
+#[test]
+fn a_store_is_broken_at_its_first_rule(rt: HostRuntime) -> Result<(), Fail> {
+    let alloc = rt.alloc();
+    let [meta, _, module, _, first, second, business] = GOOD;
+    let late = Line {
+        key: b"\0\0\0\0\0\0\0\x04",
+        ..second
+    };
+    let again = Line {
+        value: first.value,
+        ..second
+    };
+    let counted = Line {
+        value: b"\0\x02",
+        ..module
+    };
+    let text = Line {
+        value: b"Y",
+        ..business
+    };
+    let more = Line {
+        key: b"\x04STATB",
+        ..business
+    };
+    let level = Line {
+        table: 5,
+        key: b"\x06ZORDNR01",
+        value: b"\0\0\0\0\0\0\0\x05\0\0\0\0\0\0\0\x09\0\0\0\0\0\0\0\x05\0",
+    };
+    let cases = [
+        broken(meta, (0, 0)),
+        broken(META, (0, 1)),
+        Breach {
+            over: [META, late],
+            wanted: (4, 3),
+        },
+        broken(again, (4, 2)),
+        broken(counted, (4, 1)),
+        broken(text, (6, 1)),
+        broken(more, (6, 2)),
+        broken(level, (5, 1)),
+    ];
+    for case in &cases {
+        assert_eq!(rt; fault_of(alloc, &GOOD, &case.over)?, case.wanted);
+    }
+    assert_eq!(rt; fault_of(alloc, &GOOD[..6], &[])?, (6, 1));
+    assert_eq!(rt; fault_of(alloc, &[], &[])?, (0, 0));
     Ok(())
 }

@@ -8,12 +8,11 @@ use crate::counts::{Counts, counts_for, counts_of, is_counted};
 use crate::lock_names::twins_of;
 use crate::row_id::RowId;
 use crate::rules::Place;
-use crate::unit_id::{UnitId, id_of};
 use crate::unit_rows::{has_part, has_rows, recorded_units, rows_of};
 use enq_base::{NoMemory, UnitKey};
 use std::alloc::Global;
 use std::collections::{HashMap, HashSet};
-use update_records::{MarkKind, Record};
+use update_records::{MarkKind, Record, UnitId, id_of};
 
 const MOST_EFFECTS: u32 = 200;
 

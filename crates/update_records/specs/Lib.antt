@@ -9,3 +9,5 @@ pub mod Fields
 pub mod Reading
 pub mod Spelling
 pub mod Places
+pub mod Ids
+pub mod Intervals

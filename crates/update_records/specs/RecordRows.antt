@@ -1,5 +1,5 @@
 -- The rows of the store: what stands in each table, and under which key.
-use Rattle.std.specs.Prelude.{ℕ, ◌+◌, Bool, true, false, List, [], ◌∷◌, ◌++◌, length}
+use Rattle.std.specs.Prelude.{ℕ, ◌+◌, Bool, true, false, List, [], ◌∷◌, ◌++◌, length, Option, Some, None}
 use Rattle.std.specs.List.{flat_map}
 use Rattle.std.specs.Int.{cast_unsigned, w64}
 use Rattle.byteorder.specs.Endian.{big_bytes}
@@ -158,3 +158,8 @@ level_row name level = row.Put 5 (row_name name) (level_value level)
 -- table 6: a business row
 abbrev pub business_row : RowName → List ℕ → Change
 business_row name text = row.Put 6 (row_name name) text
+
+-- the change that leaves this in a business row
+abbrev pub row_left : RowName → Option (List ℕ) → Change
+row_left name None = row.Del 6 (row_name name)
+row_left name (Some text) = business_row name text

@@ -16,6 +16,7 @@ mod plain_rows;
 mod records;
 mod step_rows;
 mod stored;
+mod unit_id;
 mod unit_rows;
 mod units;
 
@@ -26,7 +27,8 @@ pub use laws::{rows_tell_records, units_are_records};
 pub use levels::encode_level;
 pub use marks::{encode_mark, encode_meta};
 pub use records::{Mark, MarkKind, Unit};
-pub use stored::{Interval, Record};
+pub use stored::{Interval, Record, StoredInterval};
+pub use unit_id::{UnitId, id_of};
 pub use units::encode_unit;
 
 #[cfg(test)]

@@ -8,7 +8,7 @@ ghost use Rattle.update_records.specs.declared.stored.Record.TheVariants as rec;
 use crate::bytes::{bytes_of_unit, push_bytes, push_u32, push_u64, put};
 use crate::records::{Mark, MarkKind};
 use crate::units::push_numbers;
-use enq_base::{NoMemory, Reason};
+use enq_base::{Items, NoMemory, Reason};
 use keeper_api::Change;
 use std::alloc::Global;
 
@@ -85,4 +85,44 @@ pub fn encode_meta(alloc: Global, start: u32, marks: u64) -> Result<Change, NoMe
     push_u32(&mut value, start)?;
     push_u64(&mut value, marks)?;
     Ok(put(0, place, value))
+}
+
+impl MarkKind {
+    fn copy(&self, alloc: Global) -> Result<MarkKind, NoMemory>
+        ensures { IfOk result (λ kind. kind ≡ self.now) }
+    {
+        Ok(match self {
+            MarkKind::Num(numbers) => {
+                let numbers = Vec::from_slice(alloc, numbers.as_slice())?;
+                MarkKind::Num(Items::from_vec(numbers))
+            }
+            MarkKind::Rec => MarkKind::Rec,
+            MarkKind::V1 => MarkKind::V1,
+            MarkKind::Bad1 { index, reason } => MarkKind::Bad1 {
+                index: *index,
+                reason: *reason,
+            },
+            MarkKind::Again1 => MarkKind::Again1,
+            MarkKind::V2 => MarkKind::V2,
+            MarkKind::Bad2 { index, reason } => MarkKind::Bad2 {
+                index: *index,
+                reason: *reason,
+            },
+            MarkKind::Again2 => MarkKind::Again2,
+            MarkKind::Gone => MarkKind::Gone,
+        })
+    }
+}
+
+impl Mark {
+    /// An equal mark.
+    pub fn copy(&self, alloc: Global) -> Result<Mark, NoMemory>
+        ensures { IfOk result (λ mark. mark ≡ self.now) }
+    {
+        Ok(Mark {
+            seq: self.seq,
+            unit: self.unit,
+            kind: self.kind.copy(alloc)?,
+        })
+    }
 }

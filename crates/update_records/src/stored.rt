@@ -67,3 +67,14 @@ pub struct Interval {
     pub level: u64,
     pub buffered: bool,
 }
+
+/// An interval as it is stored: its object, its two digits, and what `Interval` tells of it.
+#[derive(Clone, Copy, Debug, PartialEq, Eq)]
+pub struct StoredInterval {
+    pub object: Name,
+    pub nr: [u8; 2],
+    pub from: u64,
+    pub to: u64,
+    pub level: u64,
+    pub buffered: bool,
+}

@@ -1,6 +1,6 @@
 use Rattle.std.proofs.Common.{◌≡◌, ◌++◌, ◌∷◌, [], true, ap, sym, subst, ◌∙◌}
 use Rattle.std.specs.HashSet.{contains}
-use Rattle.store_reading.specs.Ids.{id_of, same_id}
+use Rattle.update_records.specs.Ids.{id_of, same_id}
 use Rattle.store_reading.specs.Rules.{is_right_mark, may_mark}
 use Rattle.store_reading.specs.Standings.{AreStatuses}
 use Rattle.store_reading.proofs.Statuses.{statuses_more}

@@ -1,7 +1,7 @@
 use Rattle.std.proofs.Common.{◌≡◌, IfSome, length}
 use Rattle.std.specs.Option.{is_some}
 use Rattle.keeper_api.specs.Keeping.{IsWithin, Stays}
-use Rattle.store_reading.specs.Told.{SpellBelow}
+use Rattle.store_reading.specs.Told.{AreReadBelow, SpellBelow}
 use Rattle.store_reading.proofs.reading.read_records.Given as goal
 
 abbrev pub invariant-loop-table : goal.invariant-loop-table
@@ -11,5 +11,6 @@ invariant-loop-table g l = record {
   crash : IsWithin (g.K.Keeper.may_leave l.keeper) (g.K.Keeper.may_leave l.fn.keeper);
   count : g.K.Keeper.faults l.keeper ≡ g.K.Keeper.faults l.fn.keeper;
   tables : length l.tables.items ≡ l.table;
+  read : AreReadBelow l.table l.tables.items;
   spelled : IfSome (g.K.Keeper.held l.fn.keeper) (λ rows. SpellBelow l.table rows l.tables.items);
 }

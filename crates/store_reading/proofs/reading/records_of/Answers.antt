@@ -1,7 +1,7 @@
 use Rattle.std.proofs.Common.{◌≡◌, ℕ}
 use Rattle.store_reading.specs.Told.{IsFirstBad}
 use Rattle.store_reading.specs.Tables.{rows_in}
-use Rattle.store_reading.proofs.Causes.{decoded_bad, decoded_cause, decoded_records, decoded_stays, decoded_untold, fault_cause, fault_not_bad, fault_not_bad_in, fault_stays}
+use Rattle.store_reading.proofs.Causes.{decoded_bad, decoded_cause, decoded_read, decoded_records, decoded_stays, decoded_untold, fault_cause, fault_not_bad, fault_not_bad_in, fault_stays}
 use Rattle.store_reading.proofs.reading.records_of.Goals as goal
 
 pub returns-in-Err-clause-bad : goal.returns-in-Err-clause-bad
@@ -18,6 +18,9 @@ returns-in-Err-clause-cause g c = fault_cause _ _ c.in-Err.fault c.fault_of.resu
 
 pub returns-clause-records : goal.returns-clause-records
 returns-clause-records g c = decoded_records _ c.args.table _ c.as_slice.result.now c.decode_rows.result c.as_slice.ensures.value c.in-Ok.ensures.rows c.decode_rows.ensures.records
+
+pub returns-clause-read : goal.returns-clause-read
+returns-clause-read g c = decoded_read c.args.table _ c.as_slice.result.now c.decode_rows.result c.as_slice.ensures.value c.in-Ok.ensures.rise c.decode_rows.ensures.records
 
 pub returns-clause-bad : goal.returns-clause-bad
 returns-clause-bad g c = decoded_bad _ c.args.table _ c.as_slice.result.now c.decode_rows.result c.as_slice.ensures.value c.in-Ok.ensures.rows c.decode_rows.ensures.bad

@@ -1,18 +1,56 @@
-use Rattle.posting.proofs.Usable.{bare_usable, raising_left, raising_after}
+use Rattle.std.proofs.Common.{true, IfSome, refl, ap, sym, subst, ◌∙◌}
+use Rattle.keeper_api.specs.Rows.{Rows}
+use Rattle.store_reading.specs.Good.{ledger_of}
+use Rattle.posting.specs.Opening.{raised}
+use Rattle.posting.specs.Reopening.{IsOpeningFault, MayBeLeftBy}
+use Rattle.posting.proofs.Reopened.{left_by, opened_usable, raise_fault, stood_now}
 use Rattle.posting.proofs.books.Books.open.Goals as goal
 
 pub returns-then-not-raise-clause-usable : goal.returns-then-not-raise-clause-usable
-returns-then-not-raise-clause-usable g c = bare_usable g.K.Keeper.held g.K.Keeper.is_open (g.K.Keeper.may_leave c.args.keeper) _ c.new.ensures c.in_default.ensures.opened c.in_default.ensures.bare
+returns-then-not-raise-clause-usable g c =
+    opened_usable g.K.Keeper.held g.K.Keeper.is_open (g.K.Keeper.may_leave c.args.keeper) (ledger_of c.in-Ok.stored) _ c.in-Ok.ensures.opened c.in-Ok-restored.ensures c.in-Ok.ensures.stands
 
-pub raise-requires-clause-usable : goal.raise-requires-clause-usable
-raise-requires-clause-usable g c = bare_usable g.K.Keeper.held g.K.Keeper.is_open (g.K.Keeper.may_leave c.args.keeper) _ c.new.ensures c.in_default.ensures.opened c.in_default.ensures.bare
+pub raise-requires : goal.raise-requires
+raise-requires g c = record {
+  usable = opened_usable g.K.Keeper.held g.K.Keeper.is_open (g.K.Keeper.may_leave c.args.keeper) (ledger_of c.in-Ok.stored) _ c.in-Ok.ensures.opened c.in-Ok-restored.ensures c.in-Ok.ensures.stands;
+}
 
-pub returns-in-Ok-clause-left : goal.returns-in-Ok-clause-left
-returns-in-Ok-clause-left g c =
-    raising_left _ _ (g.K.Keeper.may_leave c.args.keeper) (g.K.Keeper.may_leave c.open_empty.new.keeper) (g.K.Keeper.may_leave c.raise.new.self.keeper) c.args.raise c.if-not-raise.false
-    c.in_default.ensures.bare c.in_default.ensures.crash c.in-Ok.ensures.told c.in-Ok.ensures.left
+pub returns-then-not-raise-clause-ledger : goal.returns-then-not-raise-clause-ledger
+returns-then-not-raise-clause-ledger g c =
+    let same = c.in-Ok-restored.ensures ∙ ap (λ b. raised b (ledger_of c.in-Ok.stored)) (sym c.if-not-raise.true) in
+    stood_now (g.K.Keeper.held c.open_ledger.new.keeper) (g.K.Keeper.held c.open_ledger.new.keeper) (g.K.Keeper.may_leave c.args.keeper) c.args.raise (ledger_of c.in-Ok.stored) c.in-Ok-restored.register.ledger refl same
+    c.in-Ok.ensures.stands
+
+pub returns-then-not-raise-clause-sound : goal.returns-then-not-raise-clause-sound
+returns-then-not-raise-clause-sound g c =
+    (ledger_of c.in-Ok.stored, c.in-Ok.ensures.sound, c.in-Ok-restored.ensures ∙ ap (λ b. raised b (ledger_of c.in-Ok.stored)) (sym c.if-not-raise.true))
+
+pub returns-in-Ok-raise-clause-ledger : goal.returns-in-Ok-raise-clause-ledger
+returns-in-Ok-raise-clause-ledger g c =
+    let same = c.in-Ok-raise.ensures.ledger ∙ ap (raised true) c.in-Ok-restored.ensures ∙ ap (λ b. raised b (ledger_of c.in-Ok.stored)) (sym c.if-not-raise.false) in
+    stood_now (g.K.Keeper.held c.raise.new.self.keeper) (g.K.Keeper.held c.open_ledger.new.keeper) (g.K.Keeper.may_leave c.args.keeper) c.args.raise (ledger_of c.in-Ok.stored) c.raise.new.self.ledger
+    c.in-Ok-raise.ensures.told same c.in-Ok.ensures.stands
+
+pub returns-in-Ok-raise-clause-sound : goal.returns-in-Ok-raise-clause-sound
+returns-in-Ok-raise-clause-sound g c = (
+  ledger_of c.in-Ok.stored,
+  c.in-Ok.ensures.sound,
+  c.in-Ok-raise.ensures.ledger ∙ ap (raised true) c.in-Ok-restored.ensures ∙ ap (λ b. raised b (ledger_of c.in-Ok.stored)) (sym c.if-not-raise.false),
+)
+
+pub returns-in-Ok-raise-clause-left : goal.returns-in-Ok-raise-clause-left
+returns-in-Ok-raise-clause-left g c =
+    left_by (g.K.Keeper.held c.raise.new.self.keeper) (g.K.Keeper.held c.open_ledger.new.keeper) (g.K.Keeper.may_leave c.args.keeper) (g.K.Keeper.may_leave c.open_ledger.new.keeper) (g.K.Keeper.may_leave c.raise.new.self.keeper)
+    c.args.raise (ledger_of c.in-Ok.stored) c.in-Ok-restored.register.ledger c.in-Ok-raise.ensures.told c.if-not-raise.false c.in-Ok-restored.ensures c.in-Ok.ensures.crash c.in-Ok.ensures.stands c.in-Ok-raise.ensures.left
+
+pub returns-in-Err-raise-clause-fault : goal.returns-in-Err-raise-clause-fault
+returns-in-Err-raise-clause-fault g c =
+    subst (λ k. IfSome (g.K.Keeper.held k) (λ rows. IsOpeningFault c.args.raise rows c.in-Err-raise.fault)) (sym c.into_keeper.ensures)
+    (raise_fault (g.K.Keeper.held c.raise.new.self.keeper) (g.K.Keeper.held c.open_ledger.new.keeper) (g.K.Keeper.may_leave c.args.keeper) c.args.raise (ledger_of c.in-Ok.stored) c.in-Ok-restored.register.ledger c.in-Err-raise.fault
+    c.if-not-raise.false c.in-Ok-restored.ensures c.in-Err-raise.ensures.fault c.in-Err-raise.ensures.rows c.in-Ok.ensures.stands)
 
 pub returns-in-Err-raise-clause-left_after : goal.returns-in-Err-raise-clause-left_after
 returns-in-Err-raise-clause-left_after g c =
-    raising_after g.K.Keeper.held g.K.Keeper.may_leave c.raise.new.self.keeper c.into_keeper.result _ (g.K.Keeper.may_leave c.args.keeper) (g.K.Keeper.may_leave c.open_empty.new.keeper) c.args.raise c.into_keeper.ensures c.if-not-raise.false
-    c.in_default.ensures.bare c.in_default.ensures.crash c.in-Err-raise.ensures.told c.in-Err-raise.ensures.left
+    subst (λ k. IfSome (g.K.Keeper.held k) (λ _. (left : Rows) → g.K.Keeper.may_leave k left → MayBeLeftBy (g.K.Keeper.may_leave c.args.keeper) c.args.raise left)) (sym c.into_keeper.ensures)
+    (left_by (g.K.Keeper.held c.raise.new.self.keeper) (g.K.Keeper.held c.open_ledger.new.keeper) (g.K.Keeper.may_leave c.args.keeper) (g.K.Keeper.may_leave c.open_ledger.new.keeper) (g.K.Keeper.may_leave c.raise.new.self.keeper)
+    c.args.raise (ledger_of c.in-Ok.stored) c.in-Ok-restored.register.ledger c.in-Err-raise.ensures.told c.if-not-raise.false c.in-Ok-restored.ensures c.in-Ok.ensures.crash c.in-Ok.ensures.stands c.in-Err-raise.ensures.left)

@@ -17,8 +17,8 @@ use Rattle.update_records.specs.Ledger.{is_own, has_bytes}
 pub use Rattle.update_records.proofs.Distinct.{spots, IsApart, AllApart, AreDistinct, not_same, none_distinct, distinct_append}
 use Rattle.update_records.proofs.Distinct.{all_append, unit_distinct as rows_distinct}
 use Rattle.update_records.specs.RecordRows.{header_row, unit_rows, step_rows, part_rows, mark_row, lock_rows, meta_row}
-use Rattle.posting.proofs.Batches.{is_unit_table, is_mark_table, is_meta_table, units_and_meta, units_and_marks, marks_and_meta, unit_in}
-use Rattle.posting.proofs.Own.{AreOwn}
+use Rattle.update_records.proofs.Books.{is_unit_table, is_mark_table, is_meta_table, units_and_meta, units_and_marks, marks_and_meta, unit_in}
+use Rattle.update_records.proofs.Own.{AreOwn}
 
 table_apart : (p q : ℕ → Bool) → AreApart p q → (x : Change) → p (spot_of x).0 ≡ true → (ys : List Change) → InTables q ys → AllByRecursion (λ y. is_same_spot (spot_of x) y ≡ false) (spots ys)
 table_apart p q apart x in_p [] in_q = tt

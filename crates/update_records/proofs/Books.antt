@@ -23,7 +23,7 @@ use Rattle.update_records.specs.Growing.{next_mark, with_mark, with_unit}
 use Rattle.update_records.specs.Ledger.{Ledger, map_rows, meta_rows, book_rows, rows_of}
 use Rattle.update_records.specs.Marks.{draws_alone}
 use Rattle.update_records.specs.RecordRows.{header_row, unit_rows, step_rows, part_rows, mark_row, lock_rows, meta_row}
-use Rattle.posting.proofs.Status.{NoneOf, unit_other, flip}
+use Rattle.update_records.proofs.Status.{NoneOf, unit_other, flip}
 
 abbrev pub is_unit_table : ℕ → Bool
 is_unit_table n = (nat_lt 0 n && nat_lt n 4) || nat_eq n 7
@@ -151,7 +151,7 @@ marked start n k m rows h =
 abbrev stack : List UnitOfWork → List Mark → ℕ → ℕ → Rows → Rows
 stack units marks start n rows = changed (meta_rows start n) (changed (map mark_row marks) (changed (flat_map unit_rows units) rows))
 
-parts_of : (units : List UnitOfWork) (marks : List Mark) (start n : ℕ) (rows : Rows) → changed (flat_map unit_rows units ++ map mark_row marks ++ meta_rows start n) rows ≡ stack units marks start n rows
+pub parts_of : (units : List UnitOfWork) (marks : List Mark) (start n : ℕ) (rows : Rows) → changed (flat_map unit_rows units ++ map mark_row marks ++ meta_rows start n) rows ≡ stack units marks start n rows
 parts_of units marks start n rows =
     changed_append (flat_map unit_rows units ++ map mark_row marks) (meta_rows start n) rows
     ∙ ap (changed (meta_rows start n)) (changed_append (flat_map unit_rows units) (map mark_row marks) rows)

@@ -1,7 +1,7 @@
 ghost use Rattle.std.specs.Prelude.{◌≡◌, ◌&&◌, ◌==◌};
 ghost use Rattle.std.proofs.Common.{rules};
 ghost use Rattle.std.specs.Cmp.Rules.{comparing};
-ghost use Rattle.store_reading.specs.Ids.{id_of};
+ghost use Rattle.update_records.specs.Ids.{id_of};
 
 use enq_base::UnitKey;
 
@@ -27,6 +27,7 @@ impl Eq for UnitId {
     ghost laws = { Prim.search (comparing, rules) };
 }
 
+/// The key, as maps and sets look it up.
 pub fn id_of(key: &UnitKey) -> UnitId
     ensures { result ≡ id_of key.now }
 {

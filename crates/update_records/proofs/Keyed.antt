@@ -14,8 +14,7 @@ use Rattle.lock_entry.proofs.Naming.{bytes_eq-refl, bytes_eq-same}
 use Rattle.module_effects.specs.Rows.{RowName, row_cmp, Tables, with_row}
 use Rattle.module_effects.proofs.Tables.{same_row, same_row-Decides, get-with_row}
 use Rattle.update_records.specs.Ledger.{Levels, with_entries, with_map, map_rows}
-use Rattle.update_records.specs.RecordRows.{row_name, level_value}
-use Rattle.posting.specs.Posts.{row_left}
+use Rattle.update_records.specs.RecordRows.{row_name, row_left, level_value}
 
 -- the name that a key spells
 abbrev pub unname : List ℕ → RowName

@@ -1,0 +1,14 @@
+pub mod Recorded
+pub mod InOrder
+pub mod Texts
+pub mod KeysApart
+pub mod LedgerRecords
+pub mod LedgerRows
+pub mod GoodTables
+pub mod GoodRecords
+pub mod GoodHeaders
+pub mod GoodUnits
+pub mod GoodMarks
+pub mod GoodLevels
+pub mod GoodBusiness
+pub mod Faultfree

@@ -1,0 +1,5 @@
+use Rattle.store_reading.proofs.Followed.{no_texts}
+use Rattle.store_reading.proofs.post_rule.wrong_post.Goals as goal
+
+pub post_marks-requires : goal.post_marks-requires
+post_marks-requires c = no_texts c.new-texts.result c.new-texts.ensures.empty
