@@ -28,11 +28,11 @@ use Rattle.hall.specs.Sessions.{session_at, without_session, with_session, with_
 use Rattle.hall.specs.State.{State}
 use Rattle.hall.specs.Step.{Verdict, Refuses, Leaves, answer_of, ask_refusal, call_of, closed, converting, entered, granting, logon, own_verdict, session_call, unless_closed, verdict}
 
-pub verdict-room : (come : UnitKey → Outcome) (s : State) (c : Command) → closed s ≡ None → verdict come s c ≡ own_verdict come s c
+pub verdict-room : (come : ℕ → UnitKey → Outcome) (s : State) (c : Command) → closed s ≡ None → verdict come s c ≡ own_verdict come s c
 unfolding verdict
 verdict-room come s c room = ap (λ o. unless_closed o (own_verdict come s c)) room
 
-pub verdict-closed : (come : UnitKey → Outcome) (s : State) (c : Command) (r : Refusal) → closed s ≡ Some r → verdict come s c ≡ Refuses r
+pub verdict-closed : (come : ℕ → UnitKey → Outcome) (s : State) (c : Command) (r : Refusal) → closed s ≡ Some r → verdict come s c ≡ Refuses r
 unfolding verdict
 verdict-closed come s c r shut = ap (λ o. unless_closed o (own_verdict come s c)) shut
 

@@ -1,19 +1,19 @@
 -- Orders of workers, as units are recorded, taken, posted and given back.
 use Rattle.std.proofs.Common.{◌≡◌, ℕ, zero, suc, Bool, true, false, not, cond, ◌||◌, List, [], ◌∷◌, set, refl, ap, ◌∙◌, subst}
-use Rattle.std.specs.Prelude.{Option, Some, None, slice_get}
+use Rattle.std.specs.Prelude.{if◌then◌else◌, Option, Some, None, slice_get}
 use Rattle.std.specs.List.{AllByRecursion, find}
 use Rattle.std.specs.Option.{option_and_then}
 use Rattle.enq_base.specs.Owners.{same_unit}
 use Rattle.enq_base.specs.declared.owner.UnitKey.{UnitKey}
 use Rattle.update_records.proofs.Status.{flip, one_unit, unit_refl}
-use Rattle.posting.specs.Steps.{IsOpenUnit}
+use Rattle.posting.specs.Posts.{WaitsFor, status_for}
 use Rattle.update_records.specs.Growing.{with_mark, with_unit}
 use Rattle.update_records.specs.Ledger.{Ledger}
 use Rattle.update_records.specs.declared.records.MarkKind.{MarkKind}
 use Rattle.update_records.specs.declared.records.Unit.{Unit as UnitOfWork}
-use Rattle.hall.proofs.Heard.{marked_other, recorded_open, status_in}
-use Rattle.hall.specs.Kept.{AreOrders}
-use Rattle.hall.specs.Orders.{is_claimed, is_for}
+use Rattle.hall.proofs.Heard.{marked_waiting, of_has, recorded_waiting, status_in}
+use Rattle.hall.specs.Kept.{AreOrders, IsWaiting}
+use Rattle.hall.specs.Orders.{is_claimed, is_for, waits_for}
 
 no_or : (a b : Bool) → (a || b) ≡ false → (a ≡ false) × (b ≡ false)
 no_or true b h = (cc, cc)
@@ -41,7 +41,7 @@ unclaimed_with (o ∷ orders) (suc i) unit other apart h =
 
 -- ---- orders taken and given back
 
-pub orders_with : (ledger : Ledger) (orders : List (Option UnitKey)) (i : ℕ) (unit : UnitKey) → AreOrders ledger orders → IsOpenUnit ledger unit → is_claimed orders unit ≡ false → AreOrders ledger (set orders i (Some unit))
+pub orders_with : (ledger : Ledger) (orders : List (Option UnitKey)) (i : ℕ) (unit : UnitKey) → AreOrders ledger orders → IsWaiting ledger unit → is_claimed orders unit ≡ false → AreOrders ledger (set orders i (Some unit))
 orders_with ledger [] i unit h here free = tt
 orders_with ledger (None ∷ orders) zero unit h here free = (here, free, h)
 orders_with ledger (None ∷ orders) (suc i) unit h here free = orders_with ledger orders i unit h here free
@@ -63,7 +63,7 @@ pub orders_recorded : (ledger : Ledger) (unit : UnitOfWork) (orders : List (Opti
 orders_recorded ledger unit [] fresh h = tt
 orders_recorded ledger unit (None ∷ orders) fresh h = orders_recorded ledger unit orders fresh h
 orders_recorded ledger unit (Some other ∷ orders) fresh h =
-    (recorded_open ledger unit other fresh h.0, h.1, orders_recorded ledger unit orders fresh h.2)
+    (recorded_waiting ledger unit other fresh h.0, h.1, orders_recorded ledger unit orders fresh h.2)
 
 -- orders for other units than the one that is marked
 orders_marked : (ledger : Ledger) (key : UnitKey) (kind : MarkKind) (orders : List (Option UnitKey)) → is_claimed orders key ≡ false → AreOrders ledger orders → AreOrders (with_mark ledger key kind) orders
@@ -71,7 +71,7 @@ orders_marked ledger key kind [] free h = tt
 orders_marked ledger key kind (None ∷ orders) free h = orders_marked ledger key kind orders free h
 orders_marked ledger key kind (Some other ∷ orders) free h =
     let parts = no_or (same_unit other key) (is_claimed orders key) free in
-    (marked_other ledger key other kind (flip key other parts.0) ∙ h.0, h.1, orders_marked ledger key kind orders parts.1 h.2)
+    (marked_waiting ledger key other kind (flip key other parts.0) h.0, h.1, orders_marked ledger key kind orders parts.1 h.2)
 
 abbrev pub held_at : List (Option UnitKey) → ℕ → Option UnitKey
 held_at orders i = option_and_then (λ order. order) (slice_get orders i)
@@ -92,13 +92,17 @@ claimed_at (Some other ∷ orders) zero key h =
     first_yes (same_unit other key) _ (subst (λ u. same_unit other u ≡ true) same (unit_refl other))
 claimed_at (o ∷ orders) (suc i) key h = ap (λ b. is_for key o || b) (claimed_at orders i key h) ∙ yes_or (is_for key o)
 
--- the unit that a worker has an order for is open
-pub held_open : (ledger : Ledger) (orders : List (Option UnitKey)) (i : ℕ) (key : UnitKey) → AreOrders ledger orders → held_at orders i ≡ Some key → IsOpenUnit ledger key
-held_open ledger [] i key h e = cc
-held_open ledger (None ∷ orders) zero key h e = cc
-held_open ledger (Some other ∷ orders) zero key h e = let same : other ≡ key = cc in subst (IsOpenUnit ledger) same h.0
-held_open ledger (None ∷ orders) (suc i) key h e = held_open ledger orders i key h e
-held_open ledger (Some other ∷ orders) (suc i) key h e = held_open ledger orders i key h.2 e
+same_key : (a b : UnitKey) → Some a ≡ Some b → a ≡ b
+same_key a b e = cc
+
+-- an order for a part is an order, for a unit that waits for this part
+pub held_for : (part : ℕ) (ledger : Ledger) (o : Option UnitKey) (key : UnitKey) → (elim o [ None ↦ None | Some unit ↦ if waits_for part ledger unit then Some unit else None ]) ≡ Some key → (o ≡ Some key) × WaitsFor part ledger key
+held_for part ledger None key e = cc
+held_for part ledger (Some unit) key e =
+    elim (waits_for part ledger unit) as (λ b. waits_for part ledger unit ≡ b → (if b then Some unit else None) ≡ Some key → (Some unit ≡ Some key) × WaitsFor part ledger key) [
+      | true ↦ λ t h. (h, subst (WaitsFor part ledger) (same_key unit key h) (of_has (status_for part) (status_in ledger unit) t))
+      | false ↦ λ t h. absurd (cc)
+    ] refl e
 
 apart_from_held : (orders : List (Option UnitKey)) (i : ℕ) (key other : UnitKey) → held_at orders i ≡ Some key → is_claimed orders other ≡ false → same_unit key other ≡ false
 apart_from_held orders i key other e free =
@@ -119,7 +123,7 @@ orders_posted ledger (Some other ∷ orders) zero key kind h e =
 orders_posted ledger (None ∷ orders) (suc i) key kind h e = orders_posted ledger orders i key kind h e
 orders_posted ledger (Some other ∷ orders) (suc i) key kind h e =
     let apart = apart_from_held orders i key other e h.1 in
-    (marked_other ledger key other kind apart ∙ h.0, unclaimed_without orders i other h.1, orders_posted ledger orders i key kind h.2 e)
+    (marked_waiting ledger key other kind apart h.0, unclaimed_without orders i other h.1, orders_posted ledger orders i key kind h.2 e)
 
 -- ---- the unit that is taken
 

@@ -17,7 +17,7 @@ use Rattle.hall.specs.declared.command.Command.TheVariants as command
 use Rattle.hall.specs.declared.command.Reply.TheVariants as reply
 use Rattle.hall.specs.declared.command.Session.{Session}
 use Rattle.hall.specs.History.{DeviceOutcome, Well, Wanting, StoreFails, Comes, Served, failed, is_unrecorded, judged, past_entry, served, step}
-use Rattle.hall.specs.Orders.{order_of, without_order}
+use Rattle.hall.specs.Orders.{order_for, order_of, without_order}
 use Rattle.hall.specs.Sessions.{session_at, unit_key}
 use Rattle.hall.specs.State.{State}
 use Rattle.hall.specs.Step.{Verdict, Refuses, Leaves, call_of, closed, committed, converting, entered, granting, own_verdict, posting, session_call, taking, unless_closed, verdict}
@@ -46,6 +46,8 @@ session-condition s x (command.FreeAll session) = refl
 session-condition s x (command.Rollback session) = refl
 session-condition s x (command.Take1 worker) = refl
 session-condition s x (command.Do1 worker) = refl
+session-condition s x (command.Take2 worker) = refl
+session-condition s x (command.Do2 worker) = refl
 session-condition s x (command.DropOrder worker) = refl
 
 call-condition : (s : State) (name : List ℕ) (c : Command) → (judged s (call_of s name c)).state.condition ≡ s.condition
@@ -69,7 +71,7 @@ take-condition : (s : State) (worker : ℕ) (o found : Option UnitKey) → (judg
 take-condition s worker None found = taking-condition s worker found
 take-condition s worker (Some unit) found = refl
 
-own-condition : (come : UnitKey → Outcome) (s : State) (c : Command) → (judged s (own_verdict come s c)).state.condition ≡ s.condition
+own-condition : (come : ℕ → UnitKey → Outcome) (s : State) (c : Command) → (judged s (own_verdict come s c)).state.condition ≡ s.condition
 own-condition come s (command.Logon session user) = logon-condition s session user _ _
 own-condition come s (command.Logoff session) = call-condition s session (command.Logoff session)
 own-condition come s (command.Ask session requests) = call-condition s session (command.Ask session requests)
@@ -80,7 +82,10 @@ own-condition come s (command.Rollback session) = call-condition s session (comm
 own-condition come s (command.Commit session parts) = call-condition s session (command.Commit session parts)
 own-condition come s (command.Take1 worker) = take-condition s worker _ _
 own-condition come s (command.Do1 worker) =
-    order-condition s (order_of s.orders worker) (λ unit. posting s worker unit (come unit)) (λ unit. refl)
+    order-condition s (order_for 1 s.stored s.orders worker) (λ unit. posting 1 s worker unit (come 1 unit)) (λ unit. refl)
+own-condition come s (command.Take2 worker) = take-condition s worker _ _
+own-condition come s (command.Do2 worker) =
+    order-condition s (order_for 2 s.stored s.orders worker) (λ unit. posting 2 s worker unit (come 2 unit)) (λ unit. refl)
 own-condition come s (command.DropOrder worker) =
     order-condition s (order_of s.orders worker) (λ unit. Leaves (record s { orders = without_order s.orders worker }) (reply.Unit unit)) (λ unit. refl)
 
@@ -88,7 +93,7 @@ unless-condition : (s : State) (o : Option Refusal) (v : Verdict) → (judged s 
 unless-condition s None v h = h
 unless-condition s (Some r) v h = refl
 
-verdict-condition : (come : UnitKey → Outcome) (s : State) (c : Command) → (judged s (verdict come s c)).state.condition ≡ s.condition
+verdict-condition : (come : ℕ → UnitKey → Outcome) (s : State) (c : Command) → (judged s (verdict come s c)).state.condition ≡ s.condition
 unfolding verdict
 verdict-condition come s c = unless-condition s (closed s) (own_verdict come s c) (own-condition come s c)
 
@@ -111,7 +116,7 @@ failed_becomes s (Leaves after r) = inr (refl, (length s.past, refl))
 served_becomes : (d : DeviceOutcome) (s : State) (c : Command) → Becomes (is_store_failure d) s.condition (served d s c).state.condition
 served_becomes Well s c = inl (verdict-condition (outcome_in s.stored) s c)
 served_becomes Wanting s c = inl refl
-served_becomes (Comes o) s c = inl (verdict-condition (λ unit. o) s c)
+served_becomes (Comes o) s c = inl (verdict-condition (λ part unit. o) s c)
 served_becomes StoreFails s c = failed_becomes s (verdict (outcome_in s.stored) s c)
 
 noted_case : (n : ℕ) (c : Command) (r : Served) (b : Bool) → (if b then r else record r { state = record r.state { past = r.state.past ++ past_entry n c r.reply ∷ [] } }).state.condition ≡ r.state.condition

@@ -1,6 +1,6 @@
 -- No verdict wants memory, and each keeps the locks sound.
 use Rattle.std.proofs.Common.{◌≡◌, ℕ, ◌<◌, ◌^◌, arith, Bool, true, false, cond, List, [], ◌∷◌, length, map, fold, refl, sym, ◌∙◌}
-use Rattle.std.specs.Prelude.{if◌then◌else◌, Option, Some, None, Result, Ok, Err}
+use Rattle.std.specs.Prelude.{if◌then◌else◌, nat_eq, Option, Some, None, Result, Ok, Err}
 use Rattle.std.proofs.lemmas.Bool.{and_from, eq-eqb}
 use Rattle.enq_base.specs.declared.condition.Condition.{Condition}
 use Rattle.enq_base.specs.declared.condition.Condition.TheVariants as condition
@@ -32,7 +32,7 @@ use Rattle.hall.specs.declared.command.Reply.{Reply}
 use Rattle.hall.specs.declared.command.Reply.TheVariants as reply
 use Rattle.hall.specs.declared.command.Session.{Session}
 use Rattle.hall.specs.History.{DeviceOutcome, Well, failed, is_post, is_unrecorded, judged, shown}
-use Rattle.hall.specs.Orders.{order_of, without_order}
+use Rattle.hall.specs.Orders.{order_for, order_of, without_order}
 use Rattle.hall.specs.Sessions.{pair_of, session_at, unit_key}
 use Rattle.hall.specs.State.{State}
 use Rattle.hall.specs.Step.{Verdict, Refuses, Leaves, ask_refusal, call_of, committed, converting, entered, granting, own_verdict, posted_reply, posting, session_call, taking, unless_closed, verdict}
@@ -127,6 +127,8 @@ session-fair s x (command.Rollback session) = left_fairly s _ (λ good. IsTable-
 session-fair s x (command.Commit session parts) = commit-fair s x parts _ _
 session-fair s x (command.Take1 worker) = refused_fairly s _ refl
 session-fair s x (command.Do1 worker) = refused_fairly s _ refl
+session-fair s x (command.Take2 worker) = refused_fairly s _ refl
+session-fair s x (command.Do2 worker) = refused_fairly s _ refl
 session-fair s x (command.DropOrder worker) = refused_fairly s _ refl
 
 call-fair : {post : Bool} (s : State) (name : List ℕ) (c : Command) → IsFair post s (call_of s name c)
@@ -150,18 +152,24 @@ take-fair : {post : Bool} (s : State) (worker : ℕ) (o found : Option UnitKey) 
 take-fair s worker None found = taking-fair s worker found
 take-fair s worker (Some unit) found = refused_fairly s _ refl
 
-pub posted-noted : (unit : UnitKey) (o : Outcome) → is_unrecorded (posted_reply unit o) ≡ false
-posted-noted unit outcome.Done = refl
-posted-noted unit (outcome.Refused index reason) = refl
+pub posted-noted : (part : ℕ) (unit : UnitKey) (o : Outcome) → is_unrecorded (posted_reply part unit o) ≡ false
+posted-noted part unit outcome.Done =
+    elim (nat_eq part 1) as (λ b. is_unrecorded (if b then reply.Posted unit else reply.Closed unit) ≡ false) [ true ↦ refl | false ↦ refl ]
+posted-noted part unit (outcome.Refused index reason) =
+    elim (nat_eq part 1) as (λ b. is_unrecorded (if b then reply.Bad unit index reason else reply.Bad2 unit index reason) ≡ false) [ true ↦ refl | false ↦ refl ]
 
-posting-fair : (s : State) (worker : ℕ) (unit : UnitKey) (o : Outcome) → IsFair true s (posting s worker unit o)
-posting-fair s worker unit o = record {
+behind-sound : (s : State) (unit : UnitKey) (first : Bool) → IsTable (table_of s) → IsTable (with_entries (table_of s) (if first then freed_owner s.locks (Upd unit) else s.locks))
+behind-sound s unit true good = IsTable-freed_owner (table_of s) (Upd unit) good
+behind-sound s unit false good = good
+
+posting-fair : (part : ℕ) (s : State) (worker : ℕ) (unit : UnitKey) (o : Outcome) → IsFair true s (posting part s worker unit o)
+posting-fair part s worker unit o = record {
   well = tt;
-  quiet = λ e. absurd (let no : false ≡ true = sym (posted-noted unit o) ∙ e in cc);
-  sound = λ good. IsTable-freed_owner (table_of s) (Upd unit) good;
+  quiet = λ e. absurd (let no : false ≡ true = sym (posted-noted part unit o) ∙ e in cc);
+  sound = λ good. behind-sound s unit (nat_eq part 1) good;
 }
 
-own-fair : (come : UnitKey → Outcome) (s : State) (c : Command) → IsFair (is_post c) s (own_verdict come s c)
+own-fair : (come : ℕ → UnitKey → Outcome) (s : State) (c : Command) → IsFair (is_post c) s (own_verdict come s c)
 own-fair come s (command.Logon session user) = logon-fair s session user _ _
 own-fair come s (command.Logoff session) = call-fair s session (command.Logoff session)
 own-fair come s (command.Ask session rs) = call-fair s session (command.Ask session rs)
@@ -172,7 +180,10 @@ own-fair come s (command.Rollback session) = call-fair s session (command.Rollba
 own-fair come s (command.Commit session parts) = call-fair s session (command.Commit session parts)
 own-fair come s (command.Take1 worker) = take-fair s worker _ _
 own-fair come s (command.Do1 worker) =
-    order-fair s (order_of s.orders worker) (λ unit. posting s worker unit (come unit)) (λ unit. posting-fair s worker unit (come unit))
+    order-fair s (order_for 1 s.stored s.orders worker) (λ unit. posting 1 s worker unit (come 1 unit)) (λ unit. posting-fair 1 s worker unit (come 1 unit))
+own-fair come s (command.Take2 worker) = take-fair s worker _ _
+own-fair come s (command.Do2 worker) =
+    order-fair s (order_for 2 s.stored s.orders worker) (λ unit. posting 2 s worker unit (come 2 unit)) (λ unit. posting-fair 2 s worker unit (come 2 unit))
 own-fair come s (command.DropOrder worker) =
     order-fair s (order_of s.orders worker) (λ unit. Leaves (record s { orders = without_order s.orders worker }) (reply.Unit unit))
     (λ unit. told_fairly s _ _ refl refl (λ good. good))
@@ -186,7 +197,7 @@ closed-fair : {post : Bool} (s : State) (full : Bool) (v : Verdict) → IsFair p
 closed-fair s true v h = refused_fairly s _ refl
 closed-fair s false v h = down-fair s s.condition v h
 
-pub verdict-fair : (come : UnitKey → Outcome) (s : State) (c : Command) → IsFair (is_post c) s (verdict come s c)
+pub verdict-fair : (come : ℕ → UnitKey → Outcome) (s : State) (c : Command) → IsFair (is_post c) s (verdict come s c)
 unfolding verdict
 verdict-fair come s c = closed-fair s _ (own_verdict come s c) (own-fair come s c)
 

@@ -13,13 +13,12 @@ use Rattle.lock_entry.proofs.Naming.{bytes_eq-same}
 use Rattle.lock_entry.specs.declared.entry.Entry.{Entry}
 use Rattle.lock_entry.specs.declared.fault.AskFault.{AskFault}
 use Rattle.lock_entry.specs.Converting.{Conversion}
-use Rattle.posting.specs.Steps.{IsOpenUnit}
+use Rattle.posting.specs.Posts.{kind_for, status_for}
 use Rattle.update_records.specs.Growing.{next_mark}
 use Rattle.update_records.specs.Ledger.{Ledger}
-use Rattle.update_records.specs.Marks.{waiting}
 use Rattle.update_records.specs.declared.records.MarkKind.{MarkKind}
 use Rattle.update_records.specs.declared.records.MarkKind.TheVariants as mark
-use Rattle.posting.specs.Steps.{post_kind}
+use Rattle.posting.specs.Steps.{waiting_for}
 use Rattle.posting.specs.declared.prepared.Outcome.{Outcome}
 use Rattle.hall.specs.Coming.{outcome_in}
 use Rattle.hall.specs.declared.command.Command.{Command}
@@ -30,14 +29,14 @@ use Rattle.hall.specs.declared.command.Reply.TheVariants as reply
 use Rattle.hall.specs.declared.command.Session.{Session}
 use Rattle.hall.specs.Acts.{IsAct}
 use Rattle.hall.specs.History.{DeviceOutcome, Well, Wanting, StoreFails, Comes, doubted, failed, judged, noted, past_entry, served, shown}
-use Rattle.hall.specs.Kept.{HasFew, IsKept, IsSteady, IsYoung}
-use Rattle.hall.specs.Orders.{first_unclaimed, is_claimed, order_of, without_order}
+use Rattle.hall.specs.Kept.{HasFew, IsKept, IsSteady, IsWaiting, IsYoung}
+use Rattle.hall.specs.Orders.{first_unclaimed, is_claimed, order_for, order_of, without_order}
 use Rattle.hall.specs.Sessions.{is_called, session_at, unit_key, with_next_unit, with_session, without_session}
 use Rattle.hall.specs.State.{State}
 use Rattle.hall.specs.Step.{Verdict, Refuses, Leaves, call_of, closed, committed, converting, entered, granting, is_full, marked, own_verdict, posting, session_call, taking, unit_of, unless_closed, verdict}
-use Rattle.hall.proofs.Claims.{found_all, held_open, orders_posted, orders_recorded, orders_with, orders_without}
+use Rattle.hall.proofs.Claims.{found_all, held_for, orders_posted, orders_recorded, orders_with, orders_without}
 use Rattle.hall.proofs.Fresh.{found_name, fresh_committed, fresh_entered, fresh_left, fresh_marked, fresh_next, open_unheard}
-use Rattle.hall.proofs.Heard.{waiting_open}
+use Rattle.hall.proofs.Heard.{all_waiting}
 use Rattle.hall.proofs.Steps.{served-past}
 
 young_more : (n m : ℕ) (xs : List Session) → n ≤ m → AllByRecursion (IsYoung n) xs → AllByRecursion (IsYoung m) xs
@@ -175,6 +174,8 @@ session-holds n s name x (command.Rollback session) found same h = rolled-holds 
 session-holds n s name x (command.Commit session parts) found same h = committing-holds n s name x parts _ _ found same h
 session-holds n s name x (command.Take1 worker) found same h = holds_more n s h
 session-holds n s name x (command.Do1 worker) found same h = holds_more n s h
+session-holds n s name x (command.Take2 worker) found same h = holds_more n s h
+session-holds n s name x (command.Do2 worker) found same h = holds_more n s h
 session-holds n s name x (command.DropOrder worker) found same h = holds_more n s h
 
 call-holds : (n : ℕ) (s : State) (name : List ℕ) (c : Command) → IsModest n s (call_of s name c)
@@ -218,11 +219,11 @@ not_yes : (b : Bool) → not b ≡ true → b ≡ false
 not_yes true h = cc
 not_yes false h = refl
 
-taking-holds : (n : ℕ) (s : State) (worker : ℕ) (o : Option UnitKey) → first_unclaimed s.orders (waiting s.stored.units s.stored.marks) ≡ o → IsModest n s (taking s worker o)
-taking-holds n s worker None e h = holds_more n s h
-taking-holds n s worker (Some unit) e h =
+taking-holds : (n part : ℕ) (s : State) (worker : ℕ) (o : Option UnitKey) → first_unclaimed s.orders (waiting_for part s.stored) ≡ o → IsModest n s (taking s worker o)
+taking-holds n part s worker None e h = holds_more n s h
+taking-holds n part s worker (Some unit) e h =
     let steady = h.steady in
-    let found = found_all (IsOpenUnit s.stored) (λ key. not (is_claimed s.orders key)) (waiting s.stored.units s.stored.marks) unit e (waiting_open s.stored) in
+    let found = found_all (IsWaiting s.stored) (λ key. not (is_claimed s.orders key)) (waiting_for part s.stored) unit e (all_waiting part s.stored) in
     holds_orders n s worker (Some unit) (record {
       started = steady.started;
       server = steady.server;
@@ -232,9 +233,9 @@ taking-holds n s worker (Some unit) e h =
       orders = orders_with s.stored s.orders worker unit steady.orders found.0 (not_yes (is_claimed s.orders unit) found.1);
     }) h
 
-take-holds : (n : ℕ) (s : State) (worker : ℕ) (o : Option UnitKey) → IsModest n s (elim o [ Some unit ↦ Refuses (refusal.WorkerBusy unit) | None ↦ taking s worker (first_unclaimed s.orders (waiting s.stored.units s.stored.marks)) ])
-take-holds n s worker None h = taking-holds n s worker _ refl h
-take-holds n s worker (Some unit) h = holds_more n s h
+take-holds : (n part : ℕ) (s : State) (worker : ℕ) (o : Option UnitKey) → IsModest n s (elim o [ Some unit ↦ Refuses (refusal.WorkerBusy unit) | None ↦ taking s worker (first_unclaimed s.orders (waiting_for part s.stored)) ])
+take-holds n part s worker None h = taking-holds n part s worker _ refl h
+take-holds n part s worker (Some unit) h = holds_more n s h
 
 dropped-holds : (n : ℕ) (s : State) (worker : ℕ) → Holds n s → Holds (n + 1) (record s { orders = without_order s.orders worker })
 dropped-holds n s worker h =
@@ -248,11 +249,12 @@ dropped-holds n s worker h =
       orders = orders_without s.stored s.orders worker steady.orders;
     }) h
 
-marked-holds : (n : ℕ) (s : State) (worker : ℕ) (unit : UnitKey) (kind : MarkKind) → order_of s.orders worker ≡ Some unit → Holds n s → Holds (n + 1) (marked s worker unit kind)
-marked-holds n s worker unit kind e h =
+marked-holds : (n part : ℕ) (s : State) (worker : ℕ) (unit : UnitKey) (kind : MarkKind) → order_for part s.stored s.orders worker ≡ Some unit → Holds n s → Holds (n + 1) (marked part s worker unit kind)
+marked-holds n part s worker unit kind e h =
+    let held = held_for part s.stored (order_of s.orders worker) unit e in
     let few = few_more n s h.few in
     let steady = h.steady in
-    let fresh = fresh_marked s unit kind (held_open s.stored s.orders worker unit steady.orders e) steady.fresh in
+    let fresh = fresh_marked s unit kind (status_for part) held.1 steady.fresh in
     record {
       few = record { sessions = few.sessions; units = few.units; marks = one_mark n s.stored unit kind h.few.marks };
       steady = record {
@@ -261,13 +263,13 @@ marked-holds n s worker unit kind e h =
         settled = steady.settled;
         fresh = record { numbered = fresh.numbered; ahead = fresh.ahead; later = fresh.later };
         places = length-set s.orders worker None ∙ steady.places;
-        orders = orders_posted s.stored s.orders worker unit kind steady.orders e;
+        orders = orders_posted s.stored s.orders worker unit kind steady.orders held.0;
       };
     }
 
-post-holds : (n : ℕ) (come : UnitKey → Outcome) (s : State) (worker : ℕ) (o : Option UnitKey) → order_of s.orders worker ≡ o → IsModest n s (elim o [ None ↦ Refuses refusal.NoOrder | Some unit ↦ posting s worker unit (come unit) ])
-post-holds n come s worker None e h = holds_more n s h
-post-holds n come s worker (Some unit) e h = marked-holds n s worker unit (post_kind (come unit)) e h
+post-holds : (n part : ℕ) (come : ℕ → UnitKey → Outcome) (s : State) (worker : ℕ) (o : Option UnitKey) → order_for part s.stored s.orders worker ≡ o → IsModest n s (elim o [ None ↦ Refuses refusal.NoOrder | Some unit ↦ posting part s worker unit (come part unit) ])
+post-holds n part come s worker None e h = holds_more n s h
+post-holds n part come s worker (Some unit) e h = marked-holds n part s worker unit (kind_for part (come part unit)) e h
 
 drop-holds : (n : ℕ) (s : State) (worker : ℕ) (o : Option UnitKey) → IsModest n s (elim o [ None ↦ Refuses refusal.NoOrder | Some unit ↦ Leaves (record s { orders = without_order s.orders worker }) (reply.Unit unit) ])
 drop-holds n s worker None h = holds_more n s h
@@ -275,7 +277,7 @@ drop-holds n s worker (Some unit) h = dropped-holds n s worker h
 
 -- ---- all calls
 
-own-holds : (n : ℕ) (come : UnitKey → Outcome) (s : State) (c : Command) → IsModest n s (own_verdict come s c)
+own-holds : (n : ℕ) (come : ℕ → UnitKey → Outcome) (s : State) (c : Command) → IsModest n s (own_verdict come s c)
 own-holds n come s (command.Logon session user) = logon-holds n s session user _ _
 own-holds n come s (command.Logoff session) = call-holds n s session (command.Logoff session)
 own-holds n come s (command.Ask session requests) = call-holds n s session (command.Ask session requests)
@@ -284,15 +286,17 @@ own-holds n come s (command.FreeAll session) = call-holds n s session (command.F
 own-holds n come s (command.Convert session asked) = call-holds n s session (command.Convert session asked)
 own-holds n come s (command.Rollback session) = call-holds n s session (command.Rollback session)
 own-holds n come s (command.Commit session parts) = call-holds n s session (command.Commit session parts)
-own-holds n come s (command.Take1 worker) = take-holds n s worker (order_of s.orders worker)
-own-holds n come s (command.Do1 worker) = post-holds n come s worker (order_of s.orders worker) refl
+own-holds n come s (command.Take1 worker) = take-holds n 1 s worker (order_of s.orders worker)
+own-holds n come s (command.Do1 worker) = post-holds n 1 come s worker (order_for 1 s.stored s.orders worker) refl
+own-holds n come s (command.Take2 worker) = take-holds n 2 s worker (order_of s.orders worker)
+own-holds n come s (command.Do2 worker) = post-holds n 2 come s worker (order_for 2 s.stored s.orders worker) refl
 own-holds n come s (command.DropOrder worker) = drop-holds n s worker (order_of s.orders worker)
 
 unless-holds : (n : ℕ) (s : State) (o : Option Refusal) (v : Verdict) → IsModest n s v → IsModest n s (unless_closed o v)
 unless-holds n s None v h = h
 unless-holds n s (Some r) v h = holds_more n s
 
-verdict-holds : (n : ℕ) (come : UnitKey → Outcome) (s : State) (c : Command) → IsModest n s (verdict come s c)
+verdict-holds : (n : ℕ) (come : ℕ → UnitKey → Outcome) (s : State) (c : Command) → IsModest n s (verdict come s c)
 unfolding verdict
 verdict-holds n come s c = unless-holds n s (closed s) (own_verdict come s c) (own-holds n come s c)
 
@@ -319,7 +323,7 @@ failed-holds n s (Leaves after r) h = doubted-holds n s after.stored h
 pub served-holds : (n : ℕ) (o : DeviceOutcome) (s : State) (c : Command) → Holds n s → Holds (n + 1) (served o s c).state
 served-holds n Well s c h = verdict-holds n (outcome_in s.stored) s c h
 served-holds n Wanting s c h = holds_more n s h
-served-holds n (Comes o) s c h = verdict-holds n (λ unit. o) s c h
+served-holds n (Comes o) s c h = verdict-holds n (λ part unit. o) s c h
 served-holds n StoreFails s c h = failed-holds n s (verdict (outcome_in s.stored) s c) h
 
 below_limit : (n : ℕ) → nat_le 262144 n ≡ false → n + 1 ≤ 262144

@@ -5,7 +5,7 @@ use Rattle.std.specs.List.{AllByRecursion, filter, find}
 use Rattle.std.proofs.lemmas.Bool.Decides.{nat_tests}
 use Rattle.enq_base.specs.Owners.{same_unit}
 use Rattle.enq_base.specs.declared.owner.UnitKey.{UnitKey}
-use Rattle.posting.specs.Steps.{IsOpenUnit}
+use Rattle.enq_base.specs.declared.unit.Status.{Status}
 use Rattle.update_records.specs.Growing.{with_mark, with_unit}
 use Rattle.update_records.specs.Ledger.{Ledger}
 use Rattle.update_records.specs.declared.records.MarkKind.{MarkKind}
@@ -87,17 +87,18 @@ fresh_next s name h = record {
   later = h.later;
 }
 
--- ---- a mark of an open unit
+-- ---- a mark of a unit that was heard of
 
-all_marked : (ledger : Ledger) (key : UnitKey) (kind : MarkKind) (xs : List Session) → IsOpenUnit ledger key → AllByRecursion (IsAhead ledger) xs → AllByRecursion (IsAhead (with_mark ledger key kind)) xs
-all_marked ledger key kind [] here h = tt
-all_marked ledger key kind (x ∷ xs) here h = ((λ luw from. marked_unheard ledger key _ kind here (h.0 luw from)), all_marked ledger key kind xs here h.1)
+all_marked : (ledger : Ledger) (key : UnitKey) (kind : MarkKind) (status : Status) (xs : List Session) → status_in ledger key ≡ Some status → AllByRecursion (IsAhead ledger) xs → AllByRecursion (IsAhead (with_mark ledger key kind)) xs
+all_marked ledger key kind status [] here h = tt
+all_marked ledger key kind status (x ∷ xs) here h =
+    ((λ luw from. marked_unheard ledger key _ kind status here (h.0 luw from)), all_marked ledger key kind status xs here h.1)
 
-pub fresh_marked : (s : State) (key : UnitKey) (kind : MarkKind) → IsOpenUnit s.stored key → HasFreshKeys s → HasFreshKeys (record s { stored = with_mark s.stored key kind })
-fresh_marked s key kind here h = record {
+pub fresh_marked : (s : State) (key : UnitKey) (kind : MarkKind) (status : Status) → status_in s.stored key ≡ Some status → HasFreshKeys s → HasFreshKeys (record s { stored = with_mark s.stored key kind })
+fresh_marked s key kind status here h = record {
   numbered = h.numbered;
-  ahead = all_marked s.stored key kind s.sessions here h.ahead;
-  later = λ session luw from. marked_unheard s.stored key _ kind here (h.later session luw from);
+  ahead = all_marked s.stored key kind status s.sessions here h.ahead;
+  later = λ session luw from. marked_unheard s.stored key _ kind status here (h.later session luw from);
 }
 
 -- ---- a unit that is recorded

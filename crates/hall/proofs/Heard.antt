@@ -1,16 +1,17 @@
 -- What a recorded unit or a mark leaves of the statuses of other units.
-use Rattle.std.proofs.Common.{◌≡◌, Bool, true, false, not, ◌&&◌, ◌||◌, List, [], ◌∷◌, ◌++◌, refl, sym, ap, ◌∙◌}
-use Rattle.std.specs.Prelude.{if◌then◌else◌, Option, Some, None}
+use Rattle.std.proofs.Common.{◌≡◌, inl, inr, ℕ, Bool, true, false, not, ◌&&◌, ◌||◌, List, [], ◌∷◌, ◌++◌, refl, sym, ap, ◌∙◌}
+use Rattle.std.specs.Prelude.{if◌then◌else◌, nat_eq, Option, Some, None}
 use Rattle.std.specs.List.{AllByRecursion, list_any}
 use Rattle.enq_base.specs.Owners.{same_unit}
 use Rattle.enq_base.specs.declared.owner.UnitKey.{UnitKey}
 use Rattle.enq_base.specs.declared.unit.Status.{Status}
 use Rattle.enq_base.specs.declared.unit.Status.TheVariants.{Open, Posted, Bad, Closed, Bad2, Cancelled}
 use Rattle.update_records.proofs.Status.{none_of, one_unit, status_grows, status_push, unit_refl}
-use Rattle.posting.specs.Steps.{IsOpenUnit}
+use Rattle.posting.specs.Steps.{IsOpenUnit, waiting_for}
+use Rattle.hall.specs.Kept.{IsWaiting}
 use Rattle.update_records.specs.Growing.{next_mark, with_mark, with_unit}
 use Rattle.update_records.specs.Ledger.{Ledger}
-use Rattle.update_records.specs.Marks.{decides, draws_alone, given, has_no_v2, has_status, same_status, status_after, status_of, units_with, waiting}
+use Rattle.update_records.specs.Marks.{decides, draws_alone, given, has_no_v2, has_status, same_status, status_after, status_of, units_with, waiting, waiting_again}
 use Rattle.update_records.specs.declared.records.Mark.{Mark}
 use Rattle.update_records.specs.declared.records.MarkKind.{MarkKind}
 use Rattle.update_records.specs.declared.records.MarkKind.TheVariants.{Num, Rec, V1, Bad1, Again1, V2, Bad2 as BadSecond, Again2, Gone}
@@ -55,15 +56,41 @@ apart_the_other_way ledger key other s none here =
     (λ same. absurd (some_or_none (status_in ledger other) s here (ap (status_in ledger) (sym (one_unit key other same)) ∙ none)))
     (λ apart. apart)
 
--- a mark of an open unit leaves the unheard unheard
-pub marked_unheard : (ledger : Ledger) (key other : UnitKey) (kind : MarkKind) → IsOpenUnit ledger key → status_in ledger other ≡ None → status_in (with_mark ledger key kind) other ≡ None
-marked_unheard ledger key other kind here none =
-    marked_other ledger key other kind (apart_by_status ledger key other Open here none) ∙ none
+two_statuses : (o : Option Status) (a b : Status) → o ≡ Some a → o ≡ Some b → a ≡ b
+two_statuses None a b h k = cc
+two_statuses (Some s) a b h k = cc
+
+-- a unit whose V1 part is posted isn't one that is open
+pub apart_from_open : (ledger : Ledger) (key other : UnitKey) → status_in ledger key ≡ Some Posted → IsOpenUnit ledger other → same_unit key other ≡ false
+apart_from_open ledger key other posted here =
+    by_test _ (same_unit key other)
+    (λ same.
+    let one : Posted ≡ Open = two_statuses (status_in ledger other) Posted Open (ap (status_in ledger) (sym (one_unit key other same)) ∙ posted) here in
+    absurd (cc))
+    (λ apart. apart)
+
+-- a mark of a unit that was heard of leaves the unheard unheard
+pub marked_unheard : (ledger : Ledger) (key other : UnitKey) (kind : MarkKind) (s : Status) → status_in ledger key ≡ Some s → status_in ledger other ≡ None → status_in (with_mark ledger key kind) other ≡ None
+marked_unheard ledger key other kind s here none =
+    marked_other ledger key other kind (apart_by_status ledger key other s here none) ∙ none
+
+recorded_status : (ledger : Ledger) (unit : UnitOfWork) (other : UnitKey) (s : Status) → status_in ledger unit.key ≡ None → status_in ledger other ≡ Some s → status_in (with_unit ledger unit) other ≡ Some s
+recorded_status ledger unit other s fresh here =
+    recorded_other ledger unit other fresh (apart_the_other_way ledger unit.key other s fresh here) ∙ here
 
 -- a unit of which nothing was heard leaves the open ones open
 pub recorded_open : (ledger : Ledger) (unit : UnitOfWork) (other : UnitKey) → status_in ledger unit.key ≡ None → IsOpenUnit ledger other → IsOpenUnit (with_unit ledger unit) other
-recorded_open ledger unit other fresh here =
-    recorded_other ledger unit other fresh (apart_the_other_way ledger unit.key other Open fresh here) ∙ here
+recorded_open ledger unit other fresh here = recorded_status ledger unit other Open fresh here
+
+-- and those that wait for a part still wait for it
+pub recorded_waiting : (ledger : Ledger) (unit : UnitOfWork) (other : UnitKey) → status_in ledger unit.key ≡ None → IsWaiting ledger other → IsWaiting (with_unit ledger unit) other
+recorded_waiting ledger unit other fresh (inl here) = inl (recorded_status ledger unit other Open fresh here)
+recorded_waiting ledger unit other fresh (inr here) = inr (recorded_status ledger unit other Posted fresh here)
+
+-- a mark of another unit leaves those that wait for a part
+pub marked_waiting : (ledger : Ledger) (key other : UnitKey) (kind : MarkKind) → same_unit key other ≡ false → IsWaiting ledger other → IsWaiting (with_mark ledger key kind) other
+marked_waiting ledger key other kind apart (inl here) = inl (marked_other ledger key other kind apart ∙ here)
+marked_waiting ledger key other kind apart (inr here) = inr (marked_other ledger key other kind apart ∙ here)
 
 -- ---- those that wait
 
@@ -76,7 +103,7 @@ of_same Bad2 Bad2 h = refl
 of_same Cancelled Cancelled h = refl
 of_same _ _ h = cc
 
-of_has : (status : Status) (o : Option Status) → has_status status o ≡ true → o ≡ Some status
+pub of_has : (status : Status) (o : Option Status) → has_status status o ≡ true → o ≡ Some status
 of_has status None h = cc
 of_has status (Some other) h = ap Some (sym (of_same status other h))
 
@@ -161,10 +188,14 @@ ends_with status units (m ∷ marks) =
       | false ↦ λ e. rest
     ] refl
 
-all_open : (ledger : Ledger) (keys : List UnitKey) → AllByRecursion (Ends ledger.units ledger.marks Open) keys → AllByRecursion (IsOpenUnit ledger) keys
-all_open ledger [] h = tt
-all_open ledger (key ∷ keys) h = (h.0 None, all_open ledger keys h.1)
+all_wait : (ledger : Ledger) (status : Status) (keys : List UnitKey) → ((key : UnitKey) → status_in ledger key ≡ Some status → IsWaiting ledger key) → AllByRecursion (Ends ledger.units ledger.marks status) keys → AllByRecursion (IsWaiting ledger) keys
+all_wait ledger status [] each h = tt
+all_wait ledger status (key ∷ keys) each h = (each key (h.0 None), all_wait ledger status keys each h.1)
 
--- those that wait are open
-pub waiting_open : (ledger : Ledger) → AllByRecursion (IsOpenUnit ledger) (waiting ledger.units ledger.marks)
-waiting_open ledger = all_open ledger _ (ends_with Open ledger.units ledger.marks)
+wait_either : (ledger : Ledger) (first : Bool) → AllByRecursion (IsWaiting ledger) (if first then waiting ledger.units ledger.marks else waiting_again ledger.units ledger.marks)
+wait_either ledger true = all_wait ledger Open _ (λ key h. inl h) (ends_with Open ledger.units ledger.marks)
+wait_either ledger false = all_wait ledger Posted _ (λ key h. inr h) (ends_with Posted ledger.units ledger.marks)
+
+-- those that are offered for a part wait for one
+pub all_waiting : (part : ℕ) (ledger : Ledger) → AllByRecursion (IsWaiting ledger) (waiting_for part ledger)
+all_waiting part ledger = wait_either ledger (nat_eq part 1)

@@ -1,6 +1,6 @@
 -- What a stop may leave behind a call.
 use Rattle.std.proofs.Common.{◌≡◌, ◌⊎◌, inl, ℕ, Bool, true, false, sym, ap, ◌∙◌, subst}
-use Rattle.std.specs.Prelude.{Option, Some, None, IfSome, is_some, if◌then◌else◌}
+use Rattle.std.specs.Prelude.{nat_eq, Option, Some, None, IfSome, is_some, if◌then◌else◌}
 use Rattle.std.specs.Option.{option_map}
 use Rattle.enq_base.specs.declared.condition.Condition.{Condition}
 use Rattle.enq_base.specs.declared.condition.Condition.TheVariants as condition
@@ -90,9 +90,11 @@ pub unread_leaves : (held before : Option Rows) (may_leave was : Rows → Type 0
 unread_leaves held before may_leave was ledger old change told kept within h =
     told_too held before ((left : Rows) → may_leave left → StandForLanded left ledger change) told (before_change before may_leave was ledger old change kept within h)
 
-pub posted_quiet : (unit : UnitKey) (o : Outcome) (n m : ℕ) → m ≡ n → HasStoreCause n m (posted_reply unit o)
-posted_quiet unit outcome.Done n m h = h
-posted_quiet unit (outcome.Refused index reason) n m h = h
+pub posted_quiet : (part : ℕ) (unit : UnitKey) (o : Outcome) (n m : ℕ) → m ≡ n → HasStoreCause n m (posted_reply part unit o)
+posted_quiet part unit outcome.Done n m h =
+    elim (nat_eq part 1) as (λ b. HasStoreCause n m (if b then reply.Posted unit else reply.Closed unit)) [ true ↦ h | false ↦ h ]
+posted_quiet part unit (outcome.Refused index reason) n m h =
+    elim (nat_eq part 1) as (λ b. HasStoreCause n m (if b then reply.Bad unit index reason else reply.Bad2 unit index reason)) [ true ↦ h | false ↦ h ]
 
 -- ---- the hall behind it
 

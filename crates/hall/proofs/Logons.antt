@@ -20,7 +20,7 @@ use Rattle.hall.specs.declared.command.Reply.{Reply}
 use Rattle.hall.specs.declared.command.Reply.TheVariants as reply
 use Rattle.hall.specs.declared.command.Session.{Session}
 use Rattle.hall.specs.History.{DeviceOutcome, IsStep, Well, Wanting, StoreFails, Comes, Served, failed, is_unrecorded, judged, past_entry, served, step}
-use Rattle.hall.specs.Orders.{order_of, without_order}
+use Rattle.hall.specs.Orders.{order_for, order_of, without_order}
 use Rattle.hall.specs.Sessions.{is_called, session_at, unit_key, with_next_unit, with_session, without_session}
 use Rattle.hall.specs.State.{State}
 use Rattle.hall.specs.Step.{Verdict, Refuses, Leaves, call_of, closed, committed, converting, entered, granting, own_verdict, posting, session_call, taking, unless_closed, verdict}
@@ -137,7 +137,7 @@ take-keeps : (s : State) (c : Command) (worker : ℕ) (o found : Option UnitKey)
 take-keeps s c worker None found = taking-keeps s c worker found
 take-keeps s c worker (Some unit) found = λ n off h. h
 
-own-keeps : (come : UnitKey → Outcome) (s : State) (c : Command) → KeepsSessions s c (judged s (own_verdict come s c))
+own-keeps : (come : ℕ → UnitKey → Outcome) (s : State) (c : Command) → KeepsSessions s c (judged s (own_verdict come s c))
 own-keeps come s (command.Logon session user) = logon-keeps s session user _ _
 own-keeps come s (command.Logoff session) = call-keeps s session (command.Logoff session) (logoff-keeps s session)
 own-keeps come s (command.Ask session requests) = call-keeps s session (command.Ask session requests) (λ x e. granting-keeps s (command.Ask session requests) _)
@@ -148,7 +148,10 @@ own-keeps come s (command.Rollback session) = call-keeps s session (command.Roll
 own-keeps come s (command.Commit session parts) = call-keeps s session (command.Commit session parts) (λ x e. commit-keeps s (command.Commit session parts) x parts _ _)
 own-keeps come s (command.Take1 worker) = take-keeps s (command.Take1 worker) worker _ _
 own-keeps come s (command.Do1 worker) =
-    order-keeps s (command.Do1 worker) (order_of s.orders worker) (λ unit. posting s worker unit (come unit)) (λ unit n off h. h)
+    order-keeps s (command.Do1 worker) (order_for 1 s.stored s.orders worker) (λ unit. posting 1 s worker unit (come 1 unit)) (λ unit n off h. h)
+own-keeps come s (command.Take2 worker) = take-keeps s (command.Take2 worker) worker _ _
+own-keeps come s (command.Do2 worker) =
+    order-keeps s (command.Do2 worker) (order_for 2 s.stored s.orders worker) (λ unit. posting 2 s worker unit (come 2 unit)) (λ unit n off h. h)
 own-keeps come s (command.DropOrder worker) =
     order-keeps s (command.DropOrder worker) (order_of s.orders worker) (λ unit. Leaves (record s { orders = without_order s.orders worker }) (reply.Unit unit)) (λ unit n off h. h)
 
@@ -156,7 +159,7 @@ unless-keeps : (s : State) (c : Command) (o : Option Refusal) (v : Verdict) → 
 unless-keeps s c None v each = each
 unless-keeps s c (Some r) v each = λ n off h. h
 
-verdict-keeps : (come : UnitKey → Outcome) (s : State) (c : Command) → KeepsSessions s c (judged s (verdict come s c))
+verdict-keeps : (come : ℕ → UnitKey → Outcome) (s : State) (c : Command) → KeepsSessions s c (judged s (verdict come s c))
 unfolding verdict
 verdict-keeps come s c = unless-keeps s c (closed s) (own_verdict come s c) (own-keeps come s c)
 
@@ -168,7 +171,7 @@ served-keeps : (d : DeviceOutcome) (s : State) (c : Command) → KeepsSessions s
 served-keeps Well s c = verdict-keeps (outcome_in s.stored) s c
 served-keeps Wanting s c = λ n off h. h
 served-keeps StoreFails s c = failed-keeps s c (verdict (outcome_in s.stored) s c)
-served-keeps (Comes o) s c = verdict-keeps (λ unit. o) s c
+served-keeps (Comes o) s c = verdict-keeps (λ part unit. o) s c
 
 -- a call is noted, and nothing else changes
 noted-keeps : (s : State) (c : Command) (line : ℕ) (r : Served) (b : Bool) → KeepsSessions s c r → KeepsSessions s c (if b then r else record r { state = record r.state { past = r.state.past ++ past_entry line c r.reply ∷ [] } })

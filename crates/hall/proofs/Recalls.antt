@@ -11,21 +11,21 @@ use Rattle.lock_entry.specs.Table.{IsTable}
 use Rattle.posting.specs.declared.prepared.Outcome.{Outcome}
 use Rattle.update_records.specs.Business.{tables_of}
 use Rattle.update_records.specs.Ledger.{Ledger}
-use Rattle.update_records.specs.Marks.{v1_of}
+use Rattle.posting.specs.Posts.{effects_of}
 use Rattle.hall.specs.declared.command.Command.TheVariants as command
 use Rattle.hall.specs.declared.command.Reply.TheVariants as reply
 use Rattle.hall.specs.Coming.{MayComeTo, outcome_in}
-use Rattle.hall.specs.Orders.{order_of}
+use Rattle.hall.specs.Orders.{order_for}
 use Rattle.hall.specs.declared.command.Command.{Command}
 use Rattle.hall.specs.declared.command.PastEntry.{PastEntry}
-use Rattle.hall.specs.History.{DeviceOutcome, Well, Wanting, StoreFails, Comes, IsAllowed, PostMayCome, Served, failed, is_post, is_unrecorded, judged, noted, past_entry, served, shown, step}
+use Rattle.hall.specs.History.{DeviceOutcome, Well, Wanting, StoreFails, Comes, IsAllowed, Served, failed, is_post, is_unrecorded, judged, noted, past_entry, served, shown, step}
 use Rattle.hall.specs.Recall.{AreModelAnswers, IsModelAnswer, StaysSound, recalled, state_after}
 use Rattle.hall.specs.State.{State}
 use Rattle.hall.specs.Step.{Verdict, Refuses, Leaves, closed, is_full, own_verdict, posting, unless_closed, verdict}
 use Rattle.hall.proofs.Calls.{verdict-closed, verdict-room}
 use Rattle.hall.proofs.Fair.{IsPlain, failed-sound, table_of, verdict-fair}
 use Rattle.hall.proofs.Steps.{served-past}
-use Rattle.hall.proofs.Writes.{applied_told, comes, outcome_told, own_post}
+use Rattle.hall.proofs.Writes.{Posts, applied_told, comes, outcome_told, own_post, posts_first, posts_second}
 
 -- the answer shows the outcome
 shown-failed : (s : State) (v : Verdict) → shown (failed s v).reply ≡ StoreFails
@@ -33,7 +33,7 @@ shown-failed s (Refuses r) = refl
 shown-failed s (Leaves after r) = refl
 
 -- a call that isn't a post doesn't ask what parts come to
-asks_no_part : (come other : UnitKey → Outcome) (s : State) (c : Command) → is_post c ≡ false → own_verdict come s c ≡ own_verdict other s c
+asks_no_part : (come other : ℕ → UnitKey → Outcome) (s : State) (c : Command) → is_post c ≡ false → own_verdict come s c ≡ own_verdict other s c
 asks_no_part come other s (command.Logon session user) e = refl
 asks_no_part come other s (command.Logoff session) e = refl
 asks_no_part come other s (command.Ask session rs) e = refl
@@ -44,9 +44,11 @@ asks_no_part come other s (command.Rollback session) e = refl
 asks_no_part come other s (command.Commit session parts) e = refl
 asks_no_part come other s (command.Take1 worker) e = refl
 asks_no_part come other s (command.Do1 worker) e = absurd (cc)
+asks_no_part come other s (command.Take2 worker) e = refl
+asks_no_part come other s (command.Do2 worker) e = absurd (cc)
 asks_no_part come other s (command.DropOrder worker) e = refl
 
-asks_nothing : (come other : UnitKey → Outcome) (s : State) (c : Command) → is_post c ≡ false → verdict come s c ≡ verdict other s c
+asks_nothing : (come other : ℕ → UnitKey → Outcome) (s : State) (c : Command) → is_post c ≡ false → verdict come s c ≡ verdict other s c
 unfolding verdict
 asks_nothing come other s c e = ap (unless_closed (closed s)) (asks_no_part come other s c e)
 
@@ -55,7 +57,7 @@ record ShowsAgain (s : State) (c : Command) (r : Served) : Type 0 where
   same : served (shown r.reply) s c ≡ r
   allowed : IsAllowed (shown r.reply) s c
 
-shows_well : (come : UnitKey → Outcome) (s : State) (c : Command) → is_post c ≡ false → ShowsAgain s c (judged s (verdict come s c))
+shows_well : (come : ℕ → UnitKey → Outcome) (s : State) (c : Command) → is_post c ≡ false → ShowsAgain s c (judged s (verdict come s c))
 shows_well come s c e =
     let well : shown (judged s (verdict come s c)).reply ≡ Well = subst (λ b. IsPlain b (shown (judged s (verdict come s c)).reply)) e (verdict-fair come s c).well in
     record {
@@ -64,10 +66,10 @@ shows_well come s c e =
     }
 
 -- a post that isn't served, or that has no order
-shows_refused : (s : State) (worker : ℕ) (r : Refusal) → shown (reply.Refused r) ≡ Well → verdict (outcome_in s.stored) s (command.Do1 worker) ≡ Refuses r → ShowsAgain s (command.Do1 worker) (judged s (Refuses r))
-shows_refused s worker r well is = record {
-  same = ap (λ o. served o s (command.Do1 worker)) well ∙ ap (judged s) is;
-  allowed = subst (λ o. IsAllowed o s (command.Do1 worker)) (sym well) tt;
+shows_refused : (s : State) (c : Command) (r : Refusal) → shown (reply.Refused r) ≡ Well → verdict (outcome_in s.stored) s c ≡ Refuses r → ShowsAgain s c (judged s (Refuses r))
+shows_refused s c r well is = record {
+  same = ap (λ o. served o s c) well ∙ ap (judged s) is;
+  allowed = subst (λ o. IsAllowed o s c) (sym well) tt;
 }
 
 closed-well : (full : Bool) (k : Condition) (r : Refusal) → (if full then Some refusal.LogFull else elim k [ condition.Up ↦ None | condition.NoServer ↦ None | condition.Doubt call ↦ Some (refusal.Down call) ]) ≡ Some r → shown (reply.Refused r) ≡ Well
@@ -76,40 +78,41 @@ closed-well false condition.Up r e = absurd (cc)
 closed-well false condition.NoServer r e = absurd (cc)
 closed-well false (condition.Doubt call) r e = let same : refusal.Down call ≡ r = cc in subst (λ x. shown (reply.Refused x) ≡ Well) same refl
 
-abbrev MayPost : (UnitKey → Outcome) → State → Option UnitKey → Type 0
-MayPost come s o = IfSome o (λ unit. MayComeTo s.told s.stored unit (come unit))
+-- what is said of the part of the unit, if there is one, may come
+abbrev PartMayCome : ℕ → (ℕ → UnitKey → Outcome) → State → Option UnitKey → Type 0
+PartMayCome part come s o = IfSome o (λ unit. MayComeTo s.told s.stored part unit (come part unit))
 
-shows_order : (come : UnitKey → Outcome) (s : State) (worker : ℕ) (o : Option UnitKey) → closed s ≡ None → order_of s.orders worker ≡ o → MayPost come s o → ShowsAgain s (command.Do1 worker) (judged s (verdict come s (command.Do1 worker)))
-shows_order come s worker None room found may =
-    let c = command.Do1 worker in
-    let refused : (other : UnitKey → Outcome) → verdict other s c ≡ Refuses refusal.NoOrder = λ other. verdict-room other s c room ∙ own_post other s s.orders worker None refl found in
-    subst (λ v. ShowsAgain s c (judged s v)) (sym (refused come)) (shows_refused s worker refusal.NoOrder refl (refused (outcome_in s.stored)))
-shows_order come s worker (Some unit) room found may =
-    let c = command.Do1 worker in
-    let act = comes s worker unit (come unit) room found may in
-    let is : verdict come s c ≡ posting s worker unit (come unit) = verdict-room come s c room ∙ own_post come s s.orders worker (Some unit) refl found in
+shows_order : (part : ℕ) (c : Command) (come : ℕ → UnitKey → Outcome) (s : State) (worker : ℕ) (o : Option UnitKey) → Posts part worker c → closed s ≡ None → order_for part s.stored s.orders worker ≡ o → PartMayCome part come s o → ShowsAgain s c (judged s (verdict come s c))
+shows_order part c come s worker None posts room found may =
+    let refused : (other : ℕ → UnitKey → Outcome) → verdict other s c ≡ Refuses refusal.NoOrder = λ other. verdict-room other s c room ∙ own_post part c other s worker None posts found in
+    subst (λ v. ShowsAgain s c (judged s v)) (sym (refused come)) (shows_refused s c refusal.NoOrder refl (refused (outcome_in s.stored)))
+shows_order part c come s worker (Some unit) posts room found may =
+    let act = comes part c s worker unit (come part unit) posts room found may in
+    let is : verdict come s c ≡ posting part s worker unit (come part unit) = verdict-room come s c room ∙ own_post part c come s worker (Some unit) posts found in
     subst (λ v. ShowsAgain s c (judged s v)) (sym is) (record { same = act.same; allowed = act.allowed })
 
-shows_post : (come : UnitKey → Outcome) (s : State) (worker : ℕ) (o : Option Refusal) → closed s ≡ o → MayPost come s (order_of s.orders worker) → ShowsAgain s (command.Do1 worker) (judged s (verdict come s (command.Do1 worker)))
-shows_post come s worker None room may = shows_order come s worker (order_of s.orders worker) room refl may
-shows_post come s worker (Some r) shut may =
-    let c = command.Do1 worker in
+shows_post : (part : ℕ) (c : Command) (come : ℕ → UnitKey → Outcome) (s : State) (worker : ℕ) (o : Option Refusal) → Posts part worker c → closed s ≡ o → PartMayCome part come s (order_for part s.stored s.orders worker) → ShowsAgain s c (judged s (verdict come s c))
+shows_post part c come s worker None posts room may = shows_order part c come s worker (order_for part s.stored s.orders worker) posts room refl may
+shows_post part c come s worker (Some r) posts shut may =
     subst (λ v. ShowsAgain s c (judged s v)) (sym (verdict-closed come s c r shut))
-    (shows_refused s worker r (closed-well (is_full s) s.condition r shut) (verdict-closed (outcome_in s.stored) s c r shut))
+    (shows_refused s c r (closed-well (is_full s) s.condition r shut) (verdict-closed (outcome_in s.stored) s c r shut))
 
 -- what the marks have made of the tables may come
-exact_may : (told : Bool) (ledger : Ledger) (unit : UnitKey) → MayComeTo told ledger unit (outcome_in ledger unit)
-exact_may true ledger unit = refl
-exact_may false ledger unit =
+exact_may : (part : ℕ) (told : Bool) (ledger : Ledger) (unit : UnitKey) → MayComeTo told ledger part unit (outcome_in ledger part unit)
+exact_may part true ledger unit = refl
+exact_may part false ledger unit =
     let tables = tables_of ledger.units ledger.marks in
-    (tables, outcome_told _ (applied_told (v1_of ledger.units unit) 1 tables))
+    (tables, outcome_told _ (applied_told (effects_of part ledger.units unit) 1 tables))
 
-some_may : (s : State) (o : Option UnitKey) → MayPost (outcome_in s.stored) s o
-some_may s None = tt
-some_may s (Some unit) = exact_may s.told s.stored unit
+some_may : (part : ℕ) (s : State) (o : Option UnitKey) → PartMayCome part (outcome_in s.stored) s o
+some_may part s None = tt
+some_may part s (Some unit) = exact_may part s.told s.stored unit
 
-shows_verdict : (come : UnitKey → Outcome) (s : State) (c : Command) → ((worker : ℕ) → c ≡ command.Do1 worker → MayPost come s (order_of s.orders worker)) → ShowsAgain s c (judged s (verdict come s c))
-shows_verdict come s (command.Do1 worker) may = shows_post come s worker (closed s) refl (may worker refl)
+shows_verdict : (come : ℕ → UnitKey → Outcome) (s : State) (c : Command) → ((part worker : ℕ) → Posts part worker c → PartMayCome part come s (order_for part s.stored s.orders worker)) → ShowsAgain s c (judged s (verdict come s c))
+shows_verdict come s (command.Do1 worker) may =
+    shows_post 1 (command.Do1 worker) come s worker (closed s) (posts_first worker) refl (may 1 worker (posts_first worker))
+shows_verdict come s (command.Do2 worker) may =
+    shows_post 2 (command.Do2 worker) come s worker (closed s) (posts_second worker) refl (may 2 worker (posts_second worker))
 shows_verdict come s (command.Logon session user) may = shows_well come s _ refl
 shows_verdict come s (command.Logoff session) may = shows_well come s _ refl
 shows_verdict come s (command.Ask session rs) may = shows_well come s _ refl
@@ -119,18 +122,16 @@ shows_verdict come s (command.Convert session asked) may = shows_well come s _ r
 shows_verdict come s (command.Rollback session) may = shows_well come s _ refl
 shows_verdict come s (command.Commit session parts) may = shows_well come s _ refl
 shows_verdict come s (command.Take1 worker) may = shows_well come s _ refl
+shows_verdict come s (command.Take2 worker) may = shows_well come s _ refl
 shows_verdict come s (command.DropOrder worker) may = shows_well come s _ refl
 
-post_allowed : (o : Outcome) (s : State) (c : Command) (worker : ℕ) → c ≡ command.Do1 worker → PostMayCome o s c → MayPost (λ unit. o) s (order_of s.orders worker)
-post_allowed o s c worker is may = subst (PostMayCome o s) is may
-
 shows_again : (o : DeviceOutcome) (s : State) (c : Command) → IsAllowed o s c → ShowsAgain s c (served o s c)
-shows_again Well s c allowed = shows_verdict (outcome_in s.stored) s c (λ worker is. some_may s (order_of s.orders worker))
+shows_again Well s c allowed = shows_verdict (outcome_in s.stored) s c (λ part worker posts. some_may part s (order_for part s.stored s.orders worker))
 shows_again Wanting s c allowed = record { same = refl; allowed = allowed }
 shows_again StoreFails s c allowed =
     let fails = shown-failed s (verdict (outcome_in s.stored) s c) in
     record { same = ap (λ o. served o s c) fails; allowed = subst (λ o. IsAllowed o s c) (sym fails) allowed }
-shows_again (Comes o) s c allowed = shows_verdict (λ unit. o) s c (λ worker is. post_allowed o s c worker is allowed)
+shows_again (Comes o) s c allowed = shows_verdict (λ part unit. o) s c (λ part worker posts. posts.came o s allowed)
 
 -- a call that is not noted leaves the state
 unnoted-failed : (s : State) (v : Verdict) → is_unrecorded (failed s v).reply ≡ true → (failed s v).state ≡ s
@@ -140,7 +141,7 @@ unnoted-failed s (Leaves after r) e = absurd (cc)
 unnoted-served : (o : DeviceOutcome) (s : State) (c : Command) → is_unrecorded (served o s c).reply ≡ true → (served o s c).state ≡ s
 unnoted-served Well s c e = (verdict-fair (outcome_in s.stored) s c).quiet e
 unnoted-served Wanting s c e = refl
-unnoted-served (Comes o) s c e = (verdict-fair (λ unit. o) s c).quiet e
+unnoted-served (Comes o) s c e = (verdict-fair (λ part unit. o) s c).quiet e
 unnoted-served StoreFails s c e = unnoted-failed s (verdict (outcome_in s.stored) s c) e
 
 -- each call is answered as the model answers it, told from the first call on
@@ -209,7 +210,7 @@ told-answers first s h earlier later call e =
 served-sound : (o : DeviceOutcome) (s : State) (c : Command) → IsTable (table_of s) → IsTable (table_of (served o s c).state)
 served-sound Well s c h = (verdict-fair (outcome_in s.stored) s c).sound h
 served-sound Wanting s c h = h
-served-sound (Comes o) s c h = (verdict-fair (λ unit. o) s c).sound h
+served-sound (Comes o) s c h = (verdict-fair (λ part unit. o) s c).sound h
 served-sound StoreFails s c h = failed-sound s (verdict (outcome_in s.stored) s c) h
 
 noted-sound : (line : ℕ) (c : Command) (r : Served) (b : Bool) → IsTable (table_of r.state) → IsTable (table_of (if b then r else record r { state = record r.state { past = r.state.past ++ past_entry line c r.reply ∷ [] } }).state)

@@ -13,7 +13,7 @@ use Rattle.enq_base.specs.declared.refusal.Refusal.{Refusal}
 use Rattle.enq_base.specs.declared.refusal.Refusal.TheVariants as refusal
 use Rattle.enq_base.specs.declared.unit.Parts.{Parts}
 use Rattle.enq_base.specs.declared.unit.Status.{Status}
-use Rattle.enq_base.specs.declared.unit.Status.TheVariants.{Open}
+use Rattle.enq_base.specs.declared.unit.Status.TheVariants.{Open, Posted}
 use Rattle.lock_entry.proofs.Naming.{same_mode-same, same_owner-refl}
 use Rattle.lock_entry.specs.declared.entry.Entry.{Entry}
 use Rattle.lock_entry.specs.declared.entry.Asked.{Asked}
@@ -27,10 +27,11 @@ use Rattle.lock_entry.specs.Pairs.{in_pair}
 use Rattle.mode_rules.specs.declared.Mode.TheVariants.{O}
 use Rattle.mode_rules.specs.Modes.{same_mode}
 use Rattle.update_records.proofs.Status.{flip, one_unit, status_push, unit_refl}
-use Rattle.posting.specs.Steps.{IsOpenUnit}
+use Rattle.posting.specs.Posts.{WaitsFor, kind_for}
+use Rattle.posting.specs.Steps.{IsOpenUnit, IsPostedUnit, waiting_for}
 use Rattle.update_records.specs.Growing.{next_mark, with_mark, with_unit}
 use Rattle.update_records.specs.Ledger.{Ledger}
-use Rattle.update_records.specs.Marks.{given, has_no_v2, status_after, waiting}
+use Rattle.update_records.specs.Marks.{given, has_no_v2, status_after}
 use Rattle.update_records.specs.declared.records.MarkKind.{MarkKind}
 use Rattle.update_records.specs.declared.records.MarkKind.TheVariants as mark
 use Rattle.update_records.specs.declared.records.Unit.{Unit as UnitOfWork}
@@ -45,15 +46,16 @@ use Rattle.hall.specs.declared.command.Reply.TheVariants as reply
 use Rattle.hall.specs.declared.command.Session.{Session}
 use Rattle.hall.specs.History.{DeviceOutcome, Well, Wanting, StoreFails, Comes, Served, doubted, failed, is_unrecorded, judged, noted, past_entry, served, shown, step}
 use Rattle.hall.specs.Kept.{AreOrders, HasFreshKeys, HasServer}
-use Rattle.hall.specs.Orders.{first_unclaimed, order_of, without_order}
+use Rattle.hall.specs.Orders.{first_unclaimed, order_for, order_of, without_order}
 use Rattle.hall.specs.Recall.{AreModelAnswers, IsModelAnswer, recalled, state_after}
 use Rattle.hall.specs.Sessions.{pair_of, session_at, unit_key}
 use Rattle.hall.specs.Standing.{CallKeepsLocks, CallsKeepLocks, HandsOver, IsCommitOf, IsFirm, IsHandedTo, LocksStand, NoneEndsWait, StillWaits, WaitsLocked, WasFirm, ends_wait, is_commit, with_handed}
 use Rattle.hall.specs.State.{State, opened}
-use Rattle.hall.specs.Step.{Verdict, Refuses, Leaves, call_of, closed, committed, converting, entered, granting, is_full, marked, own_verdict, posting, session_call, taking, unit_of, unless_closed, verdict}
+use Rattle.hall.specs.Step.{Verdict, Refuses, Leaves, call_of, closed, committed, converting, entered, granting, is_full, marked, own_verdict, posted_reply, posting, session_call, taking, unit_of, unless_closed, verdict}
+use Rattle.hall.proofs.Claims.{held_for}
 use Rattle.hall.proofs.Few.{Holds, served-holds, with_past}
 use Rattle.hall.proofs.Fresh.{open_unheard}
-use Rattle.hall.proofs.Heard.{apart_by_status, marked_other, recorded_open, status_in}
+use Rattle.hall.proofs.Heard.{apart_by_status, apart_from_open, marked_other, recorded_open, status_in}
 use Rattle.hall.proofs.LockLists.{Allows, Among, AreSure, IsOutside, all_among, among_from, asked_allows, contains_from, converted_allows, handed_source, hands_over, is_sure, kept_both, kept_conversion, kept_freed, kept_granted, kept_handed, kept_unit, kept_update, sure_conversion, sure_freed, sure_freed_owner, sure_granted, sure_handed_over, unnamed}
 
 -- the same as `KeepsHanded`, by recursion over the locks
@@ -170,6 +172,8 @@ session-stands s x (command.Rollback session) new =
 session-stands s x (command.Commit session parts) new = commit-stands s x parts _ _ new
 session-stands s x (command.Take1 worker) new = stands_still s _
 session-stands s x (command.Do1 worker) new = stands_still s _
+session-stands s x (command.Take2 worker) new = stands_still s _
+session-stands s x (command.Do2 worker) new = stands_still s _
 session-stands s x (command.DropOrder worker) new = stands_still s _
 
 call-stands : (s : State) (name : List ℕ) (c : Command) → HasFreshKeys s → Stands s (judged s (call_of s name c))
@@ -198,6 +202,11 @@ order-stands : (s : State) (o : Option UnitKey) (act : UnitKey → Verdict) → 
 order-stands s None act h = stands_still s _
 order-stands s (Some unit) act h = h unit
 
+-- the unit of an order for a part waits for it
+part-stands : (part : ℕ) (s : State) (worker : ℕ) (o : Option UnitKey) (act : UnitKey → Verdict) → order_for part s.stored s.orders worker ≡ o → ((unit : UnitKey) → WaitsFor part s.stored unit → Stands s (judged s (act unit))) → Stands s (judged s (elim o [ None ↦ Refuses refusal.NoOrder | Some unit ↦ act unit ]))
+part-stands part s worker None act found h = stands_still s _
+part-stands part s worker (Some unit) act found h = h unit (held_for part s.stored (order_of s.orders worker) unit found).1
+
 -- a mark that ends the V1 part
 abbrev Ends : MarkKind → Type 0
 Ends kind = (b : Bool) (before : Option Status) → given b kind before ≡ Some Open → ⊥
@@ -224,21 +233,29 @@ apart_from_ended ledger key other kind ends waits =
     absurd (ends (has_no_v2 ledger.units key) (status_in ledger key) (sym (status_here ledger key kind) ∙ subst (IsOpenUnit (with_mark ledger key kind)) (sym same) waits)))
     (λ apart. apart)
 
-marked-stands : (s : State) (worker : ℕ) (unit : UnitKey) (kind : MarkKind) (r : Reply) → Ends kind → ((u : UnitKey) → ends_wait u r ≡ same_unit unit u) → Stands s (record { state = marked s worker unit kind; reply = r })
+marked-stands : (s : State) (worker : ℕ) (unit : UnitKey) (kind : MarkKind) (r : Reply) → Ends kind → ((u : UnitKey) → ends_wait u r ≡ same_unit unit u) → Stands s (record { state = marked 1 s worker unit kind; reply = r })
 marked-stands s worker unit kind r ends told = record {
   sure = λ h. sure_freed_owner s.locks (Upd unit) h;
   kept = λ h u e own w k. kept_unit s.locks u unit e own.owner (flip u unit (apart_from_ended s.stored unit u kind ends w.waits)) k;
   waits = λ u on w. record { up = w.up; waits = marked_other s.stored unit u kind (sym (told u) ∙ on) ∙ w.waits };
 }
 
-posting-stands : (s : State) (worker : ℕ) (unit : UnitKey) (o : Outcome) → Stands s (judged s (posting s worker unit o))
+-- a V2 part leaves the locks, and the units that wait for their V1 part
+closed-stands : (s : State) (worker : ℕ) (unit : UnitKey) (kind : MarkKind) (r : Reply) → IsPostedUnit s.stored unit → Stands s (record { state = marked 2 s worker unit kind; reply = r })
+closed-stands s worker unit kind r posted = record {
+  sure = λ h. h;
+  kept = λ h u e own w k. k;
+  waits = λ u on w. record { up = w.up; waits = marked_other s.stored unit u kind (apart_from_open s.stored unit u posted w.waits) ∙ w.waits };
+}
+
+posting-stands : (s : State) (worker : ℕ) (unit : UnitKey) (o : Outcome) → Stands s (judged s (posting 1 s worker unit o))
 posting-stands s worker unit outcome.Done = marked-stands s worker unit mark.V1 (reply.Posted unit) v1-ends (λ u. refl)
 posting-stands s worker unit (outcome.Refused index reason) =
     marked-stands s worker unit (mark.Bad1 index reason) (reply.Bad unit index reason) (λ b before h. cc) (λ u. refl)
 
 -- ---- all calls
 
-own-stands : (come : UnitKey → Outcome) (s : State) (c : Command) → HasFreshKeys s → Stands s (judged s (own_verdict come s c))
+own-stands : (come : ℕ → UnitKey → Outcome) (s : State) (c : Command) → HasFreshKeys s → Stands s (judged s (own_verdict come s c))
 own-stands come s (command.Logon session user) fresh = logon-stands s session user _ _
 own-stands come s (command.Logoff session) fresh = call-stands s session (command.Logoff session) fresh
 own-stands come s (command.Ask session rs) fresh = call-stands s session (command.Ask session rs) fresh
@@ -247,9 +264,13 @@ own-stands come s (command.FreeAll session) fresh = call-stands s session (comma
 own-stands come s (command.Convert session asked) fresh = call-stands s session (command.Convert session asked) fresh
 own-stands come s (command.Rollback session) fresh = call-stands s session (command.Rollback session) fresh
 own-stands come s (command.Commit session parts) fresh = call-stands s session (command.Commit session parts) fresh
-own-stands come s (command.Take1 worker) fresh = take-stands s worker (order_of s.orders worker) (first_unclaimed s.orders (waiting s.stored.units s.stored.marks))
+own-stands come s (command.Take1 worker) fresh = take-stands s worker (order_of s.orders worker) (first_unclaimed s.orders (waiting_for 1 s.stored))
 own-stands come s (command.Do1 worker) fresh =
-    order-stands s (order_of s.orders worker) (λ unit. posting s worker unit (come unit)) (λ unit. posting-stands s worker unit (come unit))
+    order-stands s (order_for 1 s.stored s.orders worker) (λ unit. posting 1 s worker unit (come 1 unit)) (λ unit. posting-stands s worker unit (come 1 unit))
+own-stands come s (command.Take2 worker) fresh = take-stands s worker (order_of s.orders worker) (first_unclaimed s.orders (waiting_for 2 s.stored))
+own-stands come s (command.Do2 worker) fresh =
+    part-stands 2 s worker (order_for 2 s.stored s.orders worker) (λ unit. posting 2 s worker unit (come 2 unit)) refl
+    (λ unit waits. closed-stands s worker unit (kind_for 2 (come 2 unit)) (posted_reply 2 unit (come 2 unit)) waits)
 own-stands come s (command.DropOrder worker) fresh =
     order-stands s (order_of s.orders worker) (λ unit. Leaves (record s { orders = without_order s.orders worker }) (reply.Unit unit))
     (λ unit. stands_beside s _ _ refl refl refl)
@@ -258,7 +279,7 @@ unless-stands : (s : State) (o : Option Refusal) (v : Verdict) → Stands s (jud
 unless-stands s None v h = h
 unless-stands s (Some r) v h = stands_still s _
 
-verdict-stands : (come : UnitKey → Outcome) (s : State) (c : Command) → HasFreshKeys s → Stands s (judged s (verdict come s c))
+verdict-stands : (come : ℕ → UnitKey → Outcome) (s : State) (c : Command) → HasFreshKeys s → Stands s (judged s (verdict come s c))
 unfolding verdict
 verdict-stands come s c fresh = unless-stands s (closed s) (own_verdict come s c) (own-stands come s c fresh)
 
@@ -277,7 +298,7 @@ failed-stands s (Leaves after r) = doubted-stands s after.stored
 served-stands : (o : DeviceOutcome) (s : State) (c : Command) → HasFreshKeys s → Stands s (served o s c)
 served-stands Well s c fresh = verdict-stands (outcome_in s.stored) s c fresh
 served-stands Wanting s c fresh = stands_still s _
-served-stands (Comes o) s c fresh = verdict-stands (λ unit. o) s c fresh
+served-stands (Comes o) s c fresh = verdict-stands (λ part unit. o) s c fresh
 served-stands StoreFails s c fresh = failed-stands s (verdict (outcome_in s.stored) s c)
 
 noted-stands : (s : State) (line : ℕ) (c : Command) (r : Served) (b : Bool) → Stands s r → Stands s (if b then r else record r { state = record r.state { past = r.state.past ++ past_entry line c r.reply ∷ [] } })

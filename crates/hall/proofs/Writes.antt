@@ -1,11 +1,10 @@
 -- Commits, orders and posts come to what their commands' verdicts say.
-use Rattle.std.proofs.Common.{◌≡◌, ℕ, zero, suc, ◌+◌, ◌-◌, ◌≤◌, ◌<◌, Bool, true, false, cond, not, List, [], ◌∷◌, length, drop, set, refl, sym, ap, ◌∙◌, subst, arith}
+use Rattle.std.proofs.Common.{◌≡◌, ℕ, zero, suc, ◌+◌, ◌-◌, ◌≤◌, ◌<◌, inl, inr, Bool, true, false, cond, not, List, [], ◌∷◌, length, drop, set, refl, sym, ap, ◌∙◌, subst, arith}
 use Rattle.std.specs.Prelude.{Option, Some, None, Result, Ok, Err, IsTrue, IfSome, is_some, nat_eq, nat_le, nat_lt, slice_get, if◌then◌else◌}
 use Rattle.std.specs.FinMap.{get}
 use Rattle.std.specs.List.{AllByRecursion, find}
 use Rattle.std.proofs.lemmas.Bool.Decides.{nat_tests}
 use Rattle.std.proofs.lemmas.List.Elements.{All-nil}
-use Rattle.enq_base.specs.declared.owner.Owner.TheVariants.{Upd}
 use Rattle.enq_base.specs.declared.owner.UnitKey.{UnitKey}
 use Rattle.enq_base.specs.declared.refusal.Refusal.{Refusal}
 use Rattle.enq_base.specs.declared.refusal.Refusal.TheVariants as refusal
@@ -13,23 +12,22 @@ use Rattle.enq_base.specs.declared.unit.Effect.{Effect}
 use Rattle.enq_base.specs.declared.unit.Parts.{Parts}
 use Rattle.enq_base.specs.declared.unit.Reason.{Reason}
 use Rattle.lock_entry.specs.declared.entry.Entry.{Entry}
-use Rattle.lock_entry.specs.Freeing.{freed_owner, handed_over}
+use Rattle.lock_entry.specs.Freeing.{handed_over}
 use Rattle.module_effects.specs.Effects.{applied, applied_from, row_after}
 use Rattle.module_effects.specs.Rows.{RowName, Tables, row_of, with_row}
 use Rattle.module_effects.specs.declared.fault.EffectFault.{EffectFault}
 use Rattle.module_effects.specs.declared.fault.EffectFault.TheVariants as effect
 use Rattle.keeper_api.specs.Rows.{Rows}
-use Rattle.posting.specs.Posts.{MayCome}
-use Rattle.posting.specs.Steps.{IsNewUnit, IsOutcome, after_step, at_place, post_kind}
+use Rattle.posting.specs.Posts.{MayCome, effects_of, kind_for}
+use Rattle.posting.specs.Steps.{IsNewUnit, IsOutcome, after_step, at_place, waiting_for}
 use Rattle.posting.specs.declared.prepared.Step.{Step}
 use Rattle.posting.specs.declared.prepared.Step.TheVariants.{Note}
 use Rattle.posting.specs.declared.prepared.Outcome.{Outcome}
 use Rattle.posting.specs.declared.prepared.Outcome.TheVariants as outcome
 use Rattle.update_records.specs.Business.{tables_of}
-use Rattle.update_records.specs.Grammar.{IsHeldBy}
+use Rattle.update_records.specs.Grammar.{HasDigits, IsHeldBy}
 use Rattle.update_records.specs.Growing.{with_mark, with_unit}
 use Rattle.update_records.specs.Ledger.{Ledger}
-use Rattle.update_records.specs.Marks.{v1_of, waiting}
 use Rattle.update_records.specs.declared.records.Unit.{Unit as UnitOfWork}
 use Rattle.hall.specs.declared.command.Command.{Command}
 use Rattle.hall.specs.declared.command.Command.TheVariants as command
@@ -37,16 +35,17 @@ use Rattle.hall.specs.declared.command.Reply.{Reply}
 use Rattle.hall.specs.declared.command.Reply.TheVariants as reply
 use Rattle.hall.specs.declared.command.Session.{Session}
 use Rattle.hall.specs.declared.units.InFlight.TheVariants as flight
-use Rattle.hall.specs.Acts.{IsAct}
+use Rattle.hall.specs.Acts.{IsAct, post_of}
 use Rattle.hall.specs.Coming.{MayComeTo, outcome_in, outcome_of}
 use Rattle.hall.specs.Flights.{landed}
-use Rattle.hall.specs.History.{Well, Comes, IsAllowed, Served, doubted, failed, is_unrecorded, judged, leaves, served, shown, writes}
+use Rattle.hall.specs.History.{Well, Comes, IsAllowed, MayPost, PostMayCome, Served, doubted, failed, is_unrecorded, judged, leaves, may_want, served, shown, writes}
 use Rattle.hall.specs.Kept.{IsAhead}
-use Rattle.hall.specs.Orders.{first_unclaimed, is_claimed, order_of}
+use Rattle.hall.specs.Orders.{first_unclaimed, is_claimed, order_for, order_of}
 use Rattle.hall.specs.Sessions.{is_called, session_at, unit_key, with_next_unit, with_session}
 use Rattle.hall.specs.State.{State}
-use Rattle.hall.specs.Step.{Verdict, Refuses, Leaves, closed, commit, committed, effects_in, marked, own_verdict, posted_reply, posting, take, taking, unit_of}
-use Rattle.hall.proofs.Calls.{at_state, calling, found_at, refuses, verdict-room}
+use Rattle.hall.specs.Step.{Verdict, Refuses, Leaves, closed, commit, committed, effects_in, locks_behind, marked, own_verdict, post, posted_reply, posting, take, taking, unit_of}
+use Rattle.hall.proofs.Calls.{at_state, calling, found_at, is_wanting, refuses, verdict-room}
+use Rattle.hall.proofs.Ends.{IsPart}
 use Rattle.hall.proofs.Fair.{posted-noted}
 use Rattle.hall.proofs.Fresh.{found_in}
 
@@ -137,62 +136,87 @@ drops s orders after worker unit e room found is =
 abbrev served_as : State → Reply → Served
 served_as s r = record { state = s; reply = r }
 
-pub takes_busy : (s : State) (orders : List (Option UnitKey)) (worker : ℕ) (unit : UnitKey) → s.orders ≡ orders → order_of orders worker ≡ Some unit → judged s (take s worker) ≡ record { state = record s { orders = orders }; reply = reply.Refused (refusal.WorkerBusy unit) }
-takes_busy s orders worker unit e found =
-    ap (λ o. judged s (elim o [ Some u ↦ Refuses (refusal.WorkerBusy u) | None ↦ taking s worker (first_unclaimed s.orders (waiting s.stored.units s.stored.marks)) ])) (ordered s orders worker (Some unit) e found)
+pub takes_busy : (part : ℕ) (s : State) (orders : List (Option UnitKey)) (worker : ℕ) (unit : UnitKey) → s.orders ≡ orders → order_of orders worker ≡ Some unit → judged s (take part s worker) ≡ record { state = record s { orders = orders }; reply = reply.Refused (refusal.WorkerBusy unit) }
+takes_busy part s orders worker unit e found =
+    ap (λ o. judged s (elim o [ Some u ↦ Refuses (refusal.WorkerBusy u) | None ↦ taking s worker (first_unclaimed s.orders (waiting_for part s.stored)) ])) (ordered s orders worker (Some unit) e found)
     ∙ (λ i. served_as (record s { orders = e i }) (reply.Refused (refusal.WorkerBusy unit)))
 
-free_to_take : (s : State) (orders : List (Option UnitKey)) (ledger : Ledger) (worker : ℕ) (o : Option UnitKey) → s.orders ≡ orders → s.stored ≡ ledger → order_of orders worker ≡ None → o ≡ first_unclaimed orders (waiting ledger.units ledger.marks) → take s worker ≡ taking s worker o
-free_to_take s orders ledger worker o e f none is =
-    ap (λ p. elim p [ Some u ↦ Refuses (refusal.WorkerBusy u) | None ↦ taking s worker (first_unclaimed s.orders (waiting s.stored.units s.stored.marks)) ]) (ordered s orders worker None e none)
-    ∙ (λ i. taking s worker (first_unclaimed (e i) (waiting (f i).units (f i).marks)))
+free_to_take : (part : ℕ) (s : State) (orders : List (Option UnitKey)) (ledger : Ledger) (worker : ℕ) (o : Option UnitKey) → s.orders ≡ orders → s.stored ≡ ledger → order_of orders worker ≡ None → o ≡ first_unclaimed orders (waiting_for part ledger) → take part s worker ≡ taking s worker o
+free_to_take part s orders ledger worker o e f none is =
+    ap (λ p. elim p [ Some u ↦ Refuses (refusal.WorkerBusy u) | None ↦ taking s worker (first_unclaimed s.orders (waiting_for part s.stored)) ]) (ordered s orders worker None e none)
+    ∙ (λ i. taking s worker (first_unclaimed (e i) (waiting_for part (f i))))
     ∙ ap (taking s worker) (sym is)
 
-pub takes_none : (s : State) (orders : List (Option UnitKey)) (ledger : Ledger) (worker : ℕ) → s.orders ≡ orders → s.stored ≡ ledger → order_of orders worker ≡ None → None ≡ first_unclaimed orders (waiting ledger.units ledger.marks) → judged s (take s worker) ≡ record { state = record s { orders = orders }; reply = reply.Refused refusal.Idle }
-takes_none s orders ledger worker e f none is =
-    ap (judged s) (free_to_take s orders ledger worker None e f none is) ∙ (λ i. served_as (record s { orders = e i }) (reply.Refused refusal.Idle))
+pub takes_none : (part : ℕ) (s : State) (orders : List (Option UnitKey)) (ledger : Ledger) (worker : ℕ) → s.orders ≡ orders → s.stored ≡ ledger → order_of orders worker ≡ None → None ≡ first_unclaimed orders (waiting_for part ledger) → judged s (take part s worker) ≡ record { state = record s { orders = orders }; reply = reply.Refused refusal.Idle }
+takes_none part s orders ledger worker e f none is =
+    ap (judged s) (free_to_take part s orders ledger worker None e f none is) ∙ (λ i. served_as (record s { orders = e i }) (reply.Refused refusal.Idle))
 
-pub takes : (s : State) (orders after : List (Option UnitKey)) (ledger : Ledger) (worker : ℕ) (unit : UnitKey) → s.orders ≡ orders → s.stored ≡ ledger → order_of orders worker ≡ None → Some unit ≡ first_unclaimed orders (waiting ledger.units ledger.marks) → after ≡ set orders worker (Some unit) → judged s (take s worker) ≡ record { state = record s { orders = after }; reply = reply.Unit unit }
-takes s orders after ledger worker unit e f none is new =
+pub takes : (part : ℕ) (s : State) (orders after : List (Option UnitKey)) (ledger : Ledger) (worker : ℕ) (unit : UnitKey) → s.orders ≡ orders → s.stored ≡ ledger → order_of orders worker ≡ None → Some unit ≡ first_unclaimed orders (waiting_for part ledger) → after ≡ set orders worker (Some unit) → judged s (take part s worker) ≡ record { state = record s { orders = after }; reply = reply.Unit unit }
+takes part s orders after ledger worker unit e f none is new =
     let e' : set s.orders worker (Some unit) ≡ after = ap (λ xs. set xs worker (Some unit)) e ∙ sym new in
-    ap (judged s) (free_to_take s orders ledger worker (Some unit) e f none is) ∙ (λ i. served_as (record s { orders = e' i }) (reply.Unit unit))
+    ap (judged s) (free_to_take part s orders ledger worker (Some unit) e f none is) ∙ (λ i. served_as (record s { orders = e' i }) (reply.Unit unit))
 
 -- ---- posts
 
-abbrev pub Posting : State → ℕ → (UnitKey → Outcome) → Option UnitKey → Verdict
-Posting s worker come o = elim o [ None ↦ Refuses refusal.NoOrder | Some unit ↦ posting s worker unit (come unit) ]
+abbrev pub Posting : ℕ → State → ℕ → (ℕ → UnitKey → Outcome) → Option UnitKey → Verdict
+Posting part s worker come o = elim o [ None ↦ Refuses refusal.NoOrder | Some unit ↦ posting part s worker unit (come part unit) ]
 
-pub own_post : (come : UnitKey → Outcome) (s : State) (orders : List (Option UnitKey)) (worker : ℕ) (o : Option UnitKey) → s.orders ≡ orders → order_of orders worker ≡ o → own_verdict come s (command.Do1 worker) ≡ Posting s worker come o
-own_post come s orders worker o e found = ap (Posting s worker come) (ordered s orders worker o e found)
+-- the call posts this part for this worker
+pub record Posts (part worker : ℕ) (c : Command) : Type 0 where
+  pub own : (come : ℕ → UnitKey → Outcome) (s : State) → own_verdict come s c ≡ post part come s worker
+  pub may : (o : Outcome) (s : State) → MayPost part o s worker → PostMayCome o s c
+  pub came : (o : Outcome) (s : State) → PostMayCome o s c → MayPost part o s worker
+  pub stores : IsTrue (writes c)
+  pub wants : (s : State) → IsTrue (is_some (order_for part s.stored s.orders worker)) → IsTrue (may_want s c)
 
-pub posts_none : (s : State) (orders : List (Option UnitKey)) (entries : List Entry) (ledger : Ledger) (worker : ℕ) → s.orders ≡ orders → s.locks ≡ entries → s.stored ≡ ledger → closed s ≡ None → order_of orders worker ≡ None → IsAct s (command.Do1 worker) (record s { orders = orders; locks = entries; stored = ledger }) (reply.Refused refusal.NoOrder)
-posts_none s orders entries ledger worker e f g room none =
+pub posts_first : (worker : ℕ) → Posts 1 worker (command.Do1 worker)
+posts_first worker = record { own = λ come s. refl; may = λ o s h. h; came = λ o s h. h; stores = refl; wants = λ s h. h }
+
+pub posts_second : (worker : ℕ) → Posts 2 worker (command.Do2 worker)
+posts_second worker = record { own = λ come s. refl; may = λ o s h. h; came = λ o s h. h; stores = refl; wants = λ s h. h }
+
+pub posts_part : (part worker : ℕ) → IsPart part → Posts part worker (post_of part worker)
+posts_part part worker (inl e) = subst (λ p. Posts p worker (post_of p worker)) (sym e) (posts_first worker)
+posts_part part worker (inr e) = subst (λ p. Posts p worker (post_of p worker)) (sym e) (posts_second worker)
+
+held : (part : ℕ) (s : State) (ledger : Ledger) (orders : List (Option UnitKey)) (worker : ℕ) (o : Option UnitKey) → s.stored ≡ ledger → s.orders ≡ orders → order_for part ledger orders worker ≡ o → order_for part s.stored s.orders worker ≡ o
+held part s ledger orders worker o g e f = (λ i. order_for part (g i) (e i) worker) ∙ f
+
+pub own_post : (part : ℕ) (c : Command) (come : ℕ → UnitKey → Outcome) (s : State) (worker : ℕ) (o : Option UnitKey) → Posts part worker c → order_for part s.stored s.orders worker ≡ o → own_verdict come s c ≡ Posting part s worker come o
+own_post part c come s worker o posts found = posts.own come s ∙ ap (Posting part s worker come) found
+
+pub posts_none : (part : ℕ) (s : State) (orders : List (Option UnitKey)) (entries : List Entry) (ledger : Ledger) (worker : ℕ) → IsPart part → s.orders ≡ orders → s.locks ≡ entries → s.stored ≡ ledger → closed s ≡ None → order_for part ledger orders worker ≡ None → IsAct s (post_of part worker) (record s { orders = orders; locks = entries; stored = ledger }) (reply.Refused refusal.NoOrder)
+posts_none part s orders entries ledger worker is e f g room none =
+    let c = post_of part worker in
     at_state _ _ s _ _ (λ i. record s { orders = e i; locks = f i; stored = g i })
-    (refuses s (command.Do1 worker) refusal.NoOrder room (own_post (outcome_in s.stored) s orders worker None e none) refl refl)
+    (refuses s c refusal.NoOrder room
+    (own_post part c (outcome_in s.stored) s worker None (posts_part part worker is) (held part s ledger orders worker None g e none)) refl refl)
 
-posted-shows : (unit : UnitKey) (o : Outcome) → shown (posted_reply unit o) ≡ Comes o
-posted-shows unit outcome.Done = refl
-posted-shows unit (outcome.Refused index reason) = refl
+posted-shows : (part : ℕ) (unit : UnitKey) (o : Outcome) → shown (posted_reply part unit o) ≡ Comes o
+posted-shows part unit outcome.Done =
+    elim (nat_eq part 1) as (λ b. shown (if b then reply.Posted unit else reply.Closed unit) ≡ Comes outcome.Done) [ true ↦ refl | false ↦ refl ]
+posted-shows part unit (outcome.Refused index reason) =
+    elim (nat_eq part 1) as (λ b. shown (if b then reply.Bad unit index reason else reply.Bad2 unit index reason) ≡ Comes (outcome.Refused index reason)) [ true ↦ refl | false ↦ refl ]
 
 -- a part that comes to this
-pub comes : (s : State) (worker : ℕ) (unit : UnitKey) (o : Outcome) → closed s ≡ None → order_of s.orders worker ≡ Some unit → MayComeTo s.told s.stored unit o → IsAct s (command.Do1 worker) (marked s worker unit (post_kind o)) (posted_reply unit o)
-comes s worker unit o room found may =
+pub comes : (part : ℕ) (c : Command) (s : State) (worker : ℕ) (unit : UnitKey) (o : Outcome) → Posts part worker c → closed s ≡ None → order_for part s.stored s.orders worker ≡ Some unit → MayComeTo s.told s.stored part unit o → IsAct s c (marked part s worker unit (kind_for part o)) (posted_reply part unit o)
+comes part c s worker unit o posts room found may =
     record {
       same =
-          ap (λ d. served d s (command.Do1 worker)) (posted-shows unit o)
-          ∙ ap (judged s) (verdict-room (λ u. o) s (command.Do1 worker) room ∙ own_post (λ u. o) s s.orders worker (Some unit) refl found);
-      allowed = subst (λ d. IsAllowed d s (command.Do1 worker)) (sym (posted-shows unit o)) (subst (λ x. IfSome x (λ u. MayComeTo s.told s.stored u o)) (sym found) may);
-      noted = posted-noted unit o;
+          ap (λ d. served d s c) (posted-shows part unit o)
+          ∙ ap (judged s) (verdict-room (λ p u. o) s c room ∙ own_post part c (λ p u. o) s worker (Some unit) posts found);
+      allowed = subst (λ d. IsAllowed d s c) (sym (posted-shows part unit o)) (posts.may o s (subst (λ x. IfSome x (λ u. MayComeTo s.told s.stored part u o)) (sym found) may));
+      noted = posted-noted part unit o;
     }
 
-pub posts : (s : State) (told : Bool) (orders after : List (Option UnitKey)) (entries left : List Entry) (ledger new : Ledger) (worker : ℕ) (unit : UnitKey) (o : Outcome) → s.told ≡ told → s.orders ≡ orders → s.locks ≡ entries → s.stored ≡ ledger → closed s ≡ None → order_of orders worker ≡ Some unit → MayComeTo told ledger unit o → after ≡ set orders worker None → left ≡ freed_owner entries (Upd unit) → new ≡ with_mark ledger unit (post_kind o) → IsAct s (command.Do1 worker) (record s { orders = after; locks = left; stored = new }) (posted_reply unit o)
-posts s told orders after entries left ledger new worker unit o t e f g room found may a b c =
+pub posts : (part : ℕ) (s : State) (told : Bool) (orders after : List (Option UnitKey)) (entries left : List Entry) (ledger new : Ledger) (worker : ℕ) (unit : UnitKey) (o : Outcome) → IsPart part → s.told ≡ told → s.orders ≡ orders → s.locks ≡ entries → s.stored ≡ ledger → closed s ≡ None → order_for part ledger orders worker ≡ Some unit → MayComeTo told ledger part unit o → after ≡ set orders worker None → left ≡ locks_behind part entries unit → new ≡ with_mark ledger unit (kind_for part o) → IsAct s (post_of part worker) (record s { orders = after; locks = left; stored = new }) (posted_reply part unit o)
+posts part s told orders after entries left ledger new worker unit o is t e f g room found may a b c =
     let e' : set s.orders worker None ≡ after = ap (λ xs. set xs worker None) e ∙ sym a in
-    let f' : freed_owner s.locks (Upd unit) ≡ left = ap (λ xs. freed_owner xs (Upd unit)) f ∙ sym b in
-    let g' : with_mark s.stored unit (post_kind o) ≡ new = ap (λ l. with_mark l unit (post_kind o)) g ∙ sym c in
-    let may' : MayComeTo s.told s.stored unit o = subst (λ x. MayComeTo x s.stored unit o) (sym t) (subst (λ l. MayComeTo told l unit o) (sym g) may) in
-    at_state _ _ (marked s worker unit (post_kind o)) _ _ (λ i. record s { orders = e' i; locks = f' i; stored = g' i })
-    (comes s worker unit o room (ordered s orders worker (Some unit) e found) may')
+    let f' : locks_behind part s.locks unit ≡ left = ap (λ xs. locks_behind part xs unit) f ∙ sym b in
+    let g' : with_mark s.stored unit (kind_for part o) ≡ new = ap (λ l. with_mark l unit (kind_for part o)) g ∙ sym c in
+    let may' : MayComeTo s.told s.stored part unit o = subst (λ x. MayComeTo x s.stored part unit o) (sym t) (subst (λ l. MayComeTo told l part unit o) (sym g) may) in
+    at_state _ _ (marked part s worker unit (kind_for part o)) _ _ (λ i. record s { orders = e' i; locks = f' i; stored = g' i })
+    (comes part (post_of part worker) s worker unit o (posts_part part worker is) room (held part s ledger orders worker (Some unit) g e found) may')
 
 outcome_is : (r : Result Tables EffectFault) (o : Outcome) → IsOutcome r o → o ≡ outcome_of r
 outcome_is (Ok tables) o h = h
@@ -200,9 +224,9 @@ outcome_is (Err (effect.Refused index reason)) o h = h
 outcome_is (Err effect.NoMemory) o h = absurd h
 
 -- what the books make ready may come
-pub may_come : (told : Bool) (held : Option Rows) (ledger : Ledger) (unit : UnitKey) (o : Outcome) → told ≡ is_some held → IfSome held (λ _. IsOutcome (applied (v1_of ledger.units unit) (tables_of ledger.units ledger.marks)) o) → MayCome (v1_of ledger.units unit) o → MayComeTo told ledger unit o
-may_come told None ledger unit o t known possible = subst (λ b. MayComeTo b ledger unit o) (sym t) possible
-may_come told (Some rows) ledger unit o t known possible = subst (λ b. MayComeTo b ledger unit o) (sym t) (outcome_is _ o known)
+pub may_come : (part : ℕ) (told : Bool) (rows : Option Rows) (ledger : Ledger) (unit : UnitKey) (o : Outcome) → told ≡ is_some rows → IfSome rows (λ _. IsOutcome (applied (effects_of part ledger.units unit) (tables_of ledger.units ledger.marks)) o) → MayCome (effects_of part ledger.units unit) o → MayComeTo told ledger part unit o
+may_come part told None ledger unit o t known possible = subst (λ b. MayComeTo b ledger part unit o) (sym t) possible
+may_come part told (Some rows) ledger unit o t known possible = subst (λ b. MayComeTo b ledger part unit o) (sym t) (outcome_is _ o known)
 
 -- an outcome of applying effects to these tables
 pub outcome_told : (r : Result Tables EffectFault) → (r ≡ Err effect.NoMemory → ⊥) → IsOutcome r (outcome_of r)
@@ -227,18 +251,28 @@ applied_told (x ∷ effects) index tables e =
     ] e
 
 -- the change in flight that a prepared post is
-landed_post : (ledger old : Ledger) (said : Step) (unit : UnitKey) (o : Outcome) → ledger ≡ old → said ≡ Note unit (post_kind o) → o ≡ outcome_in old unit → after_step ledger said ≡ landed ledger (flight.Post unit)
-landed_post ledger old said unit o same is h =
-    ap (after_step ledger) is ∙ ap (λ x. with_mark ledger unit (post_kind x)) (h ∙ ap (λ l. outcome_in l unit) (sym same))
+landed_post : (part : ℕ) (ledger old : Ledger) (said : Step) (unit : UnitKey) (o : Outcome) → ledger ≡ old → said ≡ Note unit (kind_for part o) → o ≡ outcome_in old part unit → after_step ledger said ≡ landed ledger (flight.Post unit part)
+landed_post part ledger old said unit o same is h =
+    ap (after_step ledger) is ∙ ap (λ x. with_mark ledger unit (kind_for part x)) (h ∙ ap (λ l. outcome_in l part unit) (sym same))
 
-pub landed_where_told : (told : Option Rows) (ledger old : Ledger) (said : Step) (unit : UnitKey) (o : Outcome) → ledger ≡ old → said ≡ Note unit (post_kind o) → IfSome told (λ _. IsOutcome (applied (v1_of old.units unit) (tables_of old.units old.marks)) o) → IfSome told (λ _. after_step ledger said ≡ landed ledger (flight.Post unit))
-landed_where_told None ledger old said unit o same is h = tt
-landed_where_told (Some rows) ledger old said unit o same is h = landed_post ledger old said unit o same is (outcome_is _ o h)
+pub landed_where_told : (part : ℕ) (told : Option Rows) (ledger old : Ledger) (said : Step) (unit : UnitKey) (o : Outcome) → ledger ≡ old → said ≡ Note unit (kind_for part o) → IfSome told (λ _. IsOutcome (applied (effects_of part old.units unit) (tables_of old.units old.marks)) o) → IfSome told (λ _. after_step ledger said ≡ landed ledger (flight.Post unit part))
+landed_where_told part None ledger old said unit o same is h = tt
+landed_where_told part (Some rows) ledger old said unit o same is h = landed_post part ledger old said unit o same is (outcome_is _ o h)
 
-pub posts_in_doubt : (s : State) (orders : List (Option UnitKey)) (worker : ℕ) (unit : UnitKey) → s.orders ≡ orders → closed s ≡ None → order_of orders worker ≡ Some unit → IsAct s (command.Do1 worker) (doubted s (landed s.stored (flight.Post unit))) (reply.Refused refusal.StoreFault)
-posts_in_doubt s orders worker unit e room found =
-    let o = outcome_in s.stored unit in
-    fails s (command.Do1 worker) (marked s worker unit (post_kind o)) (posted_reply unit o) room (own_post (outcome_in s.stored) s orders worker (Some unit) e found) refl
+pub posts_in_doubt : (part : ℕ) (s : State) (orders : List (Option UnitKey)) (ledger : Ledger) (worker : ℕ) (unit : UnitKey) → IsPart part → s.orders ≡ orders → s.stored ≡ ledger → closed s ≡ None → order_for part ledger orders worker ≡ Some unit → IsAct s (post_of part worker) (doubted s (landed s.stored (flight.Post unit part))) (reply.Refused refusal.StoreFault)
+posts_in_doubt part s orders ledger worker unit is e g room found =
+    let c = post_of part worker in
+    let o = outcome_in s.stored part unit in
+    let by = posts_part part worker is in
+    fails s c (marked part s worker unit (kind_for part o)) (posted_reply part unit o) room
+    (own_post part c (outcome_in s.stored) s worker (Some unit) by (held part s ledger orders worker (Some unit) g e found)) by.stores
+
+pub posts_wanting : (part : ℕ) (s : State) (orders : List (Option UnitKey)) (entries : List Entry) (ledger new : Ledger) (worker : ℕ) (unit : UnitKey) → IsPart part → s.orders ≡ orders → s.locks ≡ entries → s.stored ≡ ledger → new ≡ ledger → closed s ≡ None → order_for part ledger orders worker ≡ Some unit → IsAct s (post_of part worker) (record s { orders = orders; locks = entries; stored = new }) (reply.Refused refusal.NoMemory)
+posts_wanting part s orders entries ledger new worker unit is e f g kept room found =
+    let g' : s.stored ≡ new = g ∙ sym kept in
+    let by = posts_part part worker is in
+    at_state _ _ s _ _ (λ i. record s { orders = e i; locks = f i; stored = g' i })
+    (is_wanting s (post_of part worker) room (by.wants s (ap is_some (held part s ledger orders worker (Some unit) g e found))))
 
 -- ---- commits
 
@@ -309,7 +343,8 @@ may_record ledger sessions name x parts start unit same is found ahead started s
       last = omega arith;
       some = some;
       few = few;
-      numbers = refl;
+      few_numbers = omega arith;
+      digits = All-nil HasDigits;
       few_entries = omega arith;
       held = All-nil (IsHeldBy (unit_of ledger.start x parts));
       distinct = refl;

@@ -1,10 +1,11 @@
 -- A call apart from its place in the history.
-use Rattle.std.specs.Prelude.{◌≡◌, ℕ, ◌+◌, false, Option, Some, None}
+use Rattle.std.specs.Prelude.{◌≡◌, ℕ, ◌+◌, false, nat_eq, Option, Some, None, if◌then◌else◌}
 use Rattle.enq_base.specs.declared.condition.Condition.{Condition}
 use Rattle.enq_base.specs.declared.condition.Condition.TheVariants as condition
 use Rattle.hall.specs.declared.units.InFlight.{InFlight}
 use Rattle.enq_base.specs.declared.refusal.Refusal.TheVariants as refusal
 use Rattle.hall.specs.declared.command.Command.{Command}
+use Rattle.hall.specs.declared.command.Command.TheVariants as command
 use Rattle.hall.specs.declared.command.Reply.{Reply}
 use Rattle.hall.specs.declared.command.Reply.TheVariants as reply
 use Rattle.hall.specs.declared.units.Written.{Written}
@@ -18,6 +19,14 @@ pub record IsAct (s : State) (c : Command) (after : State) (r : Reply) : Type 0 
   pub same : served (shown r) s c ≡ record { state = after; reply = r }
   pub allowed : IsAllowed (shown r) s c
   pub noted : is_unrecorded r ≡ false
+
+-- the call by which a worker takes an order for a part
+abbrev pub take_of : ℕ → ℕ → Command
+take_of part worker = if nat_eq part 1 then command.Take1 worker else command.Take2 worker
+
+-- the call by which a worker posts a part
+abbrev pub post_of : ℕ → ℕ → Command
+post_of part worker = if nat_eq part 1 then command.Do1 worker else command.Do2 worker
 
 -- a worker that asks for an order and finds no unit is told so
 abbrev pub taken_reply : Option Reply → Reply

@@ -1,7 +1,7 @@
 -- The change that was in flight when the store failed.
 use Rattle.update_records.specs.Growing.{with_mark, with_unit}
 use Rattle.update_records.specs.Ledger.{Ledger}
-use Rattle.posting.specs.Steps.{post_kind}
+use Rattle.posting.specs.Posts.{kind_for}
 use Rattle.hall.specs.Coming.{outcome_in}
 use Rattle.hall.specs.declared.units.InFlight.{InFlight}
 use Rattle.hall.specs.declared.units.InFlight.TheVariants as flight
@@ -9,4 +9,4 @@ use Rattle.hall.specs.declared.units.InFlight.TheVariants as flight
 -- what the store has where it took the change
 abbrev pub landed : Ledger → InFlight → Ledger
 landed ledger (flight.Unit unit) = with_unit ledger unit
-landed ledger (flight.Post key) = with_mark ledger key (post_kind (outcome_in ledger key))
+landed ledger (flight.Post key part) = with_mark ledger key (kind_for part (outcome_in ledger part key))

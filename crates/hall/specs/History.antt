@@ -13,7 +13,7 @@ use Rattle.hall.specs.declared.command.Who.TheVariants as who
 use Rattle.posting.specs.declared.prepared.Outcome.{Outcome}
 use Rattle.posting.specs.declared.prepared.Outcome.TheVariants as outcome
 use Rattle.hall.specs.Coming.{MayComeTo, outcome_in}
-use Rattle.hall.specs.Orders.{order_of}
+use Rattle.hall.specs.Orders.{order_for}
 use Rattle.hall.specs.Sessions.{session_at}
 use Rattle.hall.specs.State.{State}
 use Rattle.hall.specs.Step.{Verdict, Refuses, Leaves, closed, effects_in, verdict}
@@ -27,7 +27,7 @@ pub data DeviceOutcome : Type 0 where
   Wanting : DeviceOutcome
   -- the store failed
   StoreFails : DeviceOutcome
-  -- the V1 part of a unit came to this in the rows of the store
+  -- a part of a unit came to this in the rows of the store
   Comes : Outcome → DeviceOutcome
 
 -- what the answer of a call shows of it
@@ -36,11 +36,14 @@ shown (reply.Refused refusal.NoMemory) = Wanting
 shown (reply.Refused refusal.StoreFault) = StoreFails
 shown (reply.Posted unit) = Comes outcome.Done
 shown (reply.Bad unit index reason) = Comes (outcome.Refused index reason)
+shown (reply.Closed unit) = Comes outcome.Done
+shown (reply.Bad2 unit index reason) = Comes (outcome.Refused index reason)
 shown _ = Well
 
 -- the calls that post a part
 abbrev pub is_post : Command → Bool
 is_post (command.Do1 worker) = true
+is_post (command.Do2 worker) = true
 is_post command = false
 
 abbrev pub leaves : Verdict → Bool
@@ -54,19 +57,25 @@ may_want s (command.Logon session user) = leaves (verdict (outcome_in s.stored) 
 may_want s (command.Ask session requests) = is_some (session_at s.sessions session)
 may_want s (command.Convert session asked) = is_some (session_at s.sessions session)
 may_want s (command.Commit session parts) = is_some (session_at s.sessions session)
-may_want s (command.Do1 worker) = is_some (order_of s.orders worker)
+may_want s (command.Do1 worker) = is_some (order_for 1 s.stored s.orders worker)
+may_want s (command.Do2 worker) = is_some (order_for 2 s.stored s.orders worker)
 may_want s command = false
 
 -- the calls that write the store: a commit with effects, and a post
 abbrev pub writes : Command → Bool
 writes (command.Commit session parts) = nat_le 1 (effects_in parts)
 writes (command.Do1 worker) = true
+writes (command.Do2 worker) = true
 writes command = false
 
--- the unit that the worker has an order for may come to this
+-- the part of the unit that the worker has an order for may come to this
+abbrev pub MayPost : ℕ → Outcome → State → ℕ → Type 0
+MayPost part outcome s worker =
+    IfSome (order_for part s.stored s.orders worker) (λ unit. MayComeTo s.told s.stored part unit outcome)
+
 abbrev pub PostMayCome : Outcome → State → Command → Type 0
-PostMayCome outcome s (command.Do1 worker) =
-    IfSome (order_of s.orders worker) (λ unit. MayComeTo s.told s.stored unit outcome)
+PostMayCome outcome s (command.Do1 worker) = MayPost 1 outcome s worker
+PostMayCome outcome s (command.Do2 worker) = MayPost 2 outcome s worker
 PostMayCome outcome s c = ⊥
 
 -- a call may have this outcome; one that is refused writes nothing, and one that isn't served wants no memory
@@ -97,7 +106,7 @@ abbrev pub served : DeviceOutcome → State → Command → Served
 served Well s c = judged s (verdict (outcome_in s.stored) s c)
 served Wanting s c = record { state = s; reply = reply.Refused refusal.NoMemory }
 served StoreFails s c = failed s (verdict (outcome_in s.stored) s c)
-served (Comes outcome) s c = judged s (verdict (λ unit. outcome) s c)
+served (Comes outcome) s c = judged s (verdict (λ part unit. outcome) s c)
 
 abbrev pub who_of : Command → Who
 who_of (command.Logon session user) = who.Session session
@@ -110,6 +119,8 @@ who_of (command.Rollback session) = who.Session session
 who_of (command.Commit session parts) = who.Session session
 who_of (command.Take1 worker) = who.Worker worker
 who_of (command.Do1 worker) = who.Worker worker
+who_of (command.Take2 worker) = who.Worker worker
+who_of (command.Do2 worker) = who.Worker worker
 who_of (command.DropOrder worker) = who.Worker worker
 
 -- a call that finds the history full is not in it, nor is one that finds no unit to take

@@ -1,11 +1,11 @@
 -- What a state that calls lead to keeps.
-use Rattle.std.specs.Prelude.{◌≡◌, ℕ, ◌+◌, ◌≤◌, ◌<◌, false}
+use Rattle.std.specs.Prelude.{◌≡◌, ◌⊎◌, ℕ, ◌+◌, ◌≤◌, ◌<◌, false}
 use Rattle.std.specs.Prelude.{List, [], ◌∷◌, length, Option, Some, None}
 use Rattle.std.specs.List.{AllByRecursion}
 use Rattle.enq_base.specs.declared.condition.Condition.{Condition}
 use Rattle.enq_base.specs.declared.condition.Condition.TheVariants as condition
 use Rattle.enq_base.specs.declared.owner.UnitKey.{UnitKey}
-use Rattle.posting.specs.Steps.{IsOpenUnit}
+use Rattle.posting.specs.Steps.{IsOpenUnit, IsPostedUnit}
 use Rattle.update_records.specs.Ledger.{Ledger}
 use Rattle.update_records.specs.Marks.{status_of}
 use Rattle.hall.specs.declared.command.Session.{Session}
@@ -43,12 +43,16 @@ pub record HasFreshKeys (s : State) : Type 0 where
   pub ahead : AllByRecursion (IsAhead s.stored) s.sessions
   pub later : (session luw : ℕ) → s.next_session ≤ session → IsUnheard s.stored session luw
 
--- each order is for an open unit, for which no other worker has one
+-- the unit waits for its V1 part or for its V2 part
+abbrev pub IsWaiting : Ledger → UnitKey → Type 0
+IsWaiting ledger unit = IsOpenUnit ledger unit ⊎ IsPostedUnit ledger unit
+
+-- each order is for a unit that waits for a part, for which no other worker has one
 abbrev pub AreOrders : Ledger → List (Option UnitKey) → Type 0
 AreOrders ledger [] = Unit {0}
 AreOrders ledger (None ∷ orders) = AreOrders ledger orders
 AreOrders ledger (Some unit ∷ orders) =
-    IsOpenUnit ledger unit × (is_claimed orders unit ≡ false) × AreOrders ledger orders
+    IsWaiting ledger unit × (is_claimed orders unit ≡ false) × AreOrders ledger orders
 
 -- what holds where the server is up
 abbrev pub WhileUp : Condition → Type 0 → Type 0

@@ -62,6 +62,12 @@ pub enum Command {
     Do1 {
         worker: u8,
     },
+    Take2 {
+        worker: u8,
+    },
+    Do2 {
+        worker: u8,
+    },
     DropOrder {
         worker: u8,
     },
@@ -77,6 +83,14 @@ pub enum Reply {
     Posted(UnitKey),
     /// The unit's V1 part was refused at this effect, counted from 1.
     Bad {
+        unit: UnitKey,
+        index: u32,
+        reason: Reason,
+    },
+    /// The unit's V2 part was posted.
+    Closed(UnitKey),
+    /// The unit's V2 part was refused at this effect, counted from 1.
+    Bad2 {
         unit: UnitKey,
         index: u32,
         reason: Reason,

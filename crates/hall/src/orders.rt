@@ -1,14 +1,14 @@
-ghost use Rattle.std.specs.Prelude.{◌≡◌, None, IfSome, false, length};
+ghost use Rattle.std.specs.Prelude.{◌≡◌, ◌⊎◌, None, IfSome, false, length};
 ghost use Rattle.hall.specs.declared.command.Command.TheVariants as command;
 ghost use Rattle.hall.specs.Acts.{IsAct, taken_reply};
 ghost use Rattle.hall.specs.History.{is_unrecorded, judged};
 ghost use Rattle.hall.specs.Orders as claims;
 ghost use Rattle.hall.specs.State.{State};
 ghost use Rattle.hall.specs.Step.{closed, take};
-ghost use Rattle.update_records.specs.Marks.{waiting};
+ghost use Rattle.posting.specs.Steps.{waiting_for};
 
 use crate::command::Reply;
-use enq_base::{Refusal, UnitKey};
+use enq_base::{Refusal, Status, UnitKey};
 use keeper_api::Keeper;
 use posting::Books;
 
@@ -19,6 +19,34 @@ pub(crate) fn order_of(orders: &[Option<UnitKey>], worker: u8) -> Option<UnitKey
     match orders.get(worker as usize) {
         Some(order) => *order,
         None => None,
+    }
+}
+
+/// The unit that a worker has an order for, where it waits for this part.
+pub(crate) fn order_for<K: Keeper>(
+    orders: &[Option<UnitKey>],
+    books: &Books<K>,
+    worker: u8,
+    part: u8,
+) -> Option<UnitKey>
+    ensures { result ≡ claims.order_for part books.now.ledger orders.now worker }
+{
+    let unit = order_of(orders, worker)?;
+    if waits_for(books, &unit, part) {
+        Some(unit)
+    } else {
+        None
+    }
+}
+
+/// Whether a unit waits for part 1, V1, or for part 2, V2.
+fn waits_for<K: Keeper>(books: &Books<K>, unit: &UnitKey, part: u8) -> bool
+    ensures { result ≡ claims.waits_for part books.now.ledger unit.now }
+{
+    match books.status(unit) {
+        Some(Status::Open) => part == 1,
+        Some(Status::Posted) => part != 1,
+        _ => false,
     }
 }
 
@@ -38,12 +66,17 @@ fn is_for(order: &Option<UnitKey>, unit: &UnitKey) -> bool
     }
 }
 
-/// The oldest unit of those that wait for their V1 part that no worker has an order for.
-fn first_unclaimed<K: Keeper>(orders: &[Option<UnitKey>], books: &Books<K>) -> Option<UnitKey>
-    ensures { result ≡ claims.first_unclaimed orders.now (waiting books.now.ledger.units books.now.ledger.marks) }
+/// The oldest unit of those that wait for a part that no worker has an order for.
+fn first_unclaimed<K: Keeper>(
+    orders: &[Option<UnitKey>],
+    books: &Books<K>,
+    part: u8,
+) -> Option<UnitKey>
+    requires { (part ≡ 1) ⊎ (part ≡ 2) }
+    ensures { result ≡ claims.first_unclaimed orders.now (waiting_for part books.now.ledger) }
 {
-    for place in 0..books.waiting(1) {
-        match books.waiting_at(1, place + 1) {
+    for place in 0..books.waiting(part) {
+        match books.waiting_at(part, place + 1) {
             Some(unit) => {
                 if !is_claimed(orders, &unit) {
                     return Some(unit);
@@ -55,22 +88,25 @@ fn first_unclaimed<K: Keeper>(orders: &[Option<UnitKey>], books: &Books<K>) -> O
     None
 }
 
-/// Gives a worker an order for the oldest unit that waits and that no worker has an order for. None: there is none.
+/// Gives a worker an order for the oldest unit that waits for a part and that no worker has an order for. None: there is
+/// none.
 pub(crate) fn take<K: Keeper>(
     orders: &mut Vec<Option<UnitKey>>,
     books: &Books<K>,
     worker: u8,
+    part: u8,
 ) -> Option<Reply>
-    requires { length orders.old.items ≡ 256 }
+    requires places { length orders.old.items ≡ 256 }
+    requires part { (part ≡ 1) ⊎ (part ≡ 2) }
     ensures verdict { (s : State) → s.orders ≡ orders.old.items → s.stored ≡ books.now.ledger
-        → judged s (take s worker)
+        → judged s (take part s worker)
         ≡ record { state = record s { orders = orders.new.items }; reply = taken_reply result } }
     ensures recorded { IfSome result (λ r. is_unrecorded r ≡ false) }
 {
     if let Some(unit) = order_of(orders.as_slice(), worker) {
         return Some(Reply::Refused(Refusal::WorkerBusy(unit)));
     }
-    let unit = first_unclaimed(orders.as_slice(), books)?;
+    let unit = first_unclaimed(orders.as_slice(), books, part)?;
     orders[worker as usize] = Some(unit);
     Some(Reply::Unit(unit))
 }

@@ -1,10 +1,11 @@
 -- A ledger stays lawful with one unit more, and with one mark more of a recorded unit.
-use Rattle.std.proofs.Common.{◌≡◌, ℕ, zero, suc, ◌+◌, ◌≤◌, Bool, true, false, cond, not, ◌&&◌, List, [], ◌∷◌, ◌++◌, map, length, if◌then◌else◌, Option, Some, None, IsSome, IsOk, refl, sym, ap, subst, ◌∙◌, arith, length-append}
+use Rattle.std.proofs.Common.{◌≡◌, ℕ, zero, suc, ◌+◌, Bool, true, false, cond, not, ◌&&◌, List, [], ◌∷◌, ◌++◌, map, length, if◌then◌else◌, Option, Some, None, IsSome, IsOk, refl, sym, ap, subst, ◌∙◌, arith, length-append}
 use Rattle.std.specs.List.{All, AllByRecursion, filter, range_with_len}
 use Rattle.std.specs.Option.{option_map_or}
 use Rattle.std.specs.FinMap.{empty}
 use Rattle.std.proofs.lemmas.List.{append-nil}
-use Rattle.std.proofs.lemmas.List.Elements.{All-push, All-nil, recursion_from_All}
+use Rattle.std.proofs.lemmas.List.Elements.{All-push, recursion_from_All}
+use Rattle.std.proofs.lemmas.Bool.{false≢true}
 use Rattle.enq_base.specs.Owners.{same_unit}
 use Rattle.enq_base.specs.declared.owner.UnitKey.{UnitKey}
 use Rattle.enq_base.specs.declared.unit.Num.{Num as Number}
@@ -15,15 +16,18 @@ use Rattle.update_records.specs.declared.records.Mark.{Mark}
 use Rattle.update_records.specs.declared.records.MarkKind.{MarkKind}
 use Rattle.update_records.specs.declared.records.MarkKind.TheVariants.{Num, Rec, V1, Bad1, Again1, V2, Bad2, Again2, Gone}
 use Rattle.update_records.specs.declared.records.Unit.{Unit as UnitOfWork}
-use Rattle.update_records.specs.Business.{posted, part_of, tables_after, tables_of, IsRightMark, AreRight, numbers_in, numbers_of}
-use Rattle.update_records.specs.Grammar.{IsUnit, IsKind, IsNumber}
+use Rattle.update_records.specs.Business.{posted, part_of, tables_after, tables_of, IsRightMark, AreRight, numbers_of}
+use Rattle.update_records.specs.Grammar.{IsUnit, IsUnitKey, IsKind, IsNumber}
 use Rattle.update_records.specs.Growing.{next_mark, with_mark, with_unit}
 use Rattle.update_records.specs.Ledger.{Ledger, IsLawful, IsMarkUnder, LevelsAgree, recorded}
 use Rattle.update_records.specs.Marks.{unit_at, v1_of, v2_of, given, status_after, status_of, may_follow, is_rec, draws_alone}
-use Rattle.posting.specs.Steps.{IsNewUnit, MayGet, HasMarksLeft, IsSpelt}
+use Rattle.posting.specs.Intervals.{MayStore, with_intervals, with_levels}
+use Rattle.posting.specs.Steps.{IsDrawing, IsNewUnit, MayGet, HasMarksLeft, IsSpelt}
+use Rattle.update_records.specs.declared.stored.StoredInterval.{StoredInterval}
+use Rattle.posting.proofs.Numbered.{draws_nothing, numbers_push, numbers_recorded, numbers_same}
 use Rattle.posting.proofs.Registers.{may_not_draw}
 use Rattle.update_records.proofs.Books.{other_part, plain}
-use Rattle.update_records.proofs.Status.{NoneOf, none_of, unit_other, flip, legal_grows, legal_push, not_rec, status_grows, unit_new, one_unit}
+use Rattle.update_records.proofs.Status.{NoneOf, none_of, unit_other, flip, legal_grows, legal_push, not_rec, status_grows, one_unit}
 
 range_push : (a n : ℕ) → range_with_len a n ++ (a + n) ∷ [] ≡ range_with_len a (n + 1)
 range_push a zero = ap (λ k. k ∷ []) (omega arith)
@@ -92,26 +96,6 @@ right_grows units u tables (m ∷ marks) none h = (
   subst (λ part. AreRight (units ++ u ∷ []) (posted part tables) marks) (sym (other_part units u m.seq m.unit m.kind none.0)) (right_grows units u (posted (part_of units m) tables) marks none.1 h.1),
 )
 
-other_numbers : (units : List UnitOfWork) (u : UnitOfWork) (seq : ℕ) (key : UnitKey) (kind : MarkKind) → (same_unit key u.key && not (draws_alone kind)) ≡ false
-    → numbers_in (units ++ u ∷ []) (record { seq = seq; unit = key; kind = kind }) ≡ numbers_in units (record { seq = seq; unit = key; kind = kind })
-other_numbers units u seq key Rec h = ap (λ o. option_map_or (λ (x : UnitOfWork). x.numbers) o []) (unit_other units u key (flip u.key key (plain (same_unit key u.key) h)))
-other_numbers units u seq key V1 h = refl
-other_numbers units u seq key V2 h = refl
-other_numbers units u seq key (Num numbers) h = refl
-other_numbers units u seq key (Bad1 i r) h = refl
-other_numbers units u seq key (Bad2 i r) h = refl
-other_numbers units u seq key Again1 h = refl
-other_numbers units u seq key Again2 h = refl
-other_numbers units u seq key Gone h = refl
-
-numbers_grow : (units : List UnitOfWork) (u : UnitOfWork) (marks : List Mark) → NoneOf u.key marks → numbers_of (units ++ u ∷ []) marks ≡ numbers_of units marks
-numbers_grow units u [] none = refl
-numbers_grow units u (m ∷ marks) none = ap (λ n. n ++ numbers_of (units ++ u ∷ []) marks) (other_numbers units u m.seq m.unit m.kind none.0) ∙ ap (λ r. numbers_in units m ++ r) (numbers_grow units u marks none.1)
-
-numbers_push : (units : List UnitOfWork) (marks : List Mark) (m : Mark) → numbers_in units m ≡ [] → numbers_of units (marks ++ m ∷ []) ≡ numbers_of units marks
-numbers_push units [] m h = ap (λ n. n ++ []) h
-numbers_push units (x ∷ marks) m h = ap (λ r. numbers_in units x ++ r) (numbers_push units marks m h)
-
 rec_case : (key unit : UnitKey) (kind : MarkKind) (rest : List Mark) (m : Mark) → m.unit ≡ unit → (same_unit unit key && not (draws_alone kind)) ≡ false
     → AllByRecursion (λ k. same_unit k key ≡ false) (map (λ (y : Mark). y.unit) rest) → AllByRecursion (λ k. same_unit k key ≡ false) (map (λ (y : Mark). y.unit) (cond (is_rec kind) (m ∷ rest) rest))
 rec_case key unit Rec rest m is h all = (ap (λ k. same_unit k key) is ∙ plain (same_unit unit key) h, all)
@@ -136,9 +120,6 @@ none_among key (u ∷ units) h = ap (λ b. cond b (Some u) (unit_at units key)) 
 pub not_there : (ledger : Ledger) (key : UnitKey) → map (λ (x : UnitOfWork). x.key) ledger.units ≡ recorded ledger.marks → NoneOf key ledger.marks → unit_at ledger.units key ≡ None
 not_there ledger key same none = none_among key ledger.units (subst (λ ks. AllByRecursion (λ k. same_unit k key ≡ false) ks) (sym same) (none_recorded key ledger.marks none))
 
-no_numbers : (units : List UnitOfWork) (unit : UnitOfWork) → unit_at units unit.key ≡ None → unit.numbers ≡ [] → option_map_or (λ (x : UnitOfWork). x.numbers) (unit_at (units ++ unit ∷ []) unit.key) [] ≡ []
-no_numbers units unit none empty_numbers = ap (λ o. option_map_or (λ (x : UnitOfWork). x.numbers) o []) (unit_new units unit none) ∙ empty_numbers
-
 new_unit : (ledger : Ledger) (unit : UnitOfWork) → IsNewUnit ledger unit → IsSpelt unit → IsUnit unit
 new_unit ledger unit new spelt = record {
   key = spelt.key;
@@ -147,16 +128,16 @@ new_unit ledger unit new spelt = record {
   few = new.few;
   first = spelt.first;
   second = spelt.second;
-  few_numbers = subst (λ (ns : List Number). length ns ≤ 64) (sym new.numbers) (omega arith);
-  numbers = subst (All IsNumber) (sym new.numbers) (All-nil IsNumber);
+  few_numbers = new.few_numbers;
+  numbers = spelt.numbers;
   few_entries = new.few_entries;
   entries = spelt.entries;
   distinct = new.distinct;
 }
 
 -- the ledger stays lawful with one unit more
-pub unit_lawful : (ledger : Ledger) (unit : UnitOfWork) → IsLawful ledger → HasMarksLeft ledger → IsNewUnit ledger unit → IsSpelt unit → IsLawful (with_unit ledger unit)
-unit_lawful ledger unit law few new spelt =
+pub unit_lawful : (ledger : Ledger) (unit : UnitOfWork) (intervals : List StoredInterval) → IsLawful ledger → HasMarksLeft ledger → IsNewUnit ledger unit → MayStore ledger intervals unit.numbers → IsSpelt unit → IsLawful (with_intervals intervals (with_unit ledger unit))
+unit_lawful ledger unit intervals law few new may spelt =
     let m : Mark = next_mark ledger unit.key Rec in
     let units = ledger.units ++ unit ∷ [] in
     let none : NoneOf unit.key ledger.marks = none_of _ unit.key ledger.marks new.fresh in
@@ -173,7 +154,7 @@ unit_lawful ledger unit law few new spelt =
       units = All-push IsUnit ledger.units unit law.units (new_unit ledger unit new spelt);
       recorded = keys_push ledger.units unit ∙ ap (λ r. r ++ unit.key ∷ []) law.recorded ∙ sym (recorded_push ledger.marks m);
       right = right_push units empty ledger.marks m (right_grows ledger.units unit empty ledger.marks none law.right) tt;
-      levels = subst (LevelsAgree ledger.levels) (sym (numbers_push units ledger.marks m (no_numbers ledger.units unit absent new.numbers) ∙ numbers_grow ledger.units unit ledger.marks none)) law.levels;
+      levels = subst (LevelsAgree (with_levels intervals ledger.levels)) (sym (numbers_recorded ledger.units unit ledger.marks m.seq none absent)) (may.agree law.levels);
     }
 
 known_key : (start seq : ℕ) (b : Bool) (key : UnitKey) (kind : MarkKind) (s : Status) (marks : List Mark) → IsKind kind → AllByRecursion (IsMarkUnder start) marks → status_after b key None marks ≡ Some s → IsMarkUnder start (record { seq = seq; unit = key; kind = kind })
@@ -193,16 +174,8 @@ no_recording : (o : Option Status) (kind : MarkKind) → IsSome o → may_follow
 no_recording None kind some h = cc
 no_recording (Some s) kind some h = not_rec s kind h
 
-draws_nothing : (units : List UnitOfWork) (seq : ℕ) (key : UnitKey) (kind : MarkKind) → draws_alone kind ≡ false → is_rec kind ≡ false → numbers_in units (record { seq = seq; unit = key; kind = kind }) ≡ []
-draws_nothing units seq key (Num numbers) h k = cc
-draws_nothing units seq key Rec h k = cc
-draws_nothing units seq key V1 h k = refl
-draws_nothing units seq key (Bad1 i r) h k = refl
-draws_nothing units seq key Again1 h k = refl
-draws_nothing units seq key V2 h k = refl
-draws_nothing units seq key (Bad2 i r) h k = refl
-draws_nothing units seq key Again2 h k = refl
-draws_nothing units seq key Gone h k = refl
+no_rec_kind : (kind : MarkKind) → is_rec kind ≡ false → kind ≡ Rec → ⊥
+no_rec_kind kind h e = false≢true (sym h ∙ ap is_rec e)
 
 -- the ledger stays lawful with one more mark of a recorded unit
 pub note_lawful : (ledger : Ledger) (key : UnitKey) (kind : MarkKind) → IsLawful ledger → HasMarksLeft ledger → MayGet ledger key kind → IsKind kind → IsRightMark ledger.units (tables_of ledger.units ledger.marks) (next_mark ledger key kind) → IsLawful (with_mark ledger key kind)
@@ -221,5 +194,39 @@ note_lawful ledger key kind law few may is right =
       units = law.units;
       recorded = law.recorded ∙ sym (append-nil (recorded ledger.marks)) ∙ ap (λ b. recorded ledger.marks ++ (if b then key ∷ [] else [])) (sym no_rec) ∙ sym (recorded_push ledger.marks m);
       right = right_push ledger.units empty ledger.marks m law.right right;
-      levels = subst (LevelsAgree ledger.levels) (sym (numbers_push ledger.units ledger.marks m (draws_nothing ledger.units (length ledger.marks + 1) key kind (may_not_draw ledger key kind may) no_rec))) law.levels;
+      levels = subst (LevelsAgree ledger.levels) (sym (numbers_same ledger.units ledger.marks m (draws_nothing ledger.units (length ledger.marks + 1) key kind (may_not_draw ledger key kind may) (no_rec_kind kind no_rec)))) law.levels;
     }
+
+-- the ledger stays lawful with one mark more of numbers alone
+pub draw_lawful : (ledger : Ledger) (key : UnitKey) (numbers : List Number) (intervals : List StoredInterval) → IsLawful ledger → HasMarksLeft ledger → IsDrawing ledger key numbers → MayStore ledger intervals numbers → IsUnitKey key → All IsNumber numbers
+    → IsLawful (with_intervals intervals (with_mark ledger key (Num numbers)))
+draw_lawful ledger key numbers intervals law few draws may spelt each =
+    let m : Mark = next_mark ledger key (Num numbers) in
+    let n = length-append ledger.marks (m ∷ []) in
+    record {
+      started = law.started;
+      start = law.start;
+      few = omega (arith, n, few);
+      numbered = numbered_push ledger.marks key (Num numbers) law.numbered;
+      marks = All-push (IsMarkUnder ledger.start) ledger.marks m law.marks (record { kind = (draws.some, draws.few, each); first = draws.first; last = draws.last; session = spelt.session; luw = spelt.luw });
+      legal = legal_push ledger.units [] ledger.marks m law.legal (ap (λ s. may_follow s (Num numbers)) draws.fresh);
+      units = law.units;
+      recorded = law.recorded ∙ sym (append-nil (recorded ledger.marks)) ∙ sym (recorded_push ledger.marks m);
+      right = right_push ledger.units empty ledger.marks m law.right tt;
+      levels = subst (LevelsAgree (with_levels intervals ledger.levels)) (sym (numbers_push ledger.units ledger.marks m)) (may.agree law.levels);
+    }
+
+-- the ledger stays lawful with an interval stored anew
+pub level_lawful : (ledger : Ledger) (intervals : List StoredInterval) → IsLawful ledger → MayStore ledger intervals [] → IsLawful (with_intervals intervals ledger)
+level_lawful ledger intervals law may = record {
+  started = law.started;
+  start = law.start;
+  few = law.few;
+  numbered = law.numbered;
+  marks = law.marks;
+  legal = law.legal;
+  units = law.units;
+  recorded = law.recorded;
+  right = law.right;
+  levels = subst (LevelsAgree (with_levels intervals ledger.levels)) (append-nil (numbers_of ledger.units ledger.marks)) (may.agree law.levels);
+}

@@ -1,3 +1,9 @@
+pub mod Views
+pub mod Numbers
+pub mod Numbered
+pub mod LevelRows
+pub mod RowOrder
+pub mod Stored
 pub mod Waiting
 pub mod Registers
 pub mod Opened

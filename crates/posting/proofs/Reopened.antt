@@ -1,15 +1,20 @@
 -- What a ledger that a store may stand for has.
-use Rattle.std.proofs.Common.{◌≡◌, ◌⊎◌, ◌≤◌, ◌<◌, inl, inr, Bool, true, Option, None, Some, IfSome, length, map, refl, sym, subst, arith}
+use Rattle.std.proofs.Common.{◌≡◌, ◌⊎◌, ◌≤◌, ◌<◌, inl, inr, Bool, true, Option, None, Some, IfSome, length, map, refl, sym, subst, arith, ℕ, List, [], ◌∷◌}
+use Rattle.std.specs.List.{All, AllByRecursion}
+use Rattle.std.proofs.lemmas.List.Elements.{All-from_recursion, All-nil, recursion_from_All}
 use Rattle.std.specs.Option.{is_some}
 use Rattle.keeper_api.specs.Keeping.{IsWithin}
 use Rattle.keeper_api.specs.Rows.{Rows}
-use Rattle.update_records.specs.Ledger.{Ledger, StandFor, no_ledger, recorded}
+use Rattle.update_records.specs.Grammar.{IsKind, IsUnit}
+use Rattle.update_records.specs.Ledger.{Ledger, StandFor, no_ledger, recorded, IsMarkUnder}
 use Rattle.update_records.specs.Marks.{IsLegal}
+use Rattle.update_records.specs.declared.records.Mark.{Mark}
 use Rattle.update_records.specs.declared.records.Unit.{Unit as UnitOfWork}
 use Rattle.store_reading.specs.Good.{IsSound}
 use Rattle.posting.specs.Opening.{IsRaiseFault, OnRefused, raised}
 use Rattle.posting.specs.Reopening.{HasStood, IsOpeningFault, IsRaised, MayBeLeftBy}
 use Rattle.posting.specs.Shelf.{IsUsable, Shelf}
+use Rattle.posting.specs.Standings.{IsSmall}
 use Rattle.posting.specs.declared.opening.BooksFault.{BooksFault}
 use Rattle.posting.specs.declared.opening.BooksFault.TheVariants.{StoreFault, BadStore, NoStart, NoMemory}
 
@@ -18,13 +23,30 @@ pub record MayBeRestored (ledger : Ledger) : Type 0 where
   pub few : length ledger.marks < 1048577
   pub legal : IsLegal ledger.units ledger.marks
   pub recorded : map (λ (unit : UnitOfWork). unit.key) ledger.units ≡ recorded ledger.marks
+  pub small : All IsSmall ledger.units
+  pub kinds : All (λ (m : Mark). IsKind m.kind) ledger.marks
+
+all_small : (units : List UnitOfWork) → AllByRecursion IsUnit units → AllByRecursion IsSmall units
+all_small [] all = tt
+all_small (u ∷ units) all = (record { few = all.0.few; few_numbers = all.0.few_numbers; few_entries = all.0.few_entries }, all_small units all.1)
+
+all_kinds : (start : ℕ) (marks : List Mark) → AllByRecursion (IsMarkUnder start) marks → AllByRecursion (λ (m : Mark). IsKind m.kind) marks
+all_kinds start [] all = tt
+all_kinds start (m ∷ marks) all = (all.0.kind, all_kinds start marks all.1)
 
 none_restored : MayBeRestored no_ledger
-none_restored = record { begun = λ h. absurd (omega (arith, h)); few = omega arith; legal = tt; recorded = refl }
+none_restored = record { begun = λ h. absurd (omega (arith, h)); few = omega arith; legal = tt; recorded = refl; small = All-nil IsSmall; kinds = All-nil (λ (m : Mark). IsKind m.kind) }
 
 pub may_be_restored : (ledger : Ledger) → IsSound ledger → MayBeRestored ledger
 may_be_restored ledger (inl none) = subst MayBeRestored (sym none) none_restored
-may_be_restored ledger (inr law) = record { begun = λ h. law.started; few = omega (arith, law.few); legal = law.legal; recorded = law.recorded }
+may_be_restored ledger (inr law) = record {
+  begun = λ h. law.started;
+  few = omega (arith, law.few);
+  legal = law.legal;
+  recorded = law.recorded;
+  small = All-from_recursion IsSmall ledger.units (all_small ledger.units (recursion_from_All IsUnit ledger.units law.units));
+  kinds = All-from_recursion (λ (m : Mark). IsKind m.kind) ledger.marks (all_kinds ledger.start ledger.marks (recursion_from_All (IsMarkUnder ledger.start) ledger.marks law.marks));
+}
 
 -- ---- an opened store
 

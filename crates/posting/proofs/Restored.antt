@@ -1,7 +1,10 @@
 -- What the marks of a store make of the standings of its units, one by one.
-use Rattle.std.proofs.Common.{◌≡◌, ℕ, zero, suc, ◌+◌, ◌≤◌, ◌<◌, Bool, true, false, not, cond, ◌&&◌, ◌||◌, List, [], ◌∷◌, ◌++◌, length, map, take, drop, if◌then◌else◌, Option, Some, None, IfSome, refl, sym, ap, ◌∙◌, subst, arith, length-append, append_assoc, get_or}
-use Rattle.std.specs.List.{filter, list_any, slice_get, AllByRecursion}
-use Rattle.std.proofs.lemmas.List.{append-nil, at_drop_more, length-take-le, take-append-drop, take_all}
+use Rattle.std.proofs.Common.{◌≡◌, ℕ, zero, suc, ◌+◌, ◌*◌, ◌≤◌, ◌<◌, Bool, true, false, cond, List, [], ◌∷◌, ◌++◌, length, map, take, drop, if◌then◌else◌, Option, Some, None, IfSome, slice_set, refl, sym, ap, ◌∙◌, subst, arith, length-append, append_assoc, get_or}
+use Rattle.std.specs.FinMap.{insert}
+use Rattle.std.specs.List.{filter, flat_map, slice_get, All, AllByRecursion}
+use Rattle.std.proofs.lemmas.Bool.{false≢true}
+use Rattle.std.proofs.lemmas.List.{append-nil, at_drop_more, take_more, take-append-drop, take_all}
+use Rattle.std.proofs.lemmas.List.Concat.{flat_map-append}
 use Rattle.std.proofs.Math.Seq.{drop-cons}
 use Rattle.std.specs.Option.{option_map, option_and_then}
 use Rattle.enq_base.specs.Owners.{same_unit}
@@ -13,15 +16,20 @@ use Rattle.update_records.specs.declared.records.Mark.{Mark}
 use Rattle.update_records.specs.declared.records.MarkKind.{MarkKind}
 use Rattle.update_records.specs.declared.records.MarkKind.TheVariants.{Num, Rec, V1, Bad1, Again1, V2, Bad2, Again2, Gone}
 use Rattle.update_records.specs.declared.records.Unit.{Unit as UnitOfWork}
-use Rattle.update_records.specs.Ledger.{recorded}
-use Rattle.update_records.specs.Marks.{unit_at, has_no_v2, given, status_of, may_follow, decides, has_status, is_rec, units_with, IsLegal, IsLegalAfter}
-use Rattle.update_records.proofs.Status.{none_of, one_unit, status_push, unit_refl}
-use Rattle.posting.specs.Restoring.{AreStandings, IsFollowed, MayBeNext}
-use Rattle.posting.specs.Standings.{Standings, standing_at, told, error_of, IsRegister}
+use Rattle.update_records.specs.Business.{numbers_in, numbers_of}
+use Rattle.update_records.specs.Intervals.{level_of, levels_of, named}
+use Rattle.update_records.specs.Ledger.{Levels, recorded}
+use Rattle.update_records.specs.declared.stored.StoredInterval.{StoredInterval}
+use Rattle.update_records.specs.Marks.{unit_at, has_no_v2, given, status_of, may_follow, draws_alone, has_status, is_rec, same_status, IsLegal, IsLegalAfter}
+use Rattle.update_records.proofs.Status.{none_of, one_unit, status_push, unit_refl, NoneOf}
+use Rattle.posting.specs.Restoring.{AreFollowed, AreStandings, HasTurnsLeft, IsFollowed, MayBeNext}
+use Rattle.posting.specs.Turns.{turns_of}
+use Rattle.posting.specs.declared.restoring.Followed.{Followed}
+use Rattle.posting.specs.Standings.{Standings, standing_at, told, error_of, IsRegister, IsSmall}
 use Rattle.posting.specs.declared.register.Standing.{Standing}
 use Rattle.posting.proofs.Lawful.{none_among, none_recorded, recorded_push}
-use Rattle.posting.proofs.Waiting.{few_with}
-use Rattle.posting.proofs.Registers.{error_push, in_range, noted_error, noted_placed, noted_status, open_at, stands_at, within_get, Gave, Sets}
+use Rattle.posting.proofs.Waiting.{last_drawn, one_each, turns_drawn, turns_first}
+use Rattle.posting.proofs.Registers.{error_push, in_range, noted_error, noted_placed, noted_status, noted_turns, open_at, stands_at, turn_in, turn_known, turns_kept, within_get, Gave, Sets}
 
 abbrev status_in : Standing → Status
 status_in s = s.status
@@ -41,16 +49,37 @@ rec_is Again2 h = cc
 rec_is Gone h = cc
 
 -- without a status a mark draws numbers alone, or records
-alone_is : (kind : MarkKind) → may_follow None kind ≡ true → is_rec kind ≡ false → (b : Bool) (s : Option Status) (e : Option (ℕ × Reason)) → (given b kind s ≡ s) × (told kind e ≡ e)
-alone_is (Num numbers) h other b s e = (refl, refl)
-alone_is Rec h other b s e = cc
-alone_is V1 h other b s e = cc
-alone_is (Bad1 i r) h other b s e = cc
-alone_is Again1 h other b s e = cc
-alone_is V2 h other b s e = cc
-alone_is (Bad2 i r) h other b s e = cc
-alone_is Again2 h other b s e = cc
-alone_is Gone h other b s e = cc
+alone_is : (kind : MarkKind) → may_follow None kind ≡ true → is_rec kind ≡ false → draws_alone kind ≡ true
+alone_is (Num numbers) h other = refl
+alone_is Rec h other = cc
+alone_is V1 h other = cc
+alone_is (Bad1 i r) h other = cc
+alone_is Again1 h other = cc
+alone_is V2 h other = cc
+alone_is (Bad2 i r) h other = cc
+alone_is Again2 h other = cc
+alone_is Gone h other = cc
+
+-- numbers alone give no status, tell nothing and record nothing
+draws_only : (kind : MarkKind) → draws_alone kind ≡ true → (b : Bool) (s : Option Status) (e : Option (ℕ × Reason)) → (given b kind s ≡ s) × ((told kind e ≡ e) × (is_rec kind ≡ false))
+draws_only (Num numbers) h b s e = (refl, (refl, refl))
+draws_only Rec h b s e = cc
+draws_only V1 h b s e = cc
+draws_only (Bad1 i r) h b s e = cc
+draws_only Again1 h b s e = cc
+draws_only V2 h b s e = cc
+draws_only (Bad2 i r) h b s e = cc
+draws_only Again2 h b s e = cc
+draws_only Gone h b s e = cc
+
+rec_follows : (s : Option Status) → may_follow s Rec ≡ true → s ≡ None
+rec_follows None h = refl
+rec_follows (Some Open) h = cc
+rec_follows (Some Posted) h = cc
+rec_follows (Some Bad) h = cc
+rec_follows (Some Closed) h = cc
+rec_follows (Some BadSecond) h = cc
+rec_follows (Some Cancelled) h = cc
 
 no_more : (before : List Mark) (m : Mark) → is_rec m.kind ≡ false → length (recorded (before ++ m ∷ [])) ≡ length (recorded before)
 no_more before m other =
@@ -69,88 +98,164 @@ still_none (Some s) h = absurd (h s refl)
 pub got_at : (units : List UnitOfWork) (place : ℕ) (unit : UnitOfWork) → place < length units → unit ≡ get_or units place unit → slice_get units place ≡ Some unit
 got_at units place unit h is = within_get units place unit h is
 
-module _ {S : Type 0} (units : List UnitOfWork) (before : List Mark) where
-  pub follow_rec : (old new : Standings S) (place : ℕ) (m : Mark) → IsFollowed old units before place → MayBeNext units before m → is_rec m.kind ≡ true
-      → Sets old new m.unit (open_at place) → IsFollowed new units (before ++ m ∷ []) (place + 1)
-  follow_rec old new place m so_far next is sets =
+pub few_recorded : (marks : List Mark) → length (recorded marks) ≤ length marks
+few_recorded [] = omega arith
+few_recorded (m ∷ marks) = elim (is_rec m.kind) as (λ b. length (map (λ (y : Mark). y.unit) (cond b (m ∷ filter (λ (y : Mark). is_rec y.kind) marks) (filter (λ (y : Mark). is_rec y.kind) marks))) ≤ suc (length marks)) [
+  | true ↦ omega (arith, few_recorded marks)
+  | false ↦ omega (arith, few_recorded marks)
+]
+
+-- the first mark is still to come
+pub none_yet : (followed : Followed) (units : List UnitOfWork) → ((key : UnitKey) → standing_at followed.standings key ≡ None) → followed.queue.turns ≡ [] → followed.again.turns ≡ [] → followed.units ≡ 0 → followed.marks ≡ 0
+    → IsFollowed followed units []
+none_yet followed units none queue again count_units count_marks = record {
+  status = λ key. ap (option_map status_in) (none key);
+  error = λ key. ap (option_and_then error_in) (none key);
+  unit = λ key. subst (λ o. IfSome o (λ (s : Standing). slice_get units s.place ≡ unit_at units key)) (sym (none key)) tt;
+  placed = λ key. subst (λ o. IfSome o (λ (s : Standing). s.place < length units)) (sym (none key)) tt;
+  turn = λ key. ap (option_map turn_in) (none key);
+  queue = queue;
+  again = again;
+  count_units = count_units;
+  count_marks = count_marks;
+}
+
+-- what is known stays so where the standings, the turns and the counts do
+pub same_followed : (old new : Followed) (units : List UnitOfWork) (before : List Mark) → ((key : UnitKey) → standing_at new.standings key ≡ standing_at old.standings key) → new.queue.turns ≡ old.queue.turns → new.again.turns ≡ old.again.turns
+    → new.units ≡ old.units → new.marks ≡ old.marks → IsFollowed old units before → IsFollowed new units before
+same_followed old new units before same queue again count_units count_marks so_far = record {
+  status = λ key. ap (option_map status_in) (same key) ∙ so_far.status key;
+  error = λ key. ap (option_and_then error_in) (same key) ∙ so_far.error key;
+  unit = λ key. subst (λ o. IfSome o (λ (s : Standing). slice_get units s.place ≡ unit_at units key)) (sym (same key)) (so_far.unit key);
+  placed = λ key. subst (λ o. IfSome o (λ (s : Standing). s.place < length units)) (sym (same key)) (so_far.placed key);
+  turn = λ key. ap (option_map turn_in) (same key) ∙ so_far.turn key;
+  queue = queue ∙ so_far.queue;
+  again = again ∙ so_far.again;
+  count_units = count_units ∙ so_far.count_units;
+  count_marks = count_marks ∙ so_far.count_marks;
+}
+
+-- a mark more can be counted where marks are left
+pub turns_left : (followed : Followed) (units : List UnitOfWork) (before : List Mark) → IsFollowed followed units before → length before < 1048576 → HasTurnsLeft followed
+turns_left followed units before so_far few =
+    let queue = ap length so_far.queue ∙ one_each Open units before in
+    let again = ap length so_far.again ∙ one_each Posted units before in
+    record {
+      units = omega (arith, few, so_far.count_units, few_recorded before);
+      marks = omega (arith, few, so_far.count_marks);
+      queue = omega (arith, few, queue);
+      again = omega (arith, few, again);
+    }
+
+module _ (units : List UnitOfWork) (before : List Mark) (old new : Followed) (m : Mark) (so_far : IsFollowed old units before) where
+  one_counted : new.marks ≡ old.marks + 1 → new.marks ≡ length (before ++ m ∷ [])
+  one_counted more = more ∙ ap (λ n. n + 1) so_far.count_marks ∙ sym (length-append before (m ∷ []))
+
+  rec_turns : (status : Status) (queue : List (Option UnitKey)) → NoneOf m.unit before → is_rec m.kind ≡ true → queue ≡ turns_of status units before
+      → queue ++ (if has_status status (Some Open) then Some m.unit else None) ∷ [] ≡ turns_of status units (before ++ m ∷ [])
+  rec_turns status queue none is known =
       let kind = rec_is m.kind is in
+      ap (λ q. q ++ (if has_status status (Some Open) then Some m.unit else None) ∷ []) known
+      ∙ ap (λ k. turns_of status units before ++ (if has_status status (given (has_no_v2 units m.unit) k None) then Some m.unit else None) ∷ []) (sym kind)
+      ∙ sym (turns_first status units before m (ap draws_alone kind) none)
+
+  pub follow_rec : MayBeNext units before m → is_rec m.kind ≡ true
+      → Sets old.standings new.standings m.unit (open_at old.units old.marks) → new.queue.turns ≡ old.queue.turns ++ Some m.unit ∷ [] → new.again.turns ≡ old.again.turns ++ None ∷ [] → new.units ≡ old.units + 1 → new.marks ≡ old.marks + 1
+      → IsFollowed new units (before ++ m ∷ [])
+  follow_rec next is sets queue again more_units more_marks =
+      let kind = rec_is m.kind is in
+      let first = open_at old.units old.marks in
+      let fresh : status_of units before m.unit ≡ None = rec_follows _ (subst (λ k. may_follow (status_of units before m.unit) k ≡ true) kind next.legal) in
+      let none : NoneOf m.unit before = none_of (has_no_v2 units m.unit) m.unit before fresh in
       record {
         status = λ key.
             ap (option_map status_in) (sets key)
-            ∙ elim (same_unit m.unit key) as (λ b. option_map status_in (if b then Some (open_at place) else standing_at old key) ≡ (if b then given (has_no_v2 units key) m.kind (status_of units before key) else status_of units before key)) [
+            ∙ elim (same_unit m.unit key) as (λ b. option_map status_in (if b then Some first else standing_at old.standings key) ≡ (if b then given (has_no_v2 units key) m.kind (status_of units before key) else status_of units before key)) [
               | true ↦ sym (ap (λ k. given (has_no_v2 units key) k (status_of units before key)) kind)
               | false ↦ so_far.status key
             ]
             ∙ sym (status_push (has_no_v2 units key) key None before m);
         error = λ key.
             ap (option_and_then error_in) (sets key)
-            ∙ elim (same_unit m.unit key) as (λ b. option_and_then error_in (if b then Some (open_at place) else standing_at old key) ≡ (if b then told m.kind (error_of before key) else error_of before key)) [
+            ∙ elim (same_unit m.unit key) as (λ b. option_and_then error_in (if b then Some first else standing_at old.standings key) ≡ (if b then told m.kind (error_of before key) else error_of before key)) [
               | true ↦ sym (ap (λ k. told k (error_of before key)) kind)
               | false ↦ so_far.error key
             ]
             ∙ sym (error_push key None before m);
         unit = λ key. subst (λ o. IfSome o (λ (s : Standing). slice_get units s.place ≡ unit_at units key)) (sym (sets key))
-            (elim (same_unit m.unit key) as (λ b. same_unit m.unit key ≡ b → IfSome (if b then Some (open_at place) else standing_at old key) (λ (s : Standing). slice_get units s.place ≡ unit_at units key)) [
-              | true ↦ λ e. ap (slice_get units) so_far.count ∙ next.there is ∙ ap (unit_at units) (one_unit m.unit key e)
+            (elim (same_unit m.unit key) as (λ b. same_unit m.unit key ≡ b → IfSome (if b then Some first else standing_at old.standings key) (λ (s : Standing). slice_get units s.place ≡ unit_at units key)) [
+              | true ↦ λ e. ap (slice_get units) so_far.count_units ∙ next.there is ∙ ap (unit_at units) (one_unit m.unit key e)
               | false ↦ λ e. so_far.unit key
             ] refl);
-        placed = noted_placed units old new m.unit place Open None (omega (arith, next.within is, so_far.count)) so_far.placed sets;
-        count = ap (λ n. n + 1) so_far.count ∙ sym (one_more before m is);
+        placed = noted_placed units old.standings new.standings m.unit old.units old.marks Open None (omega (arith, next.within is, so_far.count_units)) so_far.placed sets;
+        turn = turns_kept before old.standings new.standings m first (ap draws_alone kind) so_far.count_marks so_far.turn sets;
+        queue = queue ∙ rec_turns Open old.queue.turns none is so_far.queue;
+        again = again ∙ rec_turns Posted old.again.turns none is so_far.again;
+        count_units = more_units ∙ ap (λ n. n + 1) so_far.count_units ∙ sym (one_more before m is);
+        count_marks = one_counted more_marks;
       }
 
-  pub follow_some : (old new : Standings S) (place : ℕ) (m : Mark) (s : Standing) (unit : UnitOfWork) (after : Status) (error : Option (ℕ × Reason)) → IsFollowed old units before place → MayBeNext units before m
-      → is_rec m.kind ≡ false → standing_at old m.unit ≡ Some s → slice_get units s.place ≡ Some unit → Gave unit m.kind s.status after → error ≡ told m.kind s.error
-      → Sets old new m.unit (stands_at s.place after error) → IsFollowed new units (before ++ m ∷ []) place
-  follow_some old new place m s unit after error so_far next other stands at gave tells sets =
+  pub follow_some : (s : Standing) (unit : UnitOfWork) (after : Status) (error : Option (ℕ × Reason)) (opened posted : Bool) → is_rec m.kind ≡ false → draws_alone m.kind ≡ false → standing_at old.standings m.unit ≡ Some s
+      → slice_get units s.place ≡ Some unit → Gave unit m.kind s.status after → error ≡ told m.kind s.error → opened ≡ same_status Open after → posted ≡ same_status Posted after
+      → Sets old.standings new.standings m.unit (stands_at s.place old.marks after error) → new.queue.turns ≡ slice_set old.queue.turns s.turn None ++ (if opened then Some m.unit else None) ∷ []
+      → new.again.turns ≡ slice_set old.again.turns s.turn None ++ (if posted then Some m.unit else None) ∷ [] → new.units ≡ old.units → new.marks ≡ old.marks + 1
+      → IsFollowed new units (before ++ m ∷ [])
+  follow_some s unit after error opened posted other alone stands at gave tells is_open is_posted sets queue again same_units more_marks =
       let known : slice_get units s.place ≡ unit_at units m.unit = subst (λ o. IfSome o (λ (t : Standing). slice_get units t.place ≡ unit_at units m.unit)) stands (so_far.unit m.unit) in
       let there : unit_at units m.unit ≡ Some unit = sym known ∙ at in
+      let turn = turn_known before old.standings m.unit s so_far.turn stands in
       record {
-        status = noted_status units before old new unit m.unit m.kind s.place m.seq s.status after error there so_far.status (sym (ap (option_map status_in) stands) ∙ so_far.status m.unit) gave sets;
-        error = noted_error before old new m.unit m.kind m.seq s after error stands so_far.error tells sets;
+        status = noted_status units before old.standings new.standings unit m.unit m.kind s.place old.marks m.seq s.status after error there so_far.status (sym (ap (option_map status_in) stands) ∙ so_far.status m.unit) gave sets;
+        error = noted_error before old.standings new.standings m.unit m.kind old.marks m.seq s after error stands so_far.error tells sets;
         unit = λ key. subst (λ o. IfSome o (λ (t : Standing). slice_get units t.place ≡ unit_at units key)) (sym (sets key))
-            (elim (same_unit m.unit key) as (λ b. same_unit m.unit key ≡ b → IfSome (if b then Some (stands_at s.place after error) else standing_at old key) (λ (t : Standing). slice_get units t.place ≡ unit_at units key)) [
+            (elim (same_unit m.unit key) as (λ b. same_unit m.unit key ≡ b → IfSome (if b then Some (stands_at s.place old.marks after error) else standing_at old.standings key) (λ (t : Standing). slice_get units t.place ≡ unit_at units key)) [
               | true ↦ λ e. known ∙ ap (unit_at units) (one_unit m.unit key e)
               | false ↦ λ e. so_far.unit key
             ] refl);
-        placed = noted_placed units old new m.unit s.place after error (in_range units old m.unit s so_far.placed stands) so_far.placed sets;
-        count = so_far.count ∙ sym (no_more before m other);
+        placed = noted_placed units old.standings new.standings m.unit s.place old.marks after error (in_range units old.standings m.unit s so_far.placed stands) so_far.placed sets;
+        turn = turns_kept before old.standings new.standings m (stands_at s.place old.marks after error) alone so_far.count_marks so_far.turn sets;
+        queue = queue ∙ ap (λ b. slice_set old.queue.turns s.turn None ++ (if b then Some m.unit else None) ∷ []) is_open ∙ noted_turns Open units before old.queue.turns unit m s.status after s.turn there alone gave turn so_far.queue;
+        again = again ∙ ap (λ b. slice_set old.again.turns s.turn None ++ (if b then Some m.unit else None) ∷ []) is_posted ∙ noted_turns Posted units before old.again.turns unit m s.status after s.turn there alone gave turn so_far.again;
+        count_units = same_units ∙ so_far.count_units ∙ sym (no_more before m other);
+        count_marks = one_counted more_marks;
       }
 
-  pub follow_none : (old new : Standings S) (place : ℕ) (m : Mark) → IsFollowed old units before place → MayBeNext units before m → is_rec m.kind ≡ false → standing_at old m.unit ≡ None
-      → ((key : UnitKey) → standing_at new key ≡ standing_at old key) → IsFollowed new units (before ++ m ∷ []) place
-  follow_none old new place m so_far next other stands same =
+  -- a mark of a unit that stands nowhere records it, or is one of numbers alone
+  pub follow_none : MayBeNext units before m → is_rec m.kind ≡ false → draws_alone m.kind ≡ false → standing_at old.standings m.unit ≡ None → IsFollowed new units (before ++ m ∷ [])
+  follow_none next other decides stands =
       let none : status_of units before m.unit ≡ None = sym (so_far.status m.unit) ∙ ap (option_map status_in) stands in
       let alone = alone_is m.kind (subst (λ s. may_follow s m.kind ≡ true) none next.legal) other in
+      absurd (false≢true (sym decides ∙ alone))
+
+  pub follow_draw : draws_alone m.kind ≡ true → ((key : UnitKey) → standing_at new.standings key ≡ standing_at old.standings key) → new.queue.turns ≡ old.queue.turns ++ None ∷ [] → new.again.turns ≡ old.again.turns ++ None ∷ []
+      → new.units ≡ old.units → new.marks ≡ old.marks + 1 → IsFollowed new units (before ++ m ∷ [])
+  follow_draw alone same queue again same_units more_marks =
+      let only = draws_only m.kind alone in
       record {
         status = λ key.
             ap (option_map status_in) (same key) ∙ so_far.status key
             ∙ elim (same_unit m.unit key) as (λ b. status_of units before key ≡ (if b then given (has_no_v2 units key) m.kind (status_of units before key) else status_of units before key)) [
-              | true ↦ sym (alone (has_no_v2 units key) (status_of units before key) None).0
+              | true ↦ sym (only (has_no_v2 units key) (status_of units before key) None).0
               | false ↦ refl
             ]
             ∙ sym (status_push (has_no_v2 units key) key None before m);
         error = λ key.
             ap (option_and_then error_in) (same key) ∙ so_far.error key
             ∙ elim (same_unit m.unit key) as (λ b. error_of before key ≡ (if b then told m.kind (error_of before key) else error_of before key)) [
-              | true ↦ sym (alone true None (error_of before key)).1
+              | true ↦ sym (only true None (error_of before key)).1.0
               | false ↦ refl
             ]
             ∙ sym (error_push key None before m);
-        unit = λ key. subst (λ o. IfSome o (λ (t : Standing). slice_get units t.place ≡ unit_at units key)) (sym (same key)) (so_far.unit key);
-        placed = λ key. subst (λ o. IfSome o (λ (t : Standing). t.place < length units)) (sym (same key)) (so_far.placed key);
-        count = so_far.count ∙ sym (no_more before m other);
+        unit = λ key. subst (λ o. IfSome o (λ (s : Standing). slice_get units s.place ≡ unit_at units key)) (sym (same key)) (so_far.unit key);
+        placed = λ key. subst (λ o. IfSome o (λ (s : Standing). s.place < length units)) (sym (same key)) (so_far.placed key);
+        turn = λ key. ap (option_map turn_in) (same key) ∙ so_far.turn key ∙ sym (last_drawn key before m alone);
+        queue = queue ∙ ap (λ q. q ++ None ∷ []) so_far.queue ∙ sym (turns_drawn Open units before m alone);
+        again = again ∙ ap (λ q. q ++ None ∷ []) so_far.again ∙ sym (turns_drawn Posted units before m alone);
+        count_units = same_units ∙ so_far.count_units ∙ sym (no_more before m (only true None None).1.1);
+        count_marks = one_counted more_marks;
       }
 
 -- ---- all marks
-
-rec_follows : (s : Option Status) → may_follow s Rec ≡ true → s ≡ None
-rec_follows None h = refl
-rec_follows (Some Open) h = cc
-rec_follows (Some Posted) h = cc
-rec_follows (Some Bad) h = cc
-rec_follows (Some Closed) h = cc
-rec_follows (Some BadSecond) h = cc
-rec_follows (Some Cancelled) h = cc
 
 legal_at : (units : List UnitOfWork) (before marks : List Mark) (i : ℕ) (m : Mark) → IsLegalAfter units before marks → i < length marks → m ≡ get_or marks i m
     → may_follow (status_of units (before ++ take i marks) m.unit) m.kind ≡ true
@@ -185,16 +290,6 @@ recorded_append (x ∷ xs) ys = elim (is_rec x.kind) as (λ b. map (λ (y : Mark
 recorded_first : (m : Mark) (marks : List Mark) → is_rec m.kind ≡ true → recorded (m ∷ marks) ≡ m.unit ∷ recorded marks
 recorded_first m marks is = ap (λ b. map (λ (y : Mark). y.unit) (cond b (m ∷ filter (λ (y : Mark). is_rec y.kind) marks) (filter (λ (y : Mark). is_rec y.kind) marks))) is
 
-pub few_recorded : (marks : List Mark) → length (recorded marks) ≤ length marks
-few_recorded [] = omega arith
-few_recorded (m ∷ marks) = elim (is_rec m.kind) as (λ b. length (map (λ (y : Mark). y.unit) (cond b (m ∷ filter (λ (y : Mark). is_rec y.kind) marks) (filter (λ (y : Mark). is_rec y.kind) marks))) ≤ suc (length marks)) [
-  | true ↦ omega (arith, few_recorded marks)
-  | false ↦ omega (arith, few_recorded marks)
-]
-
-pub few_so_far : (marks : List Mark) (i place : ℕ) → i < length marks → length marks < 1048577 → place ≡ length (recorded (take i marks)) → place < 1048576
-few_so_far marks i place h few is = omega (arith, few_recorded (take i marks), length-take-le i marks (omega arith))
-
 pub may_be_next : (units : List UnitOfWork) (marks : List Mark) (i : ℕ) (m : Mark) → IsLegal units marks → map (λ (u : UnitOfWork). u.key) units ≡ recorded marks → i < length marks → m ≡ get_or marks i m
     → MayBeNext units (take i marks) m
 may_be_next units marks i m legal same h is =
@@ -220,63 +315,57 @@ unit_found standings units marks key (Some s) is same status there = there
 unit_found standings units marks key None is same status there =
     sym (none_among key units (subst (λ ks. AllByRecursion (λ k. same_unit k key ≡ false) ks) (sym same) (none_recorded key marks (none_of (has_no_v2 units key) key marks (sym status)))))
 
-pub all_followed : {S : Type 0} (standings : Standings S) (units : List UnitOfWork) (marks : List Mark) (i place : ℕ) → length marks ≤ i → map (λ (u : UnitOfWork). u.key) units ≡ recorded marks
-    → IsFollowed standings units (take i marks) place → AreStandings standings units marks
-all_followed standings units marks i place h same so_far =
-    let all : IsFollowed standings units marks place = subst (λ ms. IsFollowed standings units ms place) (take_all i marks h) so_far in
+pub all_followed : (followed : Followed) (units : List UnitOfWork) (marks : List Mark) (i : ℕ) → length marks ≤ i → map (λ (u : UnitOfWork). u.key) units ≡ recorded marks
+    → IsFollowed followed units (take i marks) → AreFollowed followed units marks
+all_followed followed units marks i h same so_far =
+    let all : IsFollowed followed units marks = subst (λ ms. IsFollowed followed units ms) (take_all i marks h) so_far in
     record {
-      status = all.status;
-      error = all.error;
-      unit = λ key. unit_found standings units marks key (standing_at standings key) refl same (all.status key) (all.unit key);
-      placed = all.placed;
+      standings = record {
+        status = all.status;
+        error = all.error;
+        unit = λ key. unit_found followed.standings units marks key (standing_at followed.standings key) refl same (all.status key) (all.unit key);
+        placed = all.placed;
+        turn = all.turn;
+      };
+      queue = all.queue;
+      again = all.again;
     }
 
--- ---- those that wait
+-- ---- the register
 
-pub decided_more : (marks : List Mark) (left : ℕ) (m : Mark) (b : Bool) (key : UnitKey) → left < length marks → m ≡ get_or marks left m → b ≡ list_any (decides key) (drop (left + 1) marks)
-    → (decides key m || b) ≡ list_any (decides key) (drop left marks)
-decided_more marks left m b key h is known =
-    ap (λ x. decides key m || x) known ∙ ap (λ y. decides key y || list_any (decides key) (drop (left + 1) marks)) is ∙ sym (at_drop_more (list_any (decides key)) marks left m h)
-
-pub waits_more : (wanted : Status) (units : List UnitOfWork) (marks : List Mark) (left : ℕ) (m : Mark) (later no_v2 : Bool) (status : Bool) (queue : List UnitKey) → left < length marks → m ≡ get_or marks left m
-    → later ≡ list_any (decides m.unit) (drop (left + 1) marks) → status ≡ has_status wanted (given no_v2 m.kind None) → no_v2 ≡ has_no_v2 units m.unit → queue ≡ units_with wanted units (drop (left + 1) marks)
-    → (if status && not later then m.unit ∷ queue else queue) ≡ units_with wanted units (drop left marks)
-waits_more wanted units marks left m later no_v2 status queue h is known gives flag so_far =
-    let rest = drop (left + 1) marks in
-    ap (λ b. if b && not later then m.unit ∷ queue else queue) (gives ∙ ap (λ f. has_status wanted (given f m.kind None)) flag)
-    ∙ ap (λ b. if has_status wanted (given (has_no_v2 units m.unit) m.kind None) && not b then m.unit ∷ queue else queue) known
-    ∙ ap (λ q. if has_status wanted (given (has_no_v2 units m.unit) m.kind None) && not (list_any (decides m.unit) rest) then m.unit ∷ q else q) so_far
-    ∙ ap (λ (y : Mark). units_with wanted units (y ∷ rest)) is
-    ∙ sym (at_drop_more (units_with wanted units) marks left m h)
-
-pub waits_here : {X : Type 0} (status later : Bool) (x y : X) → status ≡ true → not later ≡ true → (if status && not later then x else y) ≡ x
-waits_here true true x y a b = cc
-waits_here true false x y a b = refl
-waits_here false later x y a b = cc
-
-pub waits_not : {X : Type 0} (status later : Bool) (x y : X) → status ≡ false → (if status && not later then x else y) ≡ y
-waits_not true later x y a = cc
-waits_not false later x y a = refl
-
-pub waits_later : {X : Type 0} (status later : Bool) (x y : X) → not later ≡ false → (if status && not later then x else y) ≡ y
-waits_later true true x y a = refl
-waits_later false true x y a = refl
-waits_later status false x y a = cc
-
-few_waiting : (wanted : Status) (units : List UnitOfWork) (marks : List Mark) (queue : List UnitKey) → length marks < 1048577 → queue ≡ units_with wanted units marks → length queue ≤ 1048576
-few_waiting wanted units marks queue few is = subst (λ q. length q ≤ 1048576) (sym is) (omega (arith, few, few_with wanted units marks))
-
-pub restored_register : {S : Type 0} (start : ℕ) (units : List UnitOfWork) (marks : List Mark) (standings : Standings S) (queue again : List UnitKey) → (1 ≤ length marks → 1 ≤ start) → length marks < 1048577
-    → AreStandings standings units marks → queue ≡ units_with Open units marks → again ≡ units_with Posted units marks → IsRegister start units marks standings queue again
-restored_register start units marks standings queue again begun few known waits waits_again = record {
+pub restored_register : {S : Type 0} (start : ℕ) (units : List UnitOfWork) (marks : List Mark) (standings : Standings S) (queue again : List (Option UnitKey)) (numbers : ℕ) → (1 ≤ length marks → 1 ≤ start) → length marks < 1048577
+    → AreStandings standings units marks → queue ≡ turns_of Open units marks → again ≡ turns_of Posted units marks → numbers ≡ length (numbers_of units marks) → numbers ≤ 64 * length marks → All IsSmall units
+    → IsRegister start units marks standings queue again numbers
+restored_register start units marks standings queue again numbers begun few known waits waits_again counted few_numbers small = record {
   begun = begun;
   few = omega (arith, few);
   status = known.status;
   error = known.error;
   unit = known.unit;
   placed = known.placed;
+  turn = known.turn;
   waits = waits;
-  short = few_waiting Open units marks queue few waits;
   waits_again = waits_again;
-  short_again = few_waiting Posted units marks again few waits_again;
+  counted = counted;
+  few_numbers = few_numbers;
+  small = small;
 }
+
+-- ---- numbers and intervals
+
+pub numbers_more : (units : List UnitOfWork) (marks : List Mark) (i : ℕ) (m : Mark) → i < length marks → m ≡ get_or marks i m
+    → length (numbers_of units (take (i + 1) marks)) ≡ length (numbers_of units (take i marks)) + length (numbers_in units m)
+numbers_more units marks i m h is =
+    let more : numbers_of units (take (i + 1) marks) ≡ numbers_of units (take i marks) ++ numbers_in units m =
+    ap (flat_map (numbers_in units)) (take_more marks i m h)
+    ∙ flat_map-append (numbers_in units) (take i marks) (get_or marks i m ∷ [])
+    ∙ ap (λ ns. numbers_of units (take i marks) ++ ns) (append-nil (numbers_in units (get_or marks i m)))
+    ∙ ap (λ x. numbers_of units (take i marks) ++ numbers_in units x) (sym is) in
+    ap length more ∙ length-append (numbers_of units (take i marks)) (numbers_in units m)
+
+pub levels_more : (intervals : List StoredInterval) (left : ℕ) (interval : StoredInterval) (levels : Levels) → left < length intervals → interval ≡ get_or intervals left interval
+    → levels ≡ levels_of (drop (left + 1) intervals) → insert levels (named interval) (level_of interval) ≡ levels_of (drop left intervals)
+levels_more intervals left interval levels h is known =
+    ap (λ ls. insert ls (named interval) (level_of interval)) known
+    ∙ ap (λ (x : StoredInterval). levels_of (x ∷ drop (left + 1) intervals)) is
+    ∙ sym (at_drop_more levels_of intervals left interval h)

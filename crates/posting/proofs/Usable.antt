@@ -85,7 +85,7 @@ nothing_in : {X : Type 0} (xs : List X) → length xs ≡ 0 → xs ≡ []
 nothing_in [] h = refl
 nothing_in (x ∷ xs) h = absurd (omega arith)
 
-no_entries : {X : Type 0} → entries {X = X} {R = row_cmp} empty ≡ []
+pub no_entries : {X : Type 0} → entries {X = X} {R = row_cmp} empty ≡ []
 no_entries {X = X} = nothing_in (entries empty) (sym (len-entries empty) ∙ len-empty row_cmp X)
 
 pub no_map_rows : map_rows empty empty ≡ empty

@@ -1,126 +1,181 @@
--- Those that wait: each once, and no more than there are marks.
-use Rattle.std.proofs.Common.{◌≡◌, ℕ, suc, ◌≤◌, Bool, true, false, not, cond, ◌&&◌, ◌||◌, List, [], ◌∷◌, ◌++◌, length, if◌then◌else◌, Option, Some, None, refl, sym, ap, ◌∙◌, subst, arith}
-use Rattle.std.specs.List.{filter, list_any, position, remove, AllByRecursion, IsDistinct}
-use Rattle.lock_entry.specs.Freeing.{replace_first}
-use Rattle.lock_entry.proofs.Places.{position-Some, position-None, replace_first-at}
-use Rattle.std.specs.Option.{OnSome, IsSome}
-use Rattle.std.proofs.lemmas.Map.Keys.{IsDistinct-head, IsDistinct-tail}
+-- What one mark or one unit more makes of the turns in which units wait.
+use Rattle.std.proofs.Common.{◌≡◌, ℕ, suc, Bool, true, false, not, ◌&&◌, ◌||◌, List, [], ◌∷◌, ◌++◌, length, if◌then◌else◌, Option, Some, None, is_some, slice_set, refl, sym, ap, ◌∙◌, subst}
+use Rattle.std.specs.List.{list_any}
+use Rattle.std.specs.Option.{option_map, option_or}
 use Rattle.enq_base.specs.Owners.{same_unit}
 use Rattle.enq_base.specs.declared.owner.UnitKey.{UnitKey}
 use Rattle.enq_base.specs.declared.unit.Status.{Status}
+use Rattle.turn_list.specs.Turns.{waiting_in}
 use Rattle.update_records.specs.declared.records.Mark.{Mark}
 use Rattle.update_records.specs.declared.records.MarkKind.{MarkKind}
 use Rattle.update_records.specs.declared.records.MarkKind.TheVariants.{Num, Rec, V1, Bad1, Again1, V2, Bad2, Again2, Gone}
 use Rattle.update_records.specs.declared.records.Unit.{Unit as UnitOfWork}
 use Rattle.update_records.specs.Marks.{has_no_v2, given, draws_alone, decides, has_status, units_with}
-use Rattle.update_records.proofs.Status.{NoneOf, flip, one_unit}
+use Rattle.update_records.proofs.Status.{NoneOf, flip, one_unit, unit_refl, v2_other}
+use Rattle.posting.specs.Turns.{last_turn, turns_of}
 
 -- whether a mark gives its unit this status
 abbrev pub gives : Status → List UnitOfWork → Mark → Bool
 gives status units m = has_status status (given (has_no_v2 units m.unit) m.kind None)
 
-gives_some : (status : Status) (b : Bool) (kind : MarkKind) → has_status status (given b kind None) ≡ true → draws_alone kind ≡ false
-gives_some status b (Num numbers) h = cc
-gives_some status b Rec h = refl
-gives_some status b V1 h = refl
-gives_some status b (Bad1 i r) h = refl
-gives_some status b Again1 h = refl
-gives_some status b V2 h = refl
-gives_some status b (Bad2 i r) h = refl
-gives_some status b Again2 h = refl
-gives_some status b Gone h = refl
+-- the turns that are left where a unit gives back its own
+abbrev pub cleared : List (Option UnitKey) → Option ℕ → List (Option UnitKey)
+cleared turns None = turns
+cleared turns (Some turn) = slice_set turns turn None
 
-first_of : (a b : Bool) → (a && b) ≡ true → a ≡ true
-first_of true b h = refl
-first_of false b h = cc
+-- the last turn
+abbrev pub newest : Status → List UnitOfWork → Mark → Option UnitKey
+newest status units m = if gives status units m then Some m.unit else None
 
-second_of : (a b : Bool) → (a && b) ≡ true → b ≡ true
-second_of true b h = h
-second_of false b h = cc
+alone_gives : (status : Status) (b : Bool) (kind : MarkKind) → draws_alone kind ≡ true → has_status status (given b kind None) ≡ false
+alone_gives status b (Num numbers) h = refl
+alone_gives status b Rec h = cc
+alone_gives status b V1 h = cc
+alone_gives status b (Bad1 i r) h = cc
+alone_gives status b Again1 h = cc
+alone_gives status b V2 h = cc
+alone_gives status b (Bad2 i r) h = cc
+alone_gives status b Again2 h = cc
+alone_gives status b Gone h = cc
 
-not_true : (b : Bool) → not b ≡ true → b ≡ false
-not_true true h = cc
-not_true false h = refl
+pub turns_waiting : (status : Status) (units : List UnitOfWork) (marks : List Mark) → waiting_in (turns_of status units marks) ≡ units_with status units marks
+turns_waiting status units [] = refl
+turns_waiting status units (m ∷ marks) =
+    elim (gives status units m && not (list_any (decides m.unit) marks)) as (λ b. waiting_in ((if b then Some m.unit else None) ∷ turns_of status units marks) ≡ (if b then m.unit ∷ units_with status units marks else units_with status units marks)) [
+      | true ↦ ap (λ r. m.unit ∷ r) (turns_waiting status units marks)
+      | false ↦ turns_waiting status units marks
+    ]
 
-apart_of : (a d : Bool) → (a && not d) ≡ false → d ≡ false → a ≡ false
-apart_of true d h e = cc
-apart_of false d h e = refl
+-- each mark has one turn
+pub one_each : (status : Status) (units : List UnitOfWork) (marks : List Mark) → length (turns_of status units marks) ≡ length marks
+one_each status units [] = refl
+one_each status units (m ∷ marks) = ap suc (one_each status units marks)
 
-no_or : (a b : Bool) → (a || b) ≡ false → (a ≡ false) × (b ≡ false)
-no_or true b h = (cc, cc)
-no_or false b h = (refl, h)
+-- the last turn of a unit, with one mark more
+pub last_push : (key : UnitKey) (marks : List Mark) (m : Mark) → last_turn key (marks ++ m ∷ []) ≡ (if decides key m then Some (length marks) else last_turn key marks)
+last_push key [] m = refl
+last_push key (x ∷ marks) m =
+    let first : Option ℕ = if decides key x then Some 0 else None in
+    ap (λ o. option_or (option_map suc o) first) (last_push key marks m)
+    ∙ elim (decides key m) as (λ b. option_or (option_map suc (if b then Some (length marks) else last_turn key marks)) first ≡ (if b then Some (suc (length marks)) else option_or (option_map suc (last_turn key marks)) first)) [
+      | true ↦ refl
+      | false ↦ refl
+    ]
 
--- no unit of which no mark tells is among those with a status
-pub none_with : (status : Status) (units : List UnitOfWork) (key : UnitKey) (marks : List Mark) → NoneOf key marks → AllByRecursion (λ other. same_unit key other ≡ false) (units_with status units marks)
-none_with status units key [] none = tt
-none_with status units key (m ∷ marks) none =
-    let rest = none_with status units key marks none.1 in
-    elim (gives status units m && not (list_any (decides m.unit) marks)) as (λ b. (gives status units m && not (list_any (decides m.unit) marks)) ≡ b → AllByRecursion (λ other. same_unit key other ≡ false) (if b then m.unit ∷ units_with status units marks else units_with status units marks)) [
-      | true ↦ λ e. (flip key m.unit (apart_of (same_unit m.unit key) (draws_alone m.kind) none.0 (gives_some status _ m.kind (first_of _ _ e))), rest)
-      | false ↦ λ e. rest
-    ] refl
+some_first : (b : Bool) (o : Option ℕ) → (b || is_some o) ≡ is_some (option_or (option_map suc o) (if b then Some 0 else None))
+some_first true None = refl
+some_first true (Some i) = refl
+some_first false None = refl
+some_first false (Some i) = refl
 
-none_any : (key : UnitKey) (marks : List Mark) → list_any (decides key) marks ≡ false → NoneOf key marks
-none_any key [] h = tt
-none_any key (m ∷ marks) h = let p = no_or (decides key m) (list_any (decides key) marks) h in (p.0, none_any key marks p.1)
+any_last : (key : UnitKey) (marks : List Mark) → list_any (decides key) marks ≡ is_some (last_turn key marks)
+any_last key [] = refl
+any_last key (m ∷ marks) = ap (λ b. decides key m || b) (any_last key marks) ∙ some_first (decides key m) (last_turn key marks)
 
-pub distinct_with : (status : Status) (units : List UnitOfWork) (marks : List Mark) → IsDistinct same_unit (units_with status units marks)
-unfolding IsDistinct
-distinct_with status units [] = tt
-distinct_with status units (m ∷ marks) =
-    let rest = distinct_with status units marks in
-    elim (gives status units m && not (list_any (decides m.unit) marks)) as (λ b. (gives status units m && not (list_any (decides m.unit) marks)) ≡ b → IsDistinct same_unit (if b then m.unit ∷ units_with status units marks else units_with status units marks)) [
-      | true ↦ λ e. (none_with status units m.unit marks (none_any m.unit marks (not_true _ (second_of _ _ e))), rest)
-      | false ↦ λ e. rest
-    ] refl
+-- a unit of which no mark decides has no turn
+pub no_turn : (key : UnitKey) (marks : List Mark) → NoneOf key marks → last_turn key marks ≡ None
+no_turn key [] none = refl
+no_turn key (m ∷ marks) none =
+    ap (λ o. option_or (option_map suc o) (if decides key m then Some 0 else None)) (no_turn key marks none.1)
+    ∙ ap (λ b. if b then Some 0 else None) none.0
 
-no_longer : (b : Bool) (key : UnitKey) (rest : List UnitKey) (n : ℕ) → length rest ≤ n → length (if b then key ∷ rest else rest) ≤ suc n
-no_longer true key rest n h = omega (arith, h)
-no_longer false key rest n h = omega (arith, h)
+or_false : (b : Bool) → (b || false) ≡ b
+or_false true = refl
+or_false false = refl
 
-pub few_with : (status : Status) (units : List UnitOfWork) (marks : List Mark) → length (units_with status units marks) ≤ length marks
-few_with status units [] = omega arith
-few_with status units (m ∷ marks) = no_longer (gives status units m && not (list_any (decides m.unit) marks)) m.unit (units_with status units marks) (length marks) (few_with status units marks)
+or_assoc : (a b c : Bool) → (a || (b || c)) ≡ ((a || b) || c)
+or_assoc true b c = refl
+or_assoc false b c = refl
 
--- where no key is this one a filter that drops it changes nothing
-pub none_dropped : (key : UnitKey) (keys : List UnitKey) → AllByRecursion (λ other. same_unit key other ≡ false) keys → filter (λ other. not (same_unit key other)) keys ≡ keys
-none_dropped key [] h = refl
-none_dropped key (k ∷ keys) h = ap (λ b. cond (not b) (k ∷ filter (λ other. not (same_unit key other)) keys) (filter (λ other. not (same_unit key other)) keys)) h.0 ∙ ap (λ r. k ∷ r) (none_dropped key keys h.1)
+any_push : (key : UnitKey) (marks : List Mark) (m : Mark) → list_any (decides key) (marks ++ m ∷ []) ≡ (list_any (decides key) marks || decides key m)
+any_push key [] m = or_false (decides key m)
+any_push key (x ∷ marks) m = ap (λ b. decides key x || b) (any_push key marks m) ∙ or_assoc (decides key x) (list_any (decides key) marks) (decides key m)
+
+either_way : (u v : UnitKey) → same_unit u v ≡ same_unit v u
+either_way u v = elim (same_unit v u) as (λ b. same_unit v u ≡ b → same_unit u v ≡ b) [
+  | true ↦ λ e. subst (λ w. same_unit w v ≡ true) (one_unit v u e) (unit_refl v)
+  | false ↦ λ e. flip u v e
+] refl
+
+-- the first turn and the others, where a mark of the same unit or of another comes last
+first_cleared : (a later same alone : Bool) (last : Option ℕ) (key : UnitKey) (turns new : List (Option UnitKey)) → (same ≡ true → later ≡ is_some last) → (alone ≡ true → a ≡ false)
+    → ((if a && not (later || same) then Some key else None) ∷ (cleared turns last ++ new))
+    ≡ cleared ((if a && not later then Some key else None) ∷ turns) (option_or (option_map suc last) (if same && not alone then Some 0 else None)) ++ new
+first_cleared false later same alone (Some i) key turns new one none = refl
+first_cleared false later true true None key turns new one none = refl
+first_cleared false later true false None key turns new one none = refl
+first_cleared false later false alone None key turns new one none = refl
+first_cleared true true same alone (Some i) key turns new one none = refl
+first_cleared true true true alone None key turns new one none = let e = one refl in cc
+first_cleared true true false alone None key turns new one none = refl
+first_cleared true false true alone (Some i) key turns new one none = let e = one refl in cc
+first_cleared true false false alone (Some i) key turns new one none = refl
+first_cleared true false true true None key turns new one none = let e = none refl in cc
+first_cleared true false true false None key turns new one none = refl
+first_cleared true false false alone None key turns new one none = refl
 
 and_true : (b : Bool) → (b && true) ≡ b
 and_true true = refl
 and_true false = refl
 
-pub plain_filter : (key : UnitKey) (keys : List UnitKey) → filter (λ other. not (same_unit key other && true)) keys ≡ filter (λ other. not (same_unit key other)) keys
-plain_filter key [] = refl
-plain_filter key (k ∷ keys) =
-    ap (λ b. cond (not b) (k ∷ filter (λ other. not (same_unit key other && true)) keys) (filter (λ other. not (same_unit key other && true)) keys)) (and_true (same_unit key k))
-    ∙ ap (λ r. cond (not (same_unit key k)) (k ∷ r) r) (plain_filter key keys)
+-- a mark that decides of its unit takes from it the turn that it had
+pub turns_push : (status : Status) (units : List UnitOfWork) (marks : List Mark) (m : Mark) → draws_alone m.kind ≡ false
+    → turns_of status units (marks ++ m ∷ []) ≡ cleared (turns_of status units marks) (last_turn m.unit marks) ++ newest status units m ∷ []
+turns_push status units [] m h = ap (λ b. (if b then Some m.unit else None) ∷ []) (and_true (gives status units m))
+turns_push status units (x ∷ marks) m h =
+    let a = gives status units x in
+    let later = list_any (decides x.unit) marks in
+    let last = last_turn m.unit marks in
+    let same = same_unit m.unit x.unit in
+    let turns = turns_of status units marks in
+    let new = newest status units m ∷ [] in
+    let here : decides x.unit m ≡ same = ap (λ d. same && not d) h ∙ and_true same in
+    let one : same ≡ true → later ≡ is_some last = λ e. ap (λ k. list_any (decides k) marks) (sym (one_unit m.unit x.unit e)) ∙ any_last m.unit marks in
+    ap (λ b. (if a && not b then Some x.unit else None) ∷ turns_of status units (marks ++ m ∷ [])) (any_push x.unit marks m)
+    ∙ ap (λ b. (if a && not (later || b) then Some x.unit else None) ∷ turns_of status units (marks ++ m ∷ [])) here
+    ∙ ap (λ ts. (if a && not (later || same) then Some x.unit else None) ∷ ts) (turns_push status units marks m h)
+    ∙ first_cleared a later same (draws_alone x.kind) last x.unit turns new one (alone_gives status (has_no_v2 units x.unit) x.kind)
+    ∙ ap (λ b. cleared ((if a && not later then Some x.unit else None) ∷ turns) (option_or (option_map suc last) (if b && not (draws_alone x.kind) then Some 0 else None)) ++ new) (either_way m.unit x.unit)
 
-all_apart : (key k : UnitKey) (keys : List UnitKey) → same_unit key k ≡ true → AllByRecursion (λ other. same_unit k other ≡ false) keys → AllByRecursion (λ other. same_unit key other ≡ false) keys
-all_apart key k keys same h = subst (λ u. AllByRecursion (λ other. same_unit u other ≡ false) keys) (sym (one_unit key k same)) h
+-- the first mark that decides of its unit takes no other turn away
+pub turns_first : (status : Status) (units : List UnitOfWork) (marks : List Mark) (m : Mark) → draws_alone m.kind ≡ false → NoneOf m.unit marks
+    → turns_of status units (marks ++ m ∷ []) ≡ turns_of status units marks ++ newest status units m ∷ []
+turns_first status units marks m h none =
+    turns_push status units marks m h ∙ ap (λ o. cleared (turns_of status units marks) o ++ newest status units m ∷ []) (no_turn m.unit marks none)
 
-taken : (key : UnitKey) (keys : List UnitKey) → IsDistinct same_unit keys → replace_first (λ other. same_unit key other) (λ other. []) keys ≡ filter (λ other. not (same_unit key other)) keys
-taken key [] h = refl
-taken key (k ∷ keys) h =
-    elim (same_unit key k) as (λ b. same_unit key k ≡ b → cond b ([] ++ keys) (k ∷ replace_first (λ other. same_unit key other) (λ other. []) keys) ≡ cond (not b) (k ∷ filter (λ other. not (same_unit key other)) keys) (filter (λ other. not (same_unit key other)) keys)) [
-      | true ↦ λ e. sym (none_dropped key keys (all_apart key k keys e (IsDistinct-head same_unit k keys h)))
-      | false ↦ λ e. ap (λ r. k ∷ r) (taken key keys (IsDistinct-tail same_unit k keys h))
+never_decides : (b d : Bool) → d ≡ true → (b && not d) ≡ false
+never_decides true d h = ap not h
+never_decides false d h = refl
+
+-- numbers alone leave each turn as it was
+pub turns_drawn : (status : Status) (units : List UnitOfWork) (marks : List Mark) (m : Mark) → draws_alone m.kind ≡ true → turns_of status units (marks ++ m ∷ []) ≡ turns_of status units marks ++ None ∷ []
+turns_drawn status units [] m h = ap (λ b. (if b && true then Some m.unit else None) ∷ []) (alone_gives status (has_no_v2 units m.unit) m.kind h)
+turns_drawn status units (x ∷ marks) m h =
+    let later = list_any (decides x.unit) marks in
+    ap (λ b. (if gives status units x && not b then Some x.unit else None) ∷ turns_of status units (marks ++ m ∷ []))
+    (any_push x.unit marks m ∙ ap (λ b. later || b) (never_decides (same_unit m.unit x.unit) (draws_alone m.kind) h) ∙ or_false later)
+    ∙ ap (λ ts. (if gives status units x && not later then Some x.unit else None) ∷ ts) (turns_drawn status units marks m h)
+
+-- and each unit its last turn
+pub last_drawn : (key : UnitKey) (marks : List Mark) (m : Mark) → draws_alone m.kind ≡ true → last_turn key (marks ++ m ∷ []) ≡ last_turn key marks
+last_drawn key marks m h = last_push key marks m ∙ ap (λ b. if b then Some (length marks) else last_turn key marks) (never_decides (same_unit m.unit key) (draws_alone m.kind) h)
+
+alone_of : (b : Bool) → not b ≡ false → b ≡ true
+alone_of true h = refl
+alone_of false h = cc
+
+gives_grows : (status : Status) (units : List UnitOfWork) (u : UnitOfWork) (m : Mark) → decides u.key m ≡ false → gives status (units ++ u ∷ []) m ≡ gives status units m
+gives_grows status units u m none =
+    elim (same_unit m.unit u.key) as (λ b. same_unit m.unit u.key ≡ b → gives status (units ++ u ∷ []) m ≡ gives status units m) [
+      | true ↦ λ is.
+          let alone : draws_alone m.kind ≡ true = alone_of (draws_alone m.kind) (sym (ap (λ t. t && not (draws_alone m.kind)) is) ∙ none) in
+          alone_gives status _ m.kind alone ∙ sym (alone_gives status _ m.kind alone)
+      | false ↦ λ is. ap (λ b. has_status status (given b m.kind None)) (v2_other units u m.unit (flip u.key m.unit is))
     ] refl
 
--- the list without the item at the first place of the key
-pub taken_out : (key : UnitKey) (keys : List UnitKey) (i : ℕ) → position (λ other. same_unit key other) keys ≡ Some i → IsDistinct same_unit keys → remove keys i ≡ filter (λ other. not (same_unit key other)) keys
-taken_out key keys i at h =
-    let p = position-Some (λ other. same_unit key other) keys i at in
-    sym (replace_first-at (λ other. same_unit key other) (λ other. []) keys i key p.0 p.1) ∙ taken key keys h
-
-none_any_key : (key : UnitKey) (keys : List UnitKey) → list_any (λ other. same_unit key other) keys ≡ false → AllByRecursion (λ other. same_unit key other ≡ false) keys
-none_any_key key [] h = tt
-none_any_key key (k ∷ keys) h = let p = no_or (same_unit key k) (list_any (λ other. same_unit key other) keys) h in (p.0, none_any_key key keys p.1)
-
-pub none_there : (key : UnitKey) (keys : List UnitKey) → position (λ other. same_unit key other) keys ≡ None → keys ≡ filter (λ other. not (same_unit key other)) keys
-none_there key keys h = sym (none_dropped key keys (none_any_key key keys (position-None (λ other. same_unit key other) keys h)))
-
-pub on_some : {X : Type 0} {P : Type 0} (o : Option X) → OnSome o P → IsSome o → P
-on_some None h is = cc
-on_some (Some x) h is = h
+-- a unit of which no mark decides changes no turn
+pub turns_grow : (status : Status) (units : List UnitOfWork) (u : UnitOfWork) (marks : List Mark) → NoneOf u.key marks → turns_of status (units ++ u ∷ []) marks ≡ turns_of status units marks
+turns_grow status units u [] none = refl
+turns_grow status units u (m ∷ marks) none =
+    ap (λ b. (if b && not (list_any (decides m.unit) marks) then Some m.unit else None) ∷ turns_of status (units ++ u ∷ []) marks) (gives_grows status units u m none.0)
+    ∙ ap (λ ts. (if gives status units m && not (list_any (decides m.unit) marks) then Some m.unit else None) ∷ ts) (turns_grow status units u marks none.1)

@@ -1,4 +1,6 @@
+pub mod Intervals
 pub mod Registers
+pub mod Turns
 pub mod Standings
 pub mod Steps
 pub mod Posts
@@ -6,3 +8,5 @@ pub mod Shelf
 pub mod Restoring
 pub mod Opening
 pub mod Reopening
+pub mod Views
+pub mod Numbers

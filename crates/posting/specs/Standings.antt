@@ -1,18 +1,21 @@
 -- Where each unit stands, as it is looked up by its key.
-use Rattle.std.specs.Prelude.{ℕ, ◌≡◌, ◌≤◌, List, [], ◌∷◌, length, if◌then◌else◌, Option, Some, None, IfSome, ◌<◌}
+use Rattle.std.specs.Prelude.{ℕ, ◌≡◌, ◌≤◌, List, [], ◌∷◌, length, if◌then◌else◌, Option, Some, None, IfSome, ◌<◌, ◌*◌, ◌+◌, ◌^◌}
 use Rattle.std.specs.HashMap.{HashMap, get}
-use Rattle.std.specs.List.{slice_get}
+use Rattle.std.specs.List.{All, slice_get}
 use Rattle.std.specs.Option.{option_map, option_and_then}
 use Rattle.enq_base.specs.Owners.{same_unit}
 use Rattle.enq_base.specs.declared.owner.UnitKey.{UnitKey}
 use Rattle.enq_base.specs.declared.unit.Reason.{Reason}
+use Rattle.enq_base.specs.declared.unit.Status.TheVariants.{Open, Posted}
+use Rattle.update_records.specs.Business.{numbers_of}
 use Rattle.update_records.specs.Ids.{id_of, same_id}
 use Rattle.update_records.specs.declared.records.Mark.{Mark}
 use Rattle.update_records.specs.declared.records.MarkKind.{MarkKind}
 use Rattle.update_records.specs.declared.records.MarkKind.TheVariants.{Num, Bad1, Bad2}
 use Rattle.update_records.specs.declared.records.Unit.{Unit as UnitOfWork}
-use Rattle.update_records.specs.Marks.{status_of, unit_at, waiting, waiting_again}
+use Rattle.update_records.specs.Marks.{status_of, unit_at}
 use Rattle.update_records.specs.declared.unit_id.UnitId.{UnitId}
+use Rattle.posting.specs.Turns.{last_turn, turns_of}
 use Rattle.posting.specs.declared.register.Standing.{Standing}
 
 abbrev pub Standings : Type 0 → Type 0
@@ -36,15 +39,23 @@ error_after key error (m ∷ marks) = error_after key (if same_unit m.unit key t
 abbrev pub error_of : List Mark → UnitKey → Option (ℕ × Reason)
 error_of marks key = error_after key None marks
 
+-- a unit whose effects, numbers and locks can be counted in four bytes
+pub record IsSmall (unit : UnitOfWork) : Type 0 where
+  pub few : length unit.parts.v1 + length unit.parts.v2 ≤ 200
+  pub few_numbers : length unit.numbers ≤ 64
+  pub few_entries : length unit.entries < 2 ^ 32
+
 -- what is kept beside the units and the marks agrees with them
-pub record IsRegister {S : Type 0} (start : ℕ) (units : List UnitOfWork) (marks : List Mark) (standings : Standings S) (queue again : List UnitKey) : Type 0 where
+pub record IsRegister {S : Type 0} (start : ℕ) (units : List UnitOfWork) (marks : List Mark) (standings : Standings S) (queue again : List (Option UnitKey)) (numbers : ℕ) : Type 0 where
   pub begun : 1 ≤ length marks → 1 ≤ start
   pub few : length marks ≤ 1048576
   pub status : (key : UnitKey) → option_map (λ (s : Standing). s.status) (standing_at standings key) ≡ status_of units marks key
   pub error : (key : UnitKey) → option_and_then (λ (s : Standing). s.error) (standing_at standings key) ≡ error_of marks key
   pub unit : (key : UnitKey) → option_and_then (λ (s : Standing). slice_get units s.place) (standing_at standings key) ≡ unit_at units key
   pub placed : (key : UnitKey) → IfSome (standing_at standings key) (λ (s : Standing). s.place < length units)
-  pub waits : queue ≡ waiting units marks
-  pub short : length queue ≤ 1048576
-  pub waits_again : again ≡ waiting_again units marks
-  pub short_again : length again ≤ 1048576
+  pub turn : (key : UnitKey) → option_map (λ (s : Standing). s.turn) (standing_at standings key) ≡ last_turn key marks
+  pub waits : queue ≡ turns_of Open units marks
+  pub waits_again : again ≡ turns_of Posted units marks
+  pub counted : numbers ≡ length (numbers_of units marks)
+  pub few_numbers : numbers ≤ 64 * length marks
+  pub small : All IsSmall units

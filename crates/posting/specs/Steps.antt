@@ -1,9 +1,10 @@
 -- What a prepared change adds to the ledger.
-use Rattle.std.specs.Prelude.{ℕ, ◌≡◌, ◌≤◌, ◌+◌, ◌<◌, ◌-◌, ◌^◌, nat_eq, List, [], length, if◌then◌else◌, Option, Some, None, Result, Ok, Err, IsTrue, IsSome, true, slice_get}
+use Rattle.std.specs.Prelude.{ℕ, ◌≡◌, ◌≤◌, ◌+◌, ◌<◌, ◌-◌, ◌^◌, nat_eq, List, [], ◌∷◌, length, if◌then◌else◌, Option, Some, None, Result, Ok, Err, IsTrue, IsSome, true, slice_get}
 use Rattle.std.specs.List.{All}
 use Rattle.enq_base.specs.Grammar.{is_name}
-use Rattle.update_records.specs.Grammar.{IsUnitKey, IsEffect, IsEntryOf, IsHeldBy}
+use Rattle.update_records.specs.Grammar.{HasDigits, IsUnitKey, IsEffect, IsEntryOf, IsHeldBy, IsNumber}
 use Rattle.enq_base.specs.declared.owner.UnitKey.{UnitKey}
+use Rattle.enq_base.specs.declared.unit.Num.{Num as Number}
 use Rattle.enq_base.specs.declared.unit.Status.TheVariants.{Open, Posted}
 use Rattle.keeper_api.specs.declared.rows.Change.{Change}
 use Rattle.lock_entry.specs.Names.{has_distinct_names}
@@ -11,15 +12,17 @@ use Rattle.module_effects.specs.Rows.{Tables}
 use Rattle.module_effects.specs.declared.fault.EffectFault.{EffectFault}
 use Rattle.module_effects.specs.declared.fault.EffectFault.TheVariants as effect_fault
 use Rattle.update_records.specs.declared.records.MarkKind.{MarkKind}
-use Rattle.update_records.specs.declared.records.MarkKind.TheVariants.{V1, Bad1, Again1, Again2, Gone}
+use Rattle.update_records.specs.declared.records.MarkKind.TheVariants.{Num, V1, Bad1, Again1, Again2, Gone}
 use Rattle.update_records.specs.declared.records.Unit.{Unit as UnitOfWork}
 use Rattle.update_records.specs.Growing.{with_mark, with_unit, with_start}
 use Rattle.update_records.specs.Ledger.{Ledger}
 use Rattle.update_records.specs.Marks.{status_of, may_follow, waiting, waiting_again}
+use Rattle.posting.specs.Intervals.{with_intervals}
+use Rattle.update_records.specs.declared.stored.StoredInterval.{StoredInterval}
 use Rattle.posting.specs.declared.prepared.Outcome.{Outcome}
 use Rattle.posting.specs.declared.prepared.Outcome.TheVariants.{Done, Refused}
 use Rattle.posting.specs.declared.prepared.Step.{Step}
-use Rattle.posting.specs.declared.prepared.Step.TheVariants.{Start, Record, Note}
+use Rattle.posting.specs.declared.prepared.Step.TheVariants.{Start, Record, Note, Draw, Level}
 
 -- a change of the rows, and the step that it stands for
 pub record Plan : Type 0 where
@@ -29,8 +32,18 @@ pub record Plan : Type 0 where
 -- the ledger after a step
 abbrev pub after_step : Ledger → Step → Ledger
 after_step ledger (Start start) = with_start ledger start
-after_step ledger (Record unit) = with_unit ledger unit
+after_step ledger (Record unit levels) = with_intervals levels (with_unit ledger unit)
 after_step ledger (Note key kind) = with_mark ledger key kind
+after_step ledger (Draw key numbers levels) = with_intervals levels (with_mark ledger key (Num numbers))
+after_step ledger (Level interval) = with_intervals (interval ∷ []) ledger
+
+-- the intervals that a step puts
+abbrev pub intervals_in : Step → List StoredInterval
+intervals_in (Start start) = []
+intervals_in (Record unit levels) = levels
+intervals_in (Note key kind) = []
+intervals_in (Draw key numbers levels) = levels
+intervals_in (Level interval) = interval ∷ []
 
 -- the mark of a first part
 abbrev pub post_kind : Outcome → MarkKind
@@ -44,24 +57,36 @@ IsOutcome (Err (effect_fault.Refused index reason)) outcome = outcome ≡ Refuse
 IsOutcome (Err effect_fault.NoMemory) outcome = ⊥
 
 -- a unit that may be recorded next: nothing is marked of its key, its start is not past the ledger's, and it has 1 to
--- 200 effects, no numbers, and locks that were handed to it
+-- 200 effects, at most 64 numbers of intervals with two digits, and locks that were handed to it
 pub record IsNewUnit (ledger : Ledger) (unit : UnitOfWork) : Type 0 where
   pub fresh : status_of ledger.units ledger.marks unit.key ≡ None
   pub first : 1 ≤ unit.key.start
   pub last : unit.key.start ≤ ledger.start
   pub some : 1 ≤ length unit.parts.v1 + length unit.parts.v2
   pub few : length unit.parts.v1 + length unit.parts.v2 ≤ 200
-  pub numbers : unit.numbers ≡ []
+  pub few_numbers : length unit.numbers ≤ 64
+  pub digits : All HasDigits unit.numbers
   pub few_entries : length unit.entries < 2 ^ 32
   pub held : All (IsHeldBy unit) unit.entries
   pub distinct : IsTrue (has_distinct_names unit.entries)
 
--- key, names, keys and texts of a unit and of its locks are in their grammars
+-- 1 to 64 numbers of intervals with two digits, that a unit of which nothing is marked but numbers may draw, its start
+-- not past the ledger's
+pub record IsDrawing (ledger : Ledger) (key : UnitKey) (numbers : List Number) : Type 0 where
+  pub fresh : status_of ledger.units ledger.marks key ≡ None
+  pub first : 1 ≤ key.start
+  pub last : key.start ≤ ledger.start
+  pub some : 1 ≤ length numbers
+  pub few : length numbers ≤ 64
+  pub digits : All HasDigits numbers
+
+-- key, names, keys, texts and numbers of a unit and of its locks are in their grammars
 pub record IsSpelt (unit : UnitOfWork) : Type 0 where
   pub key : IsUnitKey unit.key
   pub user : IsTrue (is_name unit.user)
   pub first : All IsEffect unit.parts.v1
   pub second : All IsEffect unit.parts.v2
+  pub numbers : All IsNumber unit.numbers
   pub entries : All (IsEntryOf unit) unit.entries
 
 -- there is room for one more mark

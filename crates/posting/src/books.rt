@@ -1,5 +1,9 @@
-ghost use Rattle.std.specs.Prelude.{◌≡◌, ◌≤◌, ◌⊎◌, List, [], length, nat_eq, true, if◌then◌else◌, Option, Some, None, IfSome, IfOk, IfErr, OnOk, OnErr, IsTrue, is_some};
+ghost use Rattle.std.specs.Prelude.{◌≡◌, ◌≤◌, ◌⊎◌, List, [], length, nat_eq, true, if◌then◌else◌, Option, Some, None, IfSome, IfOk, IfErr, OnOk, OnErr, IsTrue, is_some, ◌∷◌};
 ghost use Rattle.std.specs.FinMap.{get};
+ghost use Rattle.std.specs.Option.{option_map};
+ghost use Rattle.update_records.specs.Business.{numbers_of};
+ghost use Rattle.update_records.specs.RecordRows.{Level as StoredLevel};
+ghost use Rattle.posting.specs.Intervals.{in_row_order, MayStore};
 ghost use Rattle.enq_base.specs.Causes.{HasCause};
 ghost use Rattle.keeper_api.specs.Batch.{changed, IsBatch};
 ghost use Rattle.keeper_api.specs.Keeping.{IsWithin, HasFaultCause, Stays, UnlessFailed};
@@ -11,26 +15,32 @@ ghost use Rattle.update_records.specs.Ledger.{StandFor, no_ledger};
 ghost use Rattle.update_records.specs.Growing.{next_mark, with_start};
 ghost use Rattle.update_records.specs.Marks.{status_of, v1_of, v2_of};
 ghost use Rattle.posting.specs.Opening.{HasNoRows, CountsFault, OnBad, IsBooksFault, MayBeFault, MayBeLeft, OnRefused, IsRaiseFault, first_ledger, raised};
+ghost use Rattle.posting.specs.Numbers.{AreNumbersRight};
 ghost use Rattle.posting.specs.Posts.{HasDistinctRows, HoldsTables, IsNote, IsPost, MayCome, WaitsFor, effects_of, entries_of, kind_for, post2_kind};
 ghost use Rattle.posting.specs.Reopening.{HasStood, IsOpeningFault, IsRaised, MayBeLeftBy, MayBeOpeningFault};
 ghost use Rattle.store_reading.specs.Good.{IsSound, ledger_of};
 ghost use Rattle.posting.specs.Shelf.{IsUsable, IsUnmoved, IsReady, MayTake, StandForEither};
 ghost use Rattle.posting.specs.Standings.{error_of};
-ghost use Rattle.posting.specs.Steps.{after_step, at_place, post_kind, waiting_for, HasMarksLeft, IsNewUnit, IsOpenUnit, IsOutcome, IsPostedUnit, IsSetByHand, MayGet};
-ghost use Rattle.posting.specs.declared.prepared.Step.TheVariants.{Record, Note, Start};
+ghost use Rattle.posting.specs.Steps.{after_step, at_place, intervals_in, IsDrawing, post_kind, waiting_for, HasMarksLeft, IsNewUnit, IsOpenUnit, IsOutcome, IsPostedUnit, IsSetByHand, MayGet};
+ghost use Rattle.posting.specs.Views.{open_locks, views_of};
+ghost use Rattle.posting.specs.declared.prepared.Step.TheVariants.{Record, Note, Start, Draw, Level};
 
-use crate::batch::{mark_behind, note_batch, start_batch, unit_batch};
+use crate::batch::{draw_batch, level_batch, mark_behind, note_batch, start_batch, unit_batch};
 use crate::opening::{BooksFault, open_empty, open_ledger, restored};
 use crate::prepared::{Outcome, Prepared, Step};
 use crate::register::Register;
 use crate::spots::{apply_to_store, read_text};
-use enq_base::{Effect, Failed, Items, Key, Name, NoMemory, Parts, Reason, Status, Text, UnitKey};
+use crate::view::UnitView;
+use crate::viewing;
+use enq_base::{
+    Effect, Failed, Items, Key, Name, NoMemory, Num, Parts, Reason, Status, Text, UnitKey,
+};
 use keeper_api::{Change, KeepFault, Keeper};
-use lock_entry::Entry;
+use lock_entry::{Entry, UnitLocks};
 use module_effects::Spot;
 use std::alloc::Global;
 use std::marker::Model;
-use update_records::{Mark, MarkKind, Unit};
+use update_records::{Mark, MarkKind, StoredInterval, Unit};
 
 /// The books of update units, and the keeper of their rows (Updates in the SAP System).
 #[derive(Drop)]
@@ -49,7 +59,7 @@ impl<K: Keeper> Model for Books<K> {
 
     ghost coded = { Prim.hlevel (codes, levels_code, K.code) };
 
-    ghost view = { λ b. record { ledger = b.register.ledger; keeper = b.keeper; room = b.register.room } };
+    ghost view = { λ b. record { ledger = b.register.ledger; keeper = b.keeper; room = b.register.room; spare = b.register.spare } };
 }
 
 impl<K: Keeper> Books<K> {
@@ -99,6 +109,7 @@ impl<K: Keeper> Books<K> {
         ensures ledger { IfOk result (λ books. IfSome (K.held books.keeper) (λ _. IsRaised (HasStood (K.may_leave keeper)) raise books.ledger)) }
         // Also where the keeper doesn't tell its rows.
         ensures sound { IfOk result (λ books. IsRaised IsSound raise books.ledger) }
+        ensures numbers { IfOk result (λ books. AreNumbersRight books.ledger) }
         ensures told { IfOk result (λ books. is_some (K.held books.keeper) ≡ is_some (K.held keeper)) }
         ensures left { IfOk result (λ books. IfSome (K.held books.keeper)
             (λ _. (left : Rows) → K.may_leave books.keeper left → MayBeLeftBy (K.may_leave keeper) raise left)) }
@@ -207,25 +218,111 @@ impl<K: Keeper> Books<K> {
     pub fn unit_locks(&self, alloc: Global, unit: &UnitKey) -> Result<Vec<Entry>, NoMemory>
         ensures { IfOk result (λ entries. entries.items ≡ entries_of self.now.ledger.units unit.now) }
     {
-        let Some(found) = self.register.unit(unit) else {
-            return Ok(Vec::new(alloc));
-        };
-        Ok(Vec::from_slice(alloc, found.entries.as_slice())?)
+        viewing::entries(alloc, &self.register, unit)
     }
 
-    /// Makes ready to record a unit. Nothing changes in the store.
-    pub fn prepare_unit(&mut self, alloc: Global, unit: &Unit) -> Result<Prepared, NoMemory>
+    /// What is told of each recorded unit, in the order in which they were recorded.
+    pub fn views(&self, alloc: Global) -> Result<Vec<UnitView>, NoMemory>
+        ensures { IfOk result (λ views. views.items ≡ views_of self.now.ledger) }
+    {
+        viewing::views(alloc, &self.register)
+    }
+
+    /// The units that wait for their V1 part, the one whose last mark is oldest first, each with its locks.
+    pub fn open_units(&self, alloc: Global) -> Result<Vec<UnitLocks>, NoMemory>
+        ensures { IfOk result (λ locks. locks.items ≡ open_locks self.now.ledger) }
+    {
+        viewing::open_units(alloc, &self.register)
+    }
+
+    /// How many numbers were committed, by units and alone.
+    pub fn numbers(&self) -> u64
+        ensures { result ≡ length (numbers_of self.now.ledger.units self.now.ledger.marks) }
+    {
+        self.register.numbers()
+    }
+
+    /// The level of the stored interval of this name.
+    pub fn level(&self, object: &Name, nr: [u8; 2]) -> Option<u64>
+        ensures { result ≡ option_map (λ (l : StoredLevel). l.level) (get self.now.ledger.levels (object.now, nr)) }
+    {
+        self.register.level(object, nr)
+    }
+
+    /// The stored interval at a place, counted from 1, in the order of the keys of their rows: the shorter object
+    /// first, then by the object's bytes, and then by the digits.
+    pub fn stored(&self, row: u64) -> Option<StoredInterval>
+        ensures { result ≡ at_place row (in_row_order self.now.ledger.levels) }
+    {
+        self.register.stored(row)
+    }
+
+    /// Makes ready to store an interval anew. Nothing changes in the store.
+    pub fn prepare_level(
+        &mut self,
+        alloc: Global,
+        interval: &StoredInterval,
+    ) -> Result<Prepared, NoMemory>
         requires usable { IsUsable K.held K.is_open self.old }
-        requires marks { HasMarksLeft self.old.ledger }
-        requires unit { IsNewUnit self.old.ledger unit.now }
+        requires started { 1 ≤ self.old.ledger.start }
+        requires store { MayStore self.old.ledger (interval.now ∷ []) [] }
         ensures ready { IfOk result (λ prepared. IsReady K.held K.has_room self.new prepared) }
-        ensures step { IfOk result (λ prepared. prepared.step ≡ Record unit.now) }
+        ensures step { IfOk result (λ prepared. prepared.step ≡ Level interval.now) }
         ensures usable { IsUsable K.held K.is_open self.new }
         ensures unmoved { IsUnmoved K.held K.may_leave K.faults self.old self.new }
     {
-        let batch = unit_batch(alloc, self.start(), self.marks(), unit)?;
+        let batch = level_batch(alloc, &[*interval])?;
+        self.prepare(alloc, batch, Step::Level(*interval))
+    }
+
+    /// Makes ready to note numbers that a unit draws alone. Nothing changes in the store.
+    pub fn prepare_numbers(
+        &mut self,
+        alloc: Global,
+        unit: &UnitKey,
+        numbers: &[Num],
+        levels: &[StoredInterval],
+    ) -> Result<Prepared, NoMemory>
+        requires usable { IsUsable K.held K.is_open self.old }
+        requires marks { HasMarksLeft self.old.ledger }
+        requires drawing { IsDrawing self.old.ledger unit.now numbers.now }
+        requires store { MayStore self.old.ledger levels.now numbers.now }
+        ensures ready { IfOk result (λ prepared. IsReady K.held K.has_room self.new prepared) }
+        ensures step { IfOk result (λ prepared. prepared.step ≡ Draw unit.now numbers.now levels.now) }
+        ensures usable { IsUsable K.held K.is_open self.new }
+        ensures unmoved { IsUnmoved K.held K.may_leave K.faults self.old self.new }
+    {
+        let drawn = Items::from_vec(Vec::from_slice(alloc, numbers)?);
+        let mark = mark_behind(self.marks(), unit, MarkKind::Num(drawn));
+        let batch = draw_batch(alloc, self.start(), &mark, levels)?;
+        let step = Step::Draw {
+            unit: *unit,
+            numbers: Items::from_vec(Vec::from_slice(alloc, numbers)?),
+            levels: Items::from_vec(Vec::from_slice(alloc, levels)?),
+        };
+        self.prepare(alloc, batch, step)
+    }
+
+    /// Makes ready to record a unit. Nothing changes in the store.
+    pub fn prepare_unit(
+        &mut self,
+        alloc: Global,
+        unit: &Unit,
+        levels: &[StoredInterval],
+    ) -> Result<Prepared, NoMemory>
+        requires usable { IsUsable K.held K.is_open self.old }
+        requires marks { HasMarksLeft self.old.ledger }
+        requires unit { IsNewUnit self.old.ledger unit.now }
+        requires store { MayStore self.old.ledger levels.now unit.now.numbers }
+        ensures ready { IfOk result (λ prepared. IsReady K.held K.has_room self.new prepared) }
+        ensures step { IfOk result (λ prepared. prepared.step ≡ Record unit.now levels.now) }
+        ensures usable { IsUsable K.held K.is_open self.new }
+        ensures unmoved { IsUnmoved K.held K.may_leave K.faults self.old self.new }
+    {
+        let batch = unit_batch(alloc, self.start(), self.marks(), unit, levels)?;
         let unit = unit.copy(alloc)?;
-        self.prepare(alloc, batch, Step::Record(unit))
+        let levels = Items::from_vec(Vec::from_slice(alloc, levels)?);
+        self.prepare(alloc, batch, Step::Record { unit, levels })
     }
 
     /// Makes ready to post the V1 part of a unit, or to record where it is refused. Nothing changes in the store. After
@@ -303,6 +400,7 @@ impl<K: Keeper> Books<K> {
         ensures done { OnOk result (self.new.ledger ≡ after_step self.old.ledger prepared.step) }
         ensures kept { OnErr result (self.new.ledger ≡ self.old.ledger) }
         ensures usable { OnOk result (IsUsable K.held K.is_open self.new) }
+        ensures numbers { OnOk result (IfSome (K.held self.new.keeper) (λ _. AreNumbersRight self.new.ledger)) }
         ensures told { is_some (K.held self.new.keeper) ≡ is_some (K.held self.old.keeper) }
         ensures left { IfSome (K.held self.old.keeper) (λ _. (left : Rows) → K.may_leave self.new.keeper left
             → StandForEither left self.old.ledger prepared.step) }
@@ -391,7 +489,7 @@ impl<K: Keeper> Books<K> {
         ensures usable { IsUsable K.held K.is_open self.new }
         ensures unmoved { IsUnmoved K.held K.may_leave K.faults self.old self.new }
     {
-        self.register.make_room()?;
+        self.register.make_room(interval_count(&step))?;
         self.keeper.room(alloc, batch.as_slice())?;
         Ok(Prepared {
             batch: Items::from_vec(batch),
@@ -474,5 +572,17 @@ fn kind_for(part: u8, outcome: Outcome) -> MarkKind
         Outcome::Done => MarkKind::V2,
         Outcome::Refused { index, reason } if part == 1 => MarkKind::Bad1 { index, reason },
         Outcome::Refused { index, reason } => MarkKind::Bad2 { index, reason },
+    }
+}
+
+/// How many intervals a step puts.
+fn interval_count(step: &Step) -> usize
+    ensures { result ≡ length (intervals_in step.now) }
+{
+    match step {
+        Step::Record { levels, .. } => levels.as_slice().len(),
+        Step::Draw { levels, .. } => levels.as_slice().len(),
+        Step::Level(_) => 1,
+        _ => 0,
     }
 }

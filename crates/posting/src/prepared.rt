@@ -1,17 +1,31 @@
-use enq_base::{Items, Reason, UnitKey};
+use enq_base::{Items, Num, Reason, UnitKey};
 use keeper_api::Change;
 use std::marker::Model;
-use update_records::{MarkKind, Unit};
+use update_records::{MarkKind, StoredInterval, Unit};
 
 /// What a prepared change adds.
 #[derive(Drop)]
 pub enum Step {
     /// Another start number.
     Start(u32),
-    /// One more unit, and its mark.
-    Record(Unit),
+    /// One more unit, and its mark, with the intervals of its numbers.
+    Record {
+        unit: Unit,
+        levels: Items<StoredInterval>,
+    },
     /// One more mark.
-    Note { unit: UnitKey, kind: MarkKind },
+    Note {
+        unit: UnitKey,
+        kind: MarkKind,
+    },
+    /// A mark of numbers alone, with their intervals.
+    Draw {
+        unit: UnitKey,
+        numbers: Items<Num>,
+        levels: Items<StoredInterval>,
+    },
+    /// An interval whose level is stored anew.
+    Level(StoredInterval),
 }
 
 /// A change that is ready to be written.

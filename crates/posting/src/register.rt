@@ -1,53 +1,63 @@
-ghost use Rattle.std.specs.Prelude.{◌≡◌, ◌⊎◌, ◌≤◌, ◌<◌, ◌+◌, ◌++◌, ◌∷◌, [], ℕ, not, length, map, Some, None, IfOk, IfSome, IfNone, OnOk, vec_len, vec_capacity, if◌then◌else◌};
+ghost use Rattle.std.specs.Prelude.{◌≡◌, ◌⊎◌, ◌≤◌, ◌<◌, ◌+◌, ◌++◌, ◌∷◌, [], ℕ, length, map, Some, None, IfOk, IfSome, IfNone, OnOk, vec_len, vec_capacity, slice_set, if◌then◌else◌};
 ghost use Rattle.std.specs.HashMap.{spare};
 ghost use Rattle.std.specs.FinMap.{empty};
-ghost use Rattle.std.specs.List.{filter, position, IsDistinct};
+ghost use Rattle.std.specs.List.{All};
 ghost use Rattle.enq_base.specs.Owners.{same_unit};
 ghost use Rattle.enq_base.specs.declared.owner.UnitKey.{UnitKey};
-ghost use Rattle.posting.specs.Standings.{error_of, standing_at, told};
+ghost use Rattle.posting.specs.Standings.{error_of, standing_at, told, IsSmall};
 ghost use Rattle.update_records.specs.Intervals.{levels_of};
 ghost use Rattle.update_records.specs.Ledger.{no_ledger, recorded};
-ghost use Rattle.std.specs.VecDeque.{deque_len, deque_capacity};
+ghost use Rattle.turn_list.specs.Turns.{waiting_in};
 ghost use Rattle.update_records.specs.Marks.{given, is_empty_part, same_status, status_of, unit_at, IsLegal};
 ghost use Rattle.update_records.specs.declared.records.Unit.{Unit as UnitOfWork};
 ghost use Rattle.posting.specs.Shelf.{MayTake};
-ghost use Rattle.posting.specs.Steps.{after_step, at_place, waiting_for};
+ghost use Rattle.posting.specs.Steps.{after_step, at_place, intervals_in, waiting_for};
+ghost use Rattle.posting.specs.Intervals.{in_row_order};
+ghost use Rattle.std.specs.FinMap.{get};
+ghost use Rattle.std.specs.Option.{option_map};
+ghost use Rattle.update_records.specs.Business.{numbers_of};
+ghost use Rattle.update_records.specs.Grammar.{IsKind};
+ghost use Rattle.update_records.specs.declared.records.Mark.{Mark};
+ghost use Rattle.update_records.specs.Growing.{with_mark, with_unit};
+ghost use Rattle.update_records.specs.RecordRows.{Level};
 
+use crate::interval_list::{IntervalList, put_all};
 use crate::prepared::Step;
-use crate::restoring::{standings_of, units_with};
-use enq_base::{NoMemory, Reason, Status, UnitKey};
+use crate::restoring::{Followed, count_numbers, follow_all, interval_list};
+use enq_base::{Items, Name, NoMemory, Num, Reason, Status, UnitKey};
 use std::alloc::Global;
-use std::collections::{HashMap, VecDeque};
+use std::collections::HashMap;
 use std::marker::Model;
+use turn_list::Turns;
 use update_records::{Mark, MarkKind, StoredInterval, Unit, UnitId, id_of};
 
-/// The place of a unit in the order of recording, its status, and where its last mark tells of one the refusal: the
-/// effect's number from 1 on, and the reason.
+/// The place of a unit in the order of recording, the turn of the last mark that gave it a status, the status, and where
+/// that mark tells of one the refusal: the effect's number from 1 on, and the reason.
 #[derive(Clone, Copy, Debug, PartialEq, Eq)]
 pub struct Standing {
     pub place: usize,
+    pub turn: usize,
     pub status: Status,
     pub error: Option<(u32, Reason)>,
 }
 
-/// The ledger in memory: units and marks in order, each unit's standing by its key, those that wait for their V1 part
-/// and again for their V2 part, and the stored intervals.
+/// The ledger in memory: units and marks in order, each unit's standing by its key, the turns in which units wait for
+/// their V1 part and again for their V2 part, the stored intervals, and how many numbers were committed.
 #[derive(Drop)]
 pub struct Register {
     start: u32,
     units: Vec<Unit>,
     marks: Vec<Mark>,
     standings: HashMap<UnitId, Standing>,
-    queue: VecDeque<UnitKey>,
-    again: VecDeque<UnitKey>,
-    intervals: Vec<StoredInterval>,
+    queue: Turns,
+    again: Turns,
+    intervals: IntervalList,
+    numbers: u64,
 }
 
 impl Model for Register {
     ghost use Rattle.std.specs.Prelude.{◌-◌, min, vec_len, vec_capacity};
     ghost use Rattle.std.specs.HashMap.{spare};
-    ghost use Rattle.std.specs.VecDeque.{deque_len, deque_capacity};
-    ghost use Rattle.update_records.specs.Intervals.{levels_of};
     ghost use Rattle.posting.specs.Registers.{RegisterView};
 
     ghost Value = { RegisterView };
@@ -60,13 +70,13 @@ impl Model for Register {
     ghost use Rattle.posting.specs.Standings.{IsRegister};
 
     ghost view = { λ r. record {
-      ledger = record { start = r.start; units = r.units.items; marks = r.marks.items; levels = levels_of r.intervals.items };
+      ledger = record { start = r.start; units = r.units.items; marks = r.marks.items; levels = r.intervals.levels };
       room = min (vec_capacity r.units - vec_len r.units) (min (vec_capacity r.marks - vec_len r.marks)
-          (min (spare r.standings) (min (deque_capacity r.queue - deque_len r.queue)
-          (deque_capacity r.again - deque_len r.again))));
+          (min (spare r.standings) (min r.queue.room r.again.room)));
+      spare = r.intervals.spare;
     } };
 
-    ghost invariant = { λ r. IsRegister r.start r.units.items r.marks.items r.standings r.queue.items r.again.items };
+    ghost invariant = { λ r. IsRegister r.start r.units.items r.marks.items r.standings r.queue.turns r.again.turns r.numbers };
 }
 
 impl Register {
@@ -79,9 +89,10 @@ impl Register {
             units: Vec::new(alloc),
             marks: Vec::new(alloc),
             standings: HashMap::new(alloc),
-            queue: VecDeque::new(alloc),
-            again: VecDeque::new(alloc),
-            intervals: Vec::new(alloc),
+            queue: Turns::new(alloc),
+            again: Turns::new(alloc),
+            intervals: IntervalList::new(alloc),
+            numbers: 0,
         }
     }
 
@@ -97,23 +108,19 @@ impl Register {
         requires few { length marks.items < 1048577 }
         requires legal { IsLegal units.items marks.items }
         requires recorded { map (λ (unit : UnitOfWork). unit.key) units.items ≡ recorded marks.items }
+        requires small { All IsSmall units.items }
+        requires kinds { All (λ (m : Mark). IsKind m.kind) marks.items }
         ensures { IfOk result (λ register. register.ledger ≡ record { start = start; units = units.items; marks = marks.items; levels = levels_of intervals.items }) }
     {
-        let standings = standings_of(alloc, units.as_slice(), marks.as_slice())?;
-        let queue = units_with(
-            alloc,
-            Status::Open,
-            units.as_slice(),
-            marks.as_slice(),
-            &standings,
-        )?;
-        let again = units_with(
-            alloc,
-            Status::Posted,
-            units.as_slice(),
-            marks.as_slice(),
-            &standings,
-        )?;
+        let followed = follow_all(alloc, units.as_slice(), marks.as_slice())?;
+        let Followed {
+            standings,
+            queue,
+            again,
+            ..
+        } = followed;
+        let numbers = count_numbers(units.as_slice(), marks.as_slice(), &standings);
+        let intervals = interval_list(alloc, intervals.as_slice())?;
         Ok(Register {
             start,
             units,
@@ -122,6 +129,7 @@ impl Register {
             queue,
             again,
             intervals,
+            numbers,
         })
     }
 
@@ -150,7 +158,8 @@ impl Register {
     }
 
     pub fn units(&self) -> &[Unit]
-        ensures { result.now ≡ self.now.ledger.units }
+        ensures units { result.now ≡ self.now.ledger.units }
+        ensures small { All IsSmall result.now }
     {
         self.units.as_slice()
     }
@@ -166,10 +175,9 @@ impl Register {
     }
 
     /// Those that wait for a part.
-    fn queue_for(&self, part: u8) -> &VecDeque<UnitKey>
+    fn queue_for(&self, part: u8) -> &Turns
         requires { (part ≡ 1) ⊎ (part ≡ 2) }
-        ensures items { result.now.items ≡ waiting_for part self.now.ledger }
-        ensures few { length result.now.items ≤ 1048576 }
+        ensures { waiting_in result.now.turns ≡ waiting_for part self.now.ledger }
     {
         if part == 1 { &self.queue } else { &self.again }
     }
@@ -178,7 +186,7 @@ impl Register {
         requires { (part ≡ 1) ⊎ (part ≡ 2) }
         ensures { result ≡ length (waiting_for part self.now.ledger) }
     {
-        self.queue_for(part).len() as u32
+        self.queue_for(part).len()
     }
 
     pub fn waiting_at(&self, part: u8, place: u32) -> Option<UnitKey>
@@ -188,50 +196,101 @@ impl Register {
         if place == 0 {
             return None;
         }
-        self.queue_for(part).get(place as usize - 1).copied()
+        self.queue_for(part).at(place - 1)
     }
 
-    /// Takes the memory for one more unit and one more mark.
-    pub fn make_room(&mut self) -> Result<(), NoMemory>
+    /// How many numbers were committed.
+    pub fn numbers(&self) -> u64
+        ensures { result ≡ length (numbers_of self.now.ledger.units self.now.ledger.marks) }
+    {
+        self.numbers
+    }
+
+    pub fn level(&self, object: &Name, nr: [u8; 2]) -> Option<u64>
+        ensures { result ≡ option_map (λ (l : Level). l.level) (get self.now.ledger.levels (object.now, nr)) }
+    {
+        self.intervals.level(object, nr)
+    }
+
+    pub fn stored(&self, row: u64) -> Option<StoredInterval>
+        ensures { result ≡ at_place row (in_row_order self.now.ledger.levels) }
+    {
+        self.intervals.stored(row)
+    }
+
+    /// Takes the memory for one more unit, one more mark and so many more intervals.
+    pub fn make_room(&mut self, intervals: usize) -> Result<(), NoMemory>
         ensures ledger { self.new.ledger ≡ self.old.ledger }
         ensures room { OnOk result (1 ≤ self.new.room) }
+        ensures spare { OnOk result (intervals ≤ self.new.spare) }
     {
         self.units.reserve(1)?;
         self.marks.reserve(1)?;
         self.standings.reserve(1)?;
-        self.queue.reserve(1)?;
-        self.again.reserve(1)?;
+        self.queue.make_room()?;
+        self.again.make_room()?;
+        self.intervals.make_room(intervals)?;
         Ok(())
     }
 
     /// Takes a step, for which there is room.
     pub fn add(&mut self, step: Step)
         requires room { 1 ≤ self.old.room }
+        requires spare { length (intervals_in step) ≤ self.old.spare }
         requires step { MayTake self.old.ledger step }
         ensures { self.new.ledger ≡ after_step self.old.ledger step }
     {
         match step {
             Step::Start(start) => self.start = start,
-            Step::Record(unit) => self.record(unit),
+            Step::Record { unit, levels } => {
+                self.record(unit);
+                put_all(&mut self.intervals, levels.as_slice());
+            }
             Step::Note { unit, kind } => self.note(unit, kind),
+            Step::Draw {
+                unit,
+                numbers,
+                levels,
+            } => {
+                self.draw(unit, numbers);
+                put_all(&mut self.intervals, levels.as_slice());
+            }
+            Step::Level(interval) => self.intervals.put(&interval),
         }
     }
 
     fn record(&mut self, unit: Unit)
         requires room { 1 ≤ self.old.room }
-        requires step { MayTake self.old.ledger (Step.Record unit) }
-        ensures { self.new.ledger ≡ after_step self.old.ledger (Step.Record unit) }
+        requires step { MayTake self.old.ledger (Step.Record unit []) }
+        ensures ledger { self.new.ledger ≡ with_unit self.old.ledger unit }
+        ensures spare { self.new.spare ≡ self.old.spare }
     {
         let key = unit.key;
+        self.numbers += unit.numbers.as_slice().len() as u64;
         let standing = Standing {
             place: self.units.len(),
+            turn: self.marks.len(),
             status: Status::Open,
             error: None,
         };
         push_mark(&mut self.marks, key, MarkKind::Rec);
         self.units.push_reserved(unit);
         set_standing(&mut self.standings, &key, standing);
-        self.queue.push_back_reserved(key);
+        self.queue.push(Some(key));
+        pass_turn(&mut self.again);
+    }
+
+    /// Takes a mark of numbers alone, which gives its unit no standing. At its turn nobody waits.
+    fn draw(&mut self, key: UnitKey, numbers: Items<Num>)
+        requires room { 1 ≤ self.old.room }
+        requires step { MayTake self.old.ledger (Step.Draw key numbers []) }
+        ensures ledger { self.new.ledger ≡ with_mark self.old.ledger key (MarkKind.Num numbers) }
+        ensures spare { self.new.spare ≡ self.old.spare }
+    {
+        self.numbers += numbers.as_slice().len() as u64;
+        push_mark(&mut self.marks, key, MarkKind::Num(numbers));
+        pass_turn(&mut self.queue);
+        pass_turn(&mut self.again);
     }
 
     fn note(&mut self, key: UnitKey, kind: MarkKind)
@@ -239,19 +298,20 @@ impl Register {
         requires step { MayTake self.old.ledger (Step.Note key kind) }
         ensures { self.new.ledger ≡ after_step self.old.ledger (Step.Note key kind) }
     {
-        let Some(standing) = standing_of(&self.standings, &key) else {
+        let Some(before) = standing_of(&self.standings, &key) else {
             unreachable!();
         };
-        let status = status_after(&self.units[standing.place], &kind, standing.status);
+        let status = status_after(&self.units[before.place], &kind, before.status);
         let standing = Standing {
-            place: standing.place,
+            place: before.place,
+            turn: self.marks.len(),
             status,
-            error: error_after(&kind, standing.error),
+            error: error_after(&kind, before.error),
         };
         push_mark(&mut self.marks, key, kind);
         set_standing(&mut self.standings, &key, standing);
-        queue_again(&mut self.queue, &key, is_open(status));
-        queue_again(&mut self.again, &key, is_posted(status));
+        take_turn(&mut self.queue, before.turn, &key, is_open(status));
+        take_turn(&mut self.again, before.turn, &key, is_posted(status));
     }
 }
 
@@ -314,45 +374,33 @@ fn posted_status(unit: &Unit) -> Status
     }
 }
 
-fn is_open(status: Status) -> bool
+pub fn is_open(status: Status) -> bool
     ensures { result ≡ same_status Status.Open status }
 {
     matches!(status, Status::Open)
 }
 
-fn is_posted(status: Status) -> bool
+pub fn is_posted(status: Status) -> bool
     ensures { result ≡ same_status Status.Posted status }
 {
     matches!(status, Status::Posted)
 }
 
-fn place_in_queue(queue: &VecDeque<UnitKey>, key: &UnitKey) -> Option<usize>
-    ensures { result ≡ position (λ other. same_unit key.now other) queue.now.items }
+/// Gives back a unit's old turn, and takes the next one: the unit waits at it, or nobody.
+pub fn take_turn(turns: &mut Turns, old: usize, key: &UnitKey, waits: bool)
+    requires room { 1 ≤ turns.old.room }
+    requires few { length turns.old.turns < 1048576 }
+    ensures { turns.new.turns ≡ slice_set turns.old.turns old None ++ (if waits then Some key.now else None) ∷ [] }
 {
-    queue.iter().position(|other| key.is(other))
+    turns.clear(old);
+    turns.push(if waits { Some(*key) } else { None });
 }
 
-/// Takes a unit out of those that wait.
-fn leave_queue(queue: &mut VecDeque<UnitKey>, key: &UnitKey)
-    requires { IsDistinct same_unit queue.old.items }
-    ensures items { queue.new.items ≡ filter (λ other. not (same_unit key.now other)) queue.old.items }
-    ensures len { deque_len queue.new ≤ deque_len queue.old }
-    ensures capacity { deque_capacity queue.new ≡ deque_capacity queue.old }
+/// Takes the next turn, at which nobody waits.
+pub fn pass_turn(turns: &mut Turns)
+    requires room { 1 ≤ turns.old.room }
+    requires few { length turns.old.turns < 1048576 }
+    ensures { turns.new.turns ≡ turns.old.turns ++ None ∷ [] }
 {
-    if let Some(place) = place_in_queue(queue, key) {
-        queue.remove(place);
-    }
-}
-
-/// Takes a unit out of those that wait, and where it waits from now on puts it last.
-fn queue_again(queue: &mut VecDeque<UnitKey>, key: &UnitKey, waits: bool)
-    requires distinct { IsDistinct same_unit queue.old.items }
-    requires room { deque_len queue.old < deque_capacity queue.old }
-    ensures { queue.new.items ≡ filter (λ other. not (same_unit key.now other)) queue.old.items
-        ++ (if waits then key.now ∷ [] else []) }
-{
-    leave_queue(queue, key);
-    if waits {
-        queue.push_back_reserved(*key);
-    }
+    turns.push(None);
 }

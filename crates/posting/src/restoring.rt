@@ -1,162 +1,194 @@
-ghost use Rattle.std.specs.Prelude.{◌≡◌, ◌<◌, ◌||◌, ◌∷◌, ◌++◌, [], not, List, length, map, if◌then◌else◌, Some, None, IfSome, IfOk, OnOk};
-ghost use Rattle.std.specs.HashSet.{contains};
-ghost use Rattle.std.specs.List.{list_any};
+ghost use Rattle.std.specs.Prelude.{◌≡◌, ◌≤◌, ◌<◌, ◌*◌, ◌∷◌, ◌++◌, [], List, length, map, true, false, IfSome, IfOk, OnOk};
+ghost use Rattle.std.specs.List.{All};
 ghost use Rattle.enq_base.specs.declared.owner.UnitKey.{UnitKey};
-ghost use Rattle.update_records.specs.Ids.{id_of, same_id};
+ghost use Rattle.update_records.specs.Business.{numbers_in, numbers_of};
+ghost use Rattle.update_records.specs.Grammar.{IsKind};
+ghost use Rattle.update_records.specs.Intervals.{levels_of};
 ghost use Rattle.update_records.specs.Ledger.{recorded};
-ghost use Rattle.update_records.specs.Marks.{decides, draws_alone, given, has_no_v2, has_status, is_empty_part, is_rec, same_status, units_with, IsLegal};
+ghost use Rattle.update_records.specs.Marks.{draws_alone, is_rec, IsLegal};
 ghost use Rattle.update_records.specs.declared.records.Mark.{Mark};
 ghost use Rattle.update_records.specs.declared.records.Unit.{Unit as UnitOfWork};
-ghost use Rattle.posting.specs.Restoring.{AreDecided, AreStandings, IsFollowed, MayBeNext};
-ghost use Rattle.posting.specs.Standings.{standing_at};
+ghost use Rattle.posting.specs.Restoring.{AreFollowed, AreStandings, HasRoom, HasTurnsLeft, IsFollowed, MayBeNext};
+ghost use Rattle.posting.specs.Standings.{IsSmall, standing_at};
 
-use crate::register::{Standing, error_after, set_standing, standing_of, status_after};
-use enq_base::{NoMemory, Status, UnitKey};
+use crate::interval_list::IntervalList;
+use crate::register::{
+    Standing, error_after, is_open, is_posted, pass_turn, set_standing, standing_of, status_after,
+    take_turn,
+};
+use enq_base::{NoMemory, Status};
 use std::alloc::Global;
-use std::collections::{HashMap, HashSet, VecDeque};
-use update_records::{Mark, MarkKind, Unit, UnitId, id_of};
+use std::collections::HashMap;
+use turn_list::Turns;
+use update_records::{Mark, MarkKind, StoredInterval, Unit, UnitId};
 
-fn is_record(kind: &MarkKind) -> bool
-    ensures { result ≡ is_rec kind.now }
-{
-    matches!(kind, MarkKind::Rec)
+/// What the marks so far make of the units: each one's standing, the turns in which units wait for their V1 part and
+/// again for their V2 part, how many units were recorded, and how many marks there were.
+#[derive(Drop)]
+pub struct Followed {
+    pub standings: HashMap<UnitId, Standing>,
+    pub queue: Turns,
+    pub again: Turns,
+    pub units: usize,
+    pub marks: usize,
 }
 
-fn draws_alone(kind: &MarkKind) -> bool
-    ensures { result ≡ draws_alone kind.now }
-{
-    matches!(kind, MarkKind::Num(_))
-}
+impl Followed {
+    /// Before the first mark no unit stands anywhere.
+    fn new(alloc: Global) -> Followed
+        ensures { (units : List UnitOfWork) → IsFollowed result units [] }
+    {
+        Followed {
+            standings: HashMap::new(alloc),
+            queue: Turns::new(alloc),
+            again: Turns::new(alloc),
+            units: 0,
+            marks: 0,
+        }
+    }
 
-/// What one mark more makes of the standing of its unit, of which so many were recorded before. The answer is how many
-/// were recorded now.
-fn follow(
-    standings: &mut HashMap<UnitId, Standing>,
-    units: &[Unit],
-    place: usize,
-    mark: &Mark,
-) -> Result<usize, NoMemory>
-    requires placed { (key : UnitKey) → IfSome (standing_at standings.old key) (λ s. s.place < length units.now) }
-    requires few { place < 1048576 }
-    ensures { IfOk result (λ next. (before : List Mark) → IsFollowed standings.old units.now before place → MayBeNext units.now before mark.now
-        → IsFollowed standings.new units.now (before ++ mark.now ∷ []) next) }
-{
-    standings.reserve(1)?;
-    if is_record(&mark.kind) {
+    /// Takes the memory for one mark more.
+    fn make_room(&mut self) -> Result<(), NoMemory>
+        ensures same { (units : List UnitOfWork) (before : List Mark) → IsFollowed self.old units before → IsFollowed self.new units before }
+        ensures room { OnOk result (HasRoom self.new) }
+    {
+        self.standings.reserve(1)?;
+        self.queue.make_room()?;
+        self.again.make_room()?;
+        Ok(())
+    }
+
+    /// Follows a mark that records its unit: the unit is open, and waits for its V1 part.
+    fn record(&mut self, mark: &Mark)
+        requires room { HasRoom self.old }
+        requires few { HasTurnsLeft self.old }
+        ensures { (units : List UnitOfWork) (before : List Mark) → IsFollowed self.old units before → MayBeNext units before mark.now → is_rec mark.now.kind ≡ true
+            → IsFollowed self.new units (before ++ mark.now ∷ []) }
+    {
         let standing = Standing {
-            place,
+            place: self.units,
+            turn: self.marks,
             status: Status::Open,
             error: None,
         };
-        set_standing(standings, &mark.unit, standing);
-        return Ok(place + 1);
+        self.units += 1;
+        self.marks += 1;
+        set_standing(&mut self.standings, &mark.unit, standing);
+        self.queue.push(Some(mark.unit));
+        pass_turn(&mut self.again);
     }
-    let Some(before) = standing_of(standings, &mark.unit) else {
-        return Ok(place);
-    };
-    let standing = Standing {
-        place: before.place,
-        status: status_after(&units[before.place], &mark.kind, before.status),
-        error: error_after(&mark.kind, before.error),
-    };
-    set_standing(standings, &mark.unit, standing);
-    Ok(place)
+
+    /// Follows a mark of numbers alone, which changes nothing. At its turn nobody waits.
+    fn draw(&mut self)
+        requires room { HasRoom self.old }
+        requires few { HasTurnsLeft self.old }
+        ensures { (units : List UnitOfWork) (before : List Mark) (m : Mark) → IsFollowed self.old units before → draws_alone m.kind ≡ true
+            → IsFollowed self.new units (before ++ m ∷ []) }
+    {
+        self.marks += 1;
+        pass_turn(&mut self.queue);
+        pass_turn(&mut self.again);
+    }
+
+    /// Follows a mark of a unit that was recorded: it waits at this turn, or no longer.
+    fn note(&mut self, units: &[Unit], mark: &Mark)
+        requires room { HasRoom self.old }
+        requires few { HasTurnsLeft self.old }
+        requires placed { (key : UnitKey) → IfSome (standing_at self.old.standings key) (λ s. s.place < length units.now) }
+        ensures { (before : List Mark) → IsFollowed self.old units.now before → MayBeNext units.now before mark.now → is_rec mark.now.kind ≡ false → draws_alone mark.now.kind ≡ false
+            → IsFollowed self.new units.now (before ++ mark.now ∷ []) }
+    {
+        let Some(before) = standing_of(&self.standings, &mark.unit) else {
+            return;
+        };
+        let status = status_after(&units[before.place], &mark.kind, before.status);
+        let standing = Standing {
+            place: before.place,
+            turn: self.marks,
+            status,
+            error: error_after(&mark.kind, before.error),
+        };
+        self.marks += 1;
+        set_standing(&mut self.standings, &mark.unit, standing);
+        take_turn(&mut self.queue, before.turn, &mark.unit, is_open(status));
+        take_turn(&mut self.again, before.turn, &mark.unit, is_posted(status));
+    }
+
+    /// Follows one mark more.
+    fn follow(&mut self, units: &[Unit], mark: &Mark)
+        requires room { HasRoom self.old }
+        requires few { HasTurnsLeft self.old }
+        requires placed { (key : UnitKey) → IfSome (standing_at self.old.standings key) (λ s. s.place < length units.now) }
+        ensures { (before : List Mark) → IsFollowed self.old units.now before → MayBeNext units.now before mark.now → IsFollowed self.new units.now (before ++ mark.now ∷ []) }
+    {
+        match &mark.kind {
+            MarkKind::Rec => self.record(mark),
+            MarkKind::Num(_) => self.draw(),
+            _ => self.note(units, mark),
+        }
+    }
 }
 
-/// Where each unit stands by marks of which each is legal, and of which those that record tell the units in order.
-pub fn standings_of(
-    alloc: Global,
-    units: &[Unit],
-    marks: &[Mark],
-) -> Result<HashMap<UnitId, Standing>, NoMemory>
+/// Where each unit stands and waits by marks of which each is legal, and of which those that record tell the units in
+/// order.
+pub fn follow_all(alloc: Global, units: &[Unit], marks: &[Mark]) -> Result<Followed, NoMemory>
     requires legal { IsLegal units.now marks.now }
     requires recorded { map (λ (unit : UnitOfWork). unit.key) units.now ≡ recorded marks.now }
     requires few { length marks.now < 1048577 }
-    ensures { IfOk result (λ standings. AreStandings standings units.now marks.now) }
+    ensures { IfOk result (λ followed. AreFollowed followed units.now marks.now) }
 {
-    let mut standings = HashMap::new(alloc);
-    let mut place = 0;
+    let mut followed = Followed::new(alloc);
     for mark in marks {
-        place = follow(&mut standings, units, place, mark)?;
+        followed.make_room()?;
+        followed.follow(units, mark);
     }
-    Ok(standings)
+    Ok(followed)
 }
 
-/// The status that a mark gives whatever the one before it was.
-fn status_given(no_v2: bool, kind: &MarkKind) -> Option<Status>
-    ensures { result ≡ given no_v2 kind.now None }
-{
-    match kind {
-        MarkKind::Num(_) => None,
-        MarkKind::Rec | MarkKind::Again1 => Some(Status::Open),
-        MarkKind::V1 => Some(if no_v2 {
-            Status::Closed
-        } else {
-            Status::Posted
-        }),
-        MarkKind::Bad1 { .. } => Some(Status::Bad),
-        MarkKind::V2 => Some(Status::Closed),
-        MarkKind::Bad2 { .. } => Some(Status::Bad2),
-        MarkKind::Again2 => Some(Status::Posted),
-        MarkKind::Gone => Some(Status::Cancelled),
-    }
-}
-
-/// Whether a unit has no V2 part; one that isn't there has none.
-fn has_no_v2(units: &[Unit], standings: &HashMap<UnitId, Standing>, key: &UnitKey) -> bool
+/// How many numbers a mark commits.
+fn drawn_by(units: &[Unit], standings: &HashMap<UnitId, Standing>, mark: &Mark) -> u64
     requires placed { (key : UnitKey) → IfSome (standing_at standings.now key) (λ s. s.place < length units.now) }
-    ensures { (marks : List Mark) → AreStandings standings.now units.now marks → result ≡ has_no_v2 units.now key.now }
+    requires small { All IsSmall units.now }
+    requires kind { IsKind mark.now.kind }
+    ensures drawn { (marks : List Mark) → AreStandings standings.now units.now marks → result ≡ length (numbers_in units.now mark.now) }
+    ensures few { result ≤ 64 }
 {
-    match standing_of(standings, key) {
-        Some(standing) => units[standing.place].parts.v2.as_slice().is_empty(),
-        None => true,
+    match &mark.kind {
+        MarkKind::Num(numbers) => numbers.as_slice().len() as u64,
+        MarkKind::Rec => match standing_of(standings, &mark.unit) {
+            Some(standing) => units[standing.place].numbers.as_slice().len() as u64,
+            None => 0,
+        },
+        _ => 0,
     }
 }
 
-fn has_status(wanted: Status, status: Option<Status>) -> bool
-    ensures { result ≡ has_status wanted status }
-{
-    match status {
-        Some(status) => wanted == status,
-        None => false,
-    }
-}
-
-/// Notes that a mark gives its unit a status. The answer is whether a later one, noted before, does too.
-fn decide(decided: &mut HashSet<UnitId>, mark: &Mark) -> Result<bool, NoMemory>
-    ensures later { IfOk result (λ later. later ≡ contains same_id decided.old (id_of mark.now.unit)) }
-    ensures decided { OnOk result ((key : UnitKey) → contains same_id decided.new (id_of key)
-        ≡ (decides key mark.now || contains same_id decided.old (id_of key))) }
-{
-    let later = decided.contains(&id_of(&mark.unit));
-    if !draws_alone(&mark.kind) {
-        decided.insert(id_of(&mark.unit))?;
-    }
-    Ok(later)
-}
-
-/// The units that have this status, in the order of the marks that gave it.
-pub fn units_with(
-    alloc: Global,
-    wanted: Status,
-    units: &[Unit],
-    marks: &[Mark],
-    standings: &HashMap<UnitId, Standing>,
-) -> Result<VecDeque<UnitKey>, NoMemory>
+/// How many numbers all marks commit.
+pub fn count_numbers(units: &[Unit], marks: &[Mark], standings: &HashMap<UnitId, Standing>) -> u64
     requires standings { AreStandings standings.now units.now marks.now }
-    ensures { IfOk result (λ queue. queue.items ≡ units_with wanted units.now marks.now) }
+    requires small { All IsSmall units.now }
+    requires kinds { All (λ (m : Mark). IsKind m.kind) marks.now }
+    requires few { length marks.now < 1048577 }
+    ensures count { result ≡ length (numbers_of units.now marks.now) }
+    ensures few { result ≤ 64 * length marks.now }
 {
-    let mut queue = VecDeque::new(alloc);
-    let mut decided = HashSet::new(alloc);
-    let mut left = marks.len();
+    let mut count = 0;
+    for mark in marks {
+        count += drawn_by(units, standings, mark);
+    }
+    count
+}
+
+/// The intervals by their names; where one name stands twice, the first.
+pub fn interval_list(alloc: Global, intervals: &[StoredInterval]) -> Result<IntervalList, NoMemory>
+    ensures { IfOk result (λ list. list.levels ≡ levels_of intervals.now) }
+{
+    let mut list = IntervalList::new(alloc);
+    let mut left = intervals.len();
     while left > 0 {
         left -= 1;
-        let mark = &marks[left];
-        let later = decide(&mut decided, mark)?;
-        let no_v2 = has_no_v2(units, standings, &mark.unit);
-        if !later && has_status(wanted, status_given(no_v2, &mark.kind)) {
-            queue.push_front(mark.unit)?;
-        }
+        list.make_room(1)?;
+        list.put(&intervals[left]);
     }
-    Ok(queue)
+    Ok(list)
 }

@@ -1,15 +1,25 @@
-ghost use Rattle.std.specs.Prelude.{◌≡◌, ◌+◌, ◌≤◌, [], length, IfOk, OnOk};
+ghost use Rattle.std.specs.Prelude.{◌≡◌, ◌+◌, ◌≤◌, ◌∷◌, [], false, length, IfOk, OnOk};
 ghost use Rattle.keeper_api.specs.Batch.{IsBatch};
 ghost use Rattle.keeper_mem.specs.Memory.{IsSettled};
 
-use super::batch::{start_batch, unit_batch};
+mod calls;
+mod marks;
+mod numbers;
+mod posts;
+mod steps;
+mod stores;
+mod told;
+mod units;
+
+use super::batch::start_batch;
 use super::*;
-use enq_base::{Deed, Effect, Items, Key, Name, Parts, Status, Text, UnitKey, read_name};
+use enq_base::{Key, Name, Status, Text, UnitKey, read_name};
 use keeper_api::{Change, Keeper};
 use keeper_mem::MemKeeper;
 use std::alloc::Global;
 use std::test::*;
-use update_records::{Unit, encode_business};
+use units::{parts_of, put_of, record};
+use update_records::encode_business;
 
 const KEY: UnitKey = UnitKey {
     start: 1,
@@ -120,47 +130,14 @@ fn a_business_row_that_nothing_posted_is_bad(rt: HostRuntime) -> Result<(), Fail
     }
 }
 
-/// A unit of start 1 that puts X into row T 1, and in its V2 part Y into row T 2.
-fn unit_of(alloc: Global) -> Result<Unit, Fail>
-    ensures few { IfOk result (λ unit. length unit.parts.v1 + length unit.parts.v2 ≤ 200) }
-    ensures numbers { IfOk result (λ unit. unit.numbers ≡ []) }
-    ensures entries { IfOk result (λ unit. unit.entries ≡ []) }
-{
-    let (Some(user), Some(table)) = (read_name(b"MILLER"), read_name(b"T")) else {
-        return Err(Fail::from("names"));
-    };
-    let v2 = vec![in alloc; effect(alloc, table, b"2", b"Y")?]?;
-    Ok(Unit {
-        key: KEY,
-        user,
-        numbers: Items::from_vec(Vec::new(alloc)),
-        parts: Parts {
-            v1: Items::from_vec(vec![in alloc; effect(alloc, table, b"1", b"X")?]?),
-            v2: Items::from_vec(v2),
-        },
-        entries: Items::from_vec(Vec::new(alloc)),
-    })
-}
-
-fn effect(alloc: Global, table: Name, key: &[u8], text: &[u8]) -> Result<Effect, Fail> {
-    let (Some(key), Ok(text)) = (Key::new(key), Text::new(alloc, text)) else {
-        return Err(Fail::from("words"));
-    };
-    Ok(Effect {
-        table,
-        key,
-        deed: Deed::Put(text),
-    })
-}
-
-/// A store at start 1 with one recorded unit.
+/// A store at start 1 with one recorded unit, which has two parts.
 fn recorded(alloc: Global) -> Result<MemKeeper, Fail>
     ensures { IfOk result IsSettled }
 {
-    let unit = unit_of(alloc)?;
-    let batch = unit_batch(alloc, 1, 0, &unit)?;
+    let v1 = vec![in alloc; put_of(alloc, b"1", b"X")?]?;
+    let v2 = vec![in alloc; put_of(alloc, b"2", b"Y")?]?;
     let mut keeper = MemKeeper::new(alloc, Vec::new(alloc), Vec::new(alloc))?;
-    put(alloc, &mut keeper, batch.as_slice())?;
+    record(alloc, &mut keeper, 0, &KEY, parts_of(v1, v2))?;
     Ok(keeper)
 }
 
@@ -176,5 +153,81 @@ fn a_recorded_unit_waits_after_an_opening(rt: HostRuntime) -> Result<(), Fail> {
     assert_eq!(rt; books.waiting_at(1, 1), Some(KEY));
     assert_eq!(rt; books.units().len(), 1);
     assert_eq!(rt; books.unit_locks(alloc, &KEY)?.len(), 0);
+    Ok(())
+}
+
+#[test]
+fn a_new_store_has_no_units_and_no_intervals(rt: HostRuntime) -> Result<(), Fail> {
+    let alloc = rt.alloc();
+    let (Some(object), Some(key)) = (read_name(b"STAT"), Key::new(b"A")) else {
+        return Err(Fail::from("words"));
+    };
+    let keeper = MemKeeper::new(alloc, Vec::new(alloc), Vec::new(alloc))?;
+    let Ok(mut books) = Books::open(alloc, keeper, true) else {
+        return Err(Fail::from("refused"));
+    };
+    assert_eq!(rt; books.numbers(), 0);
+    assert_eq!(rt; books.level(&object, *b"01"), None);
+    assert_eq!(rt; books.stored(0), None);
+    assert_eq!(rt; books.stored(1), None);
+    let (Ok(views), Ok(open), Ok(locks)) = (
+        books.views(alloc),
+        books.open_units(alloc),
+        books.unit_locks(alloc, &KEY),
+    ) else {
+        return Err(Fail::from("no memory"));
+    };
+    assert_eq!(rt; views.len(), 0);
+    assert_eq!(rt; open.len(), 0);
+    assert_eq!(rt; locks.len(), 0);
+    let Ok(text) = books.read(alloc, &object, &key) else {
+        return Err(Fail::from("not read"));
+    };
+    assert!(rt; text.is_none());
+    Ok(())
+}
+
+fn interval_of(object: Name) -> StoredInterval
+    ensures { result ≡ record { object = object; nr = 48 ∷ 49 ∷ []; from = 1; to = 99; level = 0; buffered = false } }
+{
+    StoredInterval {
+        object,
+        nr: *b"01",
+        from: 1,
+        to: 99,
+        level: 0,
+        buffered: false,
+    }
+}
+
+#[test]
+fn an_interval_is_stored(rt: HostRuntime) -> Result<(), Fail> {
+    let alloc = rt.alloc();
+    let Some(object) = read_name(b"STAT") else {
+        return Err(Fail::from("words"));
+    };
+    let keeper = MemKeeper::new(alloc, Vec::new(alloc), Vec::new(alloc))?;
+    let Ok(mut books) = Books::open_bare(alloc, keeper, true) else {
+        return Err(Fail::from("refused"));
+    };
+    let interval = interval_of(object);
+    let Ok(prepared) = books.prepare_level(alloc, &interval) else {
+        return Err(Fail::from("no memory"));
+    };
+    let Ok(()) = books.write(prepared) else {
+        return Err(Fail::from("failed"));
+    };
+    assert_eq!(rt; books.level(&object, *b"01"), Some(0));
+    assert_eq!(rt; books.level(&object, *b"02"), None);
+    assert_eq!(rt; books.stored(1), Some(interval));
+    assert_eq!(rt; books.stored(0), None);
+    assert_eq!(rt; books.stored(2), None);
+    assert_eq!(rt; books.numbers(), 0);
+    let Ok(books) = Books::open(alloc, books.into_keeper(), true) else {
+        return Err(Fail::from("refused at the second start"));
+    };
+    assert_eq!(rt; books.level(&object, *b"01"), Some(0));
+    assert_eq!(rt; books.stored(1), Some(interval));
+    assert_eq!(rt; books.numbers(), 0);
     Ok(())
 }

@@ -148,6 +148,10 @@ meaning_logged w (line.Take1 worker) h =
     λ d n. settled_logged (line.Take1 worker) (step d w.hall n (command.Take1 worker)).reply w.hall.sessions _ w.sides (λ m off. step_keeps d w.hall n (command.Take1 worker) m refl) tt h
 meaning_logged w (line.Do1 worker) h =
     λ d n. settled_logged (line.Do1 worker) (step d w.hall n (command.Do1 worker)).reply w.hall.sessions _ w.sides (λ m off. step_keeps d w.hall n (command.Do1 worker) m refl) tt h
+meaning_logged w (line.Take2 worker) h =
+    λ d n. settled_logged (line.Take2 worker) (step d w.hall n (command.Take2 worker)).reply w.hall.sessions _ w.sides (λ m off. step_keeps d w.hall n (command.Take2 worker) m refl) tt h
+meaning_logged w (line.Do2 worker) h =
+    λ d n. settled_logged (line.Do2 worker) (step d w.hall n (command.Do2 worker)).reply w.hall.sessions _ w.sides (λ m off. step_keeps d w.hall n (command.Do2 worker) m refl) tt h
 meaning_logged w (line.DropOrder worker) h =
     λ d n. settled_logged (line.DropOrder worker) (step d w.hall n (command.DropOrder worker)).reply w.hall.sessions _ w.sides (λ m off. step_keeps d w.hall n (command.DropOrder worker) m refl) tt h
 meaning_logged w _ h = tt

@@ -1,5 +1,5 @@
 -- What a line of a script comes to.
-use Rattle.std.specs.Prelude.{ℕ, ℤ, ◌+◌, Bool, true, false, ◌&&◌, nat_eq, nat_le, nat_lt, List, [], ◌∷◌, map, length, cond, if◌then◌else◌, Option, Some, None, is_some, option_and_then, Result, Ok, Err}
+use Rattle.std.specs.Prelude.{ℕ, ℤ, ◌+◌, Bool, true, false, ◌&&◌, ◌||◌, nat_eq, nat_le, nat_lt, List, [], ◌∷◌, map, length, cond, if◌then◌else◌, Option, Some, None, is_some, option_and_then, Result, Ok, Err}
 use Rattle.std.specs.List.{find, list_all, list_any}
 use Rattle.std.specs.Str.{bytes_eq}
 use Rattle.enq_base.specs.Grammar.{is_key_byte, is_short, is_text_byte}
@@ -44,6 +44,10 @@ use Rattle.script_runner.specs.World.{World}
 abbrev pub has_variables : List ℕ → Bool
 has_variables bytes = list_any (nat_eq 36) bytes
 
+-- part 1, V1, or part 2, V2
+abbrev pub is_part : ℕ → Bool
+is_part part = nat_eq part 1 || nat_eq part 2
+
 -- the lines that have a meaning so far
 abbrev pub is_built : ScriptLine → Bool
 is_built (line.Logon s user) = true
@@ -56,13 +60,15 @@ is_built (line.Enq s object m scope values) = true
 is_built (line.Deq s object m scope values) = true
 is_built (line.Collect s object m scope values) = true
 is_built (line.Convert s object values) = true
-is_built (line.Put s part table key text) = nat_eq part 1
-is_built (line.Ins s part table key text) = nat_eq part 1
-is_built (line.Del s part table key) = nat_eq part 1
-is_built (line.Add s part table key number) = nat_eq part 1
+is_built (line.Put s part table key text) = is_part part
+is_built (line.Ins s part table key text) = is_part part
+is_built (line.Del s part table key) = is_part part
+is_built (line.Add s part table key number) = is_part part
 is_built (line.Commit s) = true
 is_built (line.Take1 worker) = true
 is_built (line.Do1 worker) = true
+is_built (line.Take2 worker) = true
+is_built (line.Do2 worker) = true
 is_built (line.DropOrder worker) = true
 is_built _ = false
 
@@ -227,6 +233,8 @@ meaning w (line.Add s part table key number) = effecting w s part (effect_in ver
 meaning w (line.Commit s) = of_session w.sides s (Calls (command.Commit s (parts_of w.sides s)))
 meaning w (line.Take1 worker) = Calls (command.Take1 worker)
 meaning w (line.Do1 worker) = Calls (command.Do1 worker)
+meaning w (line.Take2 worker) = Calls (command.Take2 worker)
+meaning w (line.Do2 worker) = Calls (command.Do2 worker)
 meaning w (line.DropOrder worker) = Calls (command.DropOrder worker)
 meaning w _ = Declines refusal.UnknownSession
 

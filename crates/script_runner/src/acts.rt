@@ -306,7 +306,7 @@ pub(crate) fn commit<T: LockStore, K: Keeper>(
     reply
 }
 
-/// Asks for an order for a worker.
+/// Asks for an order for a worker, for the V1 part of a unit.
 pub(crate) fn take1<T: LockStore, K: Keeper>(
     number: u32,
     worker: u8,
@@ -331,6 +331,33 @@ pub(crate) fn do1<T: LockStore, K: Keeper>(
         (line.Do1 worker) result }
 {
     hall.do1(alloc, number, worker)
+}
+
+/// Asks for an order for a worker, for the V2 part of a unit.
+pub(crate) fn take2<T: LockStore, K: Keeper>(
+    number: u32,
+    worker: u8,
+    hall: &mut Hall<T, K>,
+) -> Reply
+    ensures done { (objects : List Object) (sides : List Private) → DoesLine K.held K.faults
+        objects hall.old hall.new sides sides number
+        (line.Take2 worker) result }
+{
+    hall.take2(number, worker)
+}
+
+/// Posts the V2 part of the unit that a worker has an order for.
+pub(crate) fn do2<T: LockStore, K: Keeper>(
+    alloc: Global,
+    number: u32,
+    worker: u8,
+    hall: &mut Hall<T, K>,
+) -> Reply
+    ensures done { (objects : List Object) (sides : List Private) → DoesLine K.held K.faults
+        objects hall.old hall.new sides sides number
+        (line.Do2 worker) result }
+{
+    hall.do2(alloc, number, worker)
 }
 
 /// Drops the order of a worker.

@@ -46,13 +46,15 @@ pub(crate) fn is_built(line: &ScriptLine) -> bool
             | ScriptLine::Deq { .. }
             | ScriptLine::Collect { .. }
             | ScriptLine::Convert { .. }
-            | ScriptLine::Put { part: 1, .. }
-            | ScriptLine::Ins { part: 1, .. }
-            | ScriptLine::Del { part: 1, .. }
-            | ScriptLine::Add { part: 1, .. }
+            | ScriptLine::Put { part: 1 | 2, .. }
+            | ScriptLine::Ins { part: 1 | 2, .. }
+            | ScriptLine::Del { part: 1 | 2, .. }
+            | ScriptLine::Add { part: 1 | 2, .. }
             | ScriptLine::Commit { .. }
             | ScriptLine::Take1 { .. }
             | ScriptLine::Do1 { .. }
+            | ScriptLine::Take2 { .. }
+            | ScriptLine::Do2 { .. }
             | ScriptLine::DropOrder { .. }
     )
 }

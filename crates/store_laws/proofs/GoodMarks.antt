@@ -27,8 +27,7 @@ use Rattle.store_reading.specs.Posts.{effects_of, is_done, is_refused, is_right_
 use Rattle.store_reading.specs.Rules.{has_meta, has_number, has_second, is_right_mark, mark_fault, marks_in, meta_fault, number_fault}
 use Rattle.store_reading.specs.Stores.{start_in}
 use Rattle.store_reading.specs.Told.{records_in}
-use Rattle.store_reading.proofs.Followings.{HaveEffects}
-use Rattle.store_laws.proofs.Recorded.{one_follows}
+use Rattle.store_reading.proofs.Followings.{HaveEffects, one_follows}
 use Rattle.store_laws.proofs.GoodHeaders.{second_told}
 use Rattle.store_laws.proofs.GoodRecords.{have_effects, mark_table, start_table}
 use Rattle.store_laws.proofs.GoodTables.{AreRecordsOf}

@@ -28,8 +28,7 @@ use Rattle.store_reading.specs.Told.{records_in}
 use Rattle.store_reading.specs.Units.{counts_at, differ, effects_in, has_distinct_locks, has_few, has_part, has_parts, has_row, has_rows, is_counted, is_named_for, is_recorded_header, is_right_unit, is_row, is_whole, names_in, unit_fault}
 use Rattle.store_reading.specs.declared.counts.Counts.{Counts}
 use Rattle.store_reading.specs.declared.rules.Place.{Place}
-use Rattle.store_reading.proofs.BooksStand.{key_recorded}
-use Rattle.store_laws.proofs.Recorded.{first_recorded, keys_after}
+use Rattle.store_reading.proofs.BooksStand.{first_recorded, key_recorded, keys_after}
 use Rattle.store_reading.proofs.Elements.{contains_cases, contains_here, contains_map, contains_none, contains_there, of_map}
 use Rattle.store_laws.proofs.GoodHeaders.{counts_are, counts_for, header_told}
 use Rattle.store_laws.proofs.GoodRecords.{is_lock, lock_table, mark_table, same_part}

@@ -1,4 +1,3 @@
-pub mod Recorded
 pub mod InOrder
 pub mod Texts
 pub mod KeysApart

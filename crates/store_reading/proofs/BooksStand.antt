@@ -70,10 +70,10 @@ marks_told before (rec.Lock u index table mode count pattern ∷ marks) h = let 
 same_unit_itself : (a b : UnitKey) → a ≡ b → same_unit a b ≡ true
 same_unit_itself a b e = subst (λ c. same_unit a c ≡ true) e (same_owner-refl (Upd a))
 
-abbrev keys_after : Bool → UnitKey → List UnitKey → List UnitKey
+abbrev pub keys_after : Bool → UnitKey → List UnitKey → List UnitKey
 keys_after b key keys = cond b (key ∷ keys) keys
 
-first_recorded : (m : Mark) (marks : List Mark) → recorded (m ∷ marks) ≡ keys_after (is_rec m.kind) m.unit (recorded marks)
+pub first_recorded : (m : Mark) (marks : List Mark) → recorded (m ∷ marks) ≡ keys_after (is_rec m.kind) m.unit (recorded marks)
 first_recorded m marks =
     elim (is_rec m.kind) as (λ b. map (λ (x : Mark). x.unit) (cond b (m ∷ filter (λ (x : Mark). is_rec x.kind) marks) (filter (λ (x : Mark). is_rec x.kind) marks)) ≡ keys_after b m.unit (recorded marks)) [
       | true ↦ refl

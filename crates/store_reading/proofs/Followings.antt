@@ -19,7 +19,7 @@ pub record HaveEffects (steps : List Record) (units : List UnitOfWork) : Type 0 
   pub first : (key : UnitKey) → effects_of steps key 1 ≡ v1_of units key
   pub second : (key : UnitKey) → effects_of steps key 2 ≡ v2_of units key
 
-one_follows : (steps : List Record) (units : List UnitOfWork) → HaveEffects steps units → (tables : Tables) (seq : ℕ) (unit : UnitKey) (kind : MarkKind)
+pub one_follows : (steps : List Record) (units : List UnitOfWork) → HaveEffects steps units → (tables : Tables) (seq : ℕ) (unit : UnitKey) (kind : MarkKind)
     → tables_with steps tables (rec.Mark (record { seq = seq; unit = unit; kind = kind })) ≡ posted (part_of units (record { seq = seq; unit = unit; kind = kind })) tables
 one_follows steps units have tables seq unit (Num numbers) = refl
 one_follows steps units have tables seq unit Rec = refl

@@ -52,7 +52,7 @@ entries_more headers locks i r key before now h is added known =
 
 -- ---- the keys that marks record
 
-recorded_on : (xs ys : List Mark) → recorded (xs ++ ys) ≡ recorded xs ++ recorded ys
+pub recorded_on : (xs ys : List Mark) → recorded (xs ++ ys) ≡ recorded xs ++ recorded ys
 recorded_on [] ys = refl
 recorded_on (x ∷ xs) ys = elim (is_rec x.kind) as (λ b. map (λ (y : Mark). y.unit) (cond b (x ∷ filter (λ (y : Mark). is_rec y.kind) (xs ++ ys)) (filter (λ (y : Mark). is_rec y.kind) (xs ++ ys)))
     ≡ map (λ (y : Mark). y.unit) (cond b (x ∷ filter (λ (y : Mark). is_rec y.kind) xs) (filter (λ (y : Mark). is_rec y.kind) xs)) ++ recorded ys) [

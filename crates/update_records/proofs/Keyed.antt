@@ -4,7 +4,7 @@ use Rattle.std.specs.Option.{option_map}
 use Rattle.std.specs.Ordering.{eq_by_cmp}
 use Rattle.std.specs.Cmp.{eq_by_cmp_equiv}
 use Rattle.std.specs.Str.{bytes_eq}
-use Rattle.std.specs.FinMap.{FinMap, empty, entries, get, find, get-entries, get-insert, get-empty, same_map}
+use Rattle.std.specs.FinMap.{FinMap, empty, entries, get, find, insert, get-entries, get-insert, get-empty, same_map}
 use Rattle.std.proofs.lemmas.Bool.{eqb-true, eq-eqb}
 use Rattle.std.proofs.lemmas.Bool.Decides.{same_from_decides}
 use Rattle.keeper_api.specs.Rows.{Spot, spot_cmp, Rows}
@@ -12,9 +12,9 @@ use Rattle.keeper_api.specs.Batch.{changed_once, spot_of}
 use Rattle.keeper_api.specs.RowLaws.{spots_total, exact_spots, same_spot, get_once}
 use Rattle.lock_entry.proofs.Naming.{bytes_eq-refl, bytes_eq-same}
 use Rattle.module_effects.specs.Rows.{RowName, row_cmp, Tables, with_row}
-use Rattle.module_effects.proofs.Tables.{same_row, same_row-Decides, get-with_row}
+use Rattle.module_effects.proofs.Tables.{rows_total, same_row, same_row-Decides, get-with_row}
 use Rattle.update_records.specs.Ledger.{Levels, with_entries, with_map, map_rows}
-use Rattle.update_records.specs.RecordRows.{row_name, row_left, level_value}
+use Rattle.update_records.specs.RecordRows.{Level, row_name, row_left, level_row, level_value}
 
 -- the name that a key spells
 abbrev pub unname : List ℕ → RowName
@@ -165,3 +165,15 @@ get_business levels tables name =
     ∙ ap (λ n. or_else (option_map (λ (t : List ℕ). t) (get tables n)) (get {R = spot_cmp} empty q)) (unname_name name)
     ∙ ap (or_else (option_map (λ (t : List ℕ). t) (get tables name))) (get-empty spot_cmp q)
     ∙ or_id (get tables name)
+
+-- an interval that is stored is a row of table 5
+pub level_left : (levels : Levels) (tables : Tables) (r : RowName) (level : Level) → map_rows (insert levels r level) tables ≡ changed_once (level_row r level) (map_rows levels tables)
+level_left levels tables r level =
+    let inside = with_map 6 (λ (t : List ℕ). t) tables empty in
+    same_map spots_total exact_spots _ _ (λ q.
+    get_map 5 level_value (insert levels r level) inside q
+    ∙ ap (λ x. cond (is_named 5 q) (or_else (option_map level_value x) (get inside q)) (get inside q)) (get-insert rows_total levels r level (unname q.1))
+    ∙ sym (one_found (is_named 5 q) (same_row (unname q.1) r) level_value level (get levels (unname q.1)) (get inside q))
+    ∙ ap (cond (is_named 5 q && same_row (unname q.1) r) (Some (level_value level))) (sym (get_map 5 level_value levels inside q))
+    ∙ ap (λ b. cond b (Some (level_value level)) (get (map_rows levels tables) q)) (sym (named_is 5 r q))
+    ∙ sym (get_once (level_row r level) (map_rows levels tables) q))

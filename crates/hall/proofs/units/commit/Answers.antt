@@ -1,6 +1,7 @@
 use Rattle.std.proofs.Common.{◌≤◌, sym, refl, ap, ◌∙◌, subst, arith}
 use Rattle.std.specs.Prelude.{is_some}
 use Rattle.enq_base.specs.Causes.{Rose}
+use Rattle.posting.proofs.LevelRows.{nothing_stored}
 use Rattle.posting.specs.Steps.{after_step}
 use Rattle.update_records.specs.Growing.{with_unit}
 use Rattle.update_records.specs.declared.records.Unit.{Unit as UnitOfWork}
@@ -34,6 +35,10 @@ prepare_unit-requires-clause-unit g c =
     may_record c.args.books.now.ledger c.args.sessions.now c.args.name.now c.in-Ok.session c.args.parts.now c.start.result c.in-Ok-unit_of.unit c.start.ensures c.in-Ok-unit_of.ensures
     c.in-Ok.ensures.found
     c.requires.fresh c.requires.started (omega (arith, c.if-effects-eq0.false, c.effects_in-effects.ensures)) (omega (arith, c.if-effects-gt-EFFECTS_LIMIT.false, c.effects_in-effects.ensures))
+
+pub prepare_unit-requires-clause-store : goal.prepare_unit-requires-clause-store
+prepare_unit-requires-clause-store g c =
+    nothing_stored c.args.books.now.ledger c.in-Ok-unit_of.unit.numbers (ap (λ (u : UnitOfWork). u.numbers) c.in-Ok-unit_of.ensures)
 
 pub returns-in-Ok-write-clause-act : goal.returns-in-Ok-write-clause-act
 returns-in-Ok-write-clause-act g c s e f l room =

@@ -1,48 +1,53 @@
 use Rattle.std.proofs.Common.{◌≤◌, sym, refl, ap, ◌∙◌, subst}
 use Rattle.std.specs.Prelude.{None, is_some, slice_set}
 use Rattle.enq_base.specs.Causes.{Rose}
-use Rattle.posting.specs.Steps.{after_step, post_kind}
+use Rattle.posting.specs.Posts.{kind_for}
+use Rattle.posting.specs.Steps.{after_step}
 use Rattle.update_records.specs.Growing.{with_mark}
-use Rattle.hall.proofs.Claims.{held_open}
-use Rattle.hall.proofs.Writes.{landed_where_told, may_come, posts, posts_in_doubt, posts_none}
+use Rattle.hall.proofs.Claims.{held_for}
+use Rattle.hall.proofs.Writes.{landed_where_told, may_come, posts, posts_in_doubt, posts_none, posts_wanting}
 use Rattle.hall.specs.Leaving.{HasStoreCause}
 use Rattle.hall.proofs.Leaves.{posted_quiet, answered_leaves, failed_leaves, told_too, unread_leaves}
-use Rattle.hall.specs.Acts.{IsAct}
+use Rattle.hall.specs.Acts.{IsAct, post_of}
 use Rattle.hall.specs.declared.units.InFlight.TheVariants as flight
-use Rattle.hall.specs.Orders.{order_of}
-use Rattle.hall.specs.declared.command.Command.TheVariants as command
+use Rattle.hall.specs.Orders.{order_for, order_of}
 use Rattle.hall.proofs.units.post.Goals as goal
 
 pub returns-in_default-clause-act : goal.returns-in_default-clause-act
 returns-in_default-clause-act g c s t e f l room =
-    posts_none s c.args.orders.now.items (g.T.LockStore.table c.args.locks.now).entries c.args.books.now.ledger c.args.worker e f l room
-    (ap (λ xs. order_of xs c.args.worker) (sym c.as_slice.ensures.value) ∙ sym c.order_of.ensures ∙ c.in_default.is)
+    posts_none c.args.part s c.args.orders.now.items (g.T.LockStore.table c.args.locks.now).entries c.args.books.now.ledger c.args.worker c.requires.part e f l room
+    (ap (λ xs. order_for c.args.part c.args.books.now.ledger xs c.args.worker) (sym c.as_slice.ensures.value) ∙ sym c.order_for.ensures ∙ c.in_default.is)
 
-pub prepare_post1-requires-clause-waits : goal.prepare_post1-requires-clause-waits
-prepare_post1-requires-clause-waits g c =
-    held_open c.args.books.now.ledger c.args.orders.now.items c.args.worker c.in-Some.unit c.requires.orders
-    (ap (λ xs. order_of xs c.args.worker) (sym c.as_slice.ensures.value) ∙ sym c.order_of.ensures ∙ c.in-Some.is)
+pub prepare-requires-clause-waits : goal.prepare-requires-clause-waits
+prepare-requires-clause-waits g c =
+    (held_for c.args.part c.args.books.now.ledger (order_of c.args.orders.now.items c.args.worker) c.in-Some.unit
+    (ap (λ xs. order_for c.args.part c.args.books.now.ledger xs c.args.worker) (sym c.as_slice.ensures.value) ∙ sym c.order_for.ensures ∙ c.in-Some.is)).1
+
+pub returns-in-Err-NoMemory-clause-act : goal.returns-in-Err-NoMemory-clause-act
+returns-in-Err-NoMemory-clause-act g c s t e f l room =
+    posts_wanting c.args.part s c.args.orders.now.items (g.T.LockStore.table c.args.locks.now).entries c.args.books.now.ledger c.prepare.new.books.ledger c.args.worker c.in-Some.unit c.requires.part e f l c.prepare.ensures.ledger room
+    (ap (λ xs. order_for c.args.part c.args.books.now.ledger xs c.args.worker) (sym c.as_slice.ensures.value) ∙ sym c.order_for.ensures ∙ c.in-Some.is)
 
 pub returns-in-Err-Failed-clause-act : goal.returns-in-Err-Failed-clause-act
 returns-in-Err-Failed-clause-act g c s t e f l room =
-    posts_in_doubt s c.args.orders.now.items c.args.worker c.in-Some.unit e room
-    (ap (λ xs. order_of xs c.args.worker) (sym c.as_slice.ensures.value) ∙ sym c.order_of.ensures ∙ c.in-Some.is)
+    posts_in_doubt c.args.part s c.args.orders.now.items c.args.books.now.ledger c.args.worker c.in-Some.unit c.requires.part e l room
+    (ap (λ xs. order_for c.args.part c.args.books.now.ledger xs c.args.worker) (sym c.as_slice.ensures.value) ∙ sym c.order_for.ensures ∙ c.in-Some.is)
 
 pub returns-in-Ok-write-clause-act : goal.returns-in-Ok-write-clause-act
 returns-in-Ok-write-clause-act g c s t e f l room =
     let table = g.T.LockStore.table in
-    let kind = post_kind c.in-Ok.ready.1 in
-    let new = c.in-Ok-write.ensures.done ∙ ap (after_step c.prepare_post1.new.self.ledger) c.in-Ok.ensures.step ∙ ap (λ x. with_mark x c.in-Some.unit kind) c.in-Ok.ensures.ledger in
-    subst (λ r. IsAct s (command.Do1 c.args.worker) (record s { orders = slice_set c.args.orders.now.items c.args.worker None; locks = (table c.free_owner.new.self).entries; stored = c.write.new.self.ledger }) r) (sym c.posted.ensures)
-    (posts s (is_some (g.K.Keeper.held c.args.books.now.keeper)) c.args.orders.now.items _ (table c.args.locks.now).entries (table c.free_owner.new.self).entries c.args.books.now.ledger c.write.new.self.ledger c.args.worker c.in-Some.unit c.in-Ok.ready.1 t e f l room
-    (ap (λ xs. order_of xs c.args.worker) (sym c.as_slice.ensures.value) ∙ sym c.order_of.ensures ∙ c.in-Some.is)
-    (may_come _ (g.K.Keeper.held c.args.books.now.keeper) c.args.books.now.ledger c.in-Some.unit c.in-Ok.ready.1 refl c.in-Ok.ensures.outcome c.in-Ok.ensures.possible)
-    refl (ap (λ t. t.entries) c.free_owner.ensures.after) new)
+    let kind = kind_for c.args.part c.in-Ok.ready.1 in
+    let new = c.in-Ok-write.ensures.done ∙ ap (after_step c.prepare.new.books.ledger) c.in-Ok.ensures.step ∙ ap (λ x. with_mark x c.in-Some.unit kind) c.in-Ok.ensures.ledger in
+    subst (λ r. IsAct s (post_of c.args.part c.args.worker) (record s { orders = slice_set c.args.orders.now.items c.args.worker None; locks = (table c.free_behind.new.locks).entries; stored = c.write.new.self.ledger }) r) (sym c.posted.ensures)
+    (posts c.args.part s (is_some (g.K.Keeper.held c.args.books.now.keeper)) c.args.orders.now.items _ (table c.args.locks.now).entries (table c.free_behind.new.locks).entries c.args.books.now.ledger c.write.new.self.ledger c.args.worker c.in-Some.unit c.in-Ok.ready.1 c.requires.part t e f l room
+    (ap (λ xs. order_for c.args.part c.args.books.now.ledger xs c.args.worker) (sym c.as_slice.ensures.value) ∙ sym c.order_for.ensures ∙ c.in-Some.is)
+    (may_come c.args.part _ (g.K.Keeper.held c.args.books.now.keeper) c.args.books.now.ledger c.in-Some.unit c.in-Ok.ready.1 refl c.in-Ok.ensures.outcome c.in-Ok.ensures.possible)
+    refl (ap (λ t. t.entries) c.free_behind.ensures) new)
 
 pub returns-in-Err-clause-act : goal.returns-in-Err-clause-act
 returns-in-Err-clause-act g c s t e f l room =
-    posts_in_doubt s c.args.orders.now.items c.args.worker c.in-Some.unit e room
-    (ap (λ xs. order_of xs c.args.worker) (sym c.as_slice.ensures.value) ∙ sym c.order_of.ensures ∙ c.in-Some.is)
+    posts_in_doubt c.args.part s c.args.orders.now.items c.args.books.now.ledger c.args.worker c.in-Some.unit c.requires.part e l room
+    (ap (λ xs. order_for c.args.part c.args.books.now.ledger xs c.args.worker) (sym c.as_slice.ensures.value) ∙ sym c.order_for.ensures ∙ c.in-Some.is)
 
 pub returns-in_default-clause-told : goal.returns-in_default-clause-told
 returns-in_default-clause-told g c = refl
@@ -54,33 +59,33 @@ pub returns-in_default-clause-cause : goal.returns-in_default-clause-cause
 returns-in_default-clause-cause g c = refl
 
 pub returns-in-Err-NoMemory-clause-told : goal.returns-in-Err-NoMemory-clause-told
-returns-in-Err-NoMemory-clause-told g c = c.prepare_post1.ensures.told
+returns-in-Err-NoMemory-clause-told g c = c.prepare.ensures.told
 
 pub returns-in-Err-NoMemory-clause-left : goal.returns-in-Err-NoMemory-clause-left
-returns-in-Err-NoMemory-clause-left g c = answered_leaves g.K.Keeper.held g.K.Keeper.is_open g.K.Keeper.may_leave c.prepare_post1.new.self g.met.K.Keeper.settled (rw c.in-Err-NoMemory.field-0-is at c.in-Err-NoMemory.ensures.usable)
+returns-in-Err-NoMemory-clause-left g c = answered_leaves g.K.Keeper.held g.K.Keeper.is_open g.K.Keeper.may_leave c.prepare.new.books g.met.K.Keeper.settled (rw c.in-Err-NoMemory.field-0-is at c.in-Err-NoMemory.ensures.usable)
 
 pub returns-in-Err-NoMemory-clause-cause : goal.returns-in-Err-NoMemory-clause-cause
 returns-in-Err-NoMemory-clause-cause g c =
     rw c.in-Err-NoMemory.field-0-is at c.in-Err-NoMemory.ensures.cause.quiet
 
 pub returns-in-Err-Failed-clause-told : goal.returns-in-Err-Failed-clause-told
-returns-in-Err-Failed-clause-told g c = c.prepare_post1.ensures.told
+returns-in-Err-Failed-clause-told g c = c.prepare.ensures.told
 
 pub returns-in-Err-Failed-clause-left : goal.returns-in-Err-Failed-clause-left
 returns-in-Err-Failed-clause-left g c =
     let held = g.K.Keeper.held in
     let may_leave = g.K.Keeper.may_leave in
-    unread_leaves (held c.prepare_post1.new.self.keeper) (held c.args.books.now.keeper) (may_leave c.prepare_post1.new.self.keeper) (may_leave c.args.books.now.keeper)
-    c.prepare_post1.new.self.ledger c.args.books.now.ledger (flight.Post c.in-Some.unit)
-    c.prepare_post1.ensures.told c.prepare_post1.ensures.ledger c.prepare_post1.ensures.crash
+    unread_leaves (held c.prepare.new.books.keeper) (held c.args.books.now.keeper) (may_leave c.prepare.new.books.keeper) (may_leave c.args.books.now.keeper)
+    c.prepare.new.books.ledger c.args.books.now.ledger (flight.Post c.in-Some.unit c.args.part)
+    c.prepare.ensures.told c.prepare.ensures.ledger c.prepare.ensures.crash
     (answered_leaves held g.K.Keeper.is_open may_leave c.args.books.now g.met.K.Keeper.settled c.requires.usable)
 
 pub returns-in-Err-Failed-clause-cause : goal.returns-in-Err-Failed-clause-cause
 returns-in-Err-Failed-clause-cause g c =
-    (c.prepare_post1.ensures.cause.later, rw c.in-Err-Failed.field-0-is at c.in-Err-Failed.ensures.cause.failed)
+    (c.prepare.ensures.cause.later, rw c.in-Err-Failed.field-0-is at c.in-Err-Failed.ensures.cause.failed)
 
 pub returns-in-Ok-write-clause-told : goal.returns-in-Ok-write-clause-told
-returns-in-Ok-write-clause-told g c = c.write.ensures.told ∙ c.prepare_post1.ensures.told
+returns-in-Ok-write-clause-told g c = c.write.ensures.told ∙ c.prepare.ensures.told
 
 pub returns-in-Ok-write-clause-left : goal.returns-in-Ok-write-clause-left
 returns-in-Ok-write-clause-left g c = answered_leaves g.K.Keeper.held g.K.Keeper.is_open g.K.Keeper.may_leave c.write.new.self g.met.K.Keeper.settled c.in-Ok-write.ensures.usable
@@ -89,19 +94,19 @@ pub returns-in-Ok-write-clause-cause : goal.returns-in-Ok-write-clause-cause
 returns-in-Ok-write-clause-cause g c =
     let faults = g.K.Keeper.faults in
     subst (HasStoreCause (faults c.args.books.now.keeper) (faults c.write.new.self.keeper)) (sym c.posted.ensures)
-    (posted_quiet c.in-Some.unit c.in-Ok.ready.1 _ _ (c.in-Ok-write.ensures.cause.quiet ∙ c.in-Ok.ensures.cause.quiet))
+    (posted_quiet c.args.part c.in-Some.unit c.in-Ok.ready.1 _ _ (c.in-Ok-write.ensures.cause.quiet ∙ c.in-Ok.ensures.cause.quiet))
 
 pub returns-in-Err-clause-told : goal.returns-in-Err-clause-told
-returns-in-Err-clause-told g c = c.write.ensures.told ∙ c.prepare_post1.ensures.told
+returns-in-Err-clause-told g c = c.write.ensures.told ∙ c.prepare.ensures.told
 
 pub returns-in-Err-clause-left : goal.returns-in-Err-clause-left
 returns-in-Err-clause-left g c =
     let held = g.K.Keeper.held in
-    failed_leaves (held c.write.new.self.keeper) (held c.prepare_post1.new.self.keeper) (g.K.Keeper.may_leave c.write.new.self.keeper)
-    c.write.new.self.ledger c.prepare_post1.new.self.ledger c.in-Ok.ready.0.step (flight.Post c.in-Some.unit)
+    failed_leaves (held c.write.new.self.keeper) (held c.prepare.new.books.keeper) (g.K.Keeper.may_leave c.write.new.self.keeper)
+    c.write.new.self.ledger c.prepare.new.books.ledger c.in-Ok.ready.0.step (flight.Post c.in-Some.unit c.args.part)
     c.write.ensures.told c.in-Err.ensures.kept
-    (told_too (held c.prepare_post1.new.self.keeper) (held c.args.books.now.keeper) _ c.prepare_post1.ensures.told
-    (landed_where_told (held c.args.books.now.keeper) c.prepare_post1.new.self.ledger c.args.books.now.ledger c.in-Ok.ready.0.step c.in-Some.unit c.in-Ok.ready.1
+    (told_too (held c.prepare.new.books.keeper) (held c.args.books.now.keeper) _ c.prepare.ensures.told
+    (landed_where_told c.args.part (held c.args.books.now.keeper) c.prepare.new.books.ledger c.args.books.now.ledger c.in-Ok.ready.0.step c.in-Some.unit c.in-Ok.ready.1
     c.in-Ok.ensures.ledger c.in-Ok.ensures.step c.in-Ok.ensures.outcome))
     c.write.ensures.left
 

@@ -3,6 +3,8 @@ use Rattle.keeper_api.specs.Rows.{Rows}
 use Rattle.store_reading.specs.Good.{ledger_of}
 use Rattle.posting.specs.Opening.{raised}
 use Rattle.posting.specs.Reopening.{IsOpeningFault, MayBeLeftBy}
+use Rattle.posting.specs.Numbers.{AreNumbersRight}
+use Rattle.posting.proofs.Numbers.{raised_numbers, sound_numbers}
 use Rattle.posting.proofs.Reopened.{left_by, opened_usable, raise_fault, stood_now}
 use Rattle.posting.proofs.books.Books.open.Goals as goal
 
@@ -54,3 +56,10 @@ returns-in-Err-raise-clause-left_after g c =
     subst (λ k. IfSome (g.K.Keeper.held k) (λ _. (left : Rows) → g.K.Keeper.may_leave k left → MayBeLeftBy (g.K.Keeper.may_leave c.args.keeper) c.args.raise left)) (sym c.into_keeper.ensures)
     (left_by (g.K.Keeper.held c.raise.new.self.keeper) (g.K.Keeper.held c.open_ledger.new.keeper) (g.K.Keeper.may_leave c.args.keeper) (g.K.Keeper.may_leave c.open_ledger.new.keeper) (g.K.Keeper.may_leave c.raise.new.self.keeper)
     c.args.raise (ledger_of c.in-Ok.stored) c.in-Ok-restored.register.ledger c.in-Err-raise.ensures.told c.if-not-raise.false c.in-Ok-restored.ensures c.in-Ok.ensures.crash c.in-Ok.ensures.stands c.in-Err-raise.ensures.left)
+
+pub returns-then-not-raise-clause-numbers : goal.returns-then-not-raise-clause-numbers
+returns-then-not-raise-clause-numbers g c = subst AreNumbersRight (sym c.in-Ok-restored.ensures) (sound_numbers (ledger_of c.in-Ok.stored) c.in-Ok.ensures.sound)
+
+pub returns-in-Ok-raise-clause-numbers : goal.returns-in-Ok-raise-clause-numbers
+returns-in-Ok-raise-clause-numbers g c =
+    subst AreNumbersRight (sym (c.in-Ok-raise.ensures.ledger ∙ ap (raised true) c.in-Ok-restored.ensures)) (raised_numbers true (ledger_of c.in-Ok.stored) (sound_numbers (ledger_of c.in-Ok.stored) c.in-Ok.ensures.sound))

@@ -1,7 +1,6 @@
-use Rattle.std.proofs.Common.{ap, subst, ◌∙◌}
-use Rattle.enq_base.specs.declared.unit.Status.TheVariants.{Open, Posted}
-use Rattle.update_records.specs.Marks.{units_with}
-use Rattle.posting.specs.Restoring.{AreStandings}
+use Rattle.std.proofs.Common.{◌*◌, ◌≤◌, length, ap, subst, ◌∙◌}
+use Rattle.update_records.specs.Business.{numbers_of}
+use Rattle.posting.specs.Restoring.{AreFollowed}
 use Rattle.posting.proofs.Restored.{restored_register}
 use Rattle.posting.proofs.register.Register.restore.Goals as goal
 
@@ -9,8 +8,9 @@ pub invariant_of-result : goal.invariant_of-result
 invariant_of-result c =
     let units = c.args.units.items in
     let marks = c.args.marks.items in
-    restored_register c.args.start units marks c.in_ok-standings.standings c.in_ok-queue.queue.items c.in_ok-again.again.items c.requires.begun c.requires.few
-    (subst (λ us. AreStandings c.in_ok-standings.standings us marks) c.as_slice.ensures.value
-    (subst (AreStandings c.in_ok-standings.standings c.as_slice.result.now) c.as_slice-2.ensures.value c.in_ok-standings.ensures))
-    (c.in_ok-queue.ensures ∙ ap (λ us. units_with Open us c.as_slice-4.result.now) c.as_slice-3.ensures.value ∙ ap (units_with Open units) c.as_slice-4.ensures.value)
-    (c.in_ok-again.ensures ∙ ap (λ us. units_with Posted us c.as_slice-6.result.now) c.as_slice-5.ensures.value ∙ ap (units_with Posted units) c.as_slice-6.ensures.value)
+    let followed : AreFollowed c.in_ok-followed.followed units marks = subst (λ us. AreFollowed c.in_ok-followed.followed us marks) c.as_slice.ensures.value
+    (subst (AreFollowed c.in_ok-followed.followed c.as_slice.result.now) c.as_slice-2.ensures.value c.in_ok-followed.ensures) in
+    restored_register c.args.start units marks c.in_ok-followed.followed.standings c.in_ok-followed.followed.queue.turns c.in_ok-followed.followed.again.turns c.count_numbers-numbers.result c.requires.begun c.requires.few
+    followed.standings followed.queue followed.again
+    (c.count_numbers-numbers.ensures.count ∙ ap (λ us. length (numbers_of us c.as_slice-4.result.now)) c.as_slice-3.ensures.value ∙ ap (λ ms. length (numbers_of units ms)) c.as_slice-4.ensures.value)
+    (subst (λ ms. c.count_numbers-numbers.result ≤ 64 * length ms) c.as_slice-4.ensures.value c.count_numbers-numbers.ensures.few) c.requires.small

@@ -1,0 +1,161 @@
+use super::store_tests::{has_row, run_over};
+use super::tests::run;
+use super::*;
+use keeper_mem::MemKeeper;
+use std::test::*;
+
+// A unit whose V1 part is refused never waits for its V2 part. One with a V2 part alone is posted, and then closed. A
+// refused V2 part leaves the row that the V1 part put.
+const TWO_PARTS: &[u8] = b"A LOGON MILLER\n\
+    A V1 DEL ZORDER 9\n\
+    A V2 ADD STAT N 1\n\
+    A COMMIT\n\
+    @1 TAKE1\n\
+    @1 DO1\n\
+    @1 TAKE2\n\
+    A V2 ADD STAT N 1\n\
+    A COMMIT\n\
+    @1 TAKE2\n\
+    @1 TAKE1\n\
+    @1 DO1\n\
+    @1 TAKE2\n\
+    @1 DO2\n\
+    A V1 PUT STAT N X\n\
+    A V2 ADD STAT N 1\n\
+    A COMMIT\n\
+    @1 TAKE1\n\
+    @1 DO1\n\
+    @1 TAKE2\n\
+    @1 DO2\n";
+
+// A sum whose row can't be read.
+const UNREAD: &[u8] = b"A LOGON MILLER\n\
+    A V2 ADD STAT N 1\n\
+    A COMMIT\n\
+    @1 TAKE1\n\
+    @1 DO1\n\
+    @1 TAKE2\n\
+    @1 DO2\n\
+    @1 TAKE2\n";
+
+const SCRIPTS: [(&[u8], &[u8]); 3] = [
+    (
+        TWO_PARTS,
+        b"1 OK\n\
+            2 OK\n\
+            3 OK\n\
+            4 OK 1.1.1\n\
+            5 OK 1.1.1\n\
+            6 BAD 1.1.1 1 MISSING\n\
+            7 IDLE\n\
+            8 OK\n\
+            9 OK 1.1.2\n\
+            10 IDLE\n\
+            11 OK 1.1.2\n\
+            12 POSTED 1.1.2\n\
+            13 OK 1.1.2\n\
+            14 CLOSED 1.1.2\n\
+            15 OK\n\
+            16 OK\n\
+            17 OK 1.1.3\n\
+            18 OK 1.1.3\n\
+            19 POSTED 1.1.3\n\
+            20 OK 1.1.3\n\
+            21 BAD2 1.1.3 1 NOT_NUMBER\n",
+    ),
+    // An order is for one part: neither post does the other's, and a worker with an order gets none for either part.
+    (
+        b"A LOGON MILLER\n\
+            A V1 PUT T 1 X\n\
+            A V2 ADD STAT N 1\n\
+            A COMMIT\n\
+            @1 TAKE1\n\
+            @1 DO2\n\
+            @1 TAKE2\n\
+            @1 DO1\n\
+            @1 TAKE2\n\
+            @1 DO1\n\
+            @1 TAKE1\n\
+            @2 TAKE2\n\
+            @1 DROP\n\
+            @2 TAKE2\n\
+            @2 DO2\n\
+            @1 TAKE2\n",
+        b"1 OK\n\
+            2 OK\n\
+            3 OK\n\
+            4 OK 1.1.1\n\
+            5 OK 1.1.1\n\
+            6 NO_ORDER\n\
+            7 WORKER_BUSY 1.1.1\n\
+            8 POSTED 1.1.1\n\
+            9 OK 1.1.1\n\
+            10 NO_ORDER\n\
+            11 WORKER_BUSY 1.1.1\n\
+            12 IDLE\n\
+            13 OK 1.1.1\n\
+            14 OK 1.1.1\n\
+            15 CLOSED 1.1.1\n\
+            16 IDLE\n",
+    ),
+    // A V2 part frees no lock.
+    (
+        b"A LOGON MILLER\n\
+            A V2 ADD STAT N 1\n\
+            A COMMIT\n\
+            @1 TAKE1\n\
+            @1 DO1\n\
+            A ENQ EZORDER E 2 MANDT=100 ORDNR=0000000001\n\
+            A V1 PUT T 1 X\n\
+            A COMMIT\n\
+            @1 TAKE2\n\
+            @1 DO2\n\
+            A ENQ EZORDER E 2 MANDT=100 ORDNR=0000000001\n",
+        b"1 OK\n\
+            2 OK\n\
+            3 OK 1.1.1\n\
+            4 OK 1.1.1\n\
+            5 POSTED 1.1.1\n\
+            6 OK\n\
+            7 OK\n\
+            8 OK 1.1.2\n\
+            9 OK 1.1.1\n\
+            10 CLOSED 1.1.1\n\
+            11 FOREIGN_LOCK MILLER ZORDER 1000000000001\n",
+    ),
+];
+
+#[test]
+fn second_parts_are_posted_behind_first_ones(rt: HostRuntime) -> Result<(), Fail> {
+    let alloc = rt.alloc();
+    for (script, replies) in SCRIPTS {
+        let (ended, sink) = run(alloc, script, Vec::new(alloc), Vec::new(alloc))?;
+        assert_eq!(rt; sink.bytes(), replies);
+        assert_eq!(rt; ended.status, 0);
+    }
+    Ok(())
+}
+
+#[test]
+fn a_refused_second_part_leaves_the_row(rt: HostRuntime) -> Result<(), Fail> {
+    let alloc = rt.alloc();
+    let (ended, _) = run(alloc, TWO_PARTS, Vec::new(alloc), Vec::new(alloc))?;
+    let Site { mut keeper } = ended.site;
+    assert!(rt; has_row(alloc, &mut keeper, 6, b"\x04STATN", b"X")?);
+    Ok(())
+}
+
+// The read of the row is the 13th call of the store: ten open it, one records the unit, and one notes that its V1 part,
+// which has no effects, is posted.
+#[test]
+fn a_fault_in_a_second_part_is_a_doubt(rt: HostRuntime) -> Result<(), Fail> {
+    let alloc = rt.alloc();
+    let keeper = MemKeeper::new(alloc, vec![in alloc; 13]?, Vec::new(alloc))?;
+    let (ended, sink) = run_over(alloc, UNREAD, keeper)?;
+    assert_eq!(rt;
+        sink.bytes(),
+        b"1 OK\n2 OK\n3 OK 1.1.1\n4 OK 1.1.1\n5 POSTED 1.1.1\n6 OK 1.1.1\n7 STORE_FAULT\n8 DOWN 6\n".as_slice()
+    );
+    assert_eq!(rt; ended.why, Why::StoreFault(6));
+    Ok(())
+}

@@ -1,0 +1,71 @@
+use Rattle.std.proofs.Common.{◌≡◌, [], ◌∷◌, ◌++◌, refl, sym, ap, ◌∙◌, subst, rules}
+use Rattle.std.specs.Prelude.{None, is_some}
+use Rattle.enq_base.specs.declared.condition.Condition.{Condition}
+use Rattle.enq_base.specs.declared.condition.Condition.TheVariants.{Up}
+use Rattle.hall.proofs.Endings.{ending, state_with}
+use Rattle.hall.proofs.Ends.{who_posts}
+use Rattle.hall.proofs.Leaves.{also_failed, leaves_after, usable_after}
+use Rattle.hall.specs.History.{IsStep, who_of}
+use Rattle.hall.specs.Step.{closed}
+use Rattle.hall.specs.State.{State}
+use Rattle.hall.specs.Acts.{post_of}
+use Rattle.hall.specs.declared.command.Who.TheVariants as who
+use Rattle.hall.proofs.hall.Hall.do_part.Goals as goal
+
+pub returns-in-Some-clause-left : goal.returns-in-Some-clause-left
+returns-in-Some-clause-left g c = c.refuse.ensures.left
+
+pub refuse-requires-clause-who : goal.refuse-requires-clause-who
+refuse-requires-clause-who g c = who_posts c.args.part c.args.worker c.requires ∙ ap who_of (sym c.post_of-command.ensures)
+
+pub invariant_of-self : goal.invariant_of-self
+invariant_of-self g c =
+    let old = c.self.inside in
+    let table = g.T.LockStore.table in
+    let called = c.post-written in
+    let ended = c.ended-reply in
+    let before : Condition → State = λ k. state_with (is_some (g.K.Keeper.held old.books.keeper)) k old.sessions old.next_session old.orders.items (table old.locks) old.books.ledger old.pending old.past.items in
+    let shut : closed (before old.condition) ≡ None = ap (λ v. closed v.state) c.self.view_is ∙ sym c.closed.ensures.refusal ∙ c.in_default.is in
+    let up : old.condition ≡ Up = ap (λ v. v.state.condition) c.self.view_is ∙ c.in_default.ensures.up in
+    let by : who.Worker c.args.worker ≡ who_of (post_of c.args.part c.args.worker) = who_posts c.args.part c.args.worker c.requires in
+    let noted = c.note.ensures.noted ∙ (λ i. old.past.items ++ record { who = by i; line = c.args.line; command = c.post_of-command.ensures i; reply = ended.result } ∷ []) in
+    let ends =
+    ending (is_some (g.K.Keeper.held old.books.keeper)) (is_some (g.K.Keeper.held called.new.books.keeper)) old.condition ended.new.condition old.sessions old.sessions old.next_session old.orders.items called.new.orders.items (table old.locks) (table called.new.locks) old.books.ledger called.new.books.ledger
+    old.pending ended.new.pending old.past.items c.note.new.past.items called.result c.args.line (post_of c.args.part c.args.worker) ended.result c.note.result
+    called.ensures.told up ended.ensures.condition ended.ensures.pending ended.ensures.reply noted c.note.ensures.answer
+    called.ensures.limit (also_failed _ called.result refl) called.ensures.orders called.ensures.ledger
+    c.self.invariant.1 shut (λ room. called.ensures.act (before Up) refl refl refl refl room) in (
+      search rules,
+      ends.0,
+      (
+        usable_after _ old.condition ended.new.condition _ called.result up ended.ensures.condition called.ensures.usable,
+        leaves_after g.K.Keeper.held g.K.Keeper.may_leave called.new.books old.pending ended.new.pending called.result ended.ensures.pending called.ensures.left,
+      ),
+    )
+
+pub returns-clause-step : goal.returns-clause-step
+returns-clause-step g c =
+    let old = c.self.inside in
+    let table = g.T.LockStore.table in
+    let called = c.post-written in
+    let ended = c.ended-reply in
+    let before : Condition → State = λ k. state_with (is_some (g.K.Keeper.held old.books.keeper)) k old.sessions old.next_session old.orders.items (table old.locks) old.books.ledger old.pending old.past.items in
+    let shut : closed (before old.condition) ≡ None = ap (λ v. closed v.state) c.self.view_is ∙ sym c.closed.ensures.refusal ∙ c.in_default.is in
+    let up : old.condition ≡ Up = ap (λ v. v.state.condition) c.self.view_is ∙ c.in_default.ensures.up in
+    let by : who.Worker c.args.worker ≡ who_of (post_of c.args.part c.args.worker) = who_posts c.args.part c.args.worker c.requires in
+    let noted = c.note.ensures.noted ∙ (λ i. old.past.items ++ record { who = by i; line = c.args.line; command = c.post_of-command.ensures i; reply = ended.result } ∷ []) in
+    let ends =
+    ending (is_some (g.K.Keeper.held old.books.keeper)) (is_some (g.K.Keeper.held called.new.books.keeper)) old.condition ended.new.condition old.sessions old.sessions old.next_session old.orders.items called.new.orders.items (table old.locks) (table called.new.locks) old.books.ledger called.new.books.ledger
+    old.pending ended.new.pending old.past.items c.note.new.past.items called.result c.args.line (post_of c.args.part c.args.worker) ended.result c.note.result
+    called.ensures.told up ended.ensures.condition ended.ensures.pending ended.ensures.reply noted c.note.ensures.answer
+    called.ensures.limit (also_failed _ called.result refl) called.ensures.orders called.ensures.ledger
+    c.self.invariant.1 shut (λ room. called.ensures.act (before Up) refl refl refl refl room) in
+    let new = state_with (is_some (g.K.Keeper.held called.new.books.keeper)) ended.new.condition old.sessions old.next_session called.new.orders.items (table called.new.locks) called.new.books.ledger ended.new.pending c.note.new.past.items in
+    subst (λ v. IsStep v.state new c.args.line (post_of c.args.part c.args.worker) c.note.result) c.self.view_is ends.1
+
+pub returns-clause-left : goal.returns-clause-left
+returns-clause-left g c =
+    let old = c.self.inside in
+    let called = c.post-written in
+    let ended = c.ended-reply in
+    leaves_after g.K.Keeper.held g.K.Keeper.may_leave called.new.books old.pending ended.new.pending called.result ended.ensures.pending called.ensures.left

@@ -1,6 +1,0 @@
-use Rattle.std.proofs.Common.{take}
-use Rattle.posting.specs.Restoring.{IsFollowed}
-use Rattle.posting.proofs.restoring.standings_of.Given as goal
-
-abbrev pub invariant-loop-mark : goal.invariant-loop-mark
-invariant-loop-mark l = IsFollowed l.standings l.units (take l.mark-index l.marks) l.place

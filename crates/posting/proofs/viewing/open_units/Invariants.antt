@@ -1,0 +1,7 @@
+use Rattle.std.proofs.Common.{◌≡◌, map, take}
+use Rattle.posting.specs.Steps.{waiting_for}
+use Rattle.posting.specs.Views.{locks_of}
+use Rattle.posting.proofs.viewing.open_units.Given as goal
+
+abbrev pub invariant-loop-place : goal.invariant-loop-place
+invariant-loop-place l = l.found.items ≡ map (locks_of l.register.ledger) (take l.place (waiting_for 1 l.register.ledger))
