@@ -1,117 +1,109 @@
--- What a program leaves that opened its store, and one that didn't.
-use Rattle.std.proofs.Common.{◌≡◌, ◌⊎◌, inl, inr, ℕ, Bool, true, false, List, [], Option, Some, None, IfSome, IsTrue, refl, sym, ap, ◌∙◌, subst}
+-- What a program leaves that didn't open its store, and why it didn't.
+use Rattle.std.proofs.Common.{◌≡◌, inl, inr, ℕ, Bool, true, List, [], Option, Some, None, IfSome, IsTrue, refl, sym, subst}
 use Rattle.std.specs.Prelude.{is_some}
 use Rattle.enq_base.specs.Causes.{Rose}
+use Rattle.keeper_api.specs.Keeping.{IsWithin}
 use Rattle.keeper_api.specs.Rows.{Rows}
-use Rattle.posting.specs.Opening.{AreBare, CountsFault, IsBooksFault, MayBeLeft, OnBad}
+use Rattle.posting.specs.Opening.{CountsFault, OnBad, OnRefused}
+use Rattle.posting.specs.Reopening.{IsOpeningFault, MayBeLeftBy}
+use Rattle.store_laws.proofs.Faultfree.{good_rules_kept, not_both}
+use Rattle.store_laws.proofs.LedgerRows.{good_rows_spelled}
+use Rattle.store_reading.specs.Good.{IsBadPlace}
+use Rattle.store_reading.specs.Stores.{store_fault}
+use Rattle.update_records.specs.Ledger.{IsGood}
 use Rattle.hall.specs.declared.command.PastEntry.{PastEntry}
 use Rattle.hall.specs.declared.opening.HallFault.{HallFault}
 use Rattle.hall.specs.declared.opening.HallFault.TheVariants as fault
 use Rattle.hall.specs.Faults.{books_fault}
-use Rattle.hall.specs.Leaving.{LeavesState, StandForState}
-use Rattle.hall.specs.Recall.{state_after}
-use Rattle.hall.specs.State.{State, View}
+use Rattle.script_runner.specs.Replay.{Seen}
 use Rattle.script_runner.specs.declared.runner.Why.{Why}
-use Rattle.script_runner.specs.declared.runner.Why.TheVariants.{StoreFault, BadStore, NoMemory}
-use Rattle.script_runner.specs.Whole.{IsComplete}
-use Rattle.script_runner.specs.World.{first_world}
-use Rattle.enq_cmd.specs.Main.{AreUntouched, EndsComplete, IsBadStore, IsIdleEnd, IsOpeningEnd, MayRemain, built_in, first_state, opening_end}
-
--- what is said where one keeper tells its rows is said where another does
-pub over_told : (P : Type 0) (a b : Option Rows) → is_some a ≡ is_some b → IfSome a (λ _. P) → IfSome b (λ _. P)
-over_told P None None e h = tt
-over_told P None (Some y) e h = absurd (cc)
-over_told P (Some x) None e h = tt
-over_told P (Some x) (Some y) e h = h
-
-all_stand : (t : Bool) {K : Type 0} (may_leave : K → Rows → Type 0) (before : Rows → Type 0) (kept : K) (s : State) (past : List PastEntry) (why : Why) (o : Option Rows)
-    → s ≡ state_after (first_state t) past
-    → IfSome o (λ _. (rows : Rows) → may_leave kept rows → StandForState rows s)
-    → IfSome o (λ _. (rows : Rows) → may_leave kept rows → MayRemain t before past why rows)
-all_stand t may_leave before kept s past why None e h = tt
-all_stand t may_leave before kept s past why (Some x) e h = λ rows left. inl (subst (StandForState rows) e (h rows left))
-
--- the store was opened: what is left stands for the state to which the history leads
-pub remains : (t : Bool) {K : Type 0} (held : K → Option Rows) (may_leave : K → Rows → Type 0) (before after : K) (view : View K) (past : List PastEntry) (why : Why)
-    → is_some (held view.keeper) ≡ is_some (held before) → after ≡ view.keeper → view.state ≡ state_after (first_state t) past → LeavesState held may_leave view
-    → IfSome (held before) (λ _. (rows : Rows) → may_leave after rows → MayRemain t (may_leave before) past why rows)
-remains t held may_leave before after view past why told same state h =
-    subst (λ k. IfSome (held before) (λ _. (rows : Rows) → may_leave k rows → MayRemain t (may_leave before) past why rows)) (sym same)
-    (over_told _ (held view.keeper) (held before) told (all_stand t may_leave (may_leave before) view.keeper view.state past why (held view.keeper) state h))
+use Rattle.script_runner.specs.declared.runner.Why.TheVariants.{StoreFault, NoMemory}
+use Rattle.enq_cmd.specs.Main.{EndsComplete, HasNoStart, IsBadStore, IsOpeningEnd, IsUnopened, MayRemain, opening_end}
 
 pub opening_ends : (f : HallFault) → IsOpeningEnd (opening_end f)
 opening_ends fault.Store = refl
 opening_ends (fault.Bad table row) = tt
+opening_ends fault.NoStart = tt
 opening_ends fault.NoMemory = tt
 
-pub idle_ends : (f : HallFault) → IsIdleEnd (opening_end f)
-idle_ends fault.Store = refl
-idle_ends (fault.Bad table row) = tt
-idle_ends fault.NoMemory = tt
+-- what a stop may leave of a store that wasn't opened
+remains : (f : HallFault) (before after : Rows → Type 0) → ((rows : Rows) → after rows → MayBeLeftBy before true rows) → OnRefused (books_fault f) (IsWithin after before)
+    → (rows : Rows) → after rows → MayRemain (opening_end f) before rows
+remains fault.Store before after left kept = left
+remains (fault.Bad table row) before after left kept = kept
+remains fault.NoStart before after left kept = kept
+remains fault.NoMemory before after left kept = kept
 
-untouched : (t : Bool) (before : Rows → Type 0) (past : List PastEntry) (why : Why) (rows : Rows) → past ≡ [] → IsIdleEnd why → MayBeLeft before true rows → MayRemain t before past why rows
-untouched t before past why rows none idle (inl there) = inr (record { idle = idle; none = none; there = there })
-untouched t before past why rows none idle (inr raised) = inl (subst (λ calls. StandForState rows (state_after (first_state t) calls)) (sym none) (inl raised.1))
+told_left : (o : Option Rows) (P : Type 0) → IsTrue (is_some o) → IfSome o (λ _. P) → P
+told_left None P told h = absurd (cc)
+told_left (Some rows) P told h = h
 
-all_untouched : (t : Bool) {K : Type 0} (may_leave : K → Rows → Type 0) (before : Rows → Type 0) (kept : K) (past : List PastEntry) (why : Why) (o : Option Rows)
-    → past ≡ [] → IsIdleEnd why
-    → IfSome o (λ _. (left : Rows) → may_leave kept left → MayBeLeft before true left)
-    → IfSome o (λ _. (rows : Rows) → may_leave kept rows → MayRemain t before past why rows)
-all_untouched t may_leave before kept past why None none idle h = tt
-all_untouched t may_leave before kept past why (Some x) none idle h = λ rows left. untouched t before past why rows none idle (h rows left)
+-- the store wasn't opened
+pub unopened : (f : HallFault) (t : Bool) (o : Option Rows) (before after : Rows → Type 0) (old new : Seen) (past : List PastEntry) (why : Why)
+    → why ≡ opening_end f → is_some o ≡ t → record new { store_faults = old.store_faults } ≡ old → past ≡ []
+    → IfSome o (λ _. (rows : Rows) → after rows → MayBeLeftBy before true rows) → OnRefused (books_fault f) (IsWithin after before)
+    → IsUnopened t before after old new past why
+unopened f t o before after old new past why is told same none left kept = record {
+  end = subst IsOpeningEnd (sym is) (opening_ends f);
+  same = same;
+  none = none;
+  left = λ yes rows may.
+      let all = told_left o ((rows : Rows) → after rows → MayBeLeftBy before true rows) (subst (λ b. IsTrue b) (sym told) yes) left in
+      subst (λ w. MayRemain w before rows) (sym is) (remains f before after all kept rows may);
+}
 
--- the store wasn't opened: what is left was there before, or is the row of a first start
-pub untouched_remains : (t : Bool) {K : Type 0} (held : K → Option Rows) (may_leave : K → Rows → Type 0) (before after kept : K) (past : List PastEntry) (why : Why)
-    → is_some (held kept) ≡ is_some (held before) → after ≡ kept → past ≡ [] → IsIdleEnd why
-    → IfSome (held kept) (λ _. (left : Rows) → may_leave kept left → MayBeLeft (may_leave before) true left)
-    → IfSome (held before) (λ _. (rows : Rows) → may_leave after rows → MayRemain t (may_leave before) past why rows)
-untouched_remains t held may_leave before after kept past why told same none idle h =
-    subst (λ k. IfSome (held before) (λ _. (rows : Rows) → may_leave k rows → MayRemain t (may_leave before) past why rows)) (sym same)
-    (over_told _ (held kept) (held before) told (all_untouched t may_leave (may_leave before) kept past why (held kept) none idle h))
+-- the store wasn't even asked
+pub not_begun : (t : Bool) (before after : Rows → Type 0) (old new : Seen) (past : List PastEntry) (why : Why)
+    → why ≡ NoMemory → record new { store_faults = old.store_faults } ≡ old → past ≡ [] → IsWithin after before
+    → IsUnopened t before after old new past why
+not_begun t before after old new past why is same none kept = record {
+  end = subst IsOpeningEnd (sym is) tt;
+  same = same;
+  none = none;
+  left = λ yes rows may. subst (λ w. MayRemain w before rows) (sym is) (kept rows may);
+}
 
-own : {K : Type 0} (may_leave : K → Rows → Type 0) (before : K) (o : Option Rows) → IfSome o (λ _. (left : Rows) → may_leave before left → MayBeLeft (may_leave before) true left)
-own may_leave before None = tt
-own may_leave before (Some x) = λ left h. inl h
+-- a good store has no bad place
+bad_is_not_good : (rows : Rows) (table row : ℕ) → IsBadPlace rows table row → IsGood rows → ⊥
+bad_is_not_good rows table row (inl outside) good = good_rows_spelled rows good table row outside
+bad_is_not_good rows table row (inr first) good =
+    not_both (store_fault first.0) (record { table = table; row = row }) (good_rules_kept rows first.0 good first.1) first.2
 
--- nothing was done at all
-pub nothing_remains : (t : Bool) {K : Type 0} (held : K → Option Rows) (may_leave : K → Rows → Type 0) (before after : K) (past : List PastEntry) (why : Why)
-    → after ≡ before → past ≡ [] → IsIdleEnd why
-    → IfSome (held before) (λ _. (rows : Rows) → may_leave after rows → MayRemain t (may_leave before) past why rows)
-nothing_remains t held may_leave before after past why same none idle =
-    subst (λ k. IfSome (held before) (λ _. (rows : Rows) → may_leave k rows → MayRemain t (may_leave before) past why rows)) (sym same)
-    (all_untouched t may_leave (may_leave before) before past why (held before) none idle (own may_leave before (held before)))
+not_bad : (may_be : Rows → Type 0) (o : Option Rows) (table row : ℕ) → IsTrue (is_some o) → ((rows : Rows) → may_be rows → IsGood rows)
+    → IfSome o (λ rows. IsBadPlace rows table row) → IfSome o may_be → ⊥
+not_bad may_be None table row told good bad found = absurd (cc)
+not_bad may_be (Some rows) table row told good bad found = bad_is_not_good rows table row bad (good rows found)
 
-pub unopened_completes : (t : Bool) (bytes : List ℕ) (old new : Option (List ℕ)) (past : List PastEntry) (why : Why)
-    → past ≡ [] → why ≡ NoMemory → EndsComplete t bytes old new past why
-unopened_completes t bytes old new past why none memory =
-    record { after = (first_state t); history = none; complete = subst (λ w. IsComplete (first_world built_in (first_state t)) (first_state t) bytes old new w) (sym memory) tt }
-
--- a store whose tables have no rows isn't a bad one
-not_bad : (may_be : Rows → Type 0) (o : Option Rows) (table row : ℕ) → IsTrue (is_some o) → ((rows : Rows) → may_be rows → AreBare rows 8)
-    → IfSome o (λ rows. IsBooksFault rows (books_fault (fault.Bad table row))) → IfSome o may_be → ⊥
-not_bad may_be None table row told bare lowest found = absurd (cc)
-not_bad may_be (Some rows) table row told bare lowest found = lowest.0.there (bare rows found table lowest.0.own)
-
--- where no count rose, a store whose tables have no rows is opened, unless memory is wanting
+-- where no count rose a good store is opened, unless memory is wanting or it has no next start
 pub opening_completes : (t : Bool) (may_be : Rows → Type 0) (before after : Option Rows) (f : HallFault) (n m : ℕ) (bytes : List ℕ) (old new : Option (List ℕ)) (past : List PastEntry) (why : Why)
-    → past ≡ [] → why ≡ opening_end f → is_some after ≡ is_some before → IsTrue (is_some before) → ((rows : Rows) → may_be rows → AreBare rows 8)
-    → IfSome after (λ rows. IsBooksFault rows (books_fault f)) → OnBad (books_fault f) (IfSome after may_be) → CountsFault (books_fault f) n m → (Rose n m → ⊥)
-    → EndsComplete t bytes old new past why
-opening_completes t may_be before after fault.Store n m bytes old new past why none end same told bare lowest found counts calm = absurd (calm counts.1)
-opening_completes t may_be before after (fault.Bad table row) n m bytes old new past why none end same told bare lowest found counts calm =
-    absurd (not_bad may_be after table row (subst (λ b. IsTrue b) (sym same) told) bare lowest found)
-opening_completes t may_be before after fault.NoMemory n m bytes old new past why none end same told bare lowest found counts calm =
-    unopened_completes t bytes old new past why none end
+    → why ≡ opening_end f → is_some after ≡ is_some before → IsTrue (is_some before) → ((rows : Rows) → may_be rows → IsGood rows)
+    → IfSome after (λ rows. IsOpeningFault true rows (books_fault f)) → OnBad (books_fault f) (IfSome after may_be) → CountsFault (books_fault f) n m → (Rose n m → ⊥)
+    → EndsComplete t may_be bytes old new past why
+opening_completes t may_be before after fault.Store n m bytes old new past why end same told good why_not found counts calm = absurd (calm counts.1)
+opening_completes t may_be before after (fault.Bad table row) n m bytes old new past why end same told good why_not found counts calm =
+    absurd (not_bad may_be after table row (subst (λ b. IsTrue b) (sym same) told) good why_not found)
+opening_completes t may_be before after fault.NoStart n m bytes old new past why end same told good why_not found counts calm = inr (inr end)
+opening_completes t may_be before after fault.NoMemory n m bytes old new past why end same told good why_not found counts calm = inr (inl end)
 
 -- the store's fault at its opening comes only where its count rose
 pub opening_faults : (f : HallFault) (n m call : ℕ) → opening_end f ≡ StoreFault call → CountsFault (books_fault f) n m → Rose n m
 opening_faults fault.Store n m call e counts = counts.1
 opening_faults (fault.Bad table row) n m call e counts = absurd (cc)
+opening_faults fault.NoStart n m call e counts = absurd (cc)
 opening_faults fault.NoMemory n m call e counts = absurd (cc)
 
 -- a bad store is told by its place
-pub opening_place : (f : HallFault) (o : Option Rows) → IfSome o (λ rows. IsBooksFault rows (books_fault f)) → IfSome o (λ rows. IsBadStore rows (opening_end f))
+pub opening_place : (f : HallFault) (o : Option Rows) → IfSome o (λ rows. IsOpeningFault true rows (books_fault f)) → IfSome o (λ rows. IsBadStore rows (opening_end f))
 opening_place f None h = tt
 opening_place fault.Store (Some rows) h = tt
 opening_place (fault.Bad table row) (Some rows) h = h
+opening_place fault.NoStart (Some rows) h = tt
 opening_place fault.NoMemory (Some rows) h = tt
+
+-- and one without a next start stands at the last
+pub opening_last : (f : HallFault) (o : Option Rows) → IfSome o (λ rows. IsOpeningFault true rows (books_fault f)) → IfSome o (λ rows. HasNoStart rows (opening_end f))
+opening_last f None h = tt
+opening_last fault.Store (Some rows) h = tt
+opening_last (fault.Bad table row) (Some rows) h = tt
+opening_last fault.NoStart (Some rows) h = (h.1, h.2, h.3)
+opening_last fault.NoMemory (Some rows) h = tt

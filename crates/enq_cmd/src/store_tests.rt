@@ -1,10 +1,7 @@
 use super::tests::run;
 use super::*;
-use enq_base::{Deed, Effect, Key, Owner, Parts, Pattern, Refusal, Text, UnitKey, read_name};
-use hall::Reply;
 use io_edge::{MemSink, MemSource};
 use keeper_mem::MemKeeper;
-use lock_entry::{Asked, Mode, Request};
 use std::test::*;
 
 // What scripts that record and post units are answered.
@@ -237,6 +234,13 @@ pub(super) fn has_row(
 pub(super) const ORDER: &[u8] =
     b"A LOGON MILLER\nA V1 PUT T 1 X\nA COMMIT\n@1 TAKE1\n@1 DO1\n@1 TAKE1\n";
 
+const LOCKS: &[u8] = b"A LOGON MILLER\n\
+    A ENQ EZORDER E 3 MANDT=100 ORDNR=0000000001\n\
+    A ENQ EZORDER E 2 MANDT=100 ORDNR=0000000001\n\
+    A ENQ EZORDER O 2 MANDT=100 ORDNR=0000000002\n\
+    A V1 PUT T 1 X\n\
+    A COMMIT\n";
+
 #[test]
 fn the_store_has_what_was_posted(rt: HostRuntime) -> Result<(), Fail> {
     let alloc = rt.alloc();
@@ -244,12 +248,31 @@ fn the_store_has_what_was_posted(rt: HostRuntime) -> Result<(), Fail> {
     let Site { mut keeper } = ended.site;
     assert!(rt; has_row(alloc, &mut keeper, 0, b"S", b"\0\0\0\x01\0\0\0\0\0\0\0\x02")?);
     assert!(rt; has_row(alloc, &mut keeper, 6, b"\x01T1", b"X")?);
-    // A store with rows isn't opened yet.
-    let keeper = keeper.again(Vec::new(alloc), Vec::new(alloc));
-    let (ended, sink) = run_over(alloc, ORDER, keeper)?;
-    assert_eq!(rt; ended.why, Why::BadStore { table: 0, row: 1 });
-    assert_eq!(rt; ended.status, 9);
-    assert_eq!(rt; sink.bytes().len(), 0);
+    Ok(())
+}
+
+// An exclusive lock of the unit, asked for twice, is a row of its own with its count. The optimistic lock goes, and those
+// of the dialogue are no locks of the unit. The store is a good one: the next start opens it.
+#[test]
+fn the_locks_of_a_unit_are_stored(rt: HostRuntime) -> Result<(), Fail> {
+    let alloc = rt.alloc();
+    let (ended, _) = run(alloc, LOCKS, Vec::new(alloc), Vec::new(alloc))?;
+    let Site { mut keeper } = ended.site;
+    let unit: &[u8] = b"\0\0\0\x01\0\0\0\x01\0\0\0\x01";
+    let header: &[u8] = b"\x06MILLER\0\x01\0\0\0\0\0\x01\0\0";
+    let first: &[u8] = b"\0\0\0\x01\0\0\0\x01\0\0\0\x01\0\0\0\x01";
+    assert!(rt; has_row(alloc, &mut keeper, 1, unit, header)?);
+    assert!(rt;
+        has_row(
+            alloc,
+            &mut keeper,
+            7,
+            first,
+            b"\x06ZORDER\x02\0\x02\x0d1000000000001"
+        )?
+    );
+    let (_, sink) = run_over(alloc, b"@1 TAKE1\n@1 DO1\n", keeper)?;
+    assert_eq!(rt; sink.bytes(), b"1 OK 1.1.1\n2 POSTED 1.1.1\n".as_slice());
     Ok(())
 }
 
@@ -339,80 +362,5 @@ fn the_1025th_session_is_refused(rt: HostRuntime) -> Result<(), Fail> {
         sink.bytes()
             .ends_with(b"1024 OK\n1025 SESSIONS_FULL 1024\n")
     );
-    Ok(())
-}
-
-#[test]
-fn a_full_history_does_not_grow(rt: HostRuntime) -> Result<(), Fail> {
-    let alloc = rt.alloc();
-    let keeper = MemKeeper::new(alloc, Vec::new(alloc), Vec::new(alloc))?;
-    let Ok(mut hall) = Hall::<ListTable, MemKeeper>::open(alloc, keeper, 1) else {
-        return Err(Fail::from("a hall"));
-    };
-    for _ in 0..262_144 {
-        assert!(rt; hall.drop_order(0, 1) == Reply::Refused(Refusal::NoOrder));
-    }
-    assert!(rt; hall.drop_order(0, 1) == Reply::Refused(Refusal::LogFull));
-    assert_eq!(rt; hall.past().len(), 262_144);
-    Ok(())
-}
-
-fn update_lock(mode: Mode) -> Option<Request> {
-    let asked = Asked {
-        table: read_name(b"ZORDER")?,
-        pattern: Pattern::new(b"1000000000001")?,
-        mode,
-    };
-    Some(Request {
-        asked,
-        dialogue: false,
-        update: true,
-    })
-}
-
-fn one_put(alloc: Global) -> Result<Parts, Fail> {
-    let Ok(text) = Text::new(alloc, b"X") else {
-        return Err(Fail::from("a text"));
-    };
-    let effect = Effect {
-        table: read_name(b"T").ok_or("a name")?,
-        key: Key::new(b"1").ok_or("a key")?,
-        deed: Deed::Put(text),
-    };
-    Ok(Parts {
-        v1: Items::from_vec(vec![in alloc; effect]?),
-        v2: Items::from_vec(Vec::new(alloc)),
-    })
-}
-
-// An optimistic lock of the unit goes, and its exclusive one is handed over.
-#[test]
-fn a_commit_hands_its_locks_over(rt: HostRuntime) -> Result<(), Fail> {
-    let alloc = rt.alloc();
-    let session = read_name(b"A").ok_or("a name")?;
-    let user = read_name(b"MILLER").ok_or("a name")?;
-    let optimistic = update_lock(Mode::O).ok_or("a request")?;
-    let exclusive = update_lock(Mode::E).ok_or("a request")?;
-    let keeper = MemKeeper::new(alloc, Vec::new(alloc), Vec::new(alloc))?;
-    let Ok(mut hall) = Hall::<ListTable, MemKeeper>::open(alloc, keeper, 2) else {
-        return Err(Fail::from("a hall"));
-    };
-    assert!(rt; hall.logon(1, session, user) == Reply::Done);
-    assert!(rt; hall.ask(alloc, 2, session, vec![in alloc; optimistic]?) == Reply::Done);
-    assert!(rt; hall.ask(alloc, 3, session, vec![in alloc; exclusive]?) == Reply::Done);
-    let parts = one_put(alloc)?;
-    let unit = UnitKey {
-        start: 1,
-        session: 1,
-        luw: 1,
-    };
-    assert!(rt; hall.commit(alloc, 4, session, parts) == Reply::Unit(unit));
-    let entries = hall.entries(alloc)?;
-    assert_eq!(rt; entries.len(), 1);
-    for entry in entries.as_slice() {
-        assert!(rt; entry.owner == Owner::Upd(unit));
-        assert!(rt; entry.mode == Mode::E);
-        assert!(rt; entry.handed);
-    }
     Ok(())
 }

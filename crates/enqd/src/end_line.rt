@@ -19,6 +19,7 @@ impl fmt::Display for EndLine {
             Why::BadStore { table, row } => {
                 write!(f, "enqd: bad store, table {table} row {row}")
             }
+            Why::NoStart => f.write_str("enqd: no start number left"),
             Why::NoMemory => f.write_str("enqd: no memory"),
         }
     }

@@ -16,6 +16,7 @@ fn each_end_has_its_line(rt: HostRuntime) -> Result<(), Fail> {
             Why::BadStore { table: 6, row: 1 },
             "enqd: bad store, table 6 row 1",
         ),
+        (Why::NoStart, "enqd: no start number left"),
         (Why::NoMemory, "enqd: no memory"),
     ] {
         let line_of_end = EndLine(why).to_string(rt.alloc())?;

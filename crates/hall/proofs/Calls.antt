@@ -26,7 +26,12 @@ use Rattle.hall.specs.Coming.{outcome_in}
 use Rattle.hall.specs.History.{Well, IsAllowed, is_unrecorded, judged, leaves, may_want, served, shown}
 use Rattle.hall.specs.Sessions.{session_at, without_session, with_session, with_next_unit, pair_of}
 use Rattle.hall.specs.State.{State}
-use Rattle.hall.specs.Step.{Verdict, Refuses, Leaves, answer_of, ask_refusal, call_of, closed, converting, entered, granting, logon, own_verdict, session_call, unless_closed, verdict}
+use Rattle.hall.specs.Step.{Verdict, Refuses, Leaves, answer_of, ask_refusal, call_of, closed, converting, entered, granting, logon, own_verdict, session_call, unless_closed, verdict, with_room}
+
+-- a call that adds a mark: what holds where the store has no room for it, and where it has
+pub by_room : (P : Verdict → Type 0) (s : State) (v : Verdict) → P (Refuses (refusal.StoreFull s.mark_limit)) → P v → P (with_room s v)
+by_room P s v full room =
+    elim (nat_le s.mark_limit (length s.stored.marks)) as (λ b. P (if b then Refuses (refusal.StoreFull s.mark_limit) else v)) [ true ↦ full | false ↦ room ]
 
 pub verdict-room : (come : ℕ → UnitKey → Outcome) (s : State) (c : Command) → closed s ≡ None → verdict come s c ≡ own_verdict come s c
 unfolding verdict

@@ -66,7 +66,7 @@ orders_recorded ledger unit (Some other ∷ orders) fresh h =
     (recorded_waiting ledger unit other fresh h.0, h.1, orders_recorded ledger unit orders fresh h.2)
 
 -- orders for other units than the one that is marked
-orders_marked : (ledger : Ledger) (key : UnitKey) (kind : MarkKind) (orders : List (Option UnitKey)) → is_claimed orders key ≡ false → AreOrders ledger orders → AreOrders (with_mark ledger key kind) orders
+pub orders_marked : (ledger : Ledger) (key : UnitKey) (kind : MarkKind) (orders : List (Option UnitKey)) → is_claimed orders key ≡ false → AreOrders ledger orders → AreOrders (with_mark ledger key kind) orders
 orders_marked ledger key kind [] free h = tt
 orders_marked ledger key kind (None ∷ orders) free h = orders_marked ledger key kind orders free h
 orders_marked ledger key kind (Some other ∷ orders) free h =

@@ -20,7 +20,10 @@ use Rattle.hall.specs.History.{DeviceOutcome, Well, Wanting, StoreFails, Comes, 
 use Rattle.hall.specs.Orders.{order_for, order_of, without_order}
 use Rattle.hall.specs.Sessions.{session_at, unit_key}
 use Rattle.hall.specs.State.{State}
-use Rattle.hall.specs.Step.{Verdict, Refuses, Leaves, call_of, closed, committed, converting, entered, granting, own_verdict, posting, session_call, taking, unless_closed, verdict}
+use Rattle.hall.specs.Step.{Verdict, Refuses, Leaves, call_of, closed, committed, converting, entered, granting, own_verdict, posting, session_call, taking, unless_closed, verdict, with_room}
+use Rattle.hall.proofs.Calls.{by_room}
+use Rattle.hall.proofs.Cancels.{by_cancel}
+use Rattle.hall.proofs.Resubmissions.{by_resubmit}
 
 granting-condition : (s : State) (r : Result (List Entry) AskFault) → (judged s (granting s r)).state.condition ≡ s.condition
 granting-condition s (Ok locks) = refl
@@ -30,10 +33,10 @@ converting-condition : (s : State) (r : Result Conversion AskFault) → (judged 
 converting-condition s (Ok c) = refl
 converting-condition s (Err f) = refl
 
-commit-condition : (s : State) (x : Session) (parts : Parts) (large none : Bool) → (judged s (if large then Refuses refusal.UnitTooLarge else (if none then Leaves s reply.Done else Leaves (committed s x parts) (reply.Unit (unit_key s.stored.start x))))).state.condition ≡ s.condition
+commit-condition : (s : State) (x : Session) (parts : Parts) (large none : Bool) → (judged s (if large then Refuses refusal.UnitTooLarge else (if none then Leaves s reply.Done else with_room s (Leaves (committed s x parts) (reply.Unit (unit_key s.stored.start x)))))).state.condition ≡ s.condition
 commit-condition s x parts true none = refl
 commit-condition s x parts false true = refl
-commit-condition s x parts false false = refl
+commit-condition s x parts false false = by_room (λ v. (judged s v).state.condition ≡ s.condition) s (Leaves (committed s x parts) (reply.Unit (unit_key s.stored.start x))) refl refl
 
 session-condition : (s : State) (x : Session) (c : Command) → (judged s (session_call s x c)).state.condition ≡ s.condition
 session-condition s x (command.Ask session requests) = granting-condition s _
@@ -49,6 +52,8 @@ session-condition s x (command.Do1 worker) = refl
 session-condition s x (command.Take2 worker) = refl
 session-condition s x (command.Do2 worker) = refl
 session-condition s x (command.DropOrder worker) = refl
+session-condition s x (command.Cancel unit) = refl
+session-condition s x (command.Resubmit unit) = refl
 
 call-condition : (s : State) (name : List ℕ) (c : Command) → (judged s (call_of s name c)).state.condition ≡ s.condition
 call-condition s name c =
@@ -82,12 +87,17 @@ own-condition come s (command.Rollback session) = call-condition s session (comm
 own-condition come s (command.Commit session parts) = call-condition s session (command.Commit session parts)
 own-condition come s (command.Take1 worker) = take-condition s worker _ _
 own-condition come s (command.Do1 worker) =
-    order-condition s (order_for 1 s.stored s.orders worker) (λ unit. posting 1 s worker unit (come 1 unit)) (λ unit. refl)
+    order-condition s (order_for 1 s.stored s.orders worker) (λ unit. with_room s (posting 1 s worker unit (come 1 unit)))
+    (λ unit. by_room (λ v. (judged s v).state.condition ≡ s.condition) s (posting 1 s worker unit (come 1 unit)) refl refl)
 own-condition come s (command.Take2 worker) = take-condition s worker _ _
 own-condition come s (command.Do2 worker) =
-    order-condition s (order_for 2 s.stored s.orders worker) (λ unit. posting 2 s worker unit (come 2 unit)) (λ unit. refl)
+    order-condition s (order_for 2 s.stored s.orders worker) (λ unit. with_room s (posting 2 s worker unit (come 2 unit)))
+    (λ unit. by_room (λ v. (judged s v).state.condition ≡ s.condition) s (posting 2 s worker unit (come 2 unit)) refl refl)
 own-condition come s (command.DropOrder worker) =
     order-condition s (order_of s.orders worker) (λ unit. Leaves (record s { orders = without_order s.orders worker }) (reply.Unit unit)) (λ unit. refl)
+own-condition come s (command.Cancel unit) = by_cancel (λ v. (judged s v).state.condition ≡ s.condition) s unit (λ r plain. refl) (λ status can. refl)
+own-condition come s (command.Resubmit unit) =
+    by_resubmit (λ v. (judged s v).state.condition ≡ s.condition) s unit (λ r plain. refl) (λ es here stand. refl) (λ here. refl)
 
 unless-condition : (s : State) (o : Option Refusal) (v : Verdict) → (judged s v).state.condition ≡ s.condition → (judged s (unless_closed o v)).state.condition ≡ s.condition
 unless-condition s None v h = h

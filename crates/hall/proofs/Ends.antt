@@ -43,15 +43,15 @@ none_before None l h = refl
 none_before (Some step) l h = cc
 
 -- what the fields are behind it
-pub ends_as : (told told' : Bool) (ss ss' : List Session) (n : ℕ) (os os' : List (Option UnitKey)) (t t' : Table) (l l' : Ledger) (p : Option InFlight) (past past' : List PastEntry) (w : Written)
+pub ends_as : (told told' : Bool) (ss ss' : List Session) (n : ℕ) (os os' : List (Option UnitKey)) (t t' : Table) (m : ℕ) (l l' : Ledger) (p : Option InFlight) (past past' : List PastEntry) (w : Written)
     → told' ≡ told → option_map (landed l) p ≡ None → t'.limit ≡ t.limit → OnFailure w (ss' ≡ ss) → OnFailure w (os' ≡ os) → OnFailure w (l' ≡ l)
-    → state_of told' (written_condition Up (length past) w) ss' n os' t' l' (option_map (landed l') (written_pending p w)) past'
-    ≡ record (written_state (state_of told Up ss n os t l (option_map (landed l) p) past) (record (state_of told Up ss n os t l (option_map (landed l) p) past) { sessions = ss'; orders = os'; locks = t'.entries; stored = l' }) w) { past = past' }
-ends_as told told' ss ss' n os os' t t' l l' p past past' (Answered r) tells none limit a b c =
+    → state_of told' (written_condition Up (length past) w) ss' n os' t' m l' (option_map (landed l') (written_pending p w)) past'
+    ≡ record (written_state (state_of told Up ss n os t m l (option_map (landed l) p) past) (record (state_of told Up ss n os t m l (option_map (landed l) p) past) { sessions = ss'; orders = os'; locks = t'.entries; stored = l' }) w) { past = past' }
+ends_as told told' ss ss' n os os' t t' m l l' p past past' (Answered r) tells none limit a b c =
     let same : option_map (landed l') p ≡ option_map (landed l) p = ap (option_map (landed l')) (none_before p l none) ∙ sym none in
-    λ i. record (state_of (tells i) Up ss' n os' t' l' (same i) past') { limit = limit i }
-ends_as told told' ss ss' n os os' t t' l l' p past past' (Failed step) tells none limit a b c =
-    λ i. record (doubted (state_of (tells i) Up (a i) n (b i) t (c i) None past) (landed (c i) step)) { limit = limit i; past = past' }
+    λ i. record (state_of (tells i) Up ss' n os' t' m l' (same i) past') { limit = limit i }
+ends_as told told' ss ss' n os os' t t' m l l' p past past' (Failed step) tells none limit a b c =
+    λ i. record (doubted (state_of (tells i) Up (a i) n (b i) t m (c i) None past) (landed (c i) step)) { limit = limit i; past = past' }
 
 taken-well : (s : State) (worker : ℕ) (o found : Option UnitKey) → shown (judged s (elim o [ Some unit ↦ Refuses (refusal.WorkerBusy unit) | None ↦ taking s worker found ])).reply ≡ Well
 taken-well s worker None None = refl

@@ -1,12 +1,15 @@
 -- No verdict wants memory, and each keeps the locks sound.
-use Rattle.std.proofs.Common.{◌≡◌, ℕ, ◌<◌, ◌^◌, arith, Bool, true, false, cond, List, [], ◌∷◌, length, map, fold, refl, sym, ◌∙◌}
+use Rattle.std.proofs.Common.{◌≡◌, ℕ, ◌<◌, ◌^◌, arith, Bool, true, false, cond, List, [], ◌∷◌, ◌++◌, length, map, fold, refl, sym, ◌∙◌}
 use Rattle.std.specs.Prelude.{if◌then◌else◌, nat_eq, Option, Some, None, Result, Ok, Err}
+use Rattle.std.specs.List.{AllByRecursion}
 use Rattle.std.proofs.lemmas.Bool.{and_from, eq-eqb}
 use Rattle.enq_base.specs.declared.condition.Condition.{Condition}
 use Rattle.enq_base.specs.declared.condition.Condition.TheVariants as condition
 use Rattle.enq_base.specs.declared.owner.Owner.TheVariants.{Upd}
 use Rattle.enq_base.specs.declared.owner.UnitKey.{UnitKey}
 use Rattle.enq_base.specs.declared.unit.Parts.{Parts}
+use Rattle.enq_base.specs.declared.unit.Status.{Status}
+use Rattle.enq_base.specs.declared.unit.Status.TheVariants.{Open, Posted, Bad, Closed, Bad2, Cancelled}
 use Rattle.enq_base.specs.declared.refusal.Refusal.{Refusal}
 use Rattle.enq_base.specs.declared.refusal.Refusal.TheVariants as refusal
 use Rattle.lock_entry.specs.declared.entry.Asker.{Asker}
@@ -24,6 +27,8 @@ use Rattle.lock_entry.specs.Table.{Table, IsTable, with_entries}
 use Rattle.lock_entry.proofs.ConversionSound.{IsTable-converted}
 use Rattle.lock_entry.proofs.Frees.{IsTable-freed, IsTable-freed_owner, IsTable-handed_over}
 use Rattle.lock_entry.proofs.GrantSound.{IsTable-asked}
+use Rattle.lock_entry.proofs.Readmits.{IsTable-readmitted}
+use Rattle.posting.specs.Posts.{entries_of}
 use Rattle.posting.specs.declared.prepared.Outcome.{Outcome}
 use Rattle.posting.specs.declared.prepared.Outcome.TheVariants as outcome
 use Rattle.hall.specs.declared.command.Command.{Command}
@@ -31,16 +36,24 @@ use Rattle.hall.specs.declared.command.Command.TheVariants as command
 use Rattle.hall.specs.declared.command.Reply.{Reply}
 use Rattle.hall.specs.declared.command.Reply.TheVariants as reply
 use Rattle.hall.specs.declared.command.Session.{Session}
-use Rattle.hall.specs.History.{DeviceOutcome, Well, failed, is_post, is_unrecorded, judged, shown}
+use Rattle.hall.specs.Coming.{outcome_in}
+use Rattle.hall.specs.History.{DeviceOutcome, Well, Wanting, StoreFails, Comes, Served, failed, is_post, is_unrecorded, judged, past_entry, served, shown}
+use Rattle.hall.specs.Kept.{HasGoodLocks, HasSoundLocks}
 use Rattle.hall.specs.Orders.{order_for, order_of, without_order}
-use Rattle.hall.specs.Sessions.{pair_of, session_at, unit_key}
+use Rattle.hall.specs.Sessions.{owners_of, pair_of, session_at, unit_key}
 use Rattle.hall.specs.State.{State}
-use Rattle.hall.specs.Step.{Verdict, Refuses, Leaves, ask_refusal, call_of, committed, converting, entered, granting, own_verdict, posted_reply, posting, session_call, taking, unless_closed, verdict}
+use Rattle.hall.specs.Step.{Verdict, Refuses, Leaves, ask_refusal, call_of, cancelled, committed, converting, entered, granting, own_verdict, posted_reply, posting, reopened, reposted, resubmit, session_call, taking, unit_of, unless_closed, verdict, with_room}
+use Rattle.hall.proofs.Calls.{by_room}
+use Rattle.hall.proofs.Cancels.{by_cancel}
+use Rattle.hall.proofs.HandedLocks.{handed_good}
+use Rattle.hall.proofs.Owned.{may_be_readmitted}
+use Rattle.hall.proofs.Resubmissions.{by_resubmit}
+use Rattle.hall.proofs.Users.{every_append}
 
 abbrev pub table_of : State → Table
 table_of s = record { entries = s.locks; limit = s.limit }
 
--- But for a post neither is memory wanting nor does the store fail. A good table stays good, and a call that isn't noted leaves the state
+-- But for a post neither is memory wanting nor does the store fail. Sound locks stay sound, and a call that isn't noted leaves the state
 -- the answer of a call shows that all went well; that of a post shows what its part came to
 abbrev pub IsPlain : Bool → DeviceOutcome → Type 0
 IsPlain true outcome = Unit {0}
@@ -49,7 +62,11 @@ IsPlain false outcome = outcome ≡ Well
 pub record IsFair (post : Bool) (s : State) (v : Verdict) : Type 0 where
   pub well : IsPlain post (shown (judged s v).reply)
   pub quiet : is_unrecorded (judged s v).reply ≡ true → (judged s v).state ≡ s
-  pub sound : IsTable (table_of s) → IsTable (table_of (judged s v).state)
+  pub sound : HasSoundLocks s → HasSoundLocks (judged s v).state
+
+-- the locks of a state, and those that are stored in it
+pub over_table : {s : State} → AllByRecursion HasGoodLocks s.stored.units → IsTable (table_of s) → HasSoundLocks s
+over_table stored table = record { table = table; stored = stored }
 
 plain : (post : Bool) (outcome : DeviceOutcome) → outcome ≡ Well → IsPlain post outcome
 plain true outcome e = tt
@@ -58,10 +75,10 @@ plain false outcome e = e
 refused_fairly : {post : Bool} (s : State) (r : Refusal) → shown (reply.Refused r) ≡ Well → IsFair post s (Refuses r)
 refused_fairly {post} s r e = record { well = plain post _ e; quiet = λ _. refl; sound = λ h. h }
 
-left_fairly : {post : Bool} (s after : State) → (IsTable (table_of s) → IsTable (table_of after)) → IsFair post s (Leaves after reply.Done)
+left_fairly : {post : Bool} (s after : State) → (HasSoundLocks s → HasSoundLocks after) → IsFair post s (Leaves after reply.Done)
 left_fairly {post} s after h = record { well = plain post _ refl; quiet = λ e. absurd (cc); sound = h }
 
-told_fairly : {post : Bool} (s after : State) (r : Reply) → shown r ≡ Well → is_unrecorded r ≡ false → (IsTable (table_of s) → IsTable (table_of after)) → IsFair post s (Leaves after r)
+told_fairly : {post : Bool} (s after : State) (r : Reply) → shown r ≡ Well → is_unrecorded r ≡ false → (HasSoundLocks s → HasSoundLocks after) → IsFair post s (Leaves after r)
 told_fairly {post} s after r well noted h = record { well = plain post _ well; quiet = λ e. absurd (let no : false ≡ true = sym noted ∙ e in cc); sound = h }
 
 -- the grant rule refuses for its own reasons alone
@@ -93,43 +110,49 @@ pair_of-IsPair start x = and_from _ _ (eq-eqb start start refl) (eq-eqb x.number
 
 granting-fair : {post : Bool} (s : State) (x : Session) (rs : List Request) (r : Result (List Entry) AskFault) → asked (table_of s) (pair_of s.stored.start x) x.user rs ≡ r → IsOfRule r → IsFair post s (granting s r)
 granting-fair s x rs (Ok es) e h =
-    left_fairly s (record s { locks = es }) (λ good. IsTable-asked (table_of s) (pair_of s.stored.start x) x.user rs good (pair_of-IsPair s.stored.start x) es e)
+    left_fairly s (record s { locks = es }) (λ good. over_table good.stored (IsTable-asked (table_of s) (pair_of s.stored.start x) x.user rs good.table (pair_of-IsPair s.stored.start x) es e))
 granting-fair s x rs (Err f) e h = refused_fairly s (ask_refusal f) h
 
 converting-fair : {post : Bool} (s : State) (x : Session) (asked : List Asked) (r : Result Conversion AskFault) → converted s.locks (pair_of s.stored.start x) asked ≡ r → IsOfRule r → IsFair post s (converting s r)
 converting-fair s x asked (Ok c) e h =
-    left_fairly s (record s { locks = c.entries }) (λ good. IsTable-converted (table_of s) (pair_of s.stored.start x) asked c good (pair_of-IsPair s.stored.start x) e)
+    left_fairly s (record s { locks = c.entries }) (λ good. over_table good.stored (IsTable-converted (table_of s) (pair_of s.stored.start x) asked c good.table (pair_of-IsPair s.stored.start x) e))
 converting-fair s x asked (Err f) e h = refused_fairly s (ask_refusal f) h
 
 freed-good : (t : Table) (names : List LockName) → IsTable t → IsTable (with_entries t (fold freed t.entries names))
 freed-good t [] h = h
 freed-good t (n ∷ ns) h = freed-good (with_entries t (freed t.entries n)) ns (IsTable-freed t n h)
 
-commit-fair : {post : Bool} (s : State) (x : Session) (parts : Parts) (large none : Bool) → IsFair post s (if large then Refuses refusal.UnitTooLarge else (if none then Leaves s reply.Done else Leaves (committed s x parts) (reply.Unit (unit_key s.stored.start x))))
+commit-fair : {post : Bool} (s : State) (x : Session) (parts : Parts) (large none : Bool) → IsFair post s (if large then Refuses refusal.UnitTooLarge else (if none then Leaves s reply.Done else with_room s (Leaves (committed s x parts) (reply.Unit (unit_key s.stored.start x)))))
 commit-fair s x parts true none = refused_fairly s _ refl
 commit-fair s x parts false true = left_fairly s s (λ good. good)
-commit-fair s x parts false false =
-    told_fairly s (committed s x parts) _ refl refl (λ good. IsTable-handed_over (table_of s) (unit_key s.stored.start x) good)
+commit-fair {post} s x parts false false =
+    by_room (IsFair post s) s (Leaves (committed s x parts) (reply.Unit (unit_key s.stored.start x))) (refused_fairly s _ refl)
+    (told_fairly s (committed s x parts) _ refl refl (λ good. record {
+      table = IsTable-handed_over (table_of s) (unit_key s.stored.start x) good.table;
+      stored = every_append HasGoodLocks s.stored.units (unit_of s.stored.start s.locks x parts ∷ []) good.stored (handed_good (table_of s) s.stored.start x parts good.table, tt);
+    }))
 
 session-fair : {post : Bool} (s : State) (x : Session) (c : Command) → IsFair post s (session_call s x c)
 session-fair s x (command.Logon session user) = refused_fairly s _ refl
 session-fair s x (command.Logoff session) =
     let pair = pair_of s.stored.start x in
-    left_fairly s _ (λ good. IsTable-freed_owner (with_entries (table_of s) (freed_owner s.locks pair.dialogue)) pair.update (IsTable-freed_owner (table_of s) pair.dialogue good))
+    left_fairly s _ (λ good. over_table good.stored (IsTable-freed_owner (with_entries (table_of s) (freed_owner s.locks pair.dialogue)) pair.update (IsTable-freed_owner (table_of s) pair.dialogue good.table)))
 session-fair s x (command.Ask session rs) =
     granting-fair s x rs _ refl (asked-of_rule (table_of s) (pair_of s.stored.start x) x.user rs)
-session-fair s x (command.Free session rs) = left_fairly s _ (λ good. freed-good (table_of s) (halves (pair_of s.stored.start x) rs) good)
+session-fair s x (command.Free session rs) = left_fairly s _ (λ good. over_table good.stored (freed-good (table_of s) (halves (pair_of s.stored.start x) rs) good.table))
 session-fair s x (command.FreeAll session) =
     let pair = pair_of s.stored.start x in
-    left_fairly s _ (λ good. IsTable-freed_owner (with_entries (table_of s) (freed_owner s.locks pair.dialogue)) pair.update (IsTable-freed_owner (table_of s) pair.dialogue good))
+    left_fairly s _ (λ good. over_table good.stored (IsTable-freed_owner (with_entries (table_of s) (freed_owner s.locks pair.dialogue)) pair.update (IsTable-freed_owner (table_of s) pair.dialogue good.table)))
 session-fair s x (command.Convert session asked) = converting-fair s x asked _ refl (converted-of_rule s.locks (pair_of s.stored.start x) asked)
-session-fair s x (command.Rollback session) = left_fairly s _ (λ good. IsTable-freed_owner (table_of s) (pair_of s.stored.start x).update good)
+session-fair s x (command.Rollback session) = left_fairly s _ (λ good. over_table good.stored (IsTable-freed_owner (table_of s) (pair_of s.stored.start x).update good.table))
 session-fair s x (command.Commit session parts) = commit-fair s x parts _ _
 session-fair s x (command.Take1 worker) = refused_fairly s _ refl
 session-fair s x (command.Do1 worker) = refused_fairly s _ refl
 session-fair s x (command.Take2 worker) = refused_fairly s _ refl
 session-fair s x (command.Do2 worker) = refused_fairly s _ refl
 session-fair s x (command.DropOrder worker) = refused_fairly s _ refl
+session-fair s x (command.Cancel unit) = refused_fairly s _ refl
+session-fair s x (command.Resubmit unit) = refused_fairly s _ refl
 
 call-fair : {post : Bool} (s : State) (name : List ℕ) (c : Command) → IsFair post s (call_of s name c)
 call-fair {post} s name c =
@@ -138,7 +161,7 @@ call-fair {post} s name c =
 logon-fair : {post : Bool} (s : State) (name user : List ℕ) (known full : Bool) → IsFair post s (if known then Refuses refusal.SessionExists else (if full then Refuses refusal.SessionsFull else Leaves (entered s name user) reply.Done))
 logon-fair s name user true full = refused_fairly s _ refl
 logon-fair s name user false true = refused_fairly s _ refl
-logon-fair s name user false false = left_fairly s _ (λ good. good)
+logon-fair s name user false false = left_fairly s _ (λ good. over_table good.stored good.table)
 
 order-fair : {post : Bool} (s : State) (o : Option UnitKey) (act : UnitKey → Verdict) → ((unit : UnitKey) → IsFair post s (act unit)) → IsFair post s (elim o [ None ↦ Refuses refusal.NoOrder | Some unit ↦ act unit ])
 order-fair s None act h = refused_fairly s _ refl
@@ -146,7 +169,7 @@ order-fair s (Some unit) act h = h unit
 
 taking-fair : {post : Bool} (s : State) (worker : ℕ) (o : Option UnitKey) → IsFair post s (taking s worker o)
 taking-fair s worker None = refused_fairly s _ refl
-taking-fair s worker (Some unit) = told_fairly s _ _ refl refl (λ good. good)
+taking-fair s worker (Some unit) = told_fairly s _ _ refl refl (λ good. over_table good.stored good.table)
 
 take-fair : {post : Bool} (s : State) (worker : ℕ) (o found : Option UnitKey) → IsFair post s (elim o [ Some unit ↦ Refuses (refusal.WorkerBusy unit) | None ↦ taking s worker found ])
 take-fair s worker None found = taking-fair s worker found
@@ -166,8 +189,27 @@ posting-fair : (part : ℕ) (s : State) (worker : ℕ) (unit : UnitKey) (o : Out
 posting-fair part s worker unit o = record {
   well = tt;
   quiet = λ e. absurd (let no : false ≡ true = sym (posted-noted part unit o) ∙ e in cc);
-  sound = λ good. behind-sound s unit (nat_eq part 1) good;
+  sound = λ good. over_table good.stored (behind-sound s unit (nat_eq part 1) good.table);
 }
+
+without-sound : (s : State) (unit : UnitKey) (status : Status) → IsTable (table_of s) → IsTable (table_of (cancelled s unit status))
+without-sound s unit Open good = IsTable-freed_owner (table_of s) (Upd unit) good
+without-sound s unit Posted good = good
+without-sound s unit Bad good = good
+without-sound s unit Closed good = good
+without-sound s unit Bad2 good = good
+without-sound s unit Cancelled good = good
+
+-- the two owners of a unit are a pair
+owners_of-IsPair : (unit : UnitKey) → IsPair (owners_of unit)
+owners_of-IsPair unit = and_from _ _ (eq-eqb unit.start unit.start refl) (eq-eqb unit.session unit.session refl)
+
+resubmit-fair : (s : State) (unit : UnitKey) → IsFair false s (resubmit s unit)
+resubmit-fair s unit =
+    by_resubmit (IsFair false s) s unit (λ r plain. refused_fairly s r plain.well)
+    (λ es here stand. told_fairly s (reopened s unit es) (reply.Unit unit) refl refl (λ good. over_table good.stored
+    (IsTable-readmitted (table_of s) (owners_of unit) (entries_of s.stored.units unit) es good.table (owners_of-IsPair unit) (may_be_readmitted s.stored.units unit good.stored) stand)))
+    (λ here. told_fairly s (reposted s unit) (reply.Unit unit) refl refl (λ good. over_table good.stored good.table))
 
 own-fair : (come : ℕ → UnitKey → Outcome) (s : State) (c : Command) → IsFair (is_post c) s (own_verdict come s c)
 own-fair come s (command.Logon session user) = logon-fair s session user _ _
@@ -180,13 +222,17 @@ own-fair come s (command.Rollback session) = call-fair s session (command.Rollba
 own-fair come s (command.Commit session parts) = call-fair s session (command.Commit session parts)
 own-fair come s (command.Take1 worker) = take-fair s worker _ _
 own-fair come s (command.Do1 worker) =
-    order-fair s (order_for 1 s.stored s.orders worker) (λ unit. posting 1 s worker unit (come 1 unit)) (λ unit. posting-fair 1 s worker unit (come 1 unit))
+    order-fair s (order_for 1 s.stored s.orders worker) (λ unit. with_room s (posting 1 s worker unit (come 1 unit))) (λ unit. by_room (IsFair true s) s (posting 1 s worker unit (come 1 unit)) (refused_fairly s _ refl) (posting-fair 1 s worker unit (come 1 unit)))
 own-fair come s (command.Take2 worker) = take-fair s worker _ _
 own-fair come s (command.Do2 worker) =
-    order-fair s (order_for 2 s.stored s.orders worker) (λ unit. posting 2 s worker unit (come 2 unit)) (λ unit. posting-fair 2 s worker unit (come 2 unit))
+    order-fair s (order_for 2 s.stored s.orders worker) (λ unit. with_room s (posting 2 s worker unit (come 2 unit))) (λ unit. by_room (IsFair true s) s (posting 2 s worker unit (come 2 unit)) (refused_fairly s _ refl) (posting-fair 2 s worker unit (come 2 unit)))
 own-fair come s (command.DropOrder worker) =
     order-fair s (order_of s.orders worker) (λ unit. Leaves (record s { orders = without_order s.orders worker }) (reply.Unit unit))
-    (λ unit. told_fairly s _ _ refl refl (λ good. good))
+    (λ unit. told_fairly s _ _ refl refl (λ good. over_table good.stored good.table))
+own-fair come s (command.Cancel unit) =
+    by_cancel (IsFair false s) s unit (λ r plain. refused_fairly s r plain.well)
+    (λ status can. told_fairly s (cancelled s unit status) (reply.Unit unit) refl refl (λ good. over_table good.stored (without-sound s unit status good.table)))
+own-fair come s (command.Resubmit unit) = resubmit-fair s unit
 
 down-fair : {post : Bool} (s : State) (c : Condition) (v : Verdict) → IsFair post s v → IsFair post s (unless_closed (elim c [ condition.Up ↦ None | condition.NoServer ↦ None | condition.Doubt k ↦ Some (refusal.Down k) ]) v)
 down-fair s condition.Up v h = h
@@ -201,9 +247,19 @@ pub verdict-fair : (come : ℕ → UnitKey → Outcome) (s : State) (c : Command
 unfolding verdict
 verdict-fair come s c = closed-fair s _ (own_verdict come s c) (own-fair come s c)
 
-none_stands : (limit : ℕ) → limit < 2 ^ 32 → IsTable (record { entries = []; limit = limit })
+pub none_stands : (limit : ℕ) → limit < 2 ^ 32 → IsTable (record { entries = []; limit = limit })
 none_stands limit fits = record { sound = record { names = refl; counts = refl; conflicts = refl }; within = omega arith; limit_fits = fits }
 
-pub failed-sound : (s : State) (v : Verdict) → IsTable (table_of s) → IsTable (table_of (failed s v).state)
+pub failed-sound : (s : State) (v : Verdict) → HasSoundLocks s → HasSoundLocks (failed s v).state
 failed-sound s (Refuses r) good = good
-failed-sound s (Leaves after r) good = none_stands s.limit good.limit_fits
+failed-sound s (Leaves after r) good = over_table good.stored (none_stands s.limit good.table.limit_fits)
+
+pub served-sound : (o : DeviceOutcome) (s : State) (c : Command) → HasSoundLocks s → HasSoundLocks (served o s c).state
+served-sound Well s c h = (verdict-fair (outcome_in s.stored) s c).sound h
+served-sound Wanting s c h = h
+served-sound (Comes o) s c h = (verdict-fair (λ part unit. o) s c).sound h
+served-sound StoreFails s c h = failed-sound s (verdict (outcome_in s.stored) s c) h
+
+pub noted-sound : (line : ℕ) (c : Command) (r : Served) (b : Bool) → HasSoundLocks r.state → HasSoundLocks (if b then r else record r { state = record r.state { past = r.state.past ++ past_entry line c r.reply ∷ [] } }).state
+noted-sound line c r true h = h
+noted-sound line c r false h = over_table h.stored h.table

@@ -1,23 +1,34 @@
 -- What each call keeps.
-use Rattle.std.proofs.Common.{◌≡◌, ℕ, ◌+◌, ◌≤◌, ◌<◌, Bool, true, false, List, [], ◌∷◌, ◌++◌, length, set, refl, sym, ap, ◌∙◌, subst, arith, cond}
-use Rattle.std.specs.Prelude.{if◌then◌else◌, nat_le, not, Option, Some, None, Result, Ok, Err}
+use Rattle.std.proofs.Common.{◌≡◌, ℕ, ◌+◌, ◌≤◌, ◌<◌, Bool, true, false, List, [], ◌∷◌, ◌++◌, length, fold, set, refl, sym, ap, ◌∙◌, subst, arith, cond}
+use Rattle.std.specs.Prelude.{if◌then◌else◌, nat_eq, nat_le, not, Option, Some, None, Result, Ok, Err}
 use Rattle.std.specs.List.{AllByRecursion, filter, find}
 use Rattle.std.proofs.lemmas.List.{length-append, length-set}
+use Rattle.std.proofs.lemmas.Bool.{or_from}
 use Rattle.std.proofs.lemmas.Bool.Decides.{nat_tests}
 use Rattle.enq_base.specs.declared.condition.Condition.TheVariants as condition
+use Rattle.enq_base.specs.Owners.{same_unit}
+use Rattle.enq_base.specs.declared.owner.Owner.{Owner}
+use Rattle.enq_base.specs.declared.owner.Owner.TheVariants.{Upd}
 use Rattle.enq_base.specs.declared.owner.UnitKey.{UnitKey}
 use Rattle.enq_base.specs.declared.refusal.Refusal.{Refusal}
 use Rattle.enq_base.specs.declared.refusal.Refusal.TheVariants as refusal
 use Rattle.enq_base.specs.declared.unit.Parts.{Parts}
+use Rattle.enq_base.specs.declared.unit.Status.{Status}
+use Rattle.enq_base.specs.declared.unit.Status.TheVariants.{Open, Posted, Bad, Closed, Bad2, Cancelled}
 use Rattle.lock_entry.proofs.Naming.{bytes_eq-same}
+use Rattle.lock_entry.specs.declared.entry.Asked.{Asked}
 use Rattle.lock_entry.specs.declared.entry.Entry.{Entry}
+use Rattle.lock_entry.specs.declared.entry.Request.{Request}
 use Rattle.lock_entry.specs.declared.fault.AskFault.{AskFault}
-use Rattle.lock_entry.specs.Converting.{Conversion}
-use Rattle.posting.specs.Posts.{kind_for, status_for}
-use Rattle.update_records.specs.Growing.{next_mark}
+use Rattle.lock_entry.specs.Converting.{Conversion, conversion, converted}
+use Rattle.lock_entry.specs.Freeing.{freed, freed_owner, handed_over}
+use Rattle.lock_entry.specs.Granting.{asked, readmitted}
+use Rattle.lock_entry.specs.Names.{halves}
+use Rattle.posting.specs.Posts.{entries_of, kind_for, status_for}
+use Rattle.update_records.specs.Growing.{with_mark, with_unit}
 use Rattle.update_records.specs.Ledger.{Ledger}
 use Rattle.update_records.specs.declared.records.MarkKind.{MarkKind}
-use Rattle.update_records.specs.declared.records.MarkKind.TheVariants as mark
+use Rattle.update_records.specs.declared.records.MarkKind.TheVariants.{Again1, Again2, Gone}
 use Rattle.posting.specs.Steps.{waiting_for}
 use Rattle.posting.specs.declared.prepared.Outcome.{Outcome}
 use Rattle.hall.specs.Coming.{outcome_in}
@@ -29,15 +40,22 @@ use Rattle.hall.specs.declared.command.Reply.TheVariants as reply
 use Rattle.hall.specs.declared.command.Session.{Session}
 use Rattle.hall.specs.Acts.{IsAct}
 use Rattle.hall.specs.History.{DeviceOutcome, Well, Wanting, StoreFails, Comes, doubted, failed, judged, noted, past_entry, served, shown}
-use Rattle.hall.specs.Kept.{HasFew, IsKept, IsSteady, IsWaiting, IsYoung}
+use Rattle.hall.specs.Kept.{AreOrders, HasFew, HasGoodLocks, HasItsUser, HasSoundLocks, IsKept, IsKnown, IsOwned, IsSteady, IsWaiting, IsYoung, MayHold, OfLock, OfStored, may_hold}
 use Rattle.hall.specs.Orders.{first_unclaimed, is_claimed, order_for, order_of, without_order}
-use Rattle.hall.specs.Sessions.{is_called, session_at, unit_key, with_next_unit, with_session, without_session}
+use Rattle.hall.specs.Sessions.{is_called, owners_of, pair_of, session_at, unit_key, with_next_unit, with_session, without_session}
 use Rattle.hall.specs.State.{State}
-use Rattle.hall.specs.Step.{Verdict, Refuses, Leaves, call_of, closed, committed, converting, entered, granting, is_full, marked, own_verdict, posting, session_call, taking, unit_of, unless_closed, verdict}
-use Rattle.hall.proofs.Claims.{found_all, held_for, orders_posted, orders_recorded, orders_with, orders_without}
-use Rattle.hall.proofs.Fresh.{found_name, fresh_committed, fresh_entered, fresh_left, fresh_marked, fresh_next, open_unheard}
-use Rattle.hall.proofs.Heard.{all_waiting}
+use Rattle.hall.specs.Step.{Verdict, Refuses, Leaves, call_of, cancelled, closed, committed, converting, entered, granting, is_full, locks_behind, locks_without, marked, own_verdict, posting, reopened, reposted, resubmit, session_call, taking, unit_of, unless_closed, verdict, with_room}
+use Rattle.hall.proofs.Calls.{by_room}
+use Rattle.hall.proofs.Cancels.{CanBeCancelled, by_cancel, unclaimed}
+use Rattle.hall.proofs.Claims.{found_all, held_for, orders_marked, orders_posted, orders_recorded, orders_with, orders_without}
+use Rattle.hall.proofs.Fresh.{found_name, fresh_committed, fresh_entered, fresh_left, fresh_marked, fresh_next, number_below, open_unheard}
+use Rattle.hall.proofs.Fair.{over_table, served-sound}
+use Rattle.hall.proofs.Heard.{all_waiting, apart_from_waiting, status_in}
+use Rattle.hall.proofs.LockLists.{Allows, asked_allows, converted_allows}
+use Rattle.hall.proofs.Owned.{owned_back, owned_beside, owned_by_none, owned_entered, owned_freed, owned_left, owned_locks, owned_next, owned_recorded}
+use Rattle.hall.proofs.Resubmissions.{by_resubmit, readmitted_is, table_in}
 use Rattle.hall.proofs.Steps.{served-past}
+use Rattle.hall.proofs.Users.{every_conversion, every_freed, every_freed_owner, every_granted, every_handed, every_of, known_dialogue, known_update, one_number, only_dialogue, only_update}
 
 young_more : (n m : ℕ) (xs : List Session) → n ≤ m → AllByRecursion (IsYoung n) xs → AllByRecursion (IsYoung m) xs
 young_more n m [] h k = tt
@@ -70,113 +88,170 @@ abbrev IsModest : ℕ → State → Verdict → Type 0
 IsModest n s v = Holds n s → Holds (n + 1) (judged s v).state
 
 few_more : (n : ℕ) (s : State) → HasFew n s → HasFew (n + 1) s
-few_more n s h = record { sessions = omega (arith, h.sessions); units = young_more (n + 1) (n + 1 + 1) s.sessions (omega arith) h.units; marks = omega (arith, h.marks) }
+few_more n s h = record { sessions = omega (arith, h.sessions); units = young_more (n + 1) (n + 1 + 1) s.sessions (omega arith) h.units }
 
 holds_more : (n : ℕ) (s : State) → Holds n s → Holds (n + 1) s
 holds_more n s h = record { few = few_more n s h.few; steady = h.steady }
 
+-- whose these locks are, with the rest of the state
+abbrev AreOwned : State → List Entry → Type 0
+AreOwned s locks = IsOwned s.stored s.next_session s.sessions locks
+
+-- what holds of the locks so far holds of these, which follow from them by owner and user alone
+owned_by : (s : State) (locks : List Entry) → ((Q : Owner → List ℕ → Type 0) → AllByRecursion (OfLock Q) s.locks → AllByRecursion (OfLock Q) locks) → IsSteady s → AreOwned s locks
+owned_by s locks keeps steady = owned_locks s.stored s.next_session s.sessions s.locks locks keeps steady.owned
+
 -- other locks
-holds_locks : (n : ℕ) (s : State) (locks : List Entry) → Holds n s → Holds (n + 1) (record s { locks = locks })
-holds_locks n s locks h =
+holds_locks : (n : ℕ) (s : State) (locks : List Entry) → AreOwned s locks → Holds n s → Holds (n + 1) (record s { locks = locks })
+holds_locks n s locks own h =
     let few = few_more n s h.few in
     let steady = h.steady in
     record {
-      few = record { sessions = few.sessions; units = few.units; marks = few.marks };
+      few = record { sessions = few.sessions; units = few.units };
       steady = record {
         started = steady.started;
+        limited = steady.limited;
         server = steady.server;
         settled = steady.settled;
         fresh = record { numbered = steady.fresh.numbered; ahead = steady.fresh.ahead; later = steady.fresh.later };
         places = steady.places;
         orders = steady.orders;
+        owned = own;
       };
     }
 
-granting-holds : (n : ℕ) (s : State) (r : Result (List Entry) AskFault) → IsModest n s (granting s r)
-granting-holds n s (Ok locks) h = holds_locks n s locks h
-granting-holds n s (Err f) h = holds_more n s h
+granting-holds : (n : ℕ) (s : State) (r : Result (List Entry) AskFault) → Allows (AreOwned s) r → IsModest n s (granting s r)
+granting-holds n s (Ok locks) own h = holds_locks n s locks own h
+granting-holds n s (Err f) own h = holds_more n s h
 
-converting-holds : (n : ℕ) (s : State) (r : Result Conversion AskFault) → IsModest n s (converting s r)
-converting-holds n s (Ok c) h = holds_locks n s c.entries h
-converting-holds n s (Err f) h = holds_more n s h
+converting-holds : (n : ℕ) (s : State) (r : Result Conversion AskFault) → Allows (λ (c : Conversion). AreOwned s c.entries) r → IsModest n s (converting s r)
+converting-holds n s (Ok c) own h = holds_locks n s c.entries own h
+converting-holds n s (Err f) own h = holds_more n s h
 
-left-holds : (n : ℕ) (s : State) (name : List ℕ) (locks : List Entry) → Holds n s → Holds (n + 1) (record s { sessions = without_session name s.sessions; locks = locks })
-left-holds n s name locks h =
+left-holds : (n : ℕ) (s : State) (name : List ℕ) (locks : List Entry) → AreOwned s locks → Holds n s → Holds (n + 1) (record s { sessions = without_session name s.sessions; locks = locks })
+left-holds n s name locks own h =
     let p : Session → Bool = λ y. not (is_called name y) in
     let few = few_more n s h.few in
     let steady = h.steady in
     let fresh = fresh_left s p steady.fresh in
     record {
-      few = record { sessions = few.sessions; units = young_filter (n + 1 + 1) p s.sessions few.units; marks = few.marks };
+      few = record { sessions = few.sessions; units = young_filter (n + 1 + 1) p s.sessions few.units };
       steady = record {
         started = steady.started;
+        limited = steady.limited;
         server = steady.server;
         settled = steady.settled;
         fresh = record { numbered = fresh.numbered; ahead = fresh.ahead; later = fresh.later };
         places = steady.places;
         orders = steady.orders;
+        owned = owned_left s.stored s.next_session s.sessions p locks own;
       };
     }
 
-rolled-holds : (n : ℕ) (s : State) (name : List ℕ) (locks : List Entry) → Holds n s → Holds (n + 1) (record s { sessions = with_session name with_next_unit s.sessions; locks = locks })
-rolled-holds n s name locks h =
+rolled-holds : (n : ℕ) (s : State) (name : List ℕ) (locks : List Entry) → AreOwned s locks → Holds n s → Holds (n + 1) (record s { sessions = with_session name with_next_unit s.sessions; locks = locks })
+rolled-holds n s name locks own h =
     let few = few_more n s h.few in
     let steady = h.steady in
     let fresh = fresh_next s name steady.fresh in
     record {
-      few = record { sessions = few.sessions; units = young_next (n + 1) name s.sessions h.few.units; marks = few.marks };
+      few = record { sessions = few.sessions; units = young_next (n + 1) name s.sessions h.few.units };
       steady = record {
         started = steady.started;
+        limited = steady.limited;
         server = steady.server;
         settled = steady.settled;
         fresh = record { numbered = fresh.numbered; ahead = fresh.ahead; later = fresh.later };
         places = steady.places;
         orders = steady.orders;
+        owned = owned_next s.stored s.next_session name s.sessions locks own;
       };
     }
-
-one_mark : (n : ℕ) (ledger : Ledger) (key : UnitKey) (kind : MarkKind) → length ledger.marks ≤ n → length (ledger.marks ++ next_mark ledger key kind ∷ []) ≤ n + 1
-one_mark n ledger key kind h = let e = length-append ledger.marks (next_mark ledger key kind ∷ []) in omega (arith, e, h)
 
 -- the session that commits is the one of that name
 commit-holds : (n : ℕ) (s : State) (name : List ℕ) (x : Session) (parts : Parts) → find (is_called name) s.sessions ≡ Some x → name ≡ x.name → Holds n s → Holds (n + 1) (committed s x parts)
 commit-holds n s name x parts found same h =
     let few = few_more n s h.few in
     let steady = h.steady in
-    let unit = unit_of s.stored.start x parts in
+    let key = unit_key s.stored.start x in
+    let unit = unit_of s.stored.start s.locks x parts in
     let found' : find (is_called x.name) s.sessions ≡ Some x = subst (λ m. find (is_called m) s.sessions ≡ Some x) same found in
+    let own = steady.owned in
+    let its : (Q : Owner → List ℕ → Type 0) → AllByRecursion (OfLock Q) s.locks → OfStored Q unit = λ Q k. every_of Q (handed_over s.locks key) (Upd key) (every_handed Q s.locks key k) in
+    let recorded =
+    owned_recorded s.stored s.next_session s.sessions (handed_over s.locks key) unit (open_unheard s x.name x found' steady.fresh)
+    (its (λ owner user. IsKnown s.stored.start s.next_session owner) own.known) (its (HasItsUser s.stored.start s.sessions) own.users)
+    (owned_by s (handed_over s.locks key) (λ Q k. every_handed Q s.locks key k) steady) in
     let fresh = fresh_committed s unit x.name x found' refl steady.fresh in
     record {
-      few = record { sessions = few.sessions; units = young_next (n + 1) x.name s.sessions h.few.units; marks = one_mark n s.stored unit.key mark.Rec h.few.marks };
+      few = record { sessions = few.sessions; units = young_next (n + 1) x.name s.sessions h.few.units };
       steady = record {
         started = steady.started;
+        limited = steady.limited;
         server = steady.server;
         settled = steady.settled;
         fresh = record { numbered = fresh.numbered; ahead = fresh.ahead; later = fresh.later };
         places = steady.places;
         orders = orders_recorded s.stored unit s.orders (open_unheard s x.name x found' steady.fresh) steady.orders;
+        owned = owned_next (with_unit s.stored unit) s.next_session x.name s.sessions (handed_over s.locks key) recorded;
       };
     }
 
-committing-holds : (n : ℕ) (s : State) (name : List ℕ) (x : Session) (parts : Parts) (large none : Bool) → find (is_called name) s.sessions ≡ Some x → name ≡ x.name → IsModest n s (if large then Refuses refusal.UnitTooLarge else (if none then Leaves s reply.Done else Leaves (committed s x parts) (reply.Unit (unit_key s.stored.start x))))
+committing-holds : (n : ℕ) (s : State) (name : List ℕ) (x : Session) (parts : Parts) (large none : Bool) → find (is_called name) s.sessions ≡ Some x → name ≡ x.name → IsModest n s (if large then Refuses refusal.UnitTooLarge else (if none then Leaves s reply.Done else with_room s (Leaves (committed s x parts) (reply.Unit (unit_key s.stored.start x)))))
 committing-holds n s name x parts true none found same h = holds_more n s h
 committing-holds n s name x parts false true found same h = holds_more n s h
-committing-holds n s name x parts false false found same h = commit-holds n s name x parts found same h
+committing-holds n s name x parts false false found same h =
+    by_room (λ v. Holds (n + 1) (judged s v).state) s (Leaves (committed s x parts) (reply.Unit (unit_key s.stored.start x))) (holds_more n s h) (commit-holds n s name x parts found same h)
+
+-- ---- the locks of a session's calls
+
+ask-owned : (s : State) (name : List ℕ) (x : Session) (rs : List Request) → find (is_called name) s.sessions ≡ Some x → IsSteady s → Allows (AreOwned s) (asked (record { entries = s.locks; limit = s.limit }) (pair_of s.stored.start x) x.user rs)
+ask-owned s name x rs found steady =
+    let pair = pair_of s.stored.start x in
+    let below = number_below s.next_session name x s.sessions found steady.fresh.numbered in
+    let start = s.stored.start in
+    let own = steady.owned in
+    asked_allows (AreOwned s) (record { entries = s.locks; limit = s.limit }) pair x.user rs (record {
+      known = every_granted (λ owner user. IsKnown start s.next_session owner) s.locks x.user pair rs (known_dialogue start s.next_session x below) (known_update start s.next_session x below) own.known;
+      users = every_granted (HasItsUser start s.sessions) s.locks x.user pair rs
+          (one_number start s.next_session name x pair.dialogue s.sessions (only_dialogue start x) found steady.fresh.numbered)
+          (one_number start s.next_session name x pair.update s.sessions (only_update start x) found steady.fresh.numbered) own.users;
+      holders = every_granted (λ owner user. MayHold s.stored owner) s.locks x.user pair rs tt (ap may_hold (open_unheard s name x found steady.fresh)) own.holders;
+      stored_known = own.stored_known;
+      stored_users = own.stored_users;
+    })
+
+convert-owned : (s : State) (x : Session) (asked : List Asked) → IsSteady s → Allows (λ (c : Conversion). AreOwned s c.entries) (converted s.locks (pair_of s.stored.start x) asked)
+convert-owned s x asked steady =
+    let pair = pair_of s.stored.start x in
+    converted_allows (λ (c : Conversion). AreOwned s c.entries) s.locks pair asked
+    (owned_by s (conversion s.locks pair asked).entries (λ Q k. every_conversion Q s.locks pair asked k) steady)
+
+both-owned : (s : State) (x : Session) → IsSteady s → AreOwned s (freed_owner (freed_owner s.locks (pair_of s.stored.start x).dialogue) (pair_of s.stored.start x).update)
+both-owned s x steady =
+    let pair = pair_of s.stored.start x in
+    owned_by s (freed_owner (freed_owner s.locks pair.dialogue) pair.update)
+    (λ Q k. every_freed_owner Q (freed_owner s.locks pair.dialogue) pair.update (every_freed_owner Q s.locks pair.dialogue k)) steady
 
 session-holds : (n : ℕ) (s : State) (name : List ℕ) (x : Session) (c : Command) → find (is_called name) s.sessions ≡ Some x → name ≡ x.name → IsModest n s (session_call s x c)
 session-holds n s name x (command.Logon session user) found same h = holds_more n s h
-session-holds n s name x (command.Logoff session) found same h = left-holds n s x.name _ h
-session-holds n s name x (command.Ask session requests) found same h = granting-holds n s _ h
-session-holds n s name x (command.Free session requests) found same h = holds_locks n s _ h
-session-holds n s name x (command.FreeAll session) found same h = holds_locks n s _ h
-session-holds n s name x (command.Convert session asked) found same h = converting-holds n s _ h
-session-holds n s name x (command.Rollback session) found same h = rolled-holds n s x.name _ h
+session-holds n s name x (command.Logoff session) found same h = left-holds n s x.name _ (both-owned s x h.steady) h
+session-holds n s name x (command.Ask session requests) found same h = granting-holds n s _ (ask-owned s name x requests found h.steady) h
+session-holds n s name x (command.Free session requests) found same h =
+    let names = halves (pair_of s.stored.start x) requests in
+    holds_locks n s _ (owned_by s (fold freed s.locks names) (λ Q k. every_freed Q s.locks names k) h.steady) h
+session-holds n s name x (command.FreeAll session) found same h = holds_locks n s _ (both-owned s x h.steady) h
+session-holds n s name x (command.Convert session asked) found same h = converting-holds n s _ (convert-owned s x asked h.steady) h
+session-holds n s name x (command.Rollback session) found same h =
+    let update = (pair_of s.stored.start x).update in
+    rolled-holds n s x.name _ (owned_by s (freed_owner s.locks update) (λ Q k. every_freed_owner Q s.locks update k) h.steady) h
 session-holds n s name x (command.Commit session parts) found same h = committing-holds n s name x parts _ _ found same h
 session-holds n s name x (command.Take1 worker) found same h = holds_more n s h
 session-holds n s name x (command.Do1 worker) found same h = holds_more n s h
 session-holds n s name x (command.Take2 worker) found same h = holds_more n s h
 session-holds n s name x (command.Do2 worker) found same h = holds_more n s h
 session-holds n s name x (command.DropOrder worker) found same h = holds_more n s h
+session-holds n s name x (command.Cancel unit) found same h = holds_more n s h
+session-holds n s name x (command.Resubmit unit) found same h = holds_more n s h
 
 call-holds : (n : ℕ) (s : State) (name : List ℕ) (c : Command) → IsModest n s (call_of s name c)
 call-holds n s name c =
@@ -192,14 +267,16 @@ entered-holds n s name user h =
     let y : Session = record { name = name; user = user; number = s.next_session; luw = 1 } in
     let fresh = fresh_entered s y refl steady.fresh in
     record {
-      few = record { sessions = omega (arith, h.few.sessions); units = young_push (n + 1 + 1) s.sessions y few.units (omega arith); marks = few.marks };
+      few = record { sessions = omega (arith, h.few.sessions); units = young_push (n + 1 + 1) s.sessions y few.units (omega arith) };
       steady = record {
         started = steady.started;
+        limited = steady.limited;
         server = steady.server;
         settled = steady.settled;
         fresh = record { numbered = fresh.numbered; ahead = fresh.ahead; later = fresh.later };
         places = steady.places;
         orders = steady.orders;
+        owned = owned_entered s.stored s.sessions y s.locks steady.owned;
       };
     }
 
@@ -213,7 +290,7 @@ logon-holds n s name user false false h = entered-holds n s name user h
 holds_orders : (n : ℕ) (s : State) (worker : ℕ) (o : Option UnitKey) → IsSteady (record s { orders = set s.orders worker o }) → Holds n s → Holds (n + 1) (record s { orders = set s.orders worker o })
 holds_orders n s worker o steady h =
     let few = few_more n s h.few in
-    record { few = record { sessions = few.sessions; units = few.units; marks = few.marks }; steady = steady }
+    record { few = record { sessions = few.sessions; units = few.units }; steady = steady }
 
 not_yes : (b : Bool) → not b ≡ true → b ≡ false
 not_yes true h = cc
@@ -226,11 +303,13 @@ taking-holds n part s worker (Some unit) e h =
     let found = found_all (IsWaiting s.stored) (λ key. not (is_claimed s.orders key)) (waiting_for part s.stored) unit e (all_waiting part s.stored) in
     holds_orders n s worker (Some unit) (record {
       started = steady.started;
+      limited = steady.limited;
       server = steady.server;
       settled = steady.settled;
       fresh = record { numbered = steady.fresh.numbered; ahead = steady.fresh.ahead; later = steady.fresh.later };
       places = length-set s.orders worker (Some unit) ∙ steady.places;
       orders = orders_with s.stored s.orders worker unit steady.orders found.0 (not_yes (is_claimed s.orders unit) found.1);
+      owned = steady.owned;
     }) h
 
 take-holds : (n part : ℕ) (s : State) (worker : ℕ) (o : Option UnitKey) → IsModest n s (elim o [ Some unit ↦ Refuses (refusal.WorkerBusy unit) | None ↦ taking s worker (first_unclaimed s.orders (waiting_for part s.stored)) ])
@@ -242,12 +321,22 @@ dropped-holds n s worker h =
     let steady = h.steady in
     holds_orders n s worker None (record {
       started = steady.started;
+      limited = steady.limited;
       server = steady.server;
       settled = steady.settled;
       fresh = record { numbered = steady.fresh.numbered; ahead = steady.fresh.ahead; later = steady.fresh.later };
       places = length-set s.orders worker None ∙ steady.places;
       orders = orders_without s.stored s.orders worker steady.orders;
+      owned = steady.owned;
     }) h
+
+-- with the V1 part of a unit its locks go; one that waits for its V2 part has none
+behind_marked : (s : State) (part : ℕ) (unit : UnitKey) (kind : MarkKind) → status_in s.stored unit ≡ Some (status_for part) → AreOwned s s.locks → IsOwned (with_mark s.stored unit kind) s.next_session s.sessions (locks_behind part s.locks unit)
+behind_marked s part unit kind waits own =
+    elim (nat_eq part 1) as (λ b. status_in s.stored unit ≡ Some (if b then Open else Posted) → IsOwned (with_mark s.stored unit kind) s.next_session s.sessions (if b then freed_owner s.locks (Upd unit) else s.locks)) [
+      | true ↦ λ w. owned_freed s.stored s.next_session s.sessions s.locks unit kind own
+      | false ↦ λ w. owned_beside s.stored s.next_session s.sessions s.locks unit kind Posted w refl own
+    ] waits
 
 marked-holds : (n part : ℕ) (s : State) (worker : ℕ) (unit : UnitKey) (kind : MarkKind) → order_for part s.stored s.orders worker ≡ Some unit → Holds n s → Holds (n + 1) (marked part s worker unit kind)
 marked-holds n part s worker unit kind e h =
@@ -256,63 +345,162 @@ marked-holds n part s worker unit kind e h =
     let steady = h.steady in
     let fresh = fresh_marked s unit kind (status_for part) held.1 steady.fresh in
     record {
-      few = record { sessions = few.sessions; units = few.units; marks = one_mark n s.stored unit kind h.few.marks };
+      few = record { sessions = few.sessions; units = few.units };
       steady = record {
         started = steady.started;
+        limited = steady.limited;
         server = steady.server;
         settled = steady.settled;
         fresh = record { numbered = fresh.numbered; ahead = fresh.ahead; later = fresh.later };
         places = length-set s.orders worker None ∙ steady.places;
         orders = orders_posted s.stored s.orders worker unit kind steady.orders held.0;
+        owned = behind_marked s part unit kind held.1 steady.owned;
       };
     }
 
-post-holds : (n part : ℕ) (come : ℕ → UnitKey → Outcome) (s : State) (worker : ℕ) (o : Option UnitKey) → order_for part s.stored s.orders worker ≡ o → IsModest n s (elim o [ None ↦ Refuses refusal.NoOrder | Some unit ↦ posting part s worker unit (come part unit) ])
+post-holds : (n part : ℕ) (come : ℕ → UnitKey → Outcome) (s : State) (worker : ℕ) (o : Option UnitKey) → order_for part s.stored s.orders worker ≡ o → IsModest n s (elim o [ None ↦ Refuses refusal.NoOrder | Some unit ↦ with_room s (posting part s worker unit (come part unit)) ])
 post-holds n part come s worker None e h = holds_more n s h
-post-holds n part come s worker (Some unit) e h = marked-holds n part s worker unit (kind_for part (come part unit)) e h
+post-holds n part come s worker (Some unit) e h =
+    by_room (λ v. Holds (n + 1) (judged s v).state) s (posting part s worker unit (come part unit)) (holds_more n s h)
+    (marked-holds n part s worker unit (kind_for part (come part unit)) e h)
 
 drop-holds : (n : ℕ) (s : State) (worker : ℕ) (o : Option UnitKey) → IsModest n s (elim o [ None ↦ Refuses refusal.NoOrder | Some unit ↦ Leaves (record s { orders = without_order s.orders worker }) (reply.Unit unit) ])
 drop-holds n s worker None h = holds_more n s h
 drop-holds n s worker (Some unit) h = dropped-holds n s worker h
 
+-- ---- cancelling
+
+without_marked : (s : State) (unit : UnitKey) (status : Status) → status_in s.stored unit ≡ Some status → AreOwned s s.locks → IsOwned (with_mark s.stored unit Gone) s.next_session s.sessions (locks_without status s.locks unit)
+without_marked s unit Open here own = owned_freed s.stored s.next_session s.sessions s.locks unit Gone own
+without_marked s unit Posted here own = owned_beside s.stored s.next_session s.sessions s.locks unit Gone Posted here refl own
+without_marked s unit Bad here own = owned_beside s.stored s.next_session s.sessions s.locks unit Gone Bad here refl own
+without_marked s unit Closed here own = owned_beside s.stored s.next_session s.sessions s.locks unit Gone Closed here refl own
+without_marked s unit Bad2 here own = owned_beside s.stored s.next_session s.sessions s.locks unit Gone Bad2 here refl own
+without_marked s unit Cancelled here own = owned_beside s.stored s.next_session s.sessions s.locks unit Gone Cancelled here refl own
+
+cancelled-holds : (n : ℕ) (s : State) (unit : UnitKey) (status : Status) → CanBeCancelled s.stored s.orders s.mark_limit unit status → Holds n s → Holds (n + 1) (cancelled s unit status)
+cancelled-holds n s unit status can h =
+    let few = few_more n s h.few in
+    let steady = h.steady in
+    let fresh = fresh_marked s unit Gone status can.recorded steady.fresh in
+    record {
+      few = record { sessions = few.sessions; units = few.units };
+      steady = record {
+        started = steady.started;
+        limited = steady.limited;
+        server = steady.server;
+        settled = steady.settled;
+        fresh = record { numbered = fresh.numbered; ahead = fresh.ahead; later = fresh.later };
+        places = steady.places;
+        orders = orders_marked s.stored unit Gone s.orders (unclaimed s.orders unit can.free) steady.orders;
+        owned = without_marked s unit status can.recorded steady.owned;
+      };
+    }
+
+-- ---- trying again
+
+-- a unit that waits for no part has no order
+not_claimed : (ledger : Ledger) (orders : List (Option UnitKey)) (unit : UnitKey) (status : Status) → status_in ledger unit ≡ Some status → (status ≡ Open → ⊥) → (status ≡ Posted → ⊥) → AreOrders ledger orders → is_claimed orders unit ≡ false
+not_claimed ledger [] unit status here no_open no_posted h = refl
+not_claimed ledger (None ∷ orders) unit status here no_open no_posted h = not_claimed ledger orders unit status here no_open no_posted h
+not_claimed ledger (Some other ∷ orders) unit status here no_open no_posted h =
+    or_from (same_unit other unit) (is_claimed orders unit)
+    (apart_from_waiting ledger unit other status here no_open no_posted h.0)
+    (not_claimed ledger orders unit status here no_open no_posted h.2)
+
+reopened-holds : (n : ℕ) (s : State) (unit : UnitKey) (es : List Entry) → status_in s.stored unit ≡ Some Bad → IsOwned (with_mark s.stored unit Again1) s.next_session s.sessions es → Holds n s → Holds (n + 1) (reopened s unit es)
+reopened-holds n s unit es here own h =
+    let few = few_more n s h.few in
+    let steady = h.steady in
+    let fresh = fresh_marked s unit Again1 Bad here steady.fresh in
+    record {
+      few = record { sessions = few.sessions; units = few.units };
+      steady = record {
+        started = steady.started;
+        limited = steady.limited;
+        server = steady.server;
+        settled = steady.settled;
+        fresh = record { numbered = fresh.numbered; ahead = fresh.ahead; later = fresh.later };
+        places = steady.places;
+        orders = orders_marked s.stored unit Again1 s.orders (not_claimed s.stored s.orders unit Bad here (λ e. cc) (λ e. cc) steady.orders) steady.orders;
+        owned = own;
+      };
+    }
+
+reposted-holds : (n : ℕ) (s : State) (unit : UnitKey) → status_in s.stored unit ≡ Some Bad2 → Holds n s → Holds (n + 1) (reposted s unit)
+reposted-holds n s unit here h =
+    let few = few_more n s h.few in
+    let steady = h.steady in
+    let fresh = fresh_marked s unit Again2 Bad2 here steady.fresh in
+    record {
+      few = record { sessions = few.sessions; units = few.units };
+      steady = record {
+        started = steady.started;
+        limited = steady.limited;
+        server = steady.server;
+        settled = steady.settled;
+        fresh = record { numbered = fresh.numbered; ahead = fresh.ahead; later = fresh.later };
+        places = steady.places;
+        orders = orders_marked s.stored unit Again2 s.orders (not_claimed s.stored s.orders unit Bad2 here (λ e. cc) (λ e. cc) steady.orders) steady.orders;
+        owned = owned_beside s.stored s.next_session s.sessions s.locks unit Again2 Bad2 here refl steady.owned;
+      };
+    }
+
+-- the locks of the unit stand behind those of the others
+back-owned : (s : State) (unit : UnitKey) (es : List Entry) → AllByRecursion HasGoodLocks s.stored.units → readmitted (table_in s) (owners_of unit) (entries_of s.stored.units unit) ≡ Ok es → AreOwned s s.locks → IsOwned (with_mark s.stored unit Again1) s.next_session s.sessions es
+back-owned s unit es good stand own =
+    subst (IsOwned (with_mark s.stored unit Again1) s.next_session s.sessions) (sym (readmitted_is (table_in s) (owners_of unit) (entries_of s.stored.units unit) es stand))
+    (owned_back s.stored s.next_session s.sessions s.locks unit good own)
+
+resubmit-holds : (n : ℕ) (s : State) (unit : UnitKey) → AllByRecursion HasGoodLocks s.stored.units → IsModest n s (resubmit s unit)
+resubmit-holds n s unit good =
+    by_resubmit (IsModest n s) s unit (λ r plain h. holds_more n s h)
+    (λ es here stand h. reopened-holds n s unit es here (back-owned s unit es good stand h.steady.owned) h)
+    (λ here h. reposted-holds n s unit here h)
+
 -- ---- all calls
 
-own-holds : (n : ℕ) (come : ℕ → UnitKey → Outcome) (s : State) (c : Command) → IsModest n s (own_verdict come s c)
-own-holds n come s (command.Logon session user) = logon-holds n s session user _ _
-own-holds n come s (command.Logoff session) = call-holds n s session (command.Logoff session)
-own-holds n come s (command.Ask session requests) = call-holds n s session (command.Ask session requests)
-own-holds n come s (command.Free session requests) = call-holds n s session (command.Free session requests)
-own-holds n come s (command.FreeAll session) = call-holds n s session (command.FreeAll session)
-own-holds n come s (command.Convert session asked) = call-holds n s session (command.Convert session asked)
-own-holds n come s (command.Rollback session) = call-holds n s session (command.Rollback session)
-own-holds n come s (command.Commit session parts) = call-holds n s session (command.Commit session parts)
-own-holds n come s (command.Take1 worker) = take-holds n 1 s worker (order_of s.orders worker)
-own-holds n come s (command.Do1 worker) = post-holds n 1 come s worker (order_for 1 s.stored s.orders worker) refl
-own-holds n come s (command.Take2 worker) = take-holds n 2 s worker (order_of s.orders worker)
-own-holds n come s (command.Do2 worker) = post-holds n 2 come s worker (order_for 2 s.stored s.orders worker) refl
-own-holds n come s (command.DropOrder worker) = drop-holds n s worker (order_of s.orders worker)
+own-holds : (n : ℕ) (come : ℕ → UnitKey → Outcome) (s : State) (c : Command) → HasSoundLocks s → IsModest n s (own_verdict come s c)
+own-holds n come s (command.Logon session user) sound = logon-holds n s session user _ _
+own-holds n come s (command.Logoff session) sound = call-holds n s session (command.Logoff session)
+own-holds n come s (command.Ask session requests) sound = call-holds n s session (command.Ask session requests)
+own-holds n come s (command.Free session requests) sound = call-holds n s session (command.Free session requests)
+own-holds n come s (command.FreeAll session) sound = call-holds n s session (command.FreeAll session)
+own-holds n come s (command.Convert session asked) sound = call-holds n s session (command.Convert session asked)
+own-holds n come s (command.Rollback session) sound = call-holds n s session (command.Rollback session)
+own-holds n come s (command.Commit session parts) sound = call-holds n s session (command.Commit session parts)
+own-holds n come s (command.Take1 worker) sound = take-holds n 1 s worker (order_of s.orders worker)
+own-holds n come s (command.Do1 worker) sound = post-holds n 1 come s worker (order_for 1 s.stored s.orders worker) refl
+own-holds n come s (command.Take2 worker) sound = take-holds n 2 s worker (order_of s.orders worker)
+own-holds n come s (command.Do2 worker) sound = post-holds n 2 come s worker (order_for 2 s.stored s.orders worker) refl
+own-holds n come s (command.DropOrder worker) sound = drop-holds n s worker (order_of s.orders worker)
+own-holds n come s (command.Cancel unit) sound =
+    by_cancel (IsModest n s) s unit (λ r plain h. holds_more n s h) (λ status can h. cancelled-holds n s unit status can h)
+own-holds n come s (command.Resubmit unit) sound = resubmit-holds n s unit sound.stored
 
 unless-holds : (n : ℕ) (s : State) (o : Option Refusal) (v : Verdict) → IsModest n s v → IsModest n s (unless_closed o v)
 unless-holds n s None v h = h
 unless-holds n s (Some r) v h = holds_more n s
 
-verdict-holds : (n : ℕ) (come : ℕ → UnitKey → Outcome) (s : State) (c : Command) → IsModest n s (verdict come s c)
+verdict-holds : (n : ℕ) (come : ℕ → UnitKey → Outcome) (s : State) (c : Command) → HasSoundLocks s → IsModest n s (verdict come s c)
 unfolding verdict
-verdict-holds n come s c = unless-holds n s (closed s) (own_verdict come s c) (own-holds n come s c)
+verdict-holds n come s c sound = unless-holds n s (closed s) (own_verdict come s c) (own-holds n come s c sound)
 
 doubted-holds : (n : ℕ) (s : State) (pending : Ledger) → Holds n s → Holds (n + 1) (doubted s pending)
 doubted-holds n s pending h =
     let few = few_more n s h.few in
     let steady = h.steady in
     record {
-      few = record { sessions = few.sessions; units = few.units; marks = few.marks };
+      few = record { sessions = few.sessions; units = few.units };
       steady = record {
         started = steady.started;
+        limited = steady.limited;
         server = tt;
         settled = tt;
         fresh = record { numbered = steady.fresh.numbered; ahead = steady.fresh.ahead; later = steady.fresh.later };
         places = steady.places;
         orders = steady.orders;
+        owned = owned_by_none s.stored s.next_session s.sessions s.locks steady.owned;
       };
     }
 
@@ -320,11 +508,11 @@ failed-holds : (n : ℕ) (s : State) (v : Verdict) → Holds n s → Holds (n + 
 failed-holds n s (Refuses r) h = holds_more n s h
 failed-holds n s (Leaves after r) h = doubted-holds n s after.stored h
 
-pub served-holds : (n : ℕ) (o : DeviceOutcome) (s : State) (c : Command) → Holds n s → Holds (n + 1) (served o s c).state
-served-holds n Well s c h = verdict-holds n (outcome_in s.stored) s c h
-served-holds n Wanting s c h = holds_more n s h
-served-holds n (Comes o) s c h = verdict-holds n (λ part unit. o) s c h
-served-holds n StoreFails s c h = failed-holds n s (verdict (outcome_in s.stored) s c) h
+pub served-holds : (n : ℕ) (o : DeviceOutcome) (s : State) (c : Command) → HasSoundLocks s → Holds n s → Holds (n + 1) (served o s c).state
+served-holds n Well s c sound h = verdict-holds n (outcome_in s.stored) s c sound h
+served-holds n Wanting s c sound h = holds_more n s h
+served-holds n (Comes o) s c sound h = verdict-holds n (λ part unit. o) s c sound h
+served-holds n StoreFails s c sound h = failed-holds n s (verdict (outcome_in s.stored) s c) h
 
 below_limit : (n : ℕ) → nat_le 262144 n ≡ false → n + 1 ≤ 262144
 below_limit n h = grind (arith, nat_tests)
@@ -353,14 +541,16 @@ with_past n s past h =
     let few = h.few in
     let steady = h.steady in
     record {
-      few = record { sessions = few.sessions; units = few.units; marks = few.marks };
+      few = record { sessions = few.sessions; units = few.units };
       steady = record {
         started = steady.started;
+        limited = steady.limited;
         server = steady.server;
         settled = steady.settled;
         fresh = record { numbered = steady.fresh.numbered; ahead = steady.fresh.ahead; later = steady.fresh.later };
         places = steady.places;
         orders = steady.orders;
+        owned = steady.owned;
       };
     }
 
@@ -368,7 +558,8 @@ with_past n s past h =
 pub kept_call : (s : State) (line : ℕ) (c : Command) (after : State) (r : Reply) → IsKept s → is_full s ≡ false → IsAct s c after r → IsKept (record after { past = after.past ++ past_entry line c r ∷ [] })
 kept_call s line c after r kept room act =
     let before : Holds (length s.past) s = record { few = kept.few; steady = kept.steady } in
-    let holds : Holds (length s.past + 1) after = subst (λ x. Holds (length s.past + 1) x.state) act.same (served-holds (length s.past) (shown r) s c before) in
+    let holds : Holds (length s.past + 1) after = subst (λ x. Holds (length s.past + 1) x.state) act.same (served-holds (length s.past) (shown r) s c kept.sound before) in
+    let sound : HasSoundLocks after = subst (λ x. HasSoundLocks x.state) act.same (served-sound (shown r) s c kept.sound) in
     let past : after.past ≡ s.past = ap (λ x. x.state.past) (sym act.same) ∙ served-past (shown r) s c in
     let longer : length (after.past ++ past_entry line c r ∷ []) ≡ length s.past + 1 = length-append after.past (past_entry line c r ∷ []) ∙ ap (λ p. length p + 1) past in
     let whole = with_past (length s.past + 1) after (after.past ++ past_entry line c r ∷ []) holds in
@@ -376,6 +567,7 @@ kept_call s line c after r kept room act =
       within = subst (λ n. n ≤ 262144) (sym longer) (below_limit (length s.past) room);
       few = subst (λ n. HasFew n (record after { past = after.past ++ past_entry line c r ∷ [] })) (sym longer) whole.few;
       steady = whole.steady;
+      sound = over_table sound.stored sound.table;
     }
 
 -- the state behind a call, by what stands in its history

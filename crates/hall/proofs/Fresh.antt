@@ -19,16 +19,16 @@ use Rattle.hall.specs.State.{State}
 abbrev pub IsBelow : ℕ → Session → Type 0
 IsBelow n y = n < y.number
 
-all_filter : (Q : Session → Type 0) (p : Session → Bool) (xs : List Session) → AllByRecursion Q xs → AllByRecursion Q (filter p xs)
+pub all_filter : (Q : Session → Type 0) (p : Session → Bool) (xs : List Session) → AllByRecursion Q xs → AllByRecursion Q (filter p xs)
 all_filter Q p [] k = tt
 all_filter Q p (x ∷ xs) k =
     elim (p x) as (λ b. AllByRecursion Q (cond b (x ∷ filter p xs) (filter p xs))) [ true ↦ (k.0, all_filter Q p xs k.1) | false ↦ all_filter Q p xs k.1 ]
 
-all_push : (Q : Session → Type 0) (xs : List Session) (y : Session) → AllByRecursion Q xs → Q y → AllByRecursion Q (xs ++ y ∷ [])
+pub all_push : (Q : Session → Type 0) (xs : List Session) (y : Session) → AllByRecursion Q xs → Q y → AllByRecursion Q (xs ++ y ∷ [])
 all_push Q [] y k h = (h, tt)
 all_push Q (x ∷ xs) y k h = (k.0, all_push Q xs y k.1 h)
 
-all_next : (Q : Session → Type 0) (name : List ℕ) (xs : List Session) → ((y : Session) → Q y → Q (with_next_unit y)) → AllByRecursion Q xs → AllByRecursion Q (with_session name with_next_unit xs)
+pub all_next : (Q : Session → Type 0) (name : List ℕ) (xs : List Session) → ((y : Session) → Q y → Q (with_next_unit y)) → AllByRecursion Q xs → AllByRecursion Q (with_session name with_next_unit xs)
 all_next Q name [] up k = tt
 all_next Q name (x ∷ xs) up k =
     elim (is_called name x) as (λ b. AllByRecursion Q (cond b (with_next_unit x ∷ xs) (x ∷ with_session name with_next_unit xs))) [
@@ -140,7 +140,7 @@ ahead_behind ledger unit x (y ∷ ys) is fresh below h = (
   ahead_behind ledger unit x ys is fresh below.1 h.1,
 )
 
-equal_session : (y x : Session) → Some y ≡ Some x → y ≡ x
+pub equal_session : (y x : Session) → Some y ≡ Some x → y ≡ x
 equal_session y x e = cc
 
 pub found_in : (Q : Session → Type 0) (p : Session → Bool) (xs : List Session) (x : Session) → find p xs ≡ Some x → AllByRecursion Q xs → Q x
@@ -179,7 +179,7 @@ ahead_committed ledger unit n name x (y ∷ ys) is fresh found numbered h =
 pub open_unheard : (s : State) (name : List ℕ) (x : Session) → find (is_called name) s.sessions ≡ Some x → HasFreshKeys s → status_in s.stored (unit_key s.stored.start x) ≡ None
 open_unheard s name x found h = found_in (IsAhead s.stored) (is_called name) s.sessions x found h.ahead x.luw (omega arith)
 
-number_below : (n : ℕ) (name : List ℕ) (x : Session) (xs : List Session) → find (is_called name) xs ≡ Some x → AreNumbered n xs → x.number < n
+pub number_below : (n : ℕ) (name : List ℕ) (x : Session) (xs : List Session) → find (is_called name) xs ≡ Some x → AreNumbered n xs → x.number < n
 number_below n name x [] found h = cc
 number_below n name x (y ∷ ys) found h =
     elim (is_called name y) as (λ b. cond b (Some y) (find (is_called name) ys) ≡ Some x → x.number < n) [

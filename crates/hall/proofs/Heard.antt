@@ -69,6 +69,18 @@ apart_from_open ledger key other posted here =
     absurd (cc))
     (λ apart. apart)
 
+-- units of two statuses are two
+pub apart_by : (ledger : Ledger) (key other : UnitKey) (a b : Status) → status_in ledger key ≡ Some a → status_in ledger other ≡ Some b → (a ≡ b → ⊥) → same_unit key other ≡ false
+apart_by ledger key other a b here there differ =
+    by_test _ (same_unit key other)
+    (λ same. absurd (differ (two_statuses (status_in ledger other) a b (ap (status_in ledger) (sym (one_unit key other same)) ∙ here) there)))
+    (λ apart. apart)
+
+-- one that waits for no part is another than those that wait
+pub apart_from_waiting : (ledger : Ledger) (key other : UnitKey) (status : Status) → status_in ledger key ≡ Some status → (status ≡ Open → ⊥) → (status ≡ Posted → ⊥) → IsWaiting ledger other → same_unit other key ≡ false
+apart_from_waiting ledger key other status here no_open no_posted (inl waits) = apart_by ledger other key Open status waits here (λ e. no_open (sym e))
+apart_from_waiting ledger key other status here no_open no_posted (inr waits) = apart_by ledger other key Posted status waits here (λ e. no_posted (sym e))
+
 -- a mark of a unit that was heard of leaves the unheard unheard
 pub marked_unheard : (ledger : Ledger) (key other : UnitKey) (kind : MarkKind) (s : Status) → status_in ledger key ≡ Some s → status_in ledger other ≡ None → status_in (with_mark ledger key kind) other ≡ None
 marked_unheard ledger key other kind s here none =

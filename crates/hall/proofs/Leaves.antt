@@ -23,6 +23,7 @@ use Rattle.hall.specs.Leaving.{HasStoreCause, LeavesWritten, StandForLanded, Sta
 use Rattle.hall.specs.State.{State}
 use Rattle.hall.specs.Step.{closed, is_full, posted_reply}
 use Rattle.hall.specs.declared.command.Reply.TheVariants as reply
+use Rattle.hall.proofs.Cancels.{IsPlainRefusal}
 use Rattle.hall.specs.declared.units.Written.{Written}
 use Rattle.hall.specs.declared.units.Written.TheVariants.{Answered, Failed}
 
@@ -95,6 +96,11 @@ posted_quiet part unit outcome.Done n m h =
     elim (nat_eq part 1) as (λ b. HasStoreCause n m (if b then reply.Posted unit else reply.Closed unit)) [ true ↦ h | false ↦ h ]
 posted_quiet part unit (outcome.Refused index reason) n m h =
     elim (nat_eq part 1) as (λ b. HasStoreCause n m (if b then reply.Bad unit index reason else reply.Bad2 unit index reason)) [ true ↦ h | false ↦ h ]
+
+-- a refusal that shows no failure leaves the count of faults
+pub plain_quiet : (r : Refusal) (n m : ℕ) → m ≡ n → IsPlainRefusal r → HasStoreCause n m (reply.Refused r)
+plain_quiet refusal.StoreFault n m h plain = let well = plain.well in absurd (cc)
+plain_quiet _ n m h plain = h
 
 -- ---- the hall behind it
 

@@ -13,6 +13,9 @@ use Rattle.lock_entry.specs.declared.entry.Entry.{Entry}
 use Rattle.lock_entry.specs.declared.fault.AskFault.{AskFault}
 use Rattle.posting.specs.declared.prepared.Outcome.{Outcome}
 use Rattle.hall.specs.Coming.{outcome_in}
+use Rattle.hall.proofs.Calls.{by_room}
+use Rattle.hall.proofs.Cancels.{by_cancel}
+use Rattle.hall.proofs.Resubmissions.{by_resubmit}
 use Rattle.hall.proofs.Fresh.{found_name}
 use Rattle.hall.specs.declared.command.Command.{Command}
 use Rattle.hall.specs.declared.command.Command.TheVariants as command
@@ -23,7 +26,7 @@ use Rattle.hall.specs.History.{DeviceOutcome, IsStep, Well, Wanting, StoreFails,
 use Rattle.hall.specs.Orders.{order_for, order_of, without_order}
 use Rattle.hall.specs.Sessions.{is_called, session_at, unit_key, with_next_unit, with_session, without_session}
 use Rattle.hall.specs.State.{State}
-use Rattle.hall.specs.Step.{Verdict, Refuses, Leaves, call_of, closed, committed, converting, entered, granting, own_verdict, posting, session_call, taking, unless_closed, verdict}
+use Rattle.hall.specs.Step.{Verdict, Refuses, Leaves, call_of, closed, committed, converting, entered, granting, own_verdict, posting, session_call, taking, unless_closed, verdict, with_room}
 
 abbrev pub IsLoggedOn : List Session → List ℕ → Type 0
 IsLoggedOn sessions name = IsTrue (is_some (session_at sessions name))
@@ -103,10 +106,11 @@ converting-keeps : (s : State) (c : Command) (r : Result Conversion AskFault) �
 converting-keeps s c (Ok done) n off h = h
 converting-keeps s c (Err f) n off h = h
 
-commit-keeps : (s : State) (c : Command) (x : Session) (parts : Parts) (large none : Bool) → KeepsSessions s c (judged s (if large then Refuses refusal.UnitTooLarge else (if none then Leaves s reply.Done else Leaves (committed s x parts) (reply.Unit (unit_key s.stored.start x)))))
-commit-keeps s c x parts true none n off h = h
-commit-keeps s c x parts false true n off h = h
-commit-keeps s c x parts false false n off h = logged_with x.name s.sessions n h
+commit-keeps : (s : State) (c : Command) (x : Session) (parts : Parts) (large none : Bool) → KeepsSessions s c (judged s (if large then Refuses refusal.UnitTooLarge else (if none then Leaves s reply.Done else with_room s (Leaves (committed s x parts) (reply.Unit (unit_key s.stored.start x))))))
+commit-keeps s c x parts true none = λ n off h. h
+commit-keeps s c x parts false true = λ n off h. h
+commit-keeps s c x parts false false =
+    by_room (λ v. KeepsSessions s c (judged s v)) s (Leaves (committed s x parts) (reply.Unit (unit_key s.stored.start x))) (λ n off h. h) (λ n off h. logged_with x.name s.sessions n h)
 
 call-keeps : (s : State) (name : List ℕ) (c : Command) → ((x : Session) → session_at s.sessions name ≡ Some x → KeepsSessions s c (judged s (session_call s x c))) → KeepsSessions s c (judged s (call_of s name c))
 call-keeps s name c each =
@@ -148,12 +152,18 @@ own-keeps come s (command.Rollback session) = call-keeps s session (command.Roll
 own-keeps come s (command.Commit session parts) = call-keeps s session (command.Commit session parts) (λ x e. commit-keeps s (command.Commit session parts) x parts _ _)
 own-keeps come s (command.Take1 worker) = take-keeps s (command.Take1 worker) worker _ _
 own-keeps come s (command.Do1 worker) =
-    order-keeps s (command.Do1 worker) (order_for 1 s.stored s.orders worker) (λ unit. posting 1 s worker unit (come 1 unit)) (λ unit n off h. h)
+    order-keeps s (command.Do1 worker) (order_for 1 s.stored s.orders worker) (λ unit. with_room s (posting 1 s worker unit (come 1 unit)))
+    (λ unit. by_room (λ v. KeepsSessions s (command.Do1 worker) (judged s v)) s (posting 1 s worker unit (come 1 unit)) (λ n off h. h) (λ n off h. h))
 own-keeps come s (command.Take2 worker) = take-keeps s (command.Take2 worker) worker _ _
 own-keeps come s (command.Do2 worker) =
-    order-keeps s (command.Do2 worker) (order_for 2 s.stored s.orders worker) (λ unit. posting 2 s worker unit (come 2 unit)) (λ unit n off h. h)
+    order-keeps s (command.Do2 worker) (order_for 2 s.stored s.orders worker) (λ unit. with_room s (posting 2 s worker unit (come 2 unit)))
+    (λ unit. by_room (λ v. KeepsSessions s (command.Do2 worker) (judged s v)) s (posting 2 s worker unit (come 2 unit)) (λ n off h. h) (λ n off h. h))
 own-keeps come s (command.DropOrder worker) =
     order-keeps s (command.DropOrder worker) (order_of s.orders worker) (λ unit. Leaves (record s { orders = without_order s.orders worker }) (reply.Unit unit)) (λ unit n off h. h)
+own-keeps come s (command.Cancel unit) =
+    by_cancel (λ v. KeepsSessions s (command.Cancel unit) (judged s v)) s unit (λ r plain n off h. h) (λ status can n off h. h)
+own-keeps come s (command.Resubmit unit) =
+    by_resubmit (λ v. KeepsSessions s (command.Resubmit unit) (judged s v)) s unit (λ r plain n off h. h) (λ es here stand n off h. h) (λ here n off h. h)
 
 unless-keeps : (s : State) (c : Command) (o : Option Refusal) (v : Verdict) → KeepsSessions s c (judged s v) → KeepsSessions s c (judged s (unless_closed o v))
 unless-keeps s c None v each = each

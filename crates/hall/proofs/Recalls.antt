@@ -7,7 +7,6 @@ use Rattle.enq_base.specs.declared.condition.Condition.TheVariants as condition
 use Rattle.enq_base.specs.declared.owner.UnitKey.{UnitKey}
 use Rattle.enq_base.specs.declared.refusal.Refusal.{Refusal}
 use Rattle.enq_base.specs.declared.refusal.Refusal.TheVariants as refusal
-use Rattle.lock_entry.specs.Table.{IsTable}
 use Rattle.posting.specs.declared.prepared.Outcome.{Outcome}
 use Rattle.update_records.specs.Business.{tables_of}
 use Rattle.update_records.specs.Ledger.{Ledger}
@@ -19,13 +18,14 @@ use Rattle.hall.specs.Orders.{order_for}
 use Rattle.hall.specs.declared.command.Command.{Command}
 use Rattle.hall.specs.declared.command.PastEntry.{PastEntry}
 use Rattle.hall.specs.History.{DeviceOutcome, Well, Wanting, StoreFails, Comes, IsAllowed, Served, failed, is_post, is_unrecorded, judged, noted, past_entry, served, shown, step}
+use Rattle.hall.specs.Kept.{HasSoundLocks}
 use Rattle.hall.specs.Recall.{AreModelAnswers, IsModelAnswer, StaysSound, recalled, state_after}
 use Rattle.hall.specs.State.{State}
 use Rattle.hall.specs.Step.{Verdict, Refuses, Leaves, closed, is_full, own_verdict, posting, unless_closed, verdict}
 use Rattle.hall.proofs.Calls.{verdict-closed, verdict-room}
-use Rattle.hall.proofs.Fair.{IsPlain, failed-sound, table_of, verdict-fair}
+use Rattle.hall.proofs.Fair.{IsPlain, noted-sound, served-sound, verdict-fair}
 use Rattle.hall.proofs.Steps.{served-past}
-use Rattle.hall.proofs.Writes.{Posts, applied_told, comes, outcome_told, own_post, posts_first, posts_second}
+use Rattle.hall.proofs.Writes.{Posts, applied_told, comes, fits, full_post, is_store_full, outcome_told, own_post, posts_first, posts_second}
 
 -- the answer shows the outcome
 shown-failed : (s : State) (v : Verdict) → shown (failed s v).reply ≡ StoreFails
@@ -47,6 +47,8 @@ asks_no_part come other s (command.Do1 worker) e = absurd (cc)
 asks_no_part come other s (command.Take2 worker) e = refl
 asks_no_part come other s (command.Do2 worker) e = absurd (cc)
 asks_no_part come other s (command.DropOrder worker) e = refl
+asks_no_part come other s (command.Cancel unit) e = refl
+asks_no_part come other s (command.Resubmit unit) e = refl
 
 asks_nothing : (come other : ℕ → UnitKey → Outcome) (s : State) (c : Command) → is_post c ≡ false → verdict come s c ≡ verdict other s c
 unfolding verdict
@@ -82,14 +84,20 @@ closed-well false (condition.Doubt call) r e = let same : refusal.Down call ≡ 
 abbrev PartMayCome : ℕ → (ℕ → UnitKey → Outcome) → State → Option UnitKey → Type 0
 PartMayCome part come s o = IfSome o (λ unit. MayComeTo s.told s.stored part unit (come part unit))
 
+shows_unit : (part : ℕ) (c : Command) (come : ℕ → UnitKey → Outcome) (s : State) (worker : ℕ) (unit : UnitKey) (full : Bool) → Posts part worker c → closed s ≡ None → order_for part s.stored s.orders worker ≡ Some unit → MayComeTo s.told s.stored part unit (come part unit) → is_store_full s ≡ full → ShowsAgain s c (judged s (verdict come s c))
+shows_unit part c come s worker unit true posts room found may full =
+    let refused : (other : ℕ → UnitKey → Outcome) → verdict other s c ≡ Refuses (refusal.StoreFull s.mark_limit) = λ other. verdict-room other s c room ∙ full_post part c other s worker unit posts found full in
+    subst (λ v. ShowsAgain s c (judged s v)) (sym (refused come)) (shows_refused s c (refusal.StoreFull s.mark_limit) refl (refused (outcome_in s.stored)))
+shows_unit part c come s worker unit false posts room found may space =
+    let act = comes part c s worker unit (come part unit) posts room found space may in
+    let is : verdict come s c ≡ posting part s worker unit (come part unit) = verdict-room come s c room ∙ own_post part c come s worker (Some unit) posts found ∙ fits s _ space in
+    subst (λ v. ShowsAgain s c (judged s v)) (sym is) (record { same = act.same; allowed = act.allowed })
+
 shows_order : (part : ℕ) (c : Command) (come : ℕ → UnitKey → Outcome) (s : State) (worker : ℕ) (o : Option UnitKey) → Posts part worker c → closed s ≡ None → order_for part s.stored s.orders worker ≡ o → PartMayCome part come s o → ShowsAgain s c (judged s (verdict come s c))
 shows_order part c come s worker None posts room found may =
     let refused : (other : ℕ → UnitKey → Outcome) → verdict other s c ≡ Refuses refusal.NoOrder = λ other. verdict-room other s c room ∙ own_post part c other s worker None posts found in
     subst (λ v. ShowsAgain s c (judged s v)) (sym (refused come)) (shows_refused s c refusal.NoOrder refl (refused (outcome_in s.stored)))
-shows_order part c come s worker (Some unit) posts room found may =
-    let act = comes part c s worker unit (come part unit) posts room found may in
-    let is : verdict come s c ≡ posting part s worker unit (come part unit) = verdict-room come s c room ∙ own_post part c come s worker (Some unit) posts found in
-    subst (λ v. ShowsAgain s c (judged s v)) (sym is) (record { same = act.same; allowed = act.allowed })
+shows_order part c come s worker (Some unit) posts room found may = shows_unit part c come s worker unit (is_store_full s) posts room found may refl
 
 shows_post : (part : ℕ) (c : Command) (come : ℕ → UnitKey → Outcome) (s : State) (worker : ℕ) (o : Option Refusal) → Posts part worker c → closed s ≡ o → PartMayCome part come s (order_for part s.stored s.orders worker) → ShowsAgain s c (judged s (verdict come s c))
 shows_post part c come s worker None posts room may = shows_order part c come s worker (order_for part s.stored s.orders worker) posts room refl may
@@ -124,6 +132,8 @@ shows_verdict come s (command.Commit session parts) may = shows_well come s _ re
 shows_verdict come s (command.Take1 worker) may = shows_well come s _ refl
 shows_verdict come s (command.Take2 worker) may = shows_well come s _ refl
 shows_verdict come s (command.DropOrder worker) may = shows_well come s _ refl
+shows_verdict come s (command.Cancel unit) may = shows_well come s _ refl
+shows_verdict come s (command.Resubmit unit) may = shows_well come s _ refl
 
 shows_again : (o : DeviceOutcome) (s : State) (c : Command) → IsAllowed o s c → ShowsAgain s c (served o s c)
 shows_again Well s c allowed = shows_verdict (outcome_in s.stored) s c (λ part worker posts. some_may part s (order_for part s.stored s.orders worker))
@@ -207,24 +217,14 @@ told-answers first s h earlier later call e =
 
 -- ---- soundness
 
-served-sound : (o : DeviceOutcome) (s : State) (c : Command) → IsTable (table_of s) → IsTable (table_of (served o s c).state)
-served-sound Well s c h = (verdict-fair (outcome_in s.stored) s c).sound h
-served-sound Wanting s c h = h
-served-sound (Comes o) s c h = (verdict-fair (λ part unit. o) s c).sound h
-served-sound StoreFails s c h = failed-sound s (verdict (outcome_in s.stored) s c) h
-
-noted-sound : (line : ℕ) (c : Command) (r : Served) (b : Bool) → IsTable (table_of r.state) → IsTable (table_of (if b then r else record r { state = record r.state { past = r.state.past ++ past_entry line c r.reply ∷ [] } }).state)
-noted-sound line c r true h = h
-noted-sound line c r false h = h
-
-recalled-sound : (s : State) (e : PastEntry) → IsTable (table_of s) → IsTable (table_of (recalled s e))
+recalled-sound : (s : State) (e : PastEntry) → HasSoundLocks s → HasSoundLocks (recalled s e)
 recalled-sound s e h =
     let r = served (shown e.reply) s e.command in
     noted-sound e.line e.command r (is_unrecorded r.reply) (served-sound (shown e.reply) s e.command h)
 
-after-sound : (s : State) (es : List PastEntry) → IsTable (table_of s) → IsTable (table_of (state_after s es))
+after-sound : (s : State) (es : List PastEntry) → HasSoundLocks s → HasSoundLocks (state_after s es)
 after-sound s [] h = h
 after-sound s (e ∷ es) h = after-sound (recalled s e) es (recalled-sound s e h)
 
-pub stays_sound : (first : State) (calls : List PastEntry) → IsTable (table_of first) → StaysSound first calls
-stays_sound first calls h earlier later e = (after-sound first earlier h).sound
+pub stays_sound : (first : State) (calls : List PastEntry) → HasSoundLocks first → StaysSound first calls
+stays_sound first calls h earlier later e = (after-sound first earlier h).table.sound

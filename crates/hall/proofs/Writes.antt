@@ -1,6 +1,6 @@
 -- Commits, orders and posts come to what their commands' verdicts say.
 use Rattle.std.proofs.Common.{◌≡◌, ℕ, zero, suc, ◌+◌, ◌-◌, ◌≤◌, ◌<◌, inl, inr, Bool, true, false, cond, not, List, [], ◌∷◌, length, drop, set, refl, sym, ap, ◌∙◌, subst, arith}
-use Rattle.std.specs.Prelude.{Option, Some, None, Result, Ok, Err, IsTrue, IfSome, is_some, nat_eq, nat_le, nat_lt, slice_get, if◌then◌else◌}
+use Rattle.std.specs.Prelude.{Option, Some, None, Result, Ok, Err, IsTrue, IfSome, is_ok, is_some, nat_eq, nat_le, nat_lt, slice_get, if◌then◌else◌}
 use Rattle.std.specs.FinMap.{get}
 use Rattle.std.specs.List.{AllByRecursion, find}
 use Rattle.std.proofs.lemmas.Bool.Decides.{nat_tests}
@@ -11,23 +11,30 @@ use Rattle.enq_base.specs.declared.refusal.Refusal.TheVariants as refusal
 use Rattle.enq_base.specs.declared.unit.Effect.{Effect}
 use Rattle.enq_base.specs.declared.unit.Parts.{Parts}
 use Rattle.enq_base.specs.declared.unit.Reason.{Reason}
+use Rattle.enq_base.specs.declared.unit.Status.{Status}
+use Rattle.enq_base.specs.declared.unit.Status.TheVariants.{Bad, Bad2}
 use Rattle.lock_entry.specs.declared.entry.Entry.{Entry}
 use Rattle.lock_entry.specs.Freeing.{handed_over}
+use Rattle.lock_entry.specs.Granting.{readmitted}
+use Rattle.lock_entry.specs.Table.{IsFaultOf, IsTable, Table}
+use Rattle.lock_entry.specs.declared.fault.AskFault.{AskFault}
+use Rattle.lock_entry.specs.declared.fault.AskFault.TheVariants as fault
 use Rattle.module_effects.specs.Effects.{applied, applied_from, row_after}
 use Rattle.module_effects.specs.Rows.{RowName, Tables, row_of, with_row}
 use Rattle.module_effects.specs.declared.fault.EffectFault.{EffectFault}
 use Rattle.module_effects.specs.declared.fault.EffectFault.TheVariants as effect
 use Rattle.keeper_api.specs.Rows.{Rows}
-use Rattle.posting.specs.Posts.{MayCome, effects_of, kind_for}
+use Rattle.posting.specs.Posts.{MayCome, effects_of, entries_of, kind_for}
 use Rattle.posting.specs.Steps.{IsNewUnit, IsOutcome, after_step, at_place, waiting_for}
 use Rattle.posting.specs.declared.prepared.Step.{Step}
 use Rattle.posting.specs.declared.prepared.Step.TheVariants.{Note}
 use Rattle.posting.specs.declared.prepared.Outcome.{Outcome}
 use Rattle.posting.specs.declared.prepared.Outcome.TheVariants as outcome
 use Rattle.update_records.specs.Business.{tables_of}
-use Rattle.update_records.specs.Grammar.{HasDigits, IsHeldBy}
+use Rattle.update_records.specs.Grammar.{HasDigits}
 use Rattle.update_records.specs.Growing.{with_mark, with_unit}
 use Rattle.update_records.specs.Ledger.{Ledger}
+use Rattle.update_records.specs.declared.records.MarkKind.TheVariants.{Again1, Again2, Gone}
 use Rattle.update_records.specs.declared.records.Unit.{Unit as UnitOfWork}
 use Rattle.hall.specs.declared.command.Command.{Command}
 use Rattle.hall.specs.declared.command.Command.TheVariants as command
@@ -39,15 +46,18 @@ use Rattle.hall.specs.Acts.{IsAct, post_of}
 use Rattle.hall.specs.Coming.{MayComeTo, outcome_in, outcome_of}
 use Rattle.hall.specs.Flights.{landed}
 use Rattle.hall.specs.History.{Well, Comes, IsAllowed, MayPost, PostMayCome, Served, doubted, failed, is_unrecorded, judged, leaves, may_want, served, shown, writes}
-use Rattle.hall.specs.Kept.{IsAhead}
+use Rattle.hall.specs.Kept.{HasItsUser, IsAhead, OfLock}
 use Rattle.hall.specs.Orders.{first_unclaimed, is_claimed, order_for, order_of}
-use Rattle.hall.specs.Sessions.{is_called, session_at, unit_key, with_next_unit, with_session}
+use Rattle.hall.specs.Sessions.{is_called, owners_of, session_at, unit_key, with_next_unit, with_session}
 use Rattle.hall.specs.State.{State}
-use Rattle.hall.specs.Step.{Verdict, Refuses, Leaves, closed, commit, committed, effects_in, locks_behind, marked, own_verdict, post, posted_reply, posting, take, taking, unit_of}
+use Rattle.hall.specs.Step.{Verdict, Refuses, Leaves, ask_refusal, cancel, cancelled, cancelling, closed, commit, committed, effects_in, locks_behind, locks_without, marked, own_verdict, post, posted_reply, posting, reopened, reopening, reposted, resubmit, resubmitting, take, taking, to_cancel, to_resubmit, unit_of, with_room}
 use Rattle.hall.proofs.Calls.{at_state, calling, found_at, is_wanting, refuses, verdict-room}
+use Rattle.hall.proofs.Cancels.{refused_plainly}
 use Rattle.hall.proofs.Ends.{IsPart}
 use Rattle.hall.proofs.Fair.{posted-noted}
 use Rattle.hall.proofs.Fresh.{found_in}
+use Rattle.hall.proofs.HandedLocks.{all_held, handed_table}
+use Rattle.hall.proofs.Resubmissions.{resubmit_refused_plainly}
 
 -- a call that leaves a state
 pub tells : (s : State) (c : Command) (after : State) (r : Reply) → closed s ≡ None → own_verdict (outcome_in s.stored) s c ≡ Leaves after r → shown r ≡ Well → is_unrecorded r ≡ false → IsAct s c after r
@@ -156,10 +166,33 @@ takes part s orders after ledger worker unit e f none is new =
     let e' : set s.orders worker (Some unit) ≡ after = ap (λ xs. set xs worker (Some unit)) e ∙ sym new in
     ap (judged s) (free_to_take part s orders ledger worker (Some unit) e f none is) ∙ (λ i. served_as (record s { orders = e' i }) (reply.Unit unit))
 
+-- ---- room for one more mark
+
+-- whether the store has as many marks as it may
+abbrev pub is_store_full : State → Bool
+is_store_full s = nat_le s.mark_limit (length s.stored.marks)
+
+-- what a call tells of its store
+pub full_as : (s : State) (limit : ℕ) (ledger : Ledger) (full : Bool) → s.mark_limit ≡ limit → s.stored ≡ ledger → nat_le limit (length ledger.marks) ≡ full → is_store_full s ≡ full
+full_as s limit ledger full m g h = (λ i. nat_le (m i) (length (g i).marks)) ∙ h
+
+not_reached : (limit n : ℕ) → nat_le limit n ≡ false → n < limit
+not_reached limit n h = grind (arith, nat_tests)
+
+-- below its limit a store has room by the books' own limit
+pub below_limit : (limit n : ℕ) → nat_le limit n ≡ false → limit ≤ 1048576 → n < 1048576
+below_limit limit n h k = omega (arith, k, not_reached limit n h)
+
+pub fits : (s : State) (v : Verdict) → is_store_full s ≡ false → with_room s v ≡ v
+fits s v h = ap (λ b. if b then Refuses (refusal.StoreFull s.mark_limit) else v) h
+
+overflows : (s : State) (v : Verdict) → is_store_full s ≡ true → with_room s v ≡ Refuses (refusal.StoreFull s.mark_limit)
+overflows s v h = ap (λ b. if b then Refuses (refusal.StoreFull s.mark_limit) else v) h
+
 -- ---- posts
 
 abbrev pub Posting : ℕ → State → ℕ → (ℕ → UnitKey → Outcome) → Option UnitKey → Verdict
-Posting part s worker come o = elim o [ None ↦ Refuses refusal.NoOrder | Some unit ↦ posting part s worker unit (come part unit) ]
+Posting part s worker come o = elim o [ None ↦ Refuses refusal.NoOrder | Some unit ↦ with_room s (posting part s worker unit (come part unit)) ]
 
 -- the call posts this part for this worker
 pub record Posts (part worker : ℕ) (c : Command) : Type 0 where
@@ -192,6 +225,18 @@ posts_none part s orders entries ledger worker is e f g room none =
     (refuses s c refusal.NoOrder room
     (own_post part c (outcome_in s.stored) s worker None (posts_part part worker is) (held part s ledger orders worker None g e none)) refl refl)
 
+-- a store that has no room for the mark
+pub full_post : (part : ℕ) (c : Command) (come : ℕ → UnitKey → Outcome) (s : State) (worker : ℕ) (unit : UnitKey) → Posts part worker c → order_for part s.stored s.orders worker ≡ Some unit → is_store_full s ≡ true → own_verdict come s c ≡ Refuses (refusal.StoreFull s.mark_limit)
+full_post part c come s worker unit posts found full = own_post part c come s worker (Some unit) posts found ∙ overflows s _ full
+
+pub posts_full : (part : ℕ) (s : State) (orders : List (Option UnitKey)) (entries : List Entry) (ledger : Ledger) (limit worker : ℕ) (unit : UnitKey) → IsPart part → s.orders ≡ orders → s.locks ≡ entries → s.stored ≡ ledger → s.mark_limit ≡ limit → closed s ≡ None → order_for part ledger orders worker ≡ Some unit → nat_le limit (length ledger.marks) ≡ true → IsAct s (post_of part worker) (record s { orders = orders; locks = entries; stored = ledger }) (reply.Refused (refusal.StoreFull limit))
+posts_full part s orders entries ledger limit worker unit is e f g m room found full =
+    let c = post_of part worker in
+    subst (λ n. IsAct s c (record s { orders = orders; locks = entries; stored = ledger }) (reply.Refused (refusal.StoreFull n))) m
+    (at_state _ _ s _ _ (λ i. record s { orders = e i; locks = f i; stored = g i })
+    (refuses s c (refusal.StoreFull s.mark_limit) room
+    (full_post part c (outcome_in s.stored) s worker unit (posts_part part worker is) (held part s ledger orders worker (Some unit) g e found) (full_as s limit ledger true m g full)) refl refl))
+
 posted-shows : (part : ℕ) (unit : UnitKey) (o : Outcome) → shown (posted_reply part unit o) ≡ Comes o
 posted-shows part unit outcome.Done =
     elim (nat_eq part 1) as (λ b. shown (if b then reply.Posted unit else reply.Closed unit) ≡ Comes outcome.Done) [ true ↦ refl | false ↦ refl ]
@@ -199,24 +244,24 @@ posted-shows part unit (outcome.Refused index reason) =
     elim (nat_eq part 1) as (λ b. shown (if b then reply.Bad unit index reason else reply.Bad2 unit index reason) ≡ Comes (outcome.Refused index reason)) [ true ↦ refl | false ↦ refl ]
 
 -- a part that comes to this
-pub comes : (part : ℕ) (c : Command) (s : State) (worker : ℕ) (unit : UnitKey) (o : Outcome) → Posts part worker c → closed s ≡ None → order_for part s.stored s.orders worker ≡ Some unit → MayComeTo s.told s.stored part unit o → IsAct s c (marked part s worker unit (kind_for part o)) (posted_reply part unit o)
-comes part c s worker unit o posts room found may =
+pub comes : (part : ℕ) (c : Command) (s : State) (worker : ℕ) (unit : UnitKey) (o : Outcome) → Posts part worker c → closed s ≡ None → order_for part s.stored s.orders worker ≡ Some unit → is_store_full s ≡ false → MayComeTo s.told s.stored part unit o → IsAct s c (marked part s worker unit (kind_for part o)) (posted_reply part unit o)
+comes part c s worker unit o posts room found space may =
     record {
       same =
           ap (λ d. served d s c) (posted-shows part unit o)
-          ∙ ap (judged s) (verdict-room (λ p u. o) s c room ∙ own_post part c (λ p u. o) s worker (Some unit) posts found);
+          ∙ ap (judged s) (verdict-room (λ p u. o) s c room ∙ own_post part c (λ p u. o) s worker (Some unit) posts found ∙ fits s _ space);
       allowed = subst (λ d. IsAllowed d s c) (sym (posted-shows part unit o)) (posts.may o s (subst (λ x. IfSome x (λ u. MayComeTo s.told s.stored part u o)) (sym found) may));
       noted = posted-noted part unit o;
     }
 
-pub posts : (part : ℕ) (s : State) (told : Bool) (orders after : List (Option UnitKey)) (entries left : List Entry) (ledger new : Ledger) (worker : ℕ) (unit : UnitKey) (o : Outcome) → IsPart part → s.told ≡ told → s.orders ≡ orders → s.locks ≡ entries → s.stored ≡ ledger → closed s ≡ None → order_for part ledger orders worker ≡ Some unit → MayComeTo told ledger part unit o → after ≡ set orders worker None → left ≡ locks_behind part entries unit → new ≡ with_mark ledger unit (kind_for part o) → IsAct s (post_of part worker) (record s { orders = after; locks = left; stored = new }) (posted_reply part unit o)
-posts part s told orders after entries left ledger new worker unit o is t e f g room found may a b c =
+pub posts : (part : ℕ) (s : State) (told : Bool) (orders after : List (Option UnitKey)) (entries left : List Entry) (ledger new : Ledger) (limit worker : ℕ) (unit : UnitKey) (o : Outcome) → IsPart part → s.told ≡ told → s.orders ≡ orders → s.locks ≡ entries → s.stored ≡ ledger → s.mark_limit ≡ limit → closed s ≡ None → order_for part ledger orders worker ≡ Some unit → nat_le limit (length ledger.marks) ≡ false → MayComeTo told ledger part unit o → after ≡ set orders worker None → left ≡ locks_behind part entries unit → new ≡ with_mark ledger unit (kind_for part o) → IsAct s (post_of part worker) (record s { orders = after; locks = left; stored = new }) (posted_reply part unit o)
+posts part s told orders after entries left ledger new limit worker unit o is t e f g m room found space may a b c =
     let e' : set s.orders worker None ≡ after = ap (λ xs. set xs worker None) e ∙ sym a in
     let f' : locks_behind part s.locks unit ≡ left = ap (λ xs. locks_behind part xs unit) f ∙ sym b in
     let g' : with_mark s.stored unit (kind_for part o) ≡ new = ap (λ l. with_mark l unit (kind_for part o)) g ∙ sym c in
     let may' : MayComeTo s.told s.stored part unit o = subst (λ x. MayComeTo x s.stored part unit o) (sym t) (subst (λ l. MayComeTo told l part unit o) (sym g) may) in
     at_state _ _ (marked part s worker unit (kind_for part o)) _ _ (λ i. record s { orders = e' i; locks = f' i; stored = g' i })
-    (comes part (post_of part worker) s worker unit o (posts_part part worker is) room (held part s ledger orders worker (Some unit) g e found) may')
+    (comes part (post_of part worker) s worker unit o (posts_part part worker is) room (held part s ledger orders worker (Some unit) g e found) (full_as s limit ledger false m g space) may')
 
 outcome_is : (r : Result Tables EffectFault) (o : Outcome) → IsOutcome r o → o ≡ outcome_of r
 outcome_is (Ok tables) o h = h
@@ -259,13 +304,13 @@ pub landed_where_told : (part : ℕ) (told : Option Rows) (ledger old : Ledger) 
 landed_where_told part None ledger old said unit o same is h = tt
 landed_where_told part (Some rows) ledger old said unit o same is h = landed_post part ledger old said unit o same is (outcome_is _ o h)
 
-pub posts_in_doubt : (part : ℕ) (s : State) (orders : List (Option UnitKey)) (ledger : Ledger) (worker : ℕ) (unit : UnitKey) → IsPart part → s.orders ≡ orders → s.stored ≡ ledger → closed s ≡ None → order_for part ledger orders worker ≡ Some unit → IsAct s (post_of part worker) (doubted s (landed s.stored (flight.Post unit part))) (reply.Refused refusal.StoreFault)
-posts_in_doubt part s orders ledger worker unit is e g room found =
+pub posts_in_doubt : (part : ℕ) (s : State) (orders : List (Option UnitKey)) (ledger : Ledger) (limit worker : ℕ) (unit : UnitKey) → IsPart part → s.orders ≡ orders → s.stored ≡ ledger → s.mark_limit ≡ limit → closed s ≡ None → order_for part ledger orders worker ≡ Some unit → nat_le limit (length ledger.marks) ≡ false → IsAct s (post_of part worker) (doubted s (landed s.stored (flight.Post unit part))) (reply.Refused refusal.StoreFault)
+posts_in_doubt part s orders ledger limit worker unit is e g m room found space =
     let c = post_of part worker in
     let o = outcome_in s.stored part unit in
     let by = posts_part part worker is in
     fails s c (marked part s worker unit (kind_for part o)) (posted_reply part unit o) room
-    (own_post part c (outcome_in s.stored) s worker (Some unit) by (held part s ledger orders worker (Some unit) g e found)) by.stores
+    (own_post part c (outcome_in s.stored) s worker (Some unit) by (held part s ledger orders worker (Some unit) g e found) ∙ fits s _ (full_as s limit ledger false m g space)) by.stores
 
 pub posts_wanting : (part : ℕ) (s : State) (orders : List (Option UnitKey)) (entries : List Entry) (ledger new : Ledger) (worker : ℕ) (unit : UnitKey) → IsPart part → s.orders ≡ orders → s.locks ≡ entries → s.stored ≡ ledger → new ≡ ledger → closed s ≡ None → order_for part ledger orders worker ≡ Some unit → IsAct s (post_of part worker) (record s { orders = orders; locks = entries; stored = new }) (reply.Refused refusal.NoMemory)
 posts_wanting part s orders entries ledger new worker unit is e f g kept room found =
@@ -273,6 +318,98 @@ posts_wanting part s orders entries ledger new worker unit is e f g kept room fo
     let by = posts_part part worker is in
     at_state _ _ s _ _ (λ i. record s { orders = e i; locks = f i; stored = g' i })
     (is_wanting s (post_of part worker) room (by.wants s (ap is_some (held part s ledger orders worker (Some unit) g e found))))
+
+-- ---- cancelling
+
+own_cancel : (s : State) (orders : List (Option UnitKey)) (ledger : Ledger) (limit : ℕ) (unit : UnitKey) (r : Result Status Refusal) → s.orders ≡ orders → s.stored ≡ ledger → s.mark_limit ≡ limit → to_cancel ledger orders limit unit ≡ r → cancel s unit ≡ cancelling s unit r
+own_cancel s orders ledger limit unit r e g m h =
+    (λ i. cancelling s unit (to_cancel (g i) (e i) (m i) unit)) ∙ ap (cancelling s unit) h
+
+pub cancels_not : (s : State) (orders : List (Option UnitKey)) (entries : List Entry) (ledger : Ledger) (limit : ℕ) (unit : UnitKey) (r : Refusal) → s.orders ≡ orders → s.locks ≡ entries → s.stored ≡ ledger → s.mark_limit ≡ limit → closed s ≡ None → to_cancel ledger orders limit unit ≡ Err r → IsAct s (command.Cancel unit) (record s { locks = entries; stored = ledger }) (reply.Refused r)
+cancels_not s orders entries ledger limit unit r e f g m room h =
+    let plain = refused_plainly ledger orders limit unit r h in
+    at_state _ _ s _ _ (λ i. record s { locks = f i; stored = g i })
+    (refuses s (command.Cancel unit) r room (own_cancel s orders ledger limit unit (Err r) e g m h) plain.well plain.noted)
+
+pub cancels_wanting : (s : State) (orders : List (Option UnitKey)) (entries : List Entry) (ledger new : Ledger) (limit : ℕ) (unit : UnitKey) (status : Status) → s.orders ≡ orders → s.locks ≡ entries → s.stored ≡ ledger → s.mark_limit ≡ limit → closed s ≡ None → to_cancel ledger orders limit unit ≡ Ok status → new ≡ ledger → IsAct s (command.Cancel unit) (record s { locks = entries; stored = new }) (reply.Refused refusal.NoMemory)
+cancels_wanting s orders entries ledger new limit unit status e f g m room h kept =
+    let g' : s.stored ≡ new = g ∙ sym kept in
+    at_state _ _ s _ _ (λ i. record s { locks = f i; stored = g' i })
+    (is_wanting s (command.Cancel unit) room
+    (ap leaves (verdict-room (outcome_in s.stored) s (command.Cancel unit) room ∙ own_cancel s orders ledger limit unit (Ok status) e g m h)))
+
+pub cancels : (s : State) (orders : List (Option UnitKey)) (entries left : List Entry) (ledger new : Ledger) (limit : ℕ) (unit : UnitKey) (status : Status) → s.orders ≡ orders → s.locks ≡ entries → s.stored ≡ ledger → s.mark_limit ≡ limit → closed s ≡ None → to_cancel ledger orders limit unit ≡ Ok status → left ≡ locks_without status entries unit → new ≡ with_mark ledger unit Gone → IsAct s (command.Cancel unit) (record s { locks = left; stored = new }) (reply.Unit unit)
+cancels s orders entries left ledger new limit unit status e f g m room h a b =
+    let f' : locks_without status s.locks unit ≡ left = ap (λ xs. locks_without status xs unit) f ∙ sym a in
+    let g' : with_mark s.stored unit Gone ≡ new = ap (λ l. with_mark l unit Gone) g ∙ sym b in
+    at_state _ _ (cancelled s unit status) _ _ (λ i. record s { locks = f' i; stored = g' i })
+    (tells s (command.Cancel unit) (cancelled s unit status) (reply.Unit unit) room (own_cancel s orders ledger limit unit (Ok status) e g m h) refl refl)
+
+pub cancels_in_doubt : (s : State) (orders : List (Option UnitKey)) (ledger : Ledger) (limit : ℕ) (unit : UnitKey) (status : Status) → s.orders ≡ orders → s.stored ≡ ledger → s.mark_limit ≡ limit → closed s ≡ None → to_cancel ledger orders limit unit ≡ Ok status → IsAct s (command.Cancel unit) (doubted s (landed s.stored (flight.Cancel unit))) (reply.Refused refusal.StoreFault)
+cancels_in_doubt s orders ledger limit unit status e g m room h =
+    fails s (command.Cancel unit) (cancelled s unit status) (reply.Unit unit) room (own_cancel s orders ledger limit unit (Ok status) e g m h) refl
+
+-- ---- trying again
+
+own_resubmit : (s : State) (ledger : Ledger) (limit : ℕ) (unit : UnitKey) (r : Result Status Refusal) → s.stored ≡ ledger → s.mark_limit ≡ limit → to_resubmit ledger limit unit ≡ r → resubmit s unit ≡ resubmitting s unit r
+own_resubmit s ledger limit unit r g m h = (λ i. resubmitting s unit (to_resubmit (g i) (m i) unit)) ∙ ap (resubmitting s unit) h
+
+pub resubmits_not : (s : State) (entries : List Entry) (ledger : Ledger) (limit : ℕ) (unit : UnitKey) (r : Refusal) → s.locks ≡ entries → s.stored ≡ ledger → s.mark_limit ≡ limit → closed s ≡ None → to_resubmit ledger limit unit ≡ Err r → IsAct s (command.Resubmit unit) (record s { locks = entries; stored = ledger }) (reply.Refused r)
+resubmits_not s entries ledger limit unit r f g m room h =
+    let plain = resubmit_refused_plainly ledger limit unit r h in
+    at_state _ _ s _ _ (λ i. record s { locks = f i; stored = g i })
+    (refuses s (command.Resubmit unit) r room (own_resubmit s ledger limit unit (Err r) g m h) plain.well plain.noted)
+
+pub resubmits_wanting : (s : State) (entries : List Entry) (ledger new : Ledger) (limit : ℕ) (unit : UnitKey) (status : Status) → s.locks ≡ entries → s.stored ≡ ledger → s.mark_limit ≡ limit → closed s ≡ None → to_resubmit ledger limit unit ≡ Ok status → new ≡ ledger → IsAct s (command.Resubmit unit) (record s { locks = entries; stored = new }) (reply.Refused refusal.NoMemory)
+resubmits_wanting s entries ledger new limit unit status f g m room h kept =
+    let g' : s.stored ≡ new = g ∙ sym kept in
+    at_state _ _ s _ _ (λ i. record s { locks = f i; stored = g' i })
+    (is_wanting s (command.Resubmit unit) room (ap is_ok ((λ i. to_resubmit (g i) (m i) unit) ∙ h)))
+
+pub reposts : (s : State) (entries : List Entry) (ledger new : Ledger) (limit : ℕ) (unit : UnitKey) → s.locks ≡ entries → s.stored ≡ ledger → s.mark_limit ≡ limit → closed s ≡ None → to_resubmit ledger limit unit ≡ Ok Bad2 → new ≡ with_mark ledger unit Again2 → IsAct s (command.Resubmit unit) (record s { locks = entries; stored = new }) (reply.Unit unit)
+reposts s entries ledger new limit unit f g m room h b =
+    let g' : with_mark s.stored unit Again2 ≡ new = ap (λ l. with_mark l unit Again2) g ∙ sym b in
+    at_state _ _ (reposted s unit) _ _ (λ i. record s { locks = f i; stored = g' i })
+    (tells s (command.Resubmit unit) (reposted s unit) (reply.Unit unit) room (own_resubmit s ledger limit unit (Ok Bad2) g m h) refl refl)
+
+pub reposts_in_doubt : (s : State) (ledger : Ledger) (limit : ℕ) (unit : UnitKey) → s.stored ≡ ledger → s.mark_limit ≡ limit → closed s ≡ None → to_resubmit ledger limit unit ≡ Ok Bad2 → IsAct s (command.Resubmit unit) (doubted s (landed s.stored (flight.Again unit 2))) (reply.Refused refusal.StoreFault)
+reposts_in_doubt s ledger limit unit g m room h =
+    fails s (command.Resubmit unit) (reposted s unit) (reply.Unit unit) room (own_resubmit s ledger limit unit (Ok Bad2) g m h) refl
+
+own_reopen : (s : State) (t : Table) (ledger : Ledger) (limit : ℕ) (unit : UnitKey) (answer : Result (List Entry) AskFault) → s.locks ≡ t.entries → s.limit ≡ t.limit → s.stored ≡ ledger → s.mark_limit ≡ limit → to_resubmit ledger limit unit ≡ Ok Bad → readmitted t (owners_of unit) (entries_of ledger.units unit) ≡ answer → resubmit s unit ≡ reopening s unit answer
+own_reopen s t ledger limit unit answer f l g m h e =
+    own_resubmit s ledger limit unit (Ok Bad) g m h
+    ∙ (λ i. reopening s unit (readmitted (record { entries = f i; limit = l i }) (owners_of unit) (entries_of (g i).units unit)))
+    ∙ ap (reopening s unit) e
+
+pub reopens : (s : State) (t : Table) (ledger new : Ledger) (limit : ℕ) (unit : UnitKey) (left : List Entry) → s.locks ≡ t.entries → s.limit ≡ t.limit → s.stored ≡ ledger → s.mark_limit ≡ limit → closed s ≡ None → to_resubmit ledger limit unit ≡ Ok Bad → readmitted t (owners_of unit) (entries_of ledger.units unit) ≡ Ok left → new ≡ with_mark ledger unit Again1 → IsAct s (command.Resubmit unit) (record s { locks = left; stored = new }) (reply.Unit unit)
+reopens s t ledger new limit unit left f l g m room h stand b =
+    let g' : with_mark s.stored unit Again1 ≡ new = ap (λ x. with_mark x unit Again1) g ∙ sym b in
+    at_state _ _ (reopened s unit left) _ _ (λ i. record s { locks = left; stored = g' i })
+    (tells s (command.Resubmit unit) (reopened s unit left) (reply.Unit unit) room (own_reopen s t ledger limit unit (Ok left) f l g m h stand) refl refl)
+
+pub reopens_in_doubt : (s : State) (t : Table) (ledger : Ledger) (limit : ℕ) (unit : UnitKey) (left : List Entry) → s.locks ≡ t.entries → s.limit ≡ t.limit → s.stored ≡ ledger → s.mark_limit ≡ limit → closed s ≡ None → to_resubmit ledger limit unit ≡ Ok Bad → readmitted t (owners_of unit) (entries_of ledger.units unit) ≡ Ok left → IsAct s (command.Resubmit unit) (doubted s (landed s.stored (flight.Again unit 1))) (reply.Refused refusal.StoreFault)
+reopens_in_doubt s t ledger limit unit left f l g m room h stand =
+    fails s (command.Resubmit unit) (reopened s unit left) (reply.Unit unit) room (own_reopen s t ledger limit unit (Ok left) f l g m h stand) refl
+
+not_reopened : (s : State) (t : Table) (ledger : Ledger) (limit : ℕ) (unit : UnitKey) (f : AskFault) → s.locks ≡ t.entries → s.limit ≡ t.limit → s.stored ≡ ledger → s.mark_limit ≡ limit → closed s ≡ None → to_resubmit ledger limit unit ≡ Ok Bad → IsFaultOf (readmitted t (owners_of unit) (entries_of ledger.units unit)) f → IsAct s (command.Resubmit unit) s (reply.Refused (ask_refusal f))
+not_reopened s t ledger limit unit (fault.Foreign e) locks l g m room h why =
+    refuses s (command.Resubmit unit) _ room (own_reopen s t ledger limit unit _ locks l g m h why) refl refl
+not_reopened s t ledger limit unit (fault.Full used most) locks l g m room h why =
+    refuses s (command.Resubmit unit) _ room (own_reopen s t ledger limit unit _ locks l g m h why) refl refl
+not_reopened s t ledger limit unit fault.Count locks l g m room h why =
+    refuses s (command.Resubmit unit) _ room (own_reopen s t ledger limit unit _ locks l g m h why) refl refl
+not_reopened s t ledger limit unit fault.Lost locks l g m room h why =
+    refuses s (command.Resubmit unit) _ room (own_reopen s t ledger limit unit _ locks l g m h why) refl refl
+not_reopened s t ledger limit unit fault.NoMemory locks l g m room h why =
+    is_wanting s (command.Resubmit unit) room (ap is_ok ((λ i. to_resubmit (g i) (m i) unit) ∙ h))
+
+pub reopens_in_vain : (s : State) (t : Table) (ledger new : Ledger) (limit : ℕ) (unit : UnitKey) (f : AskFault) (r : Refusal) (after : List Entry) → s.locks ≡ t.entries → s.limit ≡ t.limit → s.stored ≡ ledger → s.mark_limit ≡ limit → closed s ≡ None → to_resubmit ledger limit unit ≡ Ok Bad → IsFaultOf (readmitted t (owners_of unit) (entries_of ledger.units unit)) f → after ≡ t.entries → new ≡ ledger → r ≡ ask_refusal f → IsAct s (command.Resubmit unit) (record s { locks = after; stored = new }) (reply.Refused r)
+reopens_in_vain s t ledger new limit unit f r after locks l g m room h why same kept is =
+    let f' : s.locks ≡ after = locks ∙ sym same in
+    let g' : s.stored ≡ new = g ∙ sym kept in
+    subst (λ a. IsAct s (command.Resubmit unit) (record s { locks = after; stored = new }) (reply.Refused a)) (sym is)
+    (at_state _ _ s _ _ (λ i. record s { locks = f' i; stored = g' i }) (not_reopened s t ledger limit unit f locks l g m room h why))
 
 -- ---- commits
 
@@ -286,7 +423,7 @@ commits_unknown s sessions entries ledger name parts r e f g room none is =
     (refuses s (command.Commit name parts) refusal.UnknownSession room (ap (calling s (command.Commit name parts)) (found_at s sessions name None e none)) refl refl))
 
 abbrev committing : State → Session → Parts → Bool → Bool → Verdict
-committing s x parts large none = if large then Refuses refusal.UnitTooLarge else (if none then Leaves s reply.Done else Leaves (committed s x parts) (reply.Unit (unit_key s.stored.start x)))
+committing s x parts large none = if large then Refuses refusal.UnitTooLarge else (if none then Leaves s reply.Done else with_room s (Leaves (committed s x parts) (reply.Unit (unit_key s.stored.start x))))
 
 tested : (s : State) (x : Session) (parts : Parts) (large none : Bool) → nat_lt 200 (effects_in parts) ≡ large → nat_eq (effects_in parts) 0 ≡ none → commit s x parts ≡ committing s x parts large none
 tested s x parts large none a b = λ i. committing s x parts (a i) (b i)
@@ -314,30 +451,38 @@ commits_nothing s sessions entries ledger name x parts e f g room found none =
     (tells s (command.Commit name parts) s reply.Done room
     (own_commit s sessions name x parts e found ∙ tested s x parts false true (ap (nat_lt 200) none) (ap (λ n. nat_eq n 0) none)) refl refl)
 
-leaves_unit : (s : State) (sessions : List Session) (name : List ℕ) (x : Session) (parts : Parts) → s.sessions ≡ sessions → session_at sessions name ≡ Some x → 1 ≤ effects_in parts → effects_in parts ≤ 200 → own_verdict (outcome_in s.stored) s (command.Commit name parts) ≡ Leaves (committed s x parts) (reply.Unit (unit_key s.stored.start x))
-leaves_unit s sessions name x parts e found some few =
-    own_commit s sessions name x parts e found ∙ tested s x parts false false (not_over _ few) (is_some_effect _ some)
+pub commits_full : (s : State) (sessions : List Session) (entries : List Entry) (ledger : Ledger) (limit : ℕ) (name : List ℕ) (x : Session) (parts : Parts) → s.sessions ≡ sessions → s.locks ≡ entries → s.stored ≡ ledger → s.mark_limit ≡ limit → closed s ≡ None → session_at sessions name ≡ Some x → 1 ≤ effects_in parts → effects_in parts ≤ 200 → nat_le limit (length ledger.marks) ≡ true → IsAct s (command.Commit name parts) (record s { sessions = sessions; locks = entries; stored = ledger }) (reply.Refused (refusal.StoreFull limit))
+commits_full s sessions entries ledger limit name x parts e f g m room found some few full =
+    subst (λ n. IsAct s (command.Commit name parts) (record s { sessions = sessions; locks = entries; stored = ledger }) (reply.Refused (refusal.StoreFull n))) m
+    (at_state _ _ s _ _ (λ i. record s { sessions = e i; locks = f i; stored = g i })
+    (refuses s (command.Commit name parts) (refusal.StoreFull s.mark_limit) room
+    (own_commit s sessions name x parts e found ∙ tested s x parts false false (not_over _ few) (is_some_effect _ some) ∙ overflows s _ (full_as s limit ledger true m g full)) refl refl))
 
-pub commits : (s : State) (sessions after : List Session) (entries left : List Entry) (ledger new : Ledger) (name : List ℕ) (x : Session) (parts : Parts) (key : UnitKey) → s.sessions ≡ sessions → s.locks ≡ entries → s.stored ≡ ledger → closed s ≡ None → session_at sessions name ≡ Some x → 1 ≤ effects_in parts → effects_in parts ≤ 200 → key ≡ unit_key ledger.start x → after ≡ with_session x.name with_next_unit sessions → left ≡ handed_over entries key → new ≡ with_unit ledger (unit_of ledger.start x parts) → IsAct s (command.Commit name parts) (record s { sessions = after; locks = left; stored = new }) (reply.Unit key)
-commits s sessions after entries left ledger new name x parts key e f g room found some few k a b c =
+leaves_unit : (s : State) (sessions : List Session) (name : List ℕ) (x : Session) (parts : Parts) → s.sessions ≡ sessions → session_at sessions name ≡ Some x → 1 ≤ effects_in parts → effects_in parts ≤ 200 → is_store_full s ≡ false → own_verdict (outcome_in s.stored) s (command.Commit name parts) ≡ Leaves (committed s x parts) (reply.Unit (unit_key s.stored.start x))
+leaves_unit s sessions name x parts e found some few space =
+    own_commit s sessions name x parts e found ∙ tested s x parts false false (not_over _ few) (is_some_effect _ some) ∙ fits s _ space
+
+pub commits : (s : State) (sessions after : List Session) (entries left : List Entry) (ledger new : Ledger) (limit : ℕ) (name : List ℕ) (x : Session) (parts : Parts) (key : UnitKey) → s.sessions ≡ sessions → s.locks ≡ entries → s.stored ≡ ledger → s.mark_limit ≡ limit → closed s ≡ None → session_at sessions name ≡ Some x → 1 ≤ effects_in parts → effects_in parts ≤ 200 → nat_le limit (length ledger.marks) ≡ false → key ≡ unit_key ledger.start x → after ≡ with_session x.name with_next_unit sessions → left ≡ handed_over entries key → new ≡ with_unit ledger (unit_of ledger.start entries x parts) → IsAct s (command.Commit name parts) (record s { sessions = after; locks = left; stored = new }) (reply.Unit key)
+commits s sessions after entries left ledger new limit name x parts key e f g m room found some few space k a b c =
     let k' : unit_key s.stored.start x ≡ key = ap (λ (l : Ledger). unit_key l.start x) g ∙ sym k in
     let e' : with_session x.name with_next_unit s.sessions ≡ after = ap (with_session x.name with_next_unit) e ∙ sym a in
     let f' : handed_over s.locks (unit_key s.stored.start x) ≡ left = (λ i. handed_over (f i) (k' i)) ∙ sym b in
-    let g' : with_unit s.stored (unit_of s.stored.start x parts) ≡ new = ap (λ (l : Ledger). with_unit l (unit_of l.start x parts)) g ∙ sym c in
+    let g' : with_unit s.stored (unit_of s.stored.start s.locks x parts) ≡ new = (λ i. with_unit (g i) (unit_of (g i).start (f i) x parts)) ∙ sym c in
     subst (λ u. IsAct s (command.Commit name parts) (record s { sessions = after; locks = left; stored = new }) (reply.Unit u)) k'
     (at_state _ _ (committed s x parts) _ _ (λ i. record s { sessions = e' i; locks = f' i; stored = g' i })
-    (tells s (command.Commit name parts) (committed s x parts) _ room (leaves_unit s sessions name x parts e found some few) refl refl))
+    (tells s (command.Commit name parts) (committed s x parts) _ room (leaves_unit s sessions name x parts e found some few (full_as s limit ledger false m g space)) refl refl))
 
-pub commits_in_doubt : (s : State) (sessions : List Session) (ledger : Ledger) (name : List ℕ) (x : Session) (parts : Parts) (unit : UnitOfWork) → s.sessions ≡ sessions → s.stored ≡ ledger → closed s ≡ None → session_at sessions name ≡ Some x → 1 ≤ effects_in parts → effects_in parts ≤ 200 → unit ≡ unit_of ledger.start x parts → IsAct s (command.Commit name parts) (doubted s (with_unit s.stored unit)) (reply.Refused refusal.StoreFault)
-commits_in_doubt s sessions ledger name x parts unit e g room found some few is =
-    let same : unit_of s.stored.start x parts ≡ unit = ap (λ (l : Ledger). unit_of l.start x parts) g ∙ sym is in
+pub commits_in_doubt : (s : State) (sessions : List Session) (entries : List Entry) (ledger : Ledger) (limit : ℕ) (name : List ℕ) (x : Session) (parts : Parts) (unit : UnitOfWork) → s.sessions ≡ sessions → s.locks ≡ entries → s.stored ≡ ledger → s.mark_limit ≡ limit → closed s ≡ None → session_at sessions name ≡ Some x → 1 ≤ effects_in parts → effects_in parts ≤ 200 → nat_le limit (length ledger.marks) ≡ false → unit ≡ unit_of ledger.start entries x parts → IsAct s (command.Commit name parts) (doubted s (with_unit s.stored unit)) (reply.Refused refusal.StoreFault)
+commits_in_doubt s sessions entries ledger limit name x parts unit e f g m room found some few space is =
+    let same : unit_of s.stored.start s.locks x parts ≡ unit = (λ i. unit_of (g i).start (f i) x parts) ∙ sym is in
     subst (λ u. IsAct s (command.Commit name parts) (doubted s (with_unit s.stored u)) (reply.Refused refusal.StoreFault)) same
-    (fails s (command.Commit name parts) (committed s x parts) _ room (leaves_unit s sessions name x parts e found some few) (is_written _ some))
+    (fails s (command.Commit name parts) (committed s x parts) _ room (leaves_unit s sessions name x parts e found some few (full_as s limit ledger false m g space)) (is_written _ some))
 
 -- the unit of a session that is logged on may be recorded
-pub may_record : (ledger : Ledger) (sessions : List Session) (name : List ℕ) (x : Session) (parts : Parts) (start : ℕ) (unit : UnitOfWork) → start ≡ ledger.start → unit ≡ unit_of start x parts → session_at sessions name ≡ Some x → AllByRecursion (IsAhead ledger) sessions → 1 ≤ ledger.start → 1 ≤ effects_in parts → effects_in parts ≤ 200 → IsNewUnit ledger unit
-may_record ledger sessions name x parts start unit same is found ahead started some few =
-    subst (IsNewUnit ledger) (sym (is ∙ ap (λ n. unit_of n x parts) same)) (record {
+pub may_record : (ledger : Ledger) (sessions : List Session) (name : List ℕ) (x : Session) (parts : Parts) (start : ℕ) (t : Table) (unit : UnitOfWork) → start ≡ ledger.start → unit ≡ unit_of start t.entries x parts → session_at sessions name ≡ Some x → AllByRecursion (IsAhead ledger) sessions → AllByRecursion (OfLock (HasItsUser ledger.start sessions)) t.entries → IsTable t → 1 ≤ ledger.start → 1 ≤ effects_in parts → effects_in parts ≤ 200 → IsNewUnit ledger unit
+may_record ledger sessions name x parts start t unit same is found ahead users good started some few =
+    let held = handed_table t ledger.start x good in
+    subst (IsNewUnit ledger) (sym (is ∙ ap (λ n. unit_of n t.entries x parts) same)) (record {
       fresh = found_in (IsAhead ledger) (is_called name) sessions x found ahead x.luw (omega arith);
       first = started;
       last = omega arith;
@@ -345,7 +490,7 @@ may_record ledger sessions name x parts start unit same is found ahead started s
       few = few;
       few_numbers = omega arith;
       digits = All-nil HasDigits;
-      few_entries = omega arith;
-      held = All-nil (IsHeldBy (unit_of ledger.start x parts));
-      distinct = refl;
+      few_entries = omega (arith, held.within, held.limit_fits);
+      held = all_held t sessions name ledger.start x parts found users good;
+      distinct = held.sound.names;
     })

@@ -1,6 +1,6 @@
 -- A call with what the devices did in it, and the history that calls make.
 use Rattle.std.specs.Prelude.{◌≡◌, ℕ, ◌+◌, Bool, true, false, nat_le, IsTrue, if◌then◌else◌}
-use Rattle.std.specs.Prelude.{[], ◌∷◌, ◌++◌, length, Some, None, is_some, IfSome}
+use Rattle.std.specs.Prelude.{[], ◌∷◌, ◌++◌, length, Some, None, is_some, is_ok, IfSome}
 use Rattle.enq_base.specs.declared.condition.Condition.TheVariants as condition
 use Rattle.enq_base.specs.declared.refusal.Refusal.TheVariants as refusal
 use Rattle.hall.specs.declared.command.Command.{Command}
@@ -16,7 +16,7 @@ use Rattle.hall.specs.Coming.{MayComeTo, outcome_in}
 use Rattle.hall.specs.Orders.{order_for}
 use Rattle.hall.specs.Sessions.{session_at}
 use Rattle.hall.specs.State.{State}
-use Rattle.hall.specs.Step.{Verdict, Refuses, Leaves, closed, effects_in, verdict}
+use Rattle.hall.specs.Step.{Verdict, Refuses, Leaves, closed, effects_in, to_resubmit, verdict}
 use Rattle.update_records.specs.Ledger.{Ledger}
 
 -- what the devices did in a call
@@ -50,8 +50,8 @@ abbrev pub leaves : Verdict → Bool
 leaves (Refuses r) = false
 leaves (Leaves s r) = true
 
--- the calls in which memory may be wanting: a logon that is not refused, a request for locks, a conversion, a commit,
--- and a post
+-- the calls in which memory may be wanting: a logon and a cancelling that are not refused, a unit that can be tried
+-- again, a request for locks, a conversion, a commit, and a post
 abbrev pub may_want : State → Command → Bool
 may_want s (command.Logon session user) = leaves (verdict (outcome_in s.stored) s (command.Logon session user))
 may_want s (command.Ask session requests) = is_some (session_at s.sessions session)
@@ -59,13 +59,17 @@ may_want s (command.Convert session asked) = is_some (session_at s.sessions sess
 may_want s (command.Commit session parts) = is_some (session_at s.sessions session)
 may_want s (command.Do1 worker) = is_some (order_for 1 s.stored s.orders worker)
 may_want s (command.Do2 worker) = is_some (order_for 2 s.stored s.orders worker)
+may_want s (command.Cancel unit) = leaves (verdict (outcome_in s.stored) s (command.Cancel unit))
+may_want s (command.Resubmit unit) = is_ok (to_resubmit s.stored s.mark_limit unit)
 may_want s command = false
 
--- the calls that write the store: a commit with effects, and a post
+-- the calls that write the store: a commit with effects, a post, a cancelling, and a part that is tried again
 abbrev pub writes : Command → Bool
 writes (command.Commit session parts) = nat_le 1 (effects_in parts)
 writes (command.Do1 worker) = true
 writes (command.Do2 worker) = true
+writes (command.Cancel unit) = true
+writes (command.Resubmit unit) = true
 writes command = false
 
 -- the part of the unit that the worker has an order for may come to this
@@ -122,6 +126,8 @@ who_of (command.Do1 worker) = who.Worker worker
 who_of (command.Take2 worker) = who.Worker worker
 who_of (command.Do2 worker) = who.Worker worker
 who_of (command.DropOrder worker) = who.Worker worker
+who_of (command.Cancel unit) = who.Admin
+who_of (command.Resubmit unit) = who.Admin
 
 -- a call that finds the history full is not in it, nor is one that finds no unit to take
 abbrev pub is_unrecorded : Reply → Bool

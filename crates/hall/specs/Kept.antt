@@ -1,26 +1,36 @@
 -- What a state that calls lead to keeps.
-use Rattle.std.specs.Prelude.{◌≡◌, ◌⊎◌, ℕ, ◌+◌, ◌≤◌, ◌<◌, false}
+use Rattle.std.specs.Prelude.{◌≡◌, ◌⊎◌, ℕ, ◌+◌, ◌≤◌, ◌<◌, Bool, true, false, not, ◌&&◌, nat_eq}
 use Rattle.std.specs.Prelude.{List, [], ◌∷◌, length, Option, Some, None}
-use Rattle.std.specs.List.{AllByRecursion}
+use Rattle.std.specs.List.{AllByRecursion, list_all}
 use Rattle.enq_base.specs.declared.condition.Condition.{Condition}
 use Rattle.enq_base.specs.declared.condition.Condition.TheVariants as condition
+use Rattle.enq_base.specs.declared.owner.Owner.{Owner}
+use Rattle.enq_base.specs.declared.owner.Owner.TheVariants.{Dlg, Upd}
 use Rattle.enq_base.specs.declared.owner.UnitKey.{UnitKey}
+use Rattle.enq_base.specs.declared.unit.Status.{Status}
+use Rattle.enq_base.specs.declared.unit.Status.TheVariants.{Open}
+use Rattle.lock_entry.specs.declared.entry.Entry.{Entry}
+use Rattle.lock_entry.specs.Sound.{ReadmitsOnly}
+use Rattle.lock_entry.specs.Table.{IsTable}
+use Rattle.mode_rules.specs.declared.Mode.TheVariants.{O}
+use Rattle.mode_rules.specs.Modes.{same_mode}
 use Rattle.posting.specs.Steps.{IsOpenUnit, IsPostedUnit}
 use Rattle.update_records.specs.Ledger.{Ledger}
 use Rattle.update_records.specs.Marks.{status_of}
+use Rattle.update_records.specs.declared.records.Unit.{Unit as UnitOfWork}
 use Rattle.hall.specs.declared.command.Session.{Session}
 use Rattle.hall.specs.Orders.{is_claimed}
+use Rattle.hall.specs.Sessions.{owners_of}
 use Rattle.hall.specs.State.{State}
 
 -- the session's open unit has at most this number
 abbrev pub IsYoung : ℕ → Session → Type 0
 IsYoung n x = x.luw ≤ n
 
--- after so many calls: few sessions, units and marks, since each call makes at most one of each
+-- after so many calls: few sessions and units, since each call makes at most one of each
 pub record HasFew (calls : ℕ) (s : State) : Type 0 where
   pub sessions : s.next_session ≤ calls + 1
   pub units : AllByRecursion (IsYoung (calls + 1)) s.sessions
-  pub marks : length s.stored.marks ≤ calls
 
 -- the numbers of the sessions rise, and are below the next one
 abbrev pub AreNumbered : ℕ → List Session → Type 0
@@ -54,6 +64,64 @@ AreOrders ledger (None ∷ orders) = AreOrders ledger orders
 AreOrders ledger (Some unit ∷ orders) =
     IsWaiting ledger unit × (is_claimed orders unit ≡ false) × AreOrders ledger orders
 
+-- whether the owner is one of the session of this number, of this start
+abbrev pub is_of_session : ℕ → ℕ → Owner → Bool
+is_of_session start number (Dlg other session) = nat_eq other start && nat_eq session number
+is_of_session start number (Upd unit) = nat_eq unit.start start && nat_eq unit.session number
+
+-- the owner is none of a session that is yet to come
+abbrev pub IsKnown : ℕ → ℕ → Owner → Type 0
+IsKnown start next owner = (number : ℕ) → next ≤ number → is_of_session start number owner ≡ false
+
+-- where the owner is one of this session's, this is its user
+abbrev pub IsUserOf : ℕ → Owner → List ℕ → Session → Type 0
+IsUserOf start owner user x = is_of_session start x.number owner ≡ true → user ≡ x.user
+
+-- an owner of one of these sessions has the session's user
+abbrev pub HasItsUser : ℕ → List Session → Owner → List ℕ → Type 0
+HasItsUser start sessions owner user = AllByRecursion (IsUserOf start owner user) sessions
+
+-- a unit that isn't recorded yet, or that waits for its V1 part
+abbrev pub may_hold : Option Status → Bool
+may_hold None = true
+may_hold (Some Open) = true
+may_hold (Some status) = false
+
+-- locks of the update stand for units that aren't recorded yet, and for those that wait for their V1 part
+abbrev pub MayHold : Ledger → Owner → Type 0
+MayHold ledger (Dlg start session) = Unit {0}
+MayHold ledger (Upd unit) = may_hold (status_of ledger.units ledger.marks unit) ≡ true
+
+-- what is said of a lock by its owner and its user
+abbrev pub OfLock : (Owner → List ℕ → Type 0) → Entry → Type 0
+OfLock Q e = Q e.owner e.user
+
+-- the same of all locks that are stored with a unit
+abbrev pub OfStored : (Owner → List ℕ → Type 0) → UnitOfWork → Type 0
+OfStored Q unit = AllByRecursion (OfLock Q) unit.entries
+
+-- whose the locks are, those that stand and those that are stored with units
+pub record IsOwned (ledger : Ledger) (next : ℕ) (sessions : List Session) (locks : List Entry) : Type 0 where
+  pub known : AllByRecursion (OfLock (λ owner user. IsKnown ledger.start next owner)) locks
+  pub users : AllByRecursion (OfLock (HasItsUser ledger.start sessions)) locks
+  pub holders : AllByRecursion (OfLock (λ owner user. MayHold ledger owner)) locks
+  pub stored_known : AllByRecursion (OfStored (λ owner user. IsKnown ledger.start next owner)) ledger.units
+  pub stored_users : AllByRecursion (OfStored (HasItsUser ledger.start sessions)) ledger.units
+
+-- a lock that was handed over, and isn't optimistic
+abbrev pub is_firm : Entry → Bool
+is_firm e = e.handed && not (same_mode e.mode O)
+
+-- the locks that are stored with a unit are its own, were handed over to it, and can stand together
+pub record HasGoodLocks (unit : UnitOfWork) : Type 0 where
+  pub own : ReadmitsOnly (owners_of unit.key) unit.entries
+  pub firm : list_all is_firm unit.entries ≡ true
+
+-- the locks of the state may stand together, and so may those of each unit
+pub record HasSoundLocks (s : State) : Type 0 where
+  pub table : IsTable (record { entries = s.locks; limit = s.limit })
+  pub stored : AllByRecursion HasGoodLocks s.stored.units
+
 -- what holds where the server is up
 abbrev pub WhileUp : Condition → Type 0 → Type 0
 WhileUp condition.Up P = P
@@ -68,14 +136,17 @@ HasServer (condition.Doubt k) = Unit {0}
 
 pub record IsSteady (s : State) : Type 0 where
   pub started : 1 ≤ s.stored.start
+  pub limited : s.mark_limit ≤ 1048576
   pub server : HasServer s.condition
   -- nothing is pending while the server is up
   pub settled : WhileUp s.condition (s.pending ≡ None)
   pub fresh : HasFreshKeys s
   pub places : length s.orders ≡ 256
   pub orders : AreOrders s.stored s.orders
+  pub owned : IsOwned s.stored s.next_session s.sessions s.locks
 
 pub record IsKept (s : State) : Type 0 where
   pub within : length s.past ≤ 262144
   pub few : HasFew (length s.past) s
   pub steady : IsSteady s
+  pub sound : HasSoundLocks s

@@ -1,6 +1,6 @@
 -- Orders of update work processes for units.
 use Rattle.std.specs.Prelude.{ℕ, Bool, false, not, List, Option, Some, None, set, slice_get, if◌then◌else◌}
-use Rattle.std.specs.List.{find, list_any}
+use Rattle.std.specs.List.{find, list_any, position}
 use Rattle.std.specs.Option.{option_and_then}
 use Rattle.enq_base.specs.Owners.{same_unit}
 use Rattle.enq_base.specs.declared.owner.UnitKey.{UnitKey}
@@ -34,6 +34,10 @@ is_for unit (Some other) = same_unit other unit
 -- whether some worker has an order for the unit
 abbrev pub is_claimed : List (Option UnitKey) → UnitKey → Bool
 is_claimed orders unit = list_any (is_for unit) orders
+
+-- the worker that has an order for the unit, by its number from 0
+abbrev pub worker_of : List (Option UnitKey) → UnitKey → Option ℕ
+worker_of orders unit = position (is_for unit) orders
 
 -- the first of these units that no worker has an order for
 abbrev pub first_unclaimed : List (Option UnitKey) → List UnitKey → Option UnitKey

@@ -8,6 +8,7 @@ use Rattle.enq_base.specs.declared.owner.UnitKey.{UnitKey}
 use Rattle.enq_base.specs.declared.refusal.Refusal.TheVariants as refusal
 use Rattle.lock_entry.specs.declared.entry.Entry.{Entry}
 use Rattle.mode_rules.specs.declared.Mode.TheVariants.{O}
+use Rattle.posting.specs.Posts.{entries_of}
 use Rattle.posting.specs.Steps.{IsOpenUnit}
 use Rattle.hall.specs.declared.command.Command.{Command}
 use Rattle.hall.specs.declared.command.Command.TheVariants as command
@@ -31,15 +32,31 @@ pub record StillWaits (unit : UnitKey) (s : State) : Type 0 where
   pub up : s.condition ≡ Up
   pub waits : IsOpenUnit s.stored unit
 
--- with this answer the unit waits no more: its V1 part was posted or refused, or the store failed
-abbrev pub ends_wait : UnitKey → Reply → Bool
-ends_wait unit (reply.Posted other) = same_unit other unit
-ends_wait unit (reply.Bad other index reason) = same_unit other unit
-ends_wait unit (reply.Refused refusal.StoreFault) = true
-ends_wait unit _ = false
+-- the call is to cancel this unit
+abbrev pub cancels : UnitKey → Command → Bool
+cancels unit (command.Cancel other) = same_unit other unit
+cancels unit _ = false
+
+abbrev pub is_resubmission_of : UnitKey → Command → Bool
+is_resubmission_of unit (command.Resubmit other) = same_unit other unit
+is_resubmission_of unit _ = false
+
+-- by this call a refused part of the unit is tried again
+pub record IsResubmissionOf (unit : UnitKey) (call : PastEntry) : Type 0 where
+  pub resubmits : is_resubmission_of unit call.command ≡ true
+  pub answered : call.reply ≡ reply.Unit unit
+
+-- with this call and its answer the unit waits no more: its V1 part was posted or refused, it was cancelled, or the
+-- store failed
+abbrev pub ends_wait : UnitKey → Command → Reply → Bool
+ends_wait unit c (reply.Posted other) = same_unit other unit
+ends_wait unit c (reply.Bad other index reason) = same_unit other unit
+ends_wait unit c (reply.Unit other) = cancels unit c
+ends_wait unit c (reply.Refused refusal.StoreFault) = true
+ends_wait unit c _ = false
 
 abbrev pub NoneEndsWait : UnitKey → List PastEntry → Type 0
-NoneEndsWait unit calls = list_any (λ (call : PastEntry). ends_wait unit call.reply) calls ≡ false
+NoneEndsWait unit calls = list_any (λ (call : PastEntry). ends_wait unit call.command call.reply) calls ≡ false
 
 -- ---- locks of a unit
 
@@ -81,8 +98,14 @@ KeepsHanded s t =
     (unit : UnitKey) (e : Entry) → IsHandedTo unit e → StillWaits unit t
     → Contains s.locks e → Contains t.locks e
 
+-- where the unit waits for its V1 part the locks that were stored with it stand
+abbrev pub LocksAreBack : UnitKey → State → Type 0
+LocksAreBack unit t =
+    StillWaits unit t → (e : Entry) → Contains (entries_of t.stored.units unit) e → Contains t.locks e
+
 pub record CallKeepsLocks (s : State) (call : PastEntry) (t : State) : Type 0 where
   pub commits : (unit : UnitKey) → IsCommitOf unit call → HandsOver unit s t
+  pub resubmits : (unit : UnitKey) → IsResubmissionOf unit call → LocksAreBack unit t
   pub kept : KeepsHanded s t
 
 -- ---- through a history
@@ -104,3 +127,16 @@ LocksStand first calls =
     (earlier between later : List PastEntry) (call : PastEntry) (unit : UnitKey)
     → calls ≡ earlier ++ call ∷ (between ++ later) → IsCommitOf unit call → NoneEndsWait unit between
     → WaitsLocked unit (state_after first earlier) (state_after first (earlier ++ call ∷ between))
+
+-- the unit waits, and the locks stand that were stored with it when its V1 part was tried again
+pub record ReturnsLocked (unit : UnitKey) (begun now : State) : Type 0 where
+  pub waits : StillWaits unit now
+  pub locks : (e : Entry) → Contains (entries_of begun.stored.units unit) e → Contains now.locks e
+
+-- where a unit waits for its V1 part again its stored locks stand, until a call ends that
+abbrev pub LocksReturn : State → List PastEntry → Type 0
+LocksReturn first calls =
+    (earlier between later : List PastEntry) (call : PastEntry) (unit : UnitKey)
+    → calls ≡ earlier ++ call ∷ (between ++ later) → IsResubmissionOf unit call → NoneEndsWait unit between
+    → StillWaits unit (state_after first (earlier ++ call ∷ []))
+    → ReturnsLocked unit (state_after first (earlier ++ call ∷ [])) (state_after first (earlier ++ call ∷ between))

@@ -71,13 +71,19 @@ pub enum Command {
     DropOrder {
         worker: u8,
     },
+    Cancel {
+        unit: UnitKey,
+    },
+    Resubmit {
+        unit: UnitKey,
+    },
 }
 
 /// What a call is answered.
 #[derive(Clone, Copy, Debug, PartialEq, Eq)]
 pub enum Reply {
     Done,
-    /// The unit was recorded, or a worker has an order for it.
+    /// The unit was recorded or cancelled, or a part of it is tried again, or a worker has an order for it.
     Unit(UnitKey),
     /// The unit's V1 part was posted.
     Posted(UnitKey),

@@ -1,6 +1,6 @@
 ghost use Rattle.std.specs.Prelude.{◌≡◌, ◌≤◌, [], None, IfOk, replicate, vec_capacity};
 ghost use Rattle.hall.specs.Faults.{books_fault};
-ghost use Rattle.posting.specs.Opening.{MayBeFault};
+ghost use Rattle.lock_entry.specs.Table.{IsTable};
 
 use crate::command::PastEntry;
 use enq_base::{NoMemory, UnitKey};
@@ -19,6 +19,8 @@ pub enum HallFault {
     Store,
     /// The store isn't good, which shows at this row of this table, counted from 1.
     Bad { table: u8, row: u64 },
+    /// The store's start number is the last that there is.
+    NoStart,
     NoMemory,
 }
 
@@ -34,6 +36,7 @@ impl<T: LockStore> Tables<T> {
     /// No locks, no orders and no calls. At most `max_locks` locks may come to stand.
     pub(crate) fn empty(alloc: Global, max_locks: u32) -> Result<Tables<T>, NoMemory>
         ensures locks { IfOk result (λ tables. T.table tables.locks ≡ record { entries = []; limit = max_locks }) }
+        ensures good { IfOk result (λ tables. IsTable (T.table tables.locks)) }
         ensures orders { IfOk result (λ tables. tables.orders.items ≡ replicate 256 None) }
         ensures past { IfOk result (λ tables. tables.past.items ≡ []) }
         ensures room { IfOk result (λ tables. 262144 ≤ vec_capacity tables.past) }
@@ -53,15 +56,14 @@ fn no_orders(alloc: Global) -> Result<Vec<Option<UnitKey>>, NoMemory>
     Ok(Vec::from_elem(alloc, None, WORKERS)?)
 }
 
-/// Why the books weren't opened. A store without rows always has a number for its first start.
+/// Why the books weren't opened.
 pub(crate) fn fault_of(fault: BooksFault) -> HallFault
-    requires { MayBeFault fault }
     ensures { books_fault result ≡ fault }
 {
     match fault {
         BooksFault::StoreFault => HallFault::Store,
         BooksFault::BadStore { table, row } => HallFault::Bad { table, row },
-        BooksFault::NoStart => unreachable!(),
+        BooksFault::NoStart => HallFault::NoStart,
         BooksFault::NoMemory => HallFault::NoMemory,
     }
 }

@@ -1,4 +1,4 @@
-ghost use Rattle.std.specs.Prelude.{◌≡◌, ◌⊎◌, None, IfSome, false, length};
+ghost use Rattle.std.specs.Prelude.{◌≡◌, ◌⊎◌, ◌<◌, None, IfSome, false, length};
 ghost use Rattle.hall.specs.declared.command.Command.TheVariants as command;
 ghost use Rattle.hall.specs.Acts.{IsAct, taken_reply};
 ghost use Rattle.hall.specs.History.{is_unrecorded, judged};
@@ -48,6 +48,25 @@ fn waits_for<K: Keeper>(books: &Books<K>, unit: &UnitKey, part: u8) -> bool
         Some(Status::Posted) => part != 1,
         _ => false,
     }
+}
+
+/// The worker that has an order for the unit.
+pub(crate) fn worker_of(orders: &[Option<UnitKey>], unit: &UnitKey) -> Option<u8>
+    requires { length orders.now ≡ 256 }
+    ensures { result ≡ claims.worker_of orders.now unit.now }
+{
+    match place_of(orders, unit) {
+        Some(place) => Some(place as u8),
+        None => None,
+    }
+}
+
+/// Where the order for the unit stands, from 0.
+fn place_of(orders: &[Option<UnitKey>], unit: &UnitKey) -> Option<usize>
+    ensures place { result ≡ claims.worker_of orders.now unit.now }
+    ensures within { IfSome result (λ place. place < length orders.now) }
+{
+    orders.iter().position(|order| is_for(order, unit))
 }
 
 /// Whether some worker has an order for the unit.

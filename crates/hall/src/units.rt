@@ -1,30 +1,33 @@
-ghost use Rattle.std.specs.Prelude.{◌≡◌, ◌⊎◌, ◌≤◌, ◌<◌, None, IfOk, IfSome, IsTrue, is_some, length};
+ghost use Rattle.std.specs.Prelude.{◌≡◌, ◌⊎◌, ◌≤◌, ◌<◌, None, Ok, IfOk, IfSome, IsTrue, is_some, length, nat_le};
 ghost use Rattle.std.specs.List.{AllByRecursion};
 ghost use Rattle.hall.specs.declared.command.Command.TheVariants as command;
 ghost use Rattle.hall.specs.Acts.{IsWritten, OnAnswer, OnFailure, post_of, written_reply};
-ghost use Rattle.hall.specs.Kept.{IsAhead, IsYoung};
+ghost use Rattle.hall.specs.Kept.{HasGoodLocks, HasItsUser, IsAhead, IsYoung, OfLock};
 ghost use Rattle.hall.specs.Leaving.{HasStoreCause, LeavesWritten};
+ghost use Rattle.hall.specs.Sessions.{owners_of};
 ghost use Rattle.hall.specs.State.{State};
 ghost use Rattle.hall.specs.Step as step;
 ghost use Rattle.hall.specs.Step.{closed};
 ghost use Rattle.keeper_api.specs.Keeping.{HasFaultCause, IsWithin, UnlessFailed};
 ghost use Rattle.module_effects.specs.Effects.{applied};
-ghost use Rattle.lock_entry.specs.Table.{with_entries};
+ghost use Rattle.lock_entry.specs.Table.{IsTable, with_entries};
 ghost use Rattle.posting.specs.Posts.{MayCome, WaitsFor, effects_of, kind_for};
 ghost use Rattle.posting.specs.Shelf.{IsReady, IsUnmoved, IsUsable};
-ghost use Rattle.posting.specs.Steps.{HasMarksLeft, IsOutcome};
+ghost use Rattle.posting.specs.Steps.{HasMarksLeft, IsOutcome, MayGet};
 ghost use Rattle.posting.specs.declared.prepared.Step.TheVariants.{Note};
 ghost use Rattle.update_records.specs.Business.{tables_of};
+ghost use Rattle.update_records.specs.declared.records.MarkKind.TheVariants.{Again1, Again2};
 
 use crate::command::{Reply, Session};
-use crate::orders::order_for;
+use crate::locks::refusal_of;
+use crate::orders::{order_for, worker_of};
 use crate::sessions::{Sessions, session_of, unit_key};
-use enq_base::{Items, Name, NoMemory, Owner, Parts, Refusal, UnitKey};
+use enq_base::{Items, Name, NoMemory, Owner, Parts, Refusal, Status, UnitKey};
 use keeper_api::{KeepFault, Keeper};
-use lock_entry::LockStore;
+use lock_entry::{Asker, Entry, LockStore, hand_over};
 use posting::{Books, Outcome, Prepared};
 use std::alloc::Global;
-use update_records::Unit;
+use update_records::{MarkKind, Unit};
 
 const EFFECTS_LIMIT: usize = 200;
 
@@ -43,6 +46,10 @@ pub(crate) enum InFlight {
     Unit(Unit),
     /// A part of a unit, 1 for V1 and 2 for V2, or the mark of its refusal.
     Post { unit: UnitKey, part: u8 },
+    /// The mark by which a unit is cancelled.
+    Cancel(UnitKey),
+    /// The mark by which a part of a unit is tried again, 1 for V1 and 2 for V2.
+    Again { unit: UnitKey, part: u8 },
 }
 
 /// Posts a part of the unit that a worker has an order for, or records where it is refused. The order goes, and then
@@ -54,13 +61,14 @@ pub(crate) fn post<T: LockStore, K: Keeper>(
     books: &mut Books<K>,
     worker: u8,
     part: u8,
+    max_marks: u32,
 ) -> Written
     requires usable { IsUsable K.held K.is_open books.old }
-    requires marks { HasMarksLeft books.old.ledger }
+    requires limited { max_marks ≤ 1048576 }
     requires places { length orders.old.items ≡ 256 }
     requires part { (part ≡ 1) ⊎ (part ≡ 2) }
     ensures act { (s : State) → s.told ≡ is_some (K.held books.old.keeper) → s.orders ≡ orders.old.items → s.locks ≡ (T.table locks.old).entries
-        → s.stored ≡ books.old.ledger → closed s ≡ None
+        → s.stored ≡ books.old.ledger → s.mark_limit ≡ max_marks → closed s ≡ None
         → IsWritten s (post_of part worker)
         (record s { orders = orders.new.items; locks = (T.table locks.new).entries; stored = books.new.ledger })
         result }
@@ -75,6 +83,9 @@ pub(crate) fn post<T: LockStore, K: Keeper>(
     let Some(unit) = order_for(orders.as_slice(), books, worker, part) else {
         return Written::Answered(Reply::Refused(Refusal::NoOrder));
     };
+    if is_full(books, max_marks) {
+        return Written::Answered(Reply::Refused(Refusal::StoreFull(max_marks)));
+    }
     let (prepared, outcome) = match prepare(alloc, books, &unit, part) {
         Ok(ready) => ready,
         Err(KeepFault::NoMemory) => return Written::Answered(Reply::Refused(Refusal::NoMemory)),
@@ -155,14 +166,16 @@ pub(crate) fn commit<T: LockStore, K: Keeper>(
     books: &mut Books<K>,
     name: &Name,
     parts: &Parts,
+    max_marks: u32,
 ) -> Written
     requires usable { IsUsable K.held K.is_open books.old }
-    requires marks { HasMarksLeft books.old.ledger }
+    requires limited { max_marks ≤ 1048576 }
     requires started { 1 ≤ books.old.ledger.start }
     requires young { AllByRecursion (IsYoung 262145) sessions.old }
     requires fresh { AllByRecursion (IsAhead books.old.ledger) sessions.old }
+    requires users { AllByRecursion (OfLock (HasItsUser books.old.ledger.start sessions.old)) (T.table locks.old).entries }
     ensures act { (s : State) → s.sessions ≡ sessions.old → s.locks ≡ (T.table locks.old).entries
-        → s.stored ≡ books.old.ledger → closed s ≡ None
+        → s.stored ≡ books.old.ledger → s.mark_limit ≡ max_marks → closed s ≡ None
         → IsWritten s (command.Commit name.now parts.now)
         (record s { sessions = sessions.new; locks = (T.table locks.new).entries; stored = books.new.ledger })
         result }
@@ -185,7 +198,10 @@ pub(crate) fn commit<T: LockStore, K: Keeper>(
     if effects == 0 {
         return Written::Answered(Reply::Done);
     }
-    let Ok(unit) = unit_of(alloc, books.start(), &session, parts) else {
+    if is_full(books, max_marks) {
+        return Written::Answered(Reply::Refused(Refusal::StoreFull(max_marks)));
+    }
+    let Ok(unit) = unit_of(alloc, books.start(), locks, &session, parts) else {
         return Written::Answered(Reply::Refused(Refusal::NoMemory));
     };
     let Ok(prepared) = books.prepare_unit(alloc, &unit, &[]) else {
@@ -201,6 +217,232 @@ pub(crate) fn commit<T: LockStore, K: Keeper>(
     }
 }
 
+/// Cancels a unit that waits for its V1 part, or of which a part was refused. The locks of one that waits go.
+pub(crate) fn cancel<T: LockStore, K: Keeper>(
+    alloc: Global,
+    orders: &[Option<UnitKey>],
+    locks: &mut T,
+    books: &mut Books<K>,
+    unit: UnitKey,
+    max_marks: u32,
+) -> Written
+    requires usable { IsUsable K.held K.is_open books.old }
+    requires limited { max_marks ≤ 1048576 }
+    requires places { length orders.now ≡ 256 }
+    ensures act { (s : State) → s.orders ≡ orders.now → s.locks ≡ (T.table locks.old).entries
+        → s.stored ≡ books.old.ledger → s.mark_limit ≡ max_marks → closed s ≡ None
+        → IsWritten s (command.Cancel unit)
+        (record s { locks = (T.table locks.new).entries; stored = books.new.ledger })
+        result }
+    ensures limit { (T.table locks.new).limit ≡ (T.table locks.old).limit }
+    ensures ledger { OnFailure result (books.new.ledger ≡ books.old.ledger) }
+    ensures usable { OnAnswer result (IsUsable K.held K.is_open books.new) }
+    ensures told { is_some (K.held books.new.keeper) ≡ is_some (K.held books.old.keeper) }
+    ensures left { LeavesWritten K.held K.may_leave books.new result }
+    ensures cause { HasStoreCause (K.faults books.old.keeper) (K.faults books.new.keeper) (written_reply result) }
+{
+    let status = match to_cancel(orders, books, &unit, max_marks) {
+        Ok(status) => status,
+        Err(refusal) => return Written::Answered(Reply::Refused(refusal)),
+    };
+    let Ok(prepared) = books.prepare_mark(alloc, &unit, MarkKind::Gone) else {
+        return Written::Answered(Reply::Refused(Refusal::NoMemory));
+    };
+    match books.write(prepared) {
+        Ok(()) => {
+            free_cancelled(locks, unit, status);
+            Written::Answered(Reply::Unit(unit))
+        }
+        Err(_) => Written::Failed(InFlight::Cancel(unit)),
+    }
+}
+
+/// The status of a unit that can be cancelled, or why it can't be.
+fn to_cancel<K: Keeper>(
+    orders: &[Option<UnitKey>],
+    books: &Books<K>,
+    unit: &UnitKey,
+    max_marks: u32,
+) -> Result<Status, Refusal>
+    requires { length orders.now ≡ 256 }
+    ensures { result ≡ step.to_cancel books.now.ledger orders.now max_marks unit.now }
+{
+    let Some(status) = books.status(unit) else {
+        return Err(Refusal::UnknownUnit);
+    };
+    if !may_cancel(status) {
+        return Err(Refusal::WrongStatus {
+            unit: *unit,
+            status,
+        });
+    }
+    if let Some(worker) = worker_of(orders, unit) {
+        return Err(Refusal::UnitClaimed(worker));
+    }
+    if is_full(books, max_marks) {
+        return Err(Refusal::StoreFull(max_marks));
+    }
+    Ok(status)
+}
+
+fn may_cancel(status: Status) -> bool
+    ensures { result ≡ step.may_cancel status }
+{
+    matches!(status, Status::Open | Status::Bad | Status::Bad2)
+}
+
+/// Frees the locks of a unit that waited for its V1 part when it was cancelled. Any other has none.
+fn free_cancelled<T: LockStore>(locks: &mut T, unit: UnitKey, status: Status)
+    ensures { T.table locks.new ≡ with_entries (T.table locks.old) (step.locks_without status (T.table locks.old).entries unit) }
+{
+    if let Status::Open = status {
+        let owner = Owner::Upd(unit);
+        locks.free_owner(&owner);
+    }
+}
+
+/// Tries the part of a unit again that was refused. For its V1 part the unit's stored locks have to stand again, all or
+/// none; the unit waits behind all others.
+pub(crate) fn resubmit<T: LockStore, K: Keeper>(
+    alloc: Global,
+    locks: &mut T,
+    books: &mut Books<K>,
+    unit: UnitKey,
+    max_marks: u32,
+) -> Written
+    requires usable { IsUsable K.held K.is_open books.old }
+    requires limited { max_marks ≤ 1048576 }
+    requires stored { AllByRecursion HasGoodLocks books.old.ledger.units }
+    ensures act { (s : State) → s.locks ≡ (T.table locks.old).entries → s.limit ≡ (T.table locks.old).limit
+        → s.stored ≡ books.old.ledger → s.mark_limit ≡ max_marks → closed s ≡ None
+        → IsWritten s (command.Resubmit unit)
+        (record s { locks = (T.table locks.new).entries; stored = books.new.ledger })
+        result }
+    ensures limit { (T.table locks.new).limit ≡ (T.table locks.old).limit }
+    ensures ledger { OnFailure result (books.new.ledger ≡ books.old.ledger) }
+    ensures usable { OnAnswer result (IsUsable K.held K.is_open books.new) }
+    ensures told { is_some (K.held books.new.keeper) ≡ is_some (K.held books.old.keeper) }
+    ensures left { LeavesWritten K.held K.may_leave books.new result }
+    ensures cause { HasStoreCause (K.faults books.old.keeper) (K.faults books.new.keeper) (written_reply result) }
+{
+    match to_resubmit(books, &unit, max_marks) {
+        Ok(Status::Bad) => reopen(alloc, locks, books, unit),
+        Ok(_) => repost(alloc, locks, books, unit),
+        Err(refusal) => Written::Answered(Reply::Refused(refusal)),
+    }
+}
+
+/// The same of a unit whose V1 part was refused.
+fn reopen<T: LockStore, K: Keeper>(
+    alloc: Global,
+    locks: &mut T,
+    books: &mut Books<K>,
+    unit: UnitKey,
+) -> Written
+    requires usable { IsUsable K.held K.is_open books.old }
+    requires stored { AllByRecursion HasGoodLocks books.old.ledger.units }
+    requires marks { HasMarksLeft books.old.ledger }
+    requires follows { MayGet books.old.ledger unit Again1 }
+    ensures act { (s : State) → s.locks ≡ (T.table locks.old).entries → s.limit ≡ (T.table locks.old).limit
+        → s.stored ≡ books.old.ledger → step.to_resubmit books.old.ledger s.mark_limit unit ≡ Ok Status.Bad
+        → closed s ≡ None
+        → IsWritten s (command.Resubmit unit)
+        (record s { locks = (T.table locks.new).entries; stored = books.new.ledger })
+        result }
+    ensures limit { (T.table locks.new).limit ≡ (T.table locks.old).limit }
+    ensures ledger { OnFailure result (books.new.ledger ≡ books.old.ledger) }
+    ensures usable { OnAnswer result (IsUsable K.held K.is_open books.new) }
+    ensures told { is_some (K.held books.new.keeper) ≡ is_some (K.held books.old.keeper) }
+    ensures left { LeavesWritten K.held K.may_leave books.new result }
+    ensures cause { HasStoreCause (K.faults books.old.keeper) (K.faults books.new.keeper) (written_reply result) }
+{
+    let Ok(entries) = books.unit_locks(alloc, &unit) else {
+        return Written::Answered(Reply::Refused(Refusal::NoMemory));
+    };
+    let Ok(prepared) = books.prepare_mark(alloc, &unit, MarkKind::Again1) else {
+        return Written::Answered(Reply::Refused(Refusal::NoMemory));
+    };
+    let owners = owners_of(&unit);
+    if let Err(fault) = locks.readmit(alloc, &owners, entries.as_slice()) {
+        return Written::Answered(Reply::Refused(refusal_of(fault)));
+    }
+    match books.write(prepared) {
+        Ok(()) => Written::Answered(Reply::Unit(unit)),
+        Err(_) => Written::Failed(InFlight::Again { unit, part: 1 }),
+    }
+}
+
+/// The same of a unit whose V2 part was refused. It has no locks.
+fn repost<T: LockStore, K: Keeper>(
+    alloc: Global,
+    locks: &T,
+    books: &mut Books<K>,
+    unit: UnitKey,
+) -> Written
+    requires usable { IsUsable K.held K.is_open books.old }
+    requires marks { HasMarksLeft books.old.ledger }
+    requires follows { MayGet books.old.ledger unit Again2 }
+    ensures act { (s : State) → s.locks ≡ (T.table locks.now).entries → s.stored ≡ books.old.ledger
+        → step.to_resubmit books.old.ledger s.mark_limit unit ≡ Ok Status.Bad2 → closed s ≡ None
+        → IsWritten s (command.Resubmit unit)
+        (record s { locks = (T.table locks.now).entries; stored = books.new.ledger })
+        result }
+    ensures ledger { OnFailure result (books.new.ledger ≡ books.old.ledger) }
+    ensures usable { OnAnswer result (IsUsable K.held K.is_open books.new) }
+    ensures told { is_some (K.held books.new.keeper) ≡ is_some (K.held books.old.keeper) }
+    ensures left { LeavesWritten K.held K.may_leave books.new result }
+    ensures cause { HasStoreCause (K.faults books.old.keeper) (K.faults books.new.keeper) (written_reply result) }
+{
+    let Ok(prepared) = books.prepare_mark(alloc, &unit, MarkKind::Again2) else {
+        return Written::Answered(Reply::Refused(Refusal::NoMemory));
+    };
+    match books.write(prepared) {
+        Ok(()) => Written::Answered(Reply::Unit(unit)),
+        Err(_) => Written::Failed(InFlight::Again { unit, part: 2 }),
+    }
+}
+
+/// The status of a unit that can be tried again, or why it can't be.
+fn to_resubmit<K: Keeper>(
+    books: &Books<K>,
+    unit: &UnitKey,
+    max_marks: u32,
+) -> Result<Status, Refusal>
+    ensures { result ≡ step.to_resubmit books.now.ledger max_marks unit.now }
+{
+    match books.status(unit) {
+        None => Err(Refusal::UnknownUnit),
+        Some(Status::Bad | Status::Bad2) if is_full(books, max_marks) => {
+            Err(Refusal::StoreFull(max_marks))
+        }
+        Some(status @ (Status::Bad | Status::Bad2)) => Ok(status),
+        Some(status) => Err(Refusal::WrongStatus {
+            unit: *unit,
+            status,
+        }),
+    }
+}
+
+/// The dialogue of the session that recorded a unit, and the unit's update.
+fn owners_of(unit: &UnitKey) -> Asker
+    ensures { result ≡ owners_of unit.now }
+{
+    Asker {
+        dialogue: Owner::Dlg {
+            start: unit.start,
+            session: unit.session,
+        },
+        update: Owner::Upd(*unit),
+    }
+}
+
+/// Whether the store has as many marks as it may.
+fn is_full<K: Keeper>(books: &Books<K>, max_marks: u32) -> bool
+    ensures { result ≡ nat_le max_marks (length books.now.ledger.marks) }
+{
+    books.marks() >= max_marks
+}
+
 /// How many effects both parts have.
 fn effects_in(parts: &Parts) -> usize
     ensures { result ≡ step.effects_in parts.now }
@@ -208,14 +450,39 @@ fn effects_in(parts: &Parts) -> usize
     parts.v1.as_slice().len() + parts.v2.as_slice().len()
 }
 
-fn unit_of(alloc: Global, start: u32, session: &Session, parts: &Parts) -> Result<Unit, NoMemory>
-    ensures { IfOk result (λ unit. unit ≡ step.unit_of start session.now parts.now) }
+/// The unit that a session has open, with its locks as they are handed over.
+fn unit_of<T: LockStore>(
+    alloc: Global,
+    start: u32,
+    locks: &T,
+    session: &Session,
+    parts: &Parts,
+) -> Result<Unit, NoMemory>
+    ensures unit { IfOk result (λ unit. unit ≡ step.unit_of start (T.table locks.now).entries session.now parts.now) }
+    ensures good { IfOk result (λ _. IsTable (T.table locks.now)) }
 {
+    let key = unit_key(start, session);
     Ok(Unit {
-        key: unit_key(start, session),
+        key,
         user: session.user,
         numbers: Items::from_vec(Vec::new(alloc)),
         parts: parts.copy(alloc)?,
-        entries: Items::from_vec(Vec::new(alloc)),
+        entries: Items::from_vec(handed_locks(alloc, locks, &key)?),
     })
+}
+
+/// The locks of a unit as they stand once they are handed over to the update.
+fn handed_locks<T: LockStore>(
+    alloc: Global,
+    locks: &T,
+    unit: &UnitKey,
+) -> Result<Vec<Entry>, NoMemory>
+    ensures locks { IfOk result (λ entries. entries.items ≡ step.handed_locks (T.table locks.now).entries unit.now) }
+    ensures good { IfOk result (λ _. IsTable (T.table locks.now)) }
+{
+    let owner = Owner::Upd(*unit);
+    let mut entries = locks.list(alloc)?;
+    hand_over(&mut entries, unit);
+    entries.retain(|e| e.is_of(&owner));
+    Ok(entries)
 }

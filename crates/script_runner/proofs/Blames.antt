@@ -8,7 +8,7 @@ use Rattle.script_lang.specs.declared.script_line.ScriptLine.{ScriptLine}
 use Rattle.io_edge.specs.Lines.{lines_of}
 use Rattle.script_lang.specs.Memory.{holds_lists}
 use Rattle.script_runner.specs.declared.runner.Why.{Why}
-use Rattle.script_runner.specs.declared.runner.Why.TheVariants.{Done, BadWords, BadLine, SourceFault, SinkFault, LongLine, ManyLines, StoreFault, BadStore, NoMemory}
+use Rattle.script_runner.specs.declared.runner.Why.TheVariants.{Done, BadWords, BadLine, SourceFault, SinkFault, LongLine, ManyLines, StoreFault, BadStore, NoStart, NoMemory}
 use Rattle.script_runner.specs.Lines.{line_in}
 use Rattle.script_runner.specs.LineFaults.{IsKnown, IsToBlame}
 use Rattle.script_runner.specs.Replay.{Replays, Seen, IsEnd}
@@ -145,6 +145,7 @@ blames before bytes left rest turns old new SourceFault all end = tt
 blames before bytes left rest turns old new SinkFault all end = tt
 blames before bytes left rest turns old new (StoreFault k) all end = tt
 blames before bytes left rest turns old new (BadStore table row) all end = tt
+blames before bytes left rest turns old new NoStart all end = tt
 blames before bytes left rest turns old new NoMemory all end = tt
 
 -- a run over bytes that the source told

@@ -154,6 +154,10 @@ meaning_logged w (line.Do2 worker) h =
     λ d n. settled_logged (line.Do2 worker) (step d w.hall n (command.Do2 worker)).reply w.hall.sessions _ w.sides (λ m off. step_keeps d w.hall n (command.Do2 worker) m refl) tt h
 meaning_logged w (line.DropOrder worker) h =
     λ d n. settled_logged (line.DropOrder worker) (step d w.hall n (command.DropOrder worker)).reply w.hall.sessions _ w.sides (λ m off. step_keeps d w.hall n (command.DropOrder worker) m refl) tt h
+meaning_logged w (line.Cancel unit) h =
+    λ d n. settled_logged (line.Cancel unit) (step d w.hall n (command.Cancel unit)).reply w.hall.sessions _ w.sides (λ m off. step_keeps d w.hall n (command.Cancel unit) m refl) tt h
+meaning_logged w (line.Resubmit unit) h =
+    λ d n. settled_logged (line.Resubmit unit) (step d w.hall n (command.Resubmit unit)).reply w.hall.sessions _ w.sides (λ m off. step_keeps d w.hall n (command.Resubmit unit) m refl) tt h
 meaning_logged w _ h = tt
 
 -- ---- a run

@@ -8,7 +8,7 @@ use Rattle.std.proofs.lemmas.List.Elements.{recursion_from_All}
 use Rattle.std.specs.List.{AllByRecursion, list_any}
 use Rattle.io_edge.specs.Lines.{lines_of, onto_first, is_ended, IsUnbroken}
 use Rattle.script_runner.specs.declared.runner.Why.{Why}
-use Rattle.script_runner.specs.declared.runner.Why.TheVariants.{Done, BadWords, BadLine, SourceFault, SinkFault, LongLine, ManyLines, StoreFault, BadStore, NoMemory}
+use Rattle.script_runner.specs.declared.runner.Why.TheVariants.{Done, BadWords, BadLine, SourceFault, SinkFault, LongLine, ManyLines, StoreFault, BadStore, NoStart, NoMemory}
 use Rattle.script_runner.specs.Run.{AreAllowed, Turn, Progress, begun, next, run, moved, after_turn, line_does, store_fails_in}
 use Rattle.script_runner.specs.World.{World}
 use Rattle.script_runner.specs.Replay.{Replays, Seen, IsEnd, IsReadToEnd}
@@ -207,6 +207,7 @@ ends before after bytes left lines rest turns old new Done allowed is all script
 ends before after bytes left lines rest turns old new (StoreFault k) allowed is all script quiet_source quiet_sink off hall end =
     (sym (run_doubt (begun before) turns off) ∙ end.1, all_done before after bytes left rest turns old new allowed is all off hall end.0)
 ends before after bytes left lines rest turns old new (BadStore table row) allowed is all script quiet_source quiet_sink off hall end = absurd end
+ends before after bytes left lines rest turns old new NoStart allowed is all script quiet_source quiet_sink off hall end = absurd end
 ends before after bytes left lines rest turns old new BadWords allowed is all script quiet_source quiet_sink off hall end = absurd end
 ends before after bytes left lines rest turns old new (BadLine n) allowed is all script quiet_source quiet_sink off hall end =
     let good = recursion_from_All IsGood (lines_of bytes) script.each in

@@ -70,6 +70,8 @@ is_built (line.Do1 worker) = true
 is_built (line.Take2 worker) = true
 is_built (line.Do2 worker) = true
 is_built (line.DropOrder worker) = true
+is_built (line.Cancel unit) = true
+is_built (line.Resubmit unit) = true
 is_built _ = false
 
 abbrev pub if_built : ScriptLine → Option ScriptLine
@@ -236,6 +238,8 @@ meaning w (line.Do1 worker) = Calls (command.Do1 worker)
 meaning w (line.Take2 worker) = Calls (command.Take2 worker)
 meaning w (line.Do2 worker) = Calls (command.Do2 worker)
 meaning w (line.DropOrder worker) = Calls (command.DropOrder worker)
+meaning w (line.Cancel unit) = Calls (command.Cancel unit)
+meaning w (line.Resubmit unit) = Calls (command.Resubmit unit)
 meaning w _ = Declines refusal.UnknownSession
 
 -- the private sides after a call that a line made, by its answer

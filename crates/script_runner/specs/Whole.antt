@@ -7,7 +7,7 @@ use Rattle.hall.specs.State.{State}
 use Rattle.io_edge.specs.Lines.{lines_of, IsLine}
 use Rattle.script_runner.specs.declared.runner.Why.{Why}
 use Rattle.script_runner.specs.declared.runner.Why.TheVariants.{Done, BadWords, BadLine, SourceFault, SinkFault}
-use Rattle.script_runner.specs.declared.runner.Why.TheVariants.{LongLine, ManyLines, StoreFault, BadStore, NoMemory}
+use Rattle.script_runner.specs.declared.runner.Why.TheVariants.{LongLine, ManyLines, StoreFault, BadStore, NoStart, NoMemory}
 use Rattle.script_runner.specs.Lines.{line_in}
 use Rattle.script_runner.specs.Replay.{doubt_of}
 use Rattle.script_runner.specs.Run.{AreAllowed, Called, LineOutcome, NoRoom, Turn, begun, run}
@@ -54,3 +54,4 @@ IsComplete before after bytes old new SinkFault = ⊥
 IsComplete before after bytes old new (LongLine n) = ⊥
 IsComplete before after bytes old new ManyLines = ⊥
 IsComplete before after bytes old new (BadStore table row) = ⊥
+IsComplete before after bytes old new NoStart = ⊥

@@ -11,7 +11,7 @@ ghost use Rattle.script_lang.specs.declared.script_line.ScriptLine.TheVariants a
 use crate::effects::{Verb, effect_in};
 use crate::requests::{asked_of, requests_of};
 use crate::sides::Sides;
-use enq_base::{Name, Refusal, Scope};
+use enq_base::{Name, Refusal, Scope, UnitKey};
 use hall::{Hall, Reply};
 use keeper_api::Keeper;
 use lock_entry::LockStore;
@@ -371,4 +371,32 @@ pub(crate) fn drop_order<T: LockStore, K: Keeper>(
         (line.DropOrder worker) result }
 {
     hall.drop_order(number, worker)
+}
+
+/// Cancels a unit.
+pub(crate) fn cancel<T: LockStore, K: Keeper>(
+    alloc: Global,
+    number: u32,
+    unit: UnitKey,
+    hall: &mut Hall<T, K>,
+) -> Reply
+    ensures done { (objects : List Object) (sides : List Private) → DoesLine K.held K.faults
+        objects hall.old hall.new sides sides number
+        (line.Cancel unit) result }
+{
+    hall.cancel(alloc, number, unit)
+}
+
+/// Tries the part of a unit again that was refused.
+pub(crate) fn resubmit<T: LockStore, K: Keeper>(
+    alloc: Global,
+    number: u32,
+    unit: UnitKey,
+    hall: &mut Hall<T, K>,
+) -> Reply
+    ensures done { (objects : List Object) (sides : List Private) → DoesLine K.held K.faults
+        objects hall.old hall.new sides sides number
+        (line.Resubmit unit) result }
+{
+    hall.resubmit(alloc, number, unit)
 }

@@ -56,5 +56,7 @@ pub(crate) fn is_built(line: &ScriptLine) -> bool
             | ScriptLine::Take2 { .. }
             | ScriptLine::Do2 { .. }
             | ScriptLine::DropOrder { .. }
+            | ScriptLine::Cancel { .. }
+            | ScriptLine::Resubmit { .. }
     )
 }

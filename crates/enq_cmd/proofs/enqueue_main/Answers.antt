@@ -1,68 +1,78 @@
-use Rattle.std.proofs.Common.{◌≡◌, ℕ, inl, sym, ap, ◌∙◌, refl, subst}
-use Rattle.std.specs.Prelude.{is_some}
+use Rattle.std.proofs.Common.{◌≡◌, inl, inr, refl, sym, ap, ◌∙◌, subst}
+use Rattle.std.specs.Prelude.{is_some, true, IfSome, IsTrue}
 use Rattle.enq_base.specs.Causes.{Rose}
+use Rattle.hall.specs.Faults.{books_fault}
+use Rattle.hall.specs.Leaving.{StandForState}
+use Rattle.keeper_api.specs.Keeping.{IsWithin}
+use Rattle.keeper_api.specs.Rows.{Rows}
+use Rattle.posting.specs.Opening.{OnRefused}
+use Rattle.posting.specs.Reopening.{MayBeLeftBy}
 use Rattle.script_runner.specs.Replay.{seen}
-use Rattle.enq_cmd.proofs.Openings.{idle_ends, opening_completes, remains, unopened_completes, untouched_remains}
-use Rattle.enq_cmd.proofs.Tellings.{completes_as, locks_stand_from_first, replay_leads, runs_as, stays_sound_from_first, told_replay}
-use Rattle.enq_cmd.specs.Main.{IsIdleEnd}
+use Rattle.enq_cmd.proofs.Openings.{not_begun, opening_completes, opening_last, unopened}
+use Rattle.enq_cmd.proofs.Tellings.{completes_as, served_as, where_told}
+use Rattle.enq_cmd.specs.Main.{HasNoStart}
 use Rattle.enq_cmd.proofs.enqueue_main.Goals as goal
 
 pub returns-in_default-clause-complete : goal.returns-in_default-clause-complete
-returns-in_default-clause-complete g c words bytes left script told bare calm quiet kept =
-    unopened_completes (is_some (g.K.Keeper.held c.args.site.keeper)) _ _ _ _ _ (c.make_ended-in_default.ensures.past ∙ c.new-in_default.ensures.items) c.make_ended-in_default.ensures.why
+returns-in_default-clause-complete g c words bytes left script told good calm quiet kept = inr (inl c.make_ended-in_default.ensures.why)
 
-pub returns-in-Ok-open-clause-run : goal.returns-in-Ok-open-clause-run
-returns-in-Ok-open-clause-run g c words =
+pub returns-in_default-clause-served : goal.returns-in_default-clause-served
+returns-in_default-clause-served g c words =
+    let may_leave = g.K.Keeper.may_leave in
+    inr (not_begun (is_some (g.K.Keeper.held c.args.site.keeper)) (may_leave c.args.site.keeper) (may_leave c.make_ended-in_default.result.site.keeper) _ _ _ _
+    c.make_ended-in_default.ensures.why refl (c.make_ended-in_default.ensures.past ∙ c.new-in_default.ensures.items)
+    (λ rows may. subst (λ k. may_leave k rows) c.make_ended-in_default.ensures.keeper may))
+
+pub returns-in-Ok-open-clause-served : goal.returns-in-Ok-open-clause-served
+returns-in-Ok-open-clause-served g c words =
     let source = g.S.Source in
     let sink = g.T.Sink in
+    let held = g.K.Keeper.held in
+    let may_leave = g.K.Keeper.may_leave in
     let faults = g.K.Keeper.faults in
-    inl (runs_as (is_some (g.K.Keeper.held c.args.site.keeper)) _ _ _ _ _ _ _ _ _ _ c.in-Ok-open.ensures.state (c.as_slice.ensures.value ∙ c.in-Ok.ensures)
+    let kept = c.make_ended-in-Ok-open.ensures.keeper ∙ c.into_site-keeper.ensures.keeper in
+    inl (served_as (is_some (held c.args.site.keeper)) _ (may_leave c.args.site.keeper) (may_leave c.make_ended-in-Ok-open.result.site.keeper) _ _ _ _ _ _ _ _ _ _
+    c.in-Ok-open.ensures.sound
+    (λ told. where_told _ (held c.in-Ok-open.hall.keeper) (subst IsTrue (sym c.in-Ok-open.ensures.told) told) c.in-Ok-open.ensures.stored)
+    c.in-Ok-open.ensures.state (c.as_slice.ensures.value ∙ c.in-Ok.ensures)
     (c.make_ended-in-Ok-open.ensures.past ∙ c.into_site-keeper.ensures.past)
     (ap (λ n. seen (source.left c.args.script.now) (sink.written c.args.sink.now) (source.faults c.args.script.now) (sink.faults c.args.sink.now) n) c.in-Ok-open.ensures.counts)
-    (ap (λ k. seen (source.left c.replay-why.new.source) (sink.written c.replay-why.new.sink) (source.faults c.replay-why.new.source) (sink.faults c.replay-why.new.sink) (faults k))
-    (sym (c.make_ended-in-Ok-open.ensures.keeper ∙ c.into_site-keeper.ensures.keeper)))
+    (ap (λ k. seen (source.left c.replay-why.new.source) (sink.written c.replay-why.new.sink) (source.faults c.replay-why.new.source) (sink.faults c.replay-why.new.sink) (faults k)) (sym kept))
     (sym c.make_ended-in-Ok-open.ensures.why)
+    (λ told. subst (λ k. (rows : Rows) → may_leave k rows → StandForState rows c.replay-why.new.hall.state) (sym kept)
+    (where_told _ (held c.replay-why.new.hall.keeper) (subst IsTrue (sym (c.replay-why.ensures.told ∙ c.in-Ok-open.ensures.told)) told) c.into_site-keeper.ensures.left))
     c.replay-why.ensures.run)
 
-pub returns-in-Ok-open-clause-history : goal.returns-in-Ok-open-clause-history
-returns-in-Ok-open-clause-history g c =
-    told_replay (is_some (g.K.Keeper.held c.args.site.keeper)) _ _ _ _ _ _ _ c.in-Ok-open.ensures.state (c.as_slice.ensures.value ∙ c.in-Ok.ensures) (c.make_ended-in-Ok-open.ensures.past ∙ c.into_site-keeper.ensures.past) c.replay-why.ensures.run
-
-pub returns-in-Ok-open-clause-sound : goal.returns-in-Ok-open-clause-sound
-returns-in-Ok-open-clause-sound g c = stays_sound_from_first (is_some (g.K.Keeper.held c.args.site.keeper)) _
-
-pub returns-in-Ok-open-clause-stand : goal.returns-in-Ok-open-clause-stand
-returns-in-Ok-open-clause-stand g c =
-    locks_stand_from_first (is_some (g.K.Keeper.held c.args.site.keeper)) _ (told_replay (is_some (g.K.Keeper.held c.args.site.keeper)) _ _ _ _ _ _ _ c.in-Ok-open.ensures.state (c.as_slice.ensures.value ∙ c.in-Ok.ensures) (c.make_ended-in-Ok-open.ensures.past ∙ c.into_site-keeper.ensures.past) c.replay-why.ensures.run)
-
-pub returns-in-Ok-open-clause-left : goal.returns-in-Ok-open-clause-left
-returns-in-Ok-open-clause-left g c =
-    remains (is_some (g.K.Keeper.held c.args.site.keeper)) g.K.Keeper.held g.K.Keeper.may_leave c.args.site.keeper c.make_ended-in-Ok-open.result.site.keeper c.replay-why.new.hall c.make_ended-in-Ok-open.result.past c.make_ended-in-Ok-open.result.why
-    (c.replay-why.ensures.told ∙ c.in-Ok-open.ensures.told)
-    (c.make_ended-in-Ok-open.ensures.keeper ∙ c.into_site-keeper.ensures.keeper)
-    (replay_leads (is_some (g.K.Keeper.held c.args.site.keeper)) _ _ _ _ _ _ _ c.in-Ok-open.ensures.state (c.as_slice.ensures.value ∙ c.in-Ok.ensures) (c.make_ended-in-Ok-open.ensures.past ∙ c.into_site-keeper.ensures.past) c.replay-why.ensures.run)
-    c.into_site-keeper.ensures.left
-
 pub returns-in-Ok-open-clause-complete : goal.returns-in-Ok-open-clause-complete
-returns-in-Ok-open-clause-complete g c words bytes left script told bare calm quiet kept =
+returns-in-Ok-open-clause-complete g c words bytes left script told good calm quiet kept =
+    let held = g.K.Keeper.held in
     let faults = g.K.Keeper.faults in
     let counts : faults c.args.site.keeper ≡ faults c.in-Ok-open.hall.keeper = sym c.in-Ok-open.ensures.counts in
     let same : faults c.make_ended-in-Ok-open.result.site.keeper ≡ faults c.replay-why.new.hall.keeper = ap faults (c.make_ended-in-Ok-open.ensures.keeper ∙ c.into_site-keeper.ensures.keeper) in
     let calls = c.make_ended-in-Ok-open.ensures.past ∙ c.into_site-keeper.ensures.past in
-    completes_as (is_some (g.K.Keeper.held c.args.site.keeper)) _ _ _ bytes _ _ _ _ _ c.in-Ok-open.ensures.state (c.as_slice.ensures.value ∙ c.in-Ok.ensures) calls (sym c.make_ended-in-Ok-open.ensures.why)
+    let found = where_told _ (held c.in-Ok-open.hall.keeper) (subst IsTrue (sym c.in-Ok-open.ensures.told) told) c.in-Ok-open.ensures.stored in
+    completes_as (is_some (held c.args.site.keeper)) _ (g.K.Keeper.may_leave c.args.site.keeper) _ _ _ bytes _ _ _ _ _ found c.in-Ok-open.ensures.state (c.as_slice.ensures.value ∙ c.in-Ok.ensures) calls (sym c.make_ended-in-Ok-open.ensures.why)
     (c.replay-why.ensures.complete bytes left script calm quiet (λ rose. kept (subst (λ n. Rose n (faults c.make_ended-in-Ok-open.result.site.keeper)) (sym counts) (subst (λ n. Rose (faults c.in-Ok-open.hall.keeper) n) (sym same) rose))))
 
-pub returns-clause-left : goal.returns-clause-left
-returns-clause-left g c =
-    untouched_remains (is_some (g.K.Keeper.held c.args.site.keeper)) g.K.Keeper.held g.K.Keeper.may_leave c.args.site.keeper c.make_ended-in-Err.result.site.keeper c.in-Err.keeper c.make_ended-in-Err.result.past c.make_ended-in-Err.result.why
-    c.in-Err.ensures.told_after c.make_ended-in-Err.ensures.keeper (c.make_ended-in-Err.ensures.past ∙ c.new-in-Err.ensures.items)
-    (subst IsIdleEnd (sym (c.make_ended-in-Err.ensures.why ∙ c.opening_end.ensures)) (idle_ends c.in-Err.fault))
-    c.in-Err.ensures.left_after
+pub returns-clause-served : goal.returns-clause-served
+returns-clause-served g c words =
+    let held = g.K.Keeper.held in
+    let may_leave = g.K.Keeper.may_leave in
+    inr (unopened c.in-Err.fault (is_some (held c.args.site.keeper)) (held c.in-Err.keeper) (may_leave c.args.site.keeper) (may_leave c.make_ended-in-Err.result.site.keeper) _ _ _ _
+    (c.make_ended-in-Err.ensures.why ∙ c.opening_end.ensures) c.in-Err.ensures.told_after refl (c.make_ended-in-Err.ensures.past ∙ c.new-in-Err.ensures.items)
+    (subst (λ k. IfSome (held c.in-Err.keeper) (λ _. (rows : Rows) → may_leave k rows → MayBeLeftBy (may_leave c.args.site.keeper) true rows)) (sym c.make_ended-in-Err.ensures.keeper) c.in-Err.ensures.left_after)
+    (subst (λ k. OnRefused (books_fault c.in-Err.fault) (IsWithin (may_leave k) (may_leave c.args.site.keeper))) (sym c.make_ended-in-Err.ensures.keeper) c.in-Err.ensures.unchanged))
+
+pub returns-clause-no_start : goal.returns-clause-no_start
+returns-clause-no_start g c =
+    let held = g.K.Keeper.held in
+    subst (λ k. IfSome (held k) (λ rows. HasNoStart rows c.make_ended-in-Err.result.why)) (sym c.make_ended-in-Err.ensures.keeper)
+    (subst (λ w. IfSome (held c.in-Err.keeper) (λ rows. HasNoStart rows w)) (sym (c.make_ended-in-Err.ensures.why ∙ c.opening_end.ensures)) (opening_last c.in-Err.fault (held c.in-Err.keeper) c.in-Err.ensures.fault))
 
 pub returns-clause-complete : goal.returns-clause-complete
-returns-clause-complete g c words bytes left script told bare calm quiet kept =
+returns-clause-complete g c words bytes left script told good calm quiet kept =
     let faults = g.K.Keeper.faults in
     opening_completes (is_some (g.K.Keeper.held c.args.site.keeper)) (g.K.Keeper.may_leave c.args.site.keeper) (g.K.Keeper.held c.args.site.keeper) (g.K.Keeper.held c.in-Err.keeper) c.in-Err.fault (faults c.args.site.keeper) (faults c.in-Err.keeper) bytes _ _ _ _
-    (c.make_ended-in-Err.ensures.past ∙ c.new-in-Err.ensures.items) (c.make_ended-in-Err.ensures.why ∙ c.opening_end.ensures)
-    c.in-Err.ensures.told_after told bare c.in-Err.ensures.fault c.in-Err.ensures.found c.in-Err.ensures.cause
+    (c.make_ended-in-Err.ensures.why ∙ c.opening_end.ensures)
+    c.in-Err.ensures.told_after told good c.in-Err.ensures.fault c.in-Err.ensures.found c.in-Err.ensures.cause
     (λ rose. kept (subst (λ k. Rose (faults c.args.site.keeper) (faults k)) (sym c.make_ended-in-Err.ensures.keeper) rose))

@@ -5,7 +5,7 @@ use Rattle.posting.proofs.LevelRows.{nothing_stored}
 use Rattle.posting.specs.Steps.{after_step}
 use Rattle.update_records.specs.Growing.{with_unit}
 use Rattle.update_records.specs.declared.records.Unit.{Unit as UnitOfWork}
-use Rattle.hall.proofs.Writes.{commits, commits_in_doubt, commits_nothing, commits_too_much, commits_unknown, may_record}
+use Rattle.hall.proofs.Writes.{below_limit, commits, commits_full, commits_in_doubt, commits_nothing, commits_too_much, commits_unknown, may_record}
 use Rattle.hall.proofs.Leaves.{answered_leaves, failed_leaves, where_told}
 use Rattle.hall.specs.Leaving.{HasStoreCause}
 use Rattle.hall.specs.Step.{unit_of}
@@ -14,51 +14,70 @@ use Rattle.hall.specs.declared.units.InFlight.TheVariants as flight
 use Rattle.hall.proofs.units.commit.Goals as goal
 
 pub returns-in-Err-clause-act : goal.returns-in-Err-clause-act
-returns-in-Err-clause-act g c s e f l room =
+returns-in-Err-clause-act g c s e f l m room =
     commits_unknown s c.args.sessions.now (g.T.LockStore.table c.args.locks.now).entries c.args.books.now.ledger c.args.name.now c.args.parts.now c.in-Err.refusal e f l room
     c.in-Err.ensures.unknown.0 c.in-Err.ensures.unknown.1
 
 pub returns-then-effects-gt-EFFECTS_LIMIT-clause-act : goal.returns-then-effects-gt-EFFECTS_LIMIT-clause-act
-returns-then-effects-gt-EFFECTS_LIMIT-clause-act g c s e f l room =
+returns-then-effects-gt-EFFECTS_LIMIT-clause-act g c s e f l m room =
     commits_too_much s c.args.sessions.now (g.T.LockStore.table c.args.locks.now).entries c.args.books.now.ledger c.args.name.now c.in-Ok.session c.args.parts.now e f l room
     c.in-Ok.ensures.found
     (omega (arith, c.if-effects-gt-EFFECTS_LIMIT.true, c.effects_in-effects.ensures))
 
 pub returns-then-effects-eq0-clause-act : goal.returns-then-effects-eq0-clause-act
-returns-then-effects-eq0-clause-act g c s e f l room =
+returns-then-effects-eq0-clause-act g c s e f l m room =
     commits_nothing s c.args.sessions.now (g.T.LockStore.table c.args.locks.now).entries c.args.books.now.ledger c.args.name.now c.in-Ok.session c.args.parts.now e f l room
     c.in-Ok.ensures.found
     (sym c.effects_in-effects.ensures ∙ c.if-effects-eq0.true)
 
+pub returns-then-is_full-clause-act : goal.returns-then-is_full-clause-act
+returns-then-is_full-clause-act g c s e f l m room =
+    commits_full s c.args.sessions.now (g.T.LockStore.table c.args.locks.now).entries c.args.books.now.ledger c.args.max_marks c.args.name.now c.in-Ok.session c.args.parts.now e f l m room
+    c.in-Ok.ensures.found
+    (omega (arith, c.if-effects-eq0.false, c.effects_in-effects.ensures)) (omega (arith, c.if-effects-gt-EFFECTS_LIMIT.false, c.effects_in-effects.ensures))
+    (sym c.is_full.ensures ∙ c.if-is_full.true)
+
+pub returns-then-is_full-clause-told : goal.returns-then-is_full-clause-told
+returns-then-is_full-clause-told g c = refl
+
+pub returns-then-is_full-clause-left : goal.returns-then-is_full-clause-left
+returns-then-is_full-clause-left g c = answered_leaves g.K.Keeper.held g.K.Keeper.is_open g.K.Keeper.may_leave c.args.books.now g.met.K.Keeper.settled c.requires.usable
+
+pub returns-then-is_full-clause-cause : goal.returns-then-is_full-clause-cause
+returns-then-is_full-clause-cause g c = refl
+
+pub prepare_unit-requires-clause-marks : goal.prepare_unit-requires-clause-marks
+prepare_unit-requires-clause-marks g c = below_limit _ _ (sym c.is_full.ensures ∙ c.if-is_full.false) c.requires.limited
+
 pub prepare_unit-requires-clause-unit : goal.prepare_unit-requires-clause-unit
 prepare_unit-requires-clause-unit g c =
-    may_record c.args.books.now.ledger c.args.sessions.now c.args.name.now c.in-Ok.session c.args.parts.now c.start.result c.in-Ok-unit_of.unit c.start.ensures c.in-Ok-unit_of.ensures
+    may_record c.args.books.now.ledger c.args.sessions.now c.args.name.now c.in-Ok.session c.args.parts.now c.start.result (g.T.LockStore.table c.args.locks.now) c.in-Ok-unit_of.unit c.start.ensures c.in-Ok-unit_of.ensures.unit
     c.in-Ok.ensures.found
-    c.requires.fresh c.requires.started (omega (arith, c.if-effects-eq0.false, c.effects_in-effects.ensures)) (omega (arith, c.if-effects-gt-EFFECTS_LIMIT.false, c.effects_in-effects.ensures))
+    c.requires.fresh c.requires.users c.in-Ok-unit_of.ensures.good c.requires.started (omega (arith, c.if-effects-eq0.false, c.effects_in-effects.ensures)) (omega (arith, c.if-effects-gt-EFFECTS_LIMIT.false, c.effects_in-effects.ensures))
 
 pub prepare_unit-requires-clause-store : goal.prepare_unit-requires-clause-store
 prepare_unit-requires-clause-store g c =
-    nothing_stored c.args.books.now.ledger c.in-Ok-unit_of.unit.numbers (ap (λ (u : UnitOfWork). u.numbers) c.in-Ok-unit_of.ensures)
+    nothing_stored c.args.books.now.ledger c.in-Ok-unit_of.unit.numbers (ap (λ (u : UnitOfWork). u.numbers) c.in-Ok-unit_of.ensures.unit)
 
 pub returns-in-Ok-write-clause-act : goal.returns-in-Ok-write-clause-act
-returns-in-Ok-write-clause-act g c s e f l room =
+returns-in-Ok-write-clause-act g c s e f l m room =
     let table = g.T.LockStore.table in
     let x = c.in-Ok.session in
-    let unit_is = c.in-Ok-unit_of.ensures ∙ ap (λ n. unit_of n x c.args.parts.now) c.start.ensures in
+    let unit_is = c.in-Ok-unit_of.ensures.unit ∙ ap (λ n. unit_of n (table c.args.locks.now).entries x c.args.parts.now) c.start.ensures in
     let new =
     c.in-Ok-write.ensures.done ∙ ap (after_step c.prepare_unit.new.self.ledger) c.in-Ok-prepare_unit.ensures.step ∙ ap (λ ledger. with_unit ledger c.in-Ok-unit_of.unit) c.prepare_unit.ensures.unmoved.ledger
     ∙ ap (with_unit c.args.books.now.ledger) unit_is in
-    commits s c.args.sessions.now c.begin_unit.new.self (table c.args.locks.now).entries (table c.hand.new.self).entries c.args.books.now.ledger c.write.new.self.ledger c.args.name.now x c.args.parts.now c.in-Ok-unit_of.unit.key e f l room
+    commits s c.args.sessions.now c.begin_unit.new.self (table c.args.locks.now).entries (table c.hand.new.self).entries c.args.books.now.ledger c.write.new.self.ledger c.args.max_marks c.args.name.now x c.args.parts.now c.in-Ok-unit_of.unit.key e f l m room
     c.in-Ok.ensures.found
-    (omega (arith, c.if-effects-eq0.false, c.effects_in-effects.ensures)) (omega (arith, c.if-effects-gt-EFFECTS_LIMIT.false, c.effects_in-effects.ensures))
+    (omega (arith, c.if-effects-eq0.false, c.effects_in-effects.ensures)) (omega (arith, c.if-effects-gt-EFFECTS_LIMIT.false, c.effects_in-effects.ensures)) (sym c.is_full.ensures ∙ c.if-is_full.false)
     (ap (λ (u : UnitOfWork). u.key) unit_is) c.begin_unit.ensures (ap (λ t. t.entries) c.hand.ensures.after) new
 
 pub returns-in-Err-write-clause-act : goal.returns-in-Err-write-clause-act
-returns-in-Err-write-clause-act g c s e f l room =
-    commits_in_doubt s c.args.sessions.now c.args.books.now.ledger c.args.name.now c.in-Ok.session c.args.parts.now c.in-Ok-unit_of.unit e l room
+returns-in-Err-write-clause-act g c s e f l m room =
+    commits_in_doubt s c.args.sessions.now (g.T.LockStore.table c.args.locks.now).entries c.args.books.now.ledger c.args.max_marks c.args.name.now c.in-Ok.session c.args.parts.now c.in-Ok-unit_of.unit e f l m room
     c.in-Ok.ensures.found
-    (omega (arith, c.if-effects-eq0.false, c.effects_in-effects.ensures)) (omega (arith, c.if-effects-gt-EFFECTS_LIMIT.false, c.effects_in-effects.ensures))
-    (c.in-Ok-unit_of.ensures ∙ ap (λ n. unit_of n c.in-Ok.session c.args.parts.now) c.start.ensures)
+    (omega (arith, c.if-effects-eq0.false, c.effects_in-effects.ensures)) (omega (arith, c.if-effects-gt-EFFECTS_LIMIT.false, c.effects_in-effects.ensures)) (sym c.is_full.ensures ∙ c.if-is_full.false)
+    (c.in-Ok-unit_of.ensures.unit ∙ ap (λ n. unit_of n (g.T.LockStore.table c.args.locks.now).entries c.in-Ok.session c.args.parts.now) c.start.ensures)
 
 pub returns-in-Err-clause-told : goal.returns-in-Err-clause-told
 returns-in-Err-clause-told g c = refl

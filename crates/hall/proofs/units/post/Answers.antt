@@ -5,7 +5,7 @@ use Rattle.posting.specs.Posts.{kind_for}
 use Rattle.posting.specs.Steps.{after_step}
 use Rattle.update_records.specs.Growing.{with_mark}
 use Rattle.hall.proofs.Claims.{held_for}
-use Rattle.hall.proofs.Writes.{landed_where_told, may_come, posts, posts_in_doubt, posts_none, posts_wanting}
+use Rattle.hall.proofs.Writes.{below_limit, landed_where_told, may_come, posts, posts_full, posts_in_doubt, posts_none, posts_wanting}
 use Rattle.hall.specs.Leaving.{HasStoreCause}
 use Rattle.hall.proofs.Leaves.{posted_quiet, answered_leaves, failed_leaves, told_too, unread_leaves}
 use Rattle.hall.specs.Acts.{IsAct, post_of}
@@ -14,9 +14,27 @@ use Rattle.hall.specs.Orders.{order_for, order_of}
 use Rattle.hall.proofs.units.post.Goals as goal
 
 pub returns-in_default-clause-act : goal.returns-in_default-clause-act
-returns-in_default-clause-act g c s t e f l room =
+returns-in_default-clause-act g c s t e f l m room =
     posts_none c.args.part s c.args.orders.now.items (g.T.LockStore.table c.args.locks.now).entries c.args.books.now.ledger c.args.worker c.requires.part e f l room
     (ap (λ xs. order_for c.args.part c.args.books.now.ledger xs c.args.worker) (sym c.as_slice.ensures.value) ∙ sym c.order_for.ensures ∙ c.in_default.is)
+
+pub returns-then-is_full-clause-act : goal.returns-then-is_full-clause-act
+returns-then-is_full-clause-act g c s t e f l m room =
+    posts_full c.args.part s c.args.orders.now.items (g.T.LockStore.table c.args.locks.now).entries c.args.books.now.ledger c.args.max_marks c.args.worker c.in-Some.unit c.requires.part e f l m room
+    (ap (λ xs. order_for c.args.part c.args.books.now.ledger xs c.args.worker) (sym c.as_slice.ensures.value) ∙ sym c.order_for.ensures ∙ c.in-Some.is)
+    (sym c.is_full.ensures ∙ c.if-is_full.true)
+
+pub returns-then-is_full-clause-told : goal.returns-then-is_full-clause-told
+returns-then-is_full-clause-told g c = refl
+
+pub returns-then-is_full-clause-left : goal.returns-then-is_full-clause-left
+returns-then-is_full-clause-left g c = answered_leaves g.K.Keeper.held g.K.Keeper.is_open g.K.Keeper.may_leave c.args.books.now g.met.K.Keeper.settled c.requires.usable
+
+pub returns-then-is_full-clause-cause : goal.returns-then-is_full-clause-cause
+returns-then-is_full-clause-cause g c = refl
+
+pub prepare-requires-clause-marks : goal.prepare-requires-clause-marks
+prepare-requires-clause-marks g c = below_limit _ _ (sym c.is_full.ensures ∙ c.if-is_full.false) c.requires.limited
 
 pub prepare-requires-clause-waits : goal.prepare-requires-clause-waits
 prepare-requires-clause-waits g c =
@@ -24,30 +42,33 @@ prepare-requires-clause-waits g c =
     (ap (λ xs. order_for c.args.part c.args.books.now.ledger xs c.args.worker) (sym c.as_slice.ensures.value) ∙ sym c.order_for.ensures ∙ c.in-Some.is)).1
 
 pub returns-in-Err-NoMemory-clause-act : goal.returns-in-Err-NoMemory-clause-act
-returns-in-Err-NoMemory-clause-act g c s t e f l room =
+returns-in-Err-NoMemory-clause-act g c s t e f l m room =
     posts_wanting c.args.part s c.args.orders.now.items (g.T.LockStore.table c.args.locks.now).entries c.args.books.now.ledger c.prepare.new.books.ledger c.args.worker c.in-Some.unit c.requires.part e f l c.prepare.ensures.ledger room
     (ap (λ xs. order_for c.args.part c.args.books.now.ledger xs c.args.worker) (sym c.as_slice.ensures.value) ∙ sym c.order_for.ensures ∙ c.in-Some.is)
 
 pub returns-in-Err-Failed-clause-act : goal.returns-in-Err-Failed-clause-act
-returns-in-Err-Failed-clause-act g c s t e f l room =
-    posts_in_doubt c.args.part s c.args.orders.now.items c.args.books.now.ledger c.args.worker c.in-Some.unit c.requires.part e l room
+returns-in-Err-Failed-clause-act g c s t e f l m room =
+    posts_in_doubt c.args.part s c.args.orders.now.items c.args.books.now.ledger c.args.max_marks c.args.worker c.in-Some.unit c.requires.part e l m room
     (ap (λ xs. order_for c.args.part c.args.books.now.ledger xs c.args.worker) (sym c.as_slice.ensures.value) ∙ sym c.order_for.ensures ∙ c.in-Some.is)
+    (sym c.is_full.ensures ∙ c.if-is_full.false)
 
 pub returns-in-Ok-write-clause-act : goal.returns-in-Ok-write-clause-act
-returns-in-Ok-write-clause-act g c s t e f l room =
+returns-in-Ok-write-clause-act g c s t e f l m room =
     let table = g.T.LockStore.table in
     let kind = kind_for c.args.part c.in-Ok.ready.1 in
     let new = c.in-Ok-write.ensures.done ∙ ap (after_step c.prepare.new.books.ledger) c.in-Ok.ensures.step ∙ ap (λ x. with_mark x c.in-Some.unit kind) c.in-Ok.ensures.ledger in
     subst (λ r. IsAct s (post_of c.args.part c.args.worker) (record s { orders = slice_set c.args.orders.now.items c.args.worker None; locks = (table c.free_behind.new.locks).entries; stored = c.write.new.self.ledger }) r) (sym c.posted.ensures)
-    (posts c.args.part s (is_some (g.K.Keeper.held c.args.books.now.keeper)) c.args.orders.now.items _ (table c.args.locks.now).entries (table c.free_behind.new.locks).entries c.args.books.now.ledger c.write.new.self.ledger c.args.worker c.in-Some.unit c.in-Ok.ready.1 c.requires.part t e f l room
+    (posts c.args.part s (is_some (g.K.Keeper.held c.args.books.now.keeper)) c.args.orders.now.items _ (table c.args.locks.now).entries (table c.free_behind.new.locks).entries c.args.books.now.ledger c.write.new.self.ledger c.args.max_marks c.args.worker c.in-Some.unit c.in-Ok.ready.1 c.requires.part t e f l m room
     (ap (λ xs. order_for c.args.part c.args.books.now.ledger xs c.args.worker) (sym c.as_slice.ensures.value) ∙ sym c.order_for.ensures ∙ c.in-Some.is)
+    (sym c.is_full.ensures ∙ c.if-is_full.false)
     (may_come c.args.part _ (g.K.Keeper.held c.args.books.now.keeper) c.args.books.now.ledger c.in-Some.unit c.in-Ok.ready.1 refl c.in-Ok.ensures.outcome c.in-Ok.ensures.possible)
     refl (ap (λ t. t.entries) c.free_behind.ensures) new)
 
 pub returns-in-Err-clause-act : goal.returns-in-Err-clause-act
-returns-in-Err-clause-act g c s t e f l room =
-    posts_in_doubt c.args.part s c.args.orders.now.items c.args.books.now.ledger c.args.worker c.in-Some.unit c.requires.part e l room
+returns-in-Err-clause-act g c s t e f l m room =
+    posts_in_doubt c.args.part s c.args.orders.now.items c.args.books.now.ledger c.args.max_marks c.args.worker c.in-Some.unit c.requires.part e l m room
     (ap (λ xs. order_for c.args.part c.args.books.now.ledger xs c.args.worker) (sym c.as_slice.ensures.value) ∙ sym c.order_for.ensures ∙ c.in-Some.is)
+    (sym c.is_full.ensures ∙ c.if-is_full.false)
 
 pub returns-in_default-clause-told : goal.returns-in_default-clause-told
 returns-in_default-clause-told g c = refl

@@ -1,5 +1,6 @@
 use Rattle.std.proofs.Common.{◌≡◌, refl, sym, ap, ◌∙◌, subst, rules}
 use Rattle.std.specs.Prelude.{None, is_some}
+use Rattle.std.specs.List.{AllByRecursion}
 use Rattle.enq_base.specs.declared.condition.Condition.{Condition}
 use Rattle.enq_base.specs.declared.condition.Condition.TheVariants.{Up}
 use Rattle.hall.proofs.Endings.{ending, state_with}
@@ -7,7 +8,8 @@ use Rattle.hall.proofs.Few.{young_enough}
 use Rattle.hall.proofs.Leaves.{also_failed, leaves_after, usable_after}
 use Rattle.hall.specs.History.{IsStep}
 use Rattle.hall.specs.Step.{closed}
-use Rattle.hall.specs.State.{State}
+use Rattle.hall.specs.Kept.{HasItsUser, OfLock}
+use Rattle.hall.specs.State.{State, locks_in}
 use Rattle.hall.specs.declared.command.Command.TheVariants as command
 use Rattle.hall.proofs.hall.Hall.commit.Goals as goal
 
@@ -17,21 +19,27 @@ returns-in-Some-clause-left g c = c.refuse.ensures.left
 pub commit-written-requires-clause-young : goal.commit-written-requires-clause-young
 commit-written-requires-clause-young g c = young_enough _ c.self.invariant.1
 
+pub commit-written-requires-clause-users : goal.commit-written-requires-clause-users
+commit-written-requires-clause-users g c =
+    let old = c.self.inside in
+    let up : old.condition ≡ Up = ap (λ v. v.state.condition) c.self.view_is ∙ c.in_default.ensures.up in
+    subst (λ k. AllByRecursion (OfLock (HasItsUser old.books.ledger.start old.sessions)) (locks_in k (g.T.LockStore.table old.locks).entries)) up c.self.invariant.1.steady.owned.users
+
 pub invariant_of-self : goal.invariant_of-self
 invariant_of-self g c =
     let old = c.self.inside in
     let table = g.T.LockStore.table in
     let called = c.commit-written in
     let ended = c.ended-reply in
-    let before : Condition → State = λ k. state_with (is_some (g.K.Keeper.held old.books.keeper)) k old.sessions old.next_session old.orders.items (table old.locks) old.books.ledger old.pending old.past.items in
+    let before : Condition → State = λ k. state_with (is_some (g.K.Keeper.held old.books.keeper)) k old.sessions old.next_session old.orders.items (table old.locks) old.max_marks old.books.ledger old.pending old.past.items in
     let shut : closed (before old.condition) ≡ None = ap (λ v. closed v.state) c.self.view_is ∙ sym c.closed.ensures.refusal ∙ c.in_default.is in
     let up : old.condition ≡ Up = ap (λ v. v.state.condition) c.self.view_is ∙ c.in_default.ensures.up in
     let ends =
-    ending (is_some (g.K.Keeper.held old.books.keeper)) (is_some (g.K.Keeper.held called.new.books.keeper)) old.condition ended.new.condition old.sessions called.new.sessions old.next_session old.orders.items old.orders.items (table old.locks) (table called.new.locks) old.books.ledger called.new.books.ledger
+    ending (is_some (g.K.Keeper.held old.books.keeper)) (is_some (g.K.Keeper.held called.new.books.keeper)) old.condition ended.new.condition old.sessions called.new.sessions old.next_session old.orders.items old.orders.items (table old.locks) (table called.new.locks) old.max_marks old.books.ledger called.new.books.ledger
     old.pending ended.new.pending old.past.items c.note.new.past.items called.result c.args.line (command.Commit c.args.session c.args.parts) ended.result c.note.result
     called.ensures.told up ended.ensures.condition ended.ensures.pending ended.ensures.reply c.note.ensures.noted c.note.ensures.answer
     called.ensures.limit called.ensures.sessions (also_failed _ called.result refl) called.ensures.ledger
-    c.self.invariant.1 shut (λ room. called.ensures.act (before Up) refl refl refl room) in (
+    c.self.invariant.1 shut (λ room. called.ensures.act (before Up) refl refl refl refl room) in (
       search rules,
       ends.0,
       (
@@ -46,16 +54,16 @@ returns-clause-step g c =
     let table = g.T.LockStore.table in
     let called = c.commit-written in
     let ended = c.ended-reply in
-    let before : Condition → State = λ k. state_with (is_some (g.K.Keeper.held old.books.keeper)) k old.sessions old.next_session old.orders.items (table old.locks) old.books.ledger old.pending old.past.items in
+    let before : Condition → State = λ k. state_with (is_some (g.K.Keeper.held old.books.keeper)) k old.sessions old.next_session old.orders.items (table old.locks) old.max_marks old.books.ledger old.pending old.past.items in
     let shut : closed (before old.condition) ≡ None = ap (λ v. closed v.state) c.self.view_is ∙ sym c.closed.ensures.refusal ∙ c.in_default.is in
     let up : old.condition ≡ Up = ap (λ v. v.state.condition) c.self.view_is ∙ c.in_default.ensures.up in
     let ends =
-    ending (is_some (g.K.Keeper.held old.books.keeper)) (is_some (g.K.Keeper.held called.new.books.keeper)) old.condition ended.new.condition old.sessions called.new.sessions old.next_session old.orders.items old.orders.items (table old.locks) (table called.new.locks) old.books.ledger called.new.books.ledger
+    ending (is_some (g.K.Keeper.held old.books.keeper)) (is_some (g.K.Keeper.held called.new.books.keeper)) old.condition ended.new.condition old.sessions called.new.sessions old.next_session old.orders.items old.orders.items (table old.locks) (table called.new.locks) old.max_marks old.books.ledger called.new.books.ledger
     old.pending ended.new.pending old.past.items c.note.new.past.items called.result c.args.line (command.Commit c.args.session c.args.parts) ended.result c.note.result
     called.ensures.told up ended.ensures.condition ended.ensures.pending ended.ensures.reply c.note.ensures.noted c.note.ensures.answer
     called.ensures.limit called.ensures.sessions (also_failed _ called.result refl) called.ensures.ledger
-    c.self.invariant.1 shut (λ room. called.ensures.act (before Up) refl refl refl room) in
-    let new = state_with (is_some (g.K.Keeper.held called.new.books.keeper)) ended.new.condition called.new.sessions old.next_session old.orders.items (table called.new.locks) called.new.books.ledger ended.new.pending c.note.new.past.items in
+    c.self.invariant.1 shut (λ room. called.ensures.act (before Up) refl refl refl refl room) in
+    let new = state_with (is_some (g.K.Keeper.held called.new.books.keeper)) ended.new.condition called.new.sessions old.next_session old.orders.items (table called.new.locks) old.max_marks called.new.books.ledger ended.new.pending c.note.new.past.items in
     subst (λ v. IsStep v.state new c.args.line (command.Commit c.args.session c.args.parts) c.note.result) c.self.view_is ends.1
 
 pub returns-clause-left : goal.returns-clause-left

@@ -24,17 +24,17 @@ invariant_of-self g c =
     let table = g.T.LockStore.table in
     let called = c.post-written in
     let ended = c.ended-reply in
-    let before : Condition → State = λ k. state_with (is_some (g.K.Keeper.held old.books.keeper)) k old.sessions old.next_session old.orders.items (table old.locks) old.books.ledger old.pending old.past.items in
+    let before : Condition → State = λ k. state_with (is_some (g.K.Keeper.held old.books.keeper)) k old.sessions old.next_session old.orders.items (table old.locks) old.max_marks old.books.ledger old.pending old.past.items in
     let shut : closed (before old.condition) ≡ None = ap (λ v. closed v.state) c.self.view_is ∙ sym c.closed.ensures.refusal ∙ c.in_default.is in
     let up : old.condition ≡ Up = ap (λ v. v.state.condition) c.self.view_is ∙ c.in_default.ensures.up in
     let by : who.Worker c.args.worker ≡ who_of (post_of c.args.part c.args.worker) = who_posts c.args.part c.args.worker c.requires in
     let noted = c.note.ensures.noted ∙ (λ i. old.past.items ++ record { who = by i; line = c.args.line; command = c.post_of-command.ensures i; reply = ended.result } ∷ []) in
     let ends =
-    ending (is_some (g.K.Keeper.held old.books.keeper)) (is_some (g.K.Keeper.held called.new.books.keeper)) old.condition ended.new.condition old.sessions old.sessions old.next_session old.orders.items called.new.orders.items (table old.locks) (table called.new.locks) old.books.ledger called.new.books.ledger
+    ending (is_some (g.K.Keeper.held old.books.keeper)) (is_some (g.K.Keeper.held called.new.books.keeper)) old.condition ended.new.condition old.sessions old.sessions old.next_session old.orders.items called.new.orders.items (table old.locks) (table called.new.locks) old.max_marks old.books.ledger called.new.books.ledger
     old.pending ended.new.pending old.past.items c.note.new.past.items called.result c.args.line (post_of c.args.part c.args.worker) ended.result c.note.result
     called.ensures.told up ended.ensures.condition ended.ensures.pending ended.ensures.reply noted c.note.ensures.answer
     called.ensures.limit (also_failed _ called.result refl) called.ensures.orders called.ensures.ledger
-    c.self.invariant.1 shut (λ room. called.ensures.act (before Up) refl refl refl refl room) in (
+    c.self.invariant.1 shut (λ room. called.ensures.act (before Up) refl refl refl refl refl room) in (
       search rules,
       ends.0,
       (
@@ -49,18 +49,18 @@ returns-clause-step g c =
     let table = g.T.LockStore.table in
     let called = c.post-written in
     let ended = c.ended-reply in
-    let before : Condition → State = λ k. state_with (is_some (g.K.Keeper.held old.books.keeper)) k old.sessions old.next_session old.orders.items (table old.locks) old.books.ledger old.pending old.past.items in
+    let before : Condition → State = λ k. state_with (is_some (g.K.Keeper.held old.books.keeper)) k old.sessions old.next_session old.orders.items (table old.locks) old.max_marks old.books.ledger old.pending old.past.items in
     let shut : closed (before old.condition) ≡ None = ap (λ v. closed v.state) c.self.view_is ∙ sym c.closed.ensures.refusal ∙ c.in_default.is in
     let up : old.condition ≡ Up = ap (λ v. v.state.condition) c.self.view_is ∙ c.in_default.ensures.up in
     let by : who.Worker c.args.worker ≡ who_of (post_of c.args.part c.args.worker) = who_posts c.args.part c.args.worker c.requires in
     let noted = c.note.ensures.noted ∙ (λ i. old.past.items ++ record { who = by i; line = c.args.line; command = c.post_of-command.ensures i; reply = ended.result } ∷ []) in
     let ends =
-    ending (is_some (g.K.Keeper.held old.books.keeper)) (is_some (g.K.Keeper.held called.new.books.keeper)) old.condition ended.new.condition old.sessions old.sessions old.next_session old.orders.items called.new.orders.items (table old.locks) (table called.new.locks) old.books.ledger called.new.books.ledger
+    ending (is_some (g.K.Keeper.held old.books.keeper)) (is_some (g.K.Keeper.held called.new.books.keeper)) old.condition ended.new.condition old.sessions old.sessions old.next_session old.orders.items called.new.orders.items (table old.locks) (table called.new.locks) old.max_marks old.books.ledger called.new.books.ledger
     old.pending ended.new.pending old.past.items c.note.new.past.items called.result c.args.line (post_of c.args.part c.args.worker) ended.result c.note.result
     called.ensures.told up ended.ensures.condition ended.ensures.pending ended.ensures.reply noted c.note.ensures.answer
     called.ensures.limit (also_failed _ called.result refl) called.ensures.orders called.ensures.ledger
-    c.self.invariant.1 shut (λ room. called.ensures.act (before Up) refl refl refl refl room) in
-    let new = state_with (is_some (g.K.Keeper.held called.new.books.keeper)) ended.new.condition old.sessions old.next_session called.new.orders.items (table called.new.locks) called.new.books.ledger ended.new.pending c.note.new.past.items in
+    c.self.invariant.1 shut (λ room. called.ensures.act (before Up) refl refl refl refl refl room) in
+    let new = state_with (is_some (g.K.Keeper.held called.new.books.keeper)) ended.new.condition old.sessions old.next_session called.new.orders.items (table called.new.locks) old.max_marks called.new.books.ledger ended.new.pending c.note.new.past.items in
     subst (λ v. IsStep v.state new c.args.line (post_of c.args.part c.args.worker) c.note.result) c.self.view_is ends.1
 
 pub returns-clause-left : goal.returns-clause-left

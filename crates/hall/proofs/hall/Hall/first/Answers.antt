@@ -6,8 +6,8 @@ use Rattle.hall.proofs.hall.Hall.first.Goals as goal
 pub invariant_of-result : goal.invariant_of-result
 invariant_of-result g c = (
   c.requires.room,
-  first_kept (is_some (g.K.Keeper.held c.args.books.keeper)) (g.T.LockStore.table c.args.tables.locks) c.new.result c.args.tables.orders.items c.args.books.ledger c.args.tables.past.items
-      c.new.ensures c.requires.orders c.requires.ledger c.requires.past,
+  first_kept (is_some (g.K.Keeper.held c.args.books.keeper)) (g.T.LockStore.table c.args.tables.locks) c.args.max_marks c.args.books.ledger c.new.result c.args.tables.orders.items c.args.tables.past.items
+      c.requires.limited c.requires.sound c.requires.good c.requires.locks c.new.ensures c.requires.orders c.requires.past,
   (
     c.requires.usable,
     first_leaves (g.K.Keeper.held c.args.books.keeper) (g.K.Keeper.may_leave c.args.books.keeper) c.args.books.ledger

@@ -15,14 +15,14 @@ use Rattle.hall.proofs.hall.Hall.refuse.Goals as goal
 pub returns-then-is_full-clause-step : goal.returns-then-is_full-clause-step
 returns-then-is_full-clause-step g c =
     let table = g.T.LockStore.table in
-    let s = state_of (is_some (g.K.Keeper.held c.self.inside.books.keeper)) c.self.inside.condition c.self.inside.sessions c.self.inside.next_session c.self.inside.orders.items (table c.self.inside.locks) c.self.inside.books.ledger (option_map (landed c.self.inside.books.ledger) c.self.inside.pending) c.self.inside.past.items in
+    let s = state_of (is_some (g.K.Keeper.held c.self.inside.books.keeper)) c.self.inside.condition c.self.inside.sessions c.self.inside.next_session c.self.inside.orders.items (table c.self.inside.locks) c.self.inside.max_marks c.self.inside.books.ledger (option_map (landed c.self.inside.books.ledger) c.self.inside.pending) c.self.inside.past.items in
     let full : nat_le 262144 (length c.self.inside.past.items) ≡ true = search rules in
     full_step _ _ _ (sym (ap (λ v. closed v.state) c.self.view_is) ∙ shut_by_history s full)
 
 pub invariant_of-self : goal.invariant_of-self
 invariant_of-self g c =
     let table = g.T.LockStore.table in
-    let s = state_of (is_some (g.K.Keeper.held c.self.inside.books.keeper)) c.self.inside.condition c.self.inside.sessions c.self.inside.next_session c.self.inside.orders.items (table c.self.inside.locks) c.self.inside.books.ledger (option_map (landed c.self.inside.books.ledger) c.self.inside.pending) c.self.inside.past.items in
+    let s = state_of (is_some (g.K.Keeper.held c.self.inside.books.keeper)) c.self.inside.condition c.self.inside.sessions c.self.inside.next_session c.self.inside.orders.items (table c.self.inside.locks) c.self.inside.max_marks c.self.inside.books.ledger (option_map (landed c.self.inside.books.ledger) c.self.inside.pending) c.self.inside.past.items in
     let room : nat_le 262144 (length c.self.inside.past.items) ≡ false = search rules in
     let shut : closed s ≡ Some c.args.refusal = ap (λ v. closed v.state) c.self.view_is ∙ c.requires.closed in
     let noted = c.note.ensures.noted ∙ ap (λ w. c.self.inside.past.items ++ record { who = w; line = c.args.line; command = c.args.command; reply = reply.Refused c.args.refusal } ∷ []) c.requires.who in
@@ -31,11 +31,11 @@ invariant_of-self g c =
 pub returns-clause-step : goal.returns-clause-step
 returns-clause-step g c =
     let table = g.T.LockStore.table in
-    let s = state_of (is_some (g.K.Keeper.held c.self.inside.books.keeper)) c.self.inside.condition c.self.inside.sessions c.self.inside.next_session c.self.inside.orders.items (table c.self.inside.locks) c.self.inside.books.ledger (option_map (landed c.self.inside.books.ledger) c.self.inside.pending) c.self.inside.past.items in
+    let s = state_of (is_some (g.K.Keeper.held c.self.inside.books.keeper)) c.self.inside.condition c.self.inside.sessions c.self.inside.next_session c.self.inside.orders.items (table c.self.inside.locks) c.self.inside.max_marks c.self.inside.books.ledger (option_map (landed c.self.inside.books.ledger) c.self.inside.pending) c.self.inside.past.items in
     let room : nat_le 262144 (length c.self.inside.past.items) ≡ false = search rules in
     let shut : closed s ≡ Some c.args.refusal = ap (λ v. closed v.state) c.self.view_is ∙ c.requires.closed in
     let noted = c.note.ensures.noted ∙ ap (λ w. c.self.inside.past.items ++ record { who = w; line = c.args.line; command = c.args.command; reply = reply.Refused c.args.refusal } ∷ []) c.requires.who in
-    let new = state_of (is_some (g.K.Keeper.held c.self.inside.books.keeper)) c.self.inside.condition c.self.inside.sessions c.self.inside.next_session c.self.inside.orders.items (table c.self.inside.locks) c.self.inside.books.ledger (option_map (landed c.self.inside.books.ledger) c.self.inside.pending) c.note.new.past.items in
+    let new = state_of (is_some (g.K.Keeper.held c.self.inside.books.keeper)) c.self.inside.condition c.self.inside.sessions c.self.inside.next_session c.self.inside.orders.items (table c.self.inside.locks) c.self.inside.max_marks c.self.inside.books.ledger (option_map (landed c.self.inside.books.ledger) c.self.inside.pending) c.note.new.past.items in
     subst (λ v. IsStep v.state new c.args.line c.args.command c.note.result) c.self.view_is
     (into_history s c.args.line c.args.command s new (reply.Refused c.args.refusal) c.note.result (down_act s c.args.command c.args.refusal shut room) c.note.ensures.answer (λ i. record s { past = noted i }))
 

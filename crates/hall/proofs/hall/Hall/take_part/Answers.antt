@@ -21,7 +21,7 @@ take-requires-clause-places g c = c.self.invariant.1.steady.places
 pub invariant_of-self : goal.invariant_of-self
 invariant_of-self g c =
     let table = g.T.LockStore.table in
-    let s = state_of (is_some (g.K.Keeper.held c.self.inside.books.keeper)) c.self.inside.condition c.self.inside.sessions c.self.inside.next_session c.self.inside.orders.items (table c.self.inside.locks) c.self.inside.books.ledger (option_map (landed c.self.inside.books.ledger) c.self.inside.pending) c.self.inside.past.items in
+    let s = state_of (is_some (g.K.Keeper.held c.self.inside.books.keeper)) c.self.inside.condition c.self.inside.sessions c.self.inside.next_session c.self.inside.orders.items (table c.self.inside.locks) c.self.inside.max_marks c.self.inside.books.ledger (option_map (landed c.self.inside.books.ledger) c.self.inside.pending) c.self.inside.past.items in
     let after : State = record s { orders = c.take.new.orders.items } in
     let shut : closed s ≡ None = ap (λ v. closed v.state) c.self.view_is ∙ sym c.closed.ensures.refusal ∙ c.in_default.is in
     let idle = c.take.ensures.verdict s refl refl ∙ ap (λ o. record { state = after; reply = taken_reply o }) c.in_default-take.is in
@@ -30,7 +30,7 @@ invariant_of-self g c =
 pub returns-in_default-take-clause-step : goal.returns-in_default-take-clause-step
 returns-in_default-take-clause-step g c =
     let table = g.T.LockStore.table in
-    let s = state_of (is_some (g.K.Keeper.held c.self.inside.books.keeper)) c.self.inside.condition c.self.inside.sessions c.self.inside.next_session c.self.inside.orders.items (table c.self.inside.locks) c.self.inside.books.ledger (option_map (landed c.self.inside.books.ledger) c.self.inside.pending) c.self.inside.past.items in
+    let s = state_of (is_some (g.K.Keeper.held c.self.inside.books.keeper)) c.self.inside.condition c.self.inside.sessions c.self.inside.next_session c.self.inside.orders.items (table c.self.inside.locks) c.self.inside.max_marks c.self.inside.books.ledger (option_map (landed c.self.inside.books.ledger) c.self.inside.pending) c.self.inside.past.items in
     let after : State = record s { orders = c.take.new.orders.items } in
     let shut : closed s ≡ None = ap (λ v. closed v.state) c.self.view_is ∙ sym c.closed.ensures.refusal ∙ c.in_default.is in
     let idle = c.take.ensures.verdict s refl refl ∙ ap (λ o. record { state = after; reply = taken_reply o }) c.in_default-take.is in
@@ -39,7 +39,7 @@ returns-in_default-take-clause-step g c =
 pub invariant_of-self-2 : goal.invariant_of-self-2
 invariant_of-self-2 g c =
     let table = g.T.LockStore.table in
-    let s = state_of (is_some (g.K.Keeper.held c.self.inside.books.keeper)) c.self.inside.condition c.self.inside.sessions c.self.inside.next_session c.self.inside.orders.items (table c.self.inside.locks) c.self.inside.books.ledger (option_map (landed c.self.inside.books.ledger) c.self.inside.pending) c.self.inside.past.items in
+    let s = state_of (is_some (g.K.Keeper.held c.self.inside.books.keeper)) c.self.inside.condition c.self.inside.sessions c.self.inside.next_session c.self.inside.orders.items (table c.self.inside.locks) c.self.inside.max_marks c.self.inside.books.ledger (option_map (landed c.self.inside.books.ledger) c.self.inside.pending) c.self.inside.past.items in
     let after : State = record s { orders = c.take.new.orders.items } in
     let shut : closed s ≡ None = ap (λ v. closed v.state) c.self.view_is ∙ sym c.closed.ensures.refusal ∙ c.in_default.is in
     let verdict = c.take.ensures.verdict s refl refl ∙ ap (λ o. record { state = after; reply = taken_reply o }) c.in-Some-take.is in
@@ -52,7 +52,7 @@ invariant_of-self-2 g c =
 pub returns-clause-step : goal.returns-clause-step
 returns-clause-step g c =
     let table = g.T.LockStore.table in
-    let s = state_of (is_some (g.K.Keeper.held c.self.inside.books.keeper)) c.self.inside.condition c.self.inside.sessions c.self.inside.next_session c.self.inside.orders.items (table c.self.inside.locks) c.self.inside.books.ledger (option_map (landed c.self.inside.books.ledger) c.self.inside.pending) c.self.inside.past.items in
+    let s = state_of (is_some (g.K.Keeper.held c.self.inside.books.keeper)) c.self.inside.condition c.self.inside.sessions c.self.inside.next_session c.self.inside.orders.items (table c.self.inside.locks) c.self.inside.max_marks c.self.inside.books.ledger (option_map (landed c.self.inside.books.ledger) c.self.inside.pending) c.self.inside.past.items in
     let after : State = record s { orders = c.take.new.orders.items } in
     let shut : closed s ≡ None = ap (λ v. closed v.state) c.self.view_is ∙ sym c.closed.ensures.refusal ∙ c.in_default.is in
     let verdict = c.take.ensures.verdict s refl refl ∙ ap (λ o. record { state = after; reply = taken_reply o }) c.in-Some-take.is in
