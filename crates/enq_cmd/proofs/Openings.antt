@@ -6,6 +6,7 @@ use Rattle.keeper_api.specs.Keeping.{IsWithin}
 use Rattle.keeper_api.specs.Rows.{Rows}
 use Rattle.posting.specs.Opening.{CountsFault, OnBad, OnRefused}
 use Rattle.posting.specs.Reopening.{IsOpeningFault, MayBeLeftBy}
+use Rattle.posting.specs.declared.opening.BooksFault.TheVariants.{NoStart}
 use Rattle.store_laws.proofs.Faultfree.{good_rules_kept, not_both}
 use Rattle.store_laws.proofs.LedgerRows.{good_rows_spelled}
 use Rattle.store_reading.specs.Good.{IsBadPlace}
@@ -18,7 +19,7 @@ use Rattle.hall.specs.Faults.{books_fault}
 use Rattle.script_runner.specs.Replay.{Seen}
 use Rattle.script_runner.specs.declared.runner.Why.{Why}
 use Rattle.script_runner.specs.declared.runner.Why.TheVariants.{StoreFault, NoMemory}
-use Rattle.enq_cmd.specs.Main.{EndsComplete, HasNoStart, IsBadStore, IsOpeningEnd, IsUnopened, MayRemain, opening_end}
+use Rattle.enq_cmd.specs.Main.{EndsComplete, HasNoStart, StoodAtLast, IsBadStore, IsOpeningEnd, IsUnopened, MayRemain, opening_end}
 
 pub opening_ends : (f : HallFault) → IsOpeningEnd (opening_end f)
 opening_ends fault.Store = refl
@@ -74,6 +75,10 @@ not_bad : (may_be : Rows → Type 0) (o : Option Rows) (table row : ℕ) → IsT
 not_bad may_be None table row told good bad found = absurd (cc)
 not_bad may_be (Some rows) table row told good bad found = bad_is_not_good rows table row bad (good rows found)
 
+at_last : (may_be : Rows → Type 0) (o : Option Rows) → IsTrue (is_some o) → IfSome o (λ rows. IsOpeningFault true rows NoStart) → IfSome o may_be → StoodAtLast may_be
+at_last may_be None told why found = absurd (cc)
+at_last may_be (Some rows) told why found = (why.1, (rows, found, why.2), why.3)
+
 -- where no count rose a good store is opened, unless memory is wanting or it has no next start
 pub opening_completes : (t : Bool) (may_be : Rows → Type 0) (before after : Option Rows) (f : HallFault) (n m : ℕ) (bytes : List ℕ) (old new : Option (List ℕ)) (past : List PastEntry) (why : Why)
     → why ≡ opening_end f → is_some after ≡ is_some before → IsTrue (is_some before) → ((rows : Rows) → may_be rows → IsGood rows)
@@ -82,7 +87,8 @@ pub opening_completes : (t : Bool) (may_be : Rows → Type 0) (before after : Op
 opening_completes t may_be before after fault.Store n m bytes old new past why end same told good why_not found counts calm = absurd (calm counts.1)
 opening_completes t may_be before after (fault.Bad table row) n m bytes old new past why end same told good why_not found counts calm =
     absurd (not_bad may_be after table row (subst (λ b. IsTrue b) (sym same) told) good why_not found)
-opening_completes t may_be before after fault.NoStart n m bytes old new past why end same told good why_not found counts calm = inr (inr end)
+opening_completes t may_be before after fault.NoStart n m bytes old new past why end same told good why_not found counts calm =
+    inr (inr (end, at_last may_be after (subst (λ b. IsTrue b) (sym same) told) why_not found))
 opening_completes t may_be before after fault.NoMemory n m bytes old new past why end same told good why_not found counts calm = inr (inl end)
 
 -- the store's fault at its opening comes only where its count rose

@@ -6,7 +6,6 @@ pub mod RowOrder
 pub mod Stored
 pub mod Waiting
 pub mod Registers
-pub mod Opened
 pub mod Usable
 pub mod Lawful
 pub mod Posts

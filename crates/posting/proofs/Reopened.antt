@@ -11,7 +11,7 @@ use Rattle.update_records.specs.Marks.{IsLegal}
 use Rattle.update_records.specs.declared.records.Mark.{Mark}
 use Rattle.update_records.specs.declared.records.Unit.{Unit as UnitOfWork}
 use Rattle.store_reading.specs.Good.{IsSound}
-use Rattle.posting.specs.Opening.{IsRaiseFault, OnRefused, raised}
+use Rattle.posting.specs.Opening.{IsRaiseFault, OnBad, OnRefused, raised}
 use Rattle.posting.specs.Reopening.{HasStood, IsOpeningFault, IsRaised, MayBeLeftBy}
 use Rattle.posting.specs.Shelf.{IsUsable, Shelf}
 use Rattle.posting.specs.Standings.{IsSmall}
@@ -103,3 +103,15 @@ raise_fault now held before raise ledger opened (BadStore table row) on is why r
 raise_fault now held before raise ledger opened NoStart on is why rows h =
     subst (λ o. IfSome o (λ rows. IsOpeningFault raise rows NoStart)) (sym rows) (last_start held before raise ledger opened on is why h)
 raise_fault now held before raise ledger opened NoMemory on is why rows h = (any_fault now raise).1
+
+found_here : (held : Option Rows) (before : Rows → Type 0) (ledger : Ledger) → IfSome held (λ rows. before rows × StandFor rows ledger) → IfSome held before
+found_here None before ledger h = tt
+found_here (Some rows) before ledger h = h.0
+
+-- where the rows of a store at the last start come from
+pub raise_found : (now held : Option Rows) (before : Rows → Type 0) (ledger opened : Ledger) (fault : BooksFault) → IsRaiseFault opened fault → OnRefused fault (now ≡ held)
+    → IfSome held (λ rows. before rows × StandFor rows ledger) → OnBad fault (IfSome now before)
+raise_found now held before ledger opened StoreFault why rows h = tt
+raise_found now held before ledger opened (BadStore table row) why rows h = absurd why
+raise_found now held before ledger opened NoStart why rows h = subst (λ o. IfSome o before) (sym rows) (found_here held before ledger h)
+raise_found now held before ledger opened NoMemory why rows h = tt

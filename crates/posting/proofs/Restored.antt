@@ -21,6 +21,7 @@ use Rattle.update_records.specs.Intervals.{level_of, levels_of, named}
 use Rattle.update_records.specs.Ledger.{Levels, recorded}
 use Rattle.update_records.specs.declared.stored.StoredInterval.{StoredInterval}
 use Rattle.update_records.specs.Marks.{unit_at, has_no_v2, given, status_of, may_follow, draws_alone, has_status, is_rec, same_status, IsLegal, IsLegalAfter}
+use Rattle.store_reading.proofs.Gathers.{recorded_on}
 use Rattle.update_records.proofs.Status.{none_of, one_unit, status_push, unit_refl, NoneOf}
 use Rattle.posting.specs.Restoring.{AreFollowed, AreStandings, HasTurnsLeft, IsFollowed, MayBeNext}
 use Rattle.posting.specs.Turns.{turns_of}
@@ -279,14 +280,6 @@ at_split (u ∷ units) (k ∷ keys) rest key same others =
     let further = at_split units keys rest key tails others.1 in
     (further.0 ∙ sym (ap (λ b. cond b (Some u) (unit_at units key)) (subst (λ x. same_unit x key ≡ false) (sym is) others.0)), omega (arith, further.1))
 
-recorded_append : (xs ys : List Mark) → recorded (xs ++ ys) ≡ recorded xs ++ recorded ys
-recorded_append [] ys = refl
-recorded_append (x ∷ xs) ys = elim (is_rec x.kind) as (λ b. map (λ (y : Mark). y.unit) (cond b (x ∷ filter (λ (y : Mark). is_rec y.kind) (xs ++ ys)) (filter (λ (y : Mark). is_rec y.kind) (xs ++ ys)))
-    ≡ map (λ (y : Mark). y.unit) (cond b (x ∷ filter (λ (y : Mark). is_rec y.kind) xs) (filter (λ (y : Mark). is_rec y.kind) xs)) ++ recorded ys) [
-      | true ↦ ap (λ keys. x.unit ∷ keys) (recorded_append xs ys)
-      | false ↦ recorded_append xs ys
-    ]
-
 recorded_first : (m : Mark) (marks : List Mark) → is_rec m.kind ≡ true → recorded (m ∷ marks) ≡ m.unit ∷ recorded marks
 recorded_first m marks is = ap (λ b. map (λ (y : Mark). y.unit) (cond b (m ∷ filter (λ (y : Mark). is_rec y.kind) marks) (filter (λ (y : Mark). is_rec y.kind) marks))) is
 
@@ -299,7 +292,7 @@ may_be_next units marks i m legal same h is =
     let none : status_of units (take i marks) m.unit ≡ None = rec_follows _ (subst (λ k. may_follow (status_of units (take i marks) m.unit) k ≡ true) kind follows) in
     let split : recorded marks ≡ recorded (take i marks) ++ m.unit ∷ recorded (drop (suc i) marks) =
     ap recorded (sym (take-append-drop i marks) ∙ ap (λ xs. take i marks ++ xs) (drop-cons marks i m h ∙ ap (λ x. x ∷ drop (suc i) marks) (sym is)))
-    ∙ recorded_append (take i marks) (m ∷ drop (suc i) marks)
+    ∙ recorded_on (take i marks) (m ∷ drop (suc i) marks)
     ∙ ap (λ keys. recorded (take i marks) ++ keys) (recorded_first m (drop (suc i) marks) rec) in
     at_split units (recorded (take i marks)) (recorded (drop (suc i) marks)) m.unit (same ∙ split)
     (none_recorded m.unit (take i marks) (none_of (has_no_v2 units m.unit) m.unit (take i marks) none)) in

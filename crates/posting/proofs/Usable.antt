@@ -1,7 +1,6 @@
 -- When the books may be used after a call, and what a call may leave.
 use Rattle.std.proofs.Common.{◌≡◌, ◌⊎◌, inl, inr, ℕ, Bool, true, false, List, [], ◌∷◌, length, Option, Some, None, IfSome, refl, sym, ap, subst, ◌∙◌, arith}
 use Rattle.std.specs.FinMap.{empty, entries, get-empty, len-entries, len-empty}
-use Rattle.std.specs.Option.{is_some}
 use Rattle.std.specs.List.{IsDistinct}
 use Rattle.std.proofs.lemmas.List.Elements.{All-nil}
 use Rattle.keeper_api.specs.declared.rows.Change.{Change}
@@ -13,7 +12,6 @@ use Rattle.update_records.specs.Growing.{with_start}
 use Rattle.update_records.specs.Ledger.{Ledger, no_ledger, map_rows, with_map, with_entries, IsLawful, IsMarkUnder, IsRightLevel, StandFor}
 use Rattle.update_records.specs.Grammar.{IsUnit}
 use Rattle.update_records.specs.RecordRows.{meta_row, level_value}
-use Rattle.posting.specs.Opening.{WasBare, MayBeLeft}
 use Rattle.posting.specs.Shelf.{Shelf, IsUsable}
 use Rattle.update_records.proofs.Own.{own_changed}
 
@@ -91,10 +89,6 @@ no_entries {X = X} = nothing_in (entries empty) (sym (len-entries empty) ∙ len
 pub no_map_rows : map_rows empty empty ≡ empty
 no_map_rows = ap (λ es. with_entries 5 level_value es (with_map 6 (λ text. text) empty empty)) no_entries ∙ ap (λ es. with_entries 6 (λ (text : List ℕ). text) es empty) no_entries
 
-pub bare_stands : (held : Option Rows) (before : Rows → Type 0) (ledger : Ledger) → ledger ≡ no_ledger → IfSome held (WasBare before) → IfSome held (λ rows. StandFor rows ledger)
-bare_stands None before ledger is h = tt
-bare_stands (Some rows) before ledger is h = subst (StandFor rows) (sym is) (record { exact = h.1 ∙ sym no_map_rows; lawful = inl refl })
-
 first_stands : (rows : Rows) → StandFor rows no_ledger → StandFor (changed (meta_row 1 0 ∷ []) rows) (with_start no_ledger 1)
 first_stands rows h = record {
   exact = own_changed (meta_row 1 0 ∷ []) rows (refl, tt) ∙ ap (changed (meta_row 1 0 ∷ [])) h.exact;
@@ -132,33 +126,3 @@ raised_from held other before may_leave after now same is only h =
     raised_left held before may_leave now only
     (subst (λ o. IfSome o (λ rows. (left : Rows) → may_leave left → (left ≡ rows) ⊎ StandFor left now)) same
     (subst (λ l. IfSome other (λ rows. (left : Rows) → may_leave left → (left ≡ rows) ⊎ StandFor left l)) is h))
-
-pub bare_usable : {K : Type 0} (held : K → Option Rows) (is_open : K → Type 0) (before : Rows → Type 0) (shelf : Shelf K) → shelf.ledger ≡ no_ledger → is_open shelf.keeper → IfSome (held shelf.keeper) (WasBare before) → IsUsable held is_open shelf
-bare_usable held is_open before shelf is opened bare = record {
-  opened = opened;
-  stands = bare_stands (held shelf.keeper) before shelf.ledger is bare;
-}
-
-pub opened_left : (held told : Option Rows) (before middle may_leave : Rows → Type 0) → IfSome held (WasBare before) → IsWithin middle before → is_some told ≡ is_some held
-    → IfSome held (λ rows. (left : Rows) → may_leave left → middle left ⊎ StandFor left (with_start no_ledger 1)) → IfSome told (λ rows. (left : Rows) → may_leave left → MayBeLeft before true left)
-opened_left held None before middle may_leave bare less same h = tt
-opened_left None (Some rows) before middle may_leave bare less same h = cc
-opened_left (Some bare_rows) (Some rows) before middle may_leave bare less same h = λ left may. elim (h left may) [
-  | inl m ↦ inl (less left m)
-  | inr s ↦ inr (refl, s, bare_rows, bare)
-]
-
--- what an opening that raises leaves
-pub raising_left : (held told : Option Rows) (before middle may_leave : Rows → Type 0) (raise : Bool) → raise ≡ true → IfSome held (WasBare before) → IsWithin middle before → is_some told ≡ is_some held
-    → IfSome held (λ rows. (left : Rows) → may_leave left → middle left ⊎ StandFor left (with_start no_ledger 1)) → IfSome told (λ rows. (left : Rows) → may_leave left → MayBeLeft before raise left)
-raising_left held told before middle may_leave true raised bare less same h = opened_left held told before middle may_leave bare less same h
-raising_left held told before middle may_leave false raised bare less same h = cc
-
-pub raising_after : {K : Type 0} (told : K → Option Rows) (leave : K → Rows → Type 0) (k given : K) (held : Option Rows) (before middle : Rows → Type 0) (raise : Bool) → given ≡ k → raise ≡ true → IfSome held (WasBare before) → IsWithin middle before → is_some (told k) ≡ is_some held
-    → IfSome held (λ rows. (left : Rows) → leave k left → middle left ⊎ StandFor left (with_start no_ledger 1)) → IfSome (told given) (λ rows. (left : Rows) → leave given left → MayBeLeft before raise left)
-raising_after told leave k given held before middle raise is raised bare less same h =
-    subst (λ x. IfSome (told x) (λ rows. (left : Rows) → leave x left → MayBeLeft before raise left)) (sym is) (raising_left held (told k) before middle (leave k) raise raised bare less same h)
-
-pub kept_left : (told : Option Rows) (before may_leave : Rows → Type 0) (raise : Bool) → IsWithin may_leave before → IfSome told (λ rows. (left : Rows) → may_leave left → MayBeLeft before raise left)
-kept_left None before may_leave raise less = tt
-kept_left (Some rows) before may_leave raise less = λ left may. inl (less left may)

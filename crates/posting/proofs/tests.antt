@@ -1,2 +1,3 @@
 -- What the tests of this crate need.
+mod Bare
 mod Draws

@@ -11,10 +11,10 @@ ghost use Rattle.keeper_api.specs.Rows.{Rows};
 ghost use Rattle.module_effects.specs.Effects.{applied};
 ghost use Rattle.module_effects.specs.Rows.{Tables};
 ghost use Rattle.update_records.specs.Business.{tables_of};
-ghost use Rattle.update_records.specs.Ledger.{StandFor, no_ledger};
+ghost use Rattle.update_records.specs.Ledger.{StandFor};
 ghost use Rattle.update_records.specs.Growing.{next_mark, with_start};
 ghost use Rattle.update_records.specs.Marks.{status_of, v1_of, v2_of};
-ghost use Rattle.posting.specs.Opening.{HasNoRows, CountsFault, OnBad, IsBooksFault, MayBeFault, MayBeLeft, OnRefused, IsRaiseFault, first_ledger, raised};
+ghost use Rattle.posting.specs.Opening.{CountsFault, OnBad, OnRefused, IsRaiseFault, raised};
 ghost use Rattle.posting.specs.Numbers.{AreNumbersRight};
 ghost use Rattle.posting.specs.Posts.{HasDistinctRows, HoldsTables, IsNote, IsPost, MayCome, WaitsFor, effects_of, entries_of, kind_for, post2_kind};
 ghost use Rattle.posting.specs.Reopening.{HasStood, IsOpeningFault, IsRaised, MayBeLeftBy, MayBeOpeningFault};
@@ -26,7 +26,7 @@ ghost use Rattle.posting.specs.Views.{open_locks, views_of};
 ghost use Rattle.posting.specs.declared.prepared.Step.TheVariants.{Record, Note, Start, Draw, Level};
 
 use crate::batch::{draw_batch, level_batch, mark_behind, note_batch, start_batch, unit_batch};
-use crate::opening::{BooksFault, open_empty, open_ledger, restored};
+use crate::opening::{BooksFault, open_ledger, restored};
 use crate::prepared::{Outcome, Prepared, Step};
 use crate::register::Register;
 use crate::spots::{apply_to_store, read_text};
@@ -63,43 +63,6 @@ impl<K: Keeper> Model for Books<K> {
 }
 
 impl<K: Keeper> Books<K> {
-    /// Opens a store without rows, and with `raise` writes the first start number. Any row of tables 0 to 7 makes it a
-    /// bad store.
-    pub fn open_bare(alloc: Global, keeper: K, raise: bool) -> Result<Books<K>, (BooksFault, K)>
-        ensures usable { IfOk result (λ books. IsUsable K.held K.is_open books) }
-        ensures ledger { IfOk result (λ books. books.ledger ≡ first_ledger raise) }
-        ensures told { IfOk result (λ books. is_some (K.held books.keeper) ≡ is_some (K.held keeper)) }
-        ensures left { IfOk result (λ books. IfSome (K.held books.keeper)
-            (λ _. (left : Rows) → K.may_leave books.keeper left → MayBeLeft (K.may_leave keeper) raise left)) }
-        ensures counts { IfOk result (λ books. K.faults books.keeper ≡ K.faults keeper) }
-
-        ensures fault { IfErr result (λ e. IfSome (K.held e.1) (λ rows. IsBooksFault rows e.0)) }
-        ensures untold_fault { IfErr result (λ e. MayBeFault e.0) }
-        // The rows of a bad store are some that a crash might have left.
-        ensures found { IfErr result (λ e. OnBad e.0 (IfSome (K.held e.1) (K.may_leave keeper))) }
-        ensures told_after { IfErr result (λ e. is_some (K.held e.1) ≡ is_some (K.held keeper)) }
-        ensures left_after { IfErr result (λ e. IfSome (K.held e.1)
-            (λ _. (left : Rows) → K.may_leave e.1 left → MayBeLeft (K.may_leave keeper) raise left)) }
-        ensures unchanged { IfErr result (λ e. OnRefused e.0 (IsWithin (K.may_leave e.1) (K.may_leave keeper))) }
-        ensures cause { IfErr result (λ e. CountsFault e.0 (K.faults keeper) (K.faults e.1)) }
-    {
-        let mut keeper = keeper;
-        if let Err(fault) = open_empty(alloc, &mut keeper) {
-            return Err((fault, keeper));
-        }
-        let mut books = Books {
-            register: Register::new(alloc),
-            keeper,
-        };
-        if !raise {
-            return Ok(books);
-        }
-        match books.raise(alloc) {
-            Ok(()) => Ok(books),
-            Err(fault) => Err((fault, books.into_keeper())),
-        }
-    }
-
     /// Opens a store of any rows, and with `raise` writes the next start number. A store that isn't good is `BadStore`
     /// at its first bad place; with `raise` one at the last start is `NoStart`. Both keep their rows.
     ///
@@ -116,7 +79,7 @@ impl<K: Keeper> Books<K> {
         ensures counts { IfOk result (λ books. K.faults books.keeper ≡ K.faults keeper) }
         ensures fault { IfErr result (λ e. IfSome (K.held e.1) (λ rows. IsOpeningFault raise rows e.0)) }
         ensures untold_fault { IfErr result (λ e. MayBeOpeningFault raise e.0) }
-        // The rows of a bad store are some that a crash might have left.
+        // The rows of a store that isn't good, or that is at the last start, are some that a crash might have left.
         ensures found { IfErr result (λ e. OnBad e.0 (IfSome (K.held e.1) (K.may_leave keeper))) }
         ensures told_after { IfErr result (λ e. is_some (K.held e.1) ≡ is_some (K.held keeper)) }
         ensures left_after { IfErr result (λ e. IfSome (K.held e.1)

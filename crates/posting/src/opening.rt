@@ -1,6 +1,6 @@
-ghost use Rattle.std.specs.Prelude.{◌≡◌, ◌≤◌, ◌<◌, false, Option, IfSome, IfOk, IfErr, OnOk, is_some};
-ghost use Rattle.keeper_api.specs.Keeping.{HasFaultCause, IsWithin, Stays, UnlessFailed};
-ghost use Rattle.posting.specs.Opening.{CountsFault, Finds, IsBooksFault, MayBeFault, OnBad, WasBare, books_fault};
+ghost use Rattle.std.specs.Prelude.{◌≡◌, false, IfSome, IfOk, IfErr, OnOk, is_some};
+ghost use Rattle.keeper_api.specs.Keeping.{IsWithin};
+ghost use Rattle.posting.specs.Opening.{CountsFault, OnBad, books_fault};
 ghost use Rattle.posting.specs.Reopening.{IsOpeningFault, MayBeOpeningFault, opening_fault};
 ghost use Rattle.store_reading.specs.Good.{IsSound, ledger_of};
 ghost use Rattle.update_records.specs.Ledger.{StandFor};
@@ -23,57 +23,12 @@ pub enum BooksFault {
     NoMemory,
 }
 
-/// The lowest of tables 0 to 7 that has a row.
-fn first_table<K: Keeper>(alloc: Global, keeper: &mut K) -> Result<Option<u8>, KeepFault>
-    requires { K.is_open keeper.old }
-    ensures found { IfOk result (λ found. IfSome (K.held keeper.old) (λ rows. Finds rows found)) }
-    ensures own { IfOk result (λ found. IfSome found (λ table. table < 8)) }
-    ensures stays { UnlessFailed result (Stays K.held K.is_open K.has_room keeper.old keeper.new) }
-    ensures told { is_some (K.held keeper.new) ≡ is_some (K.held keeper.old) }
-    ensures crash { IsWithin (K.may_leave keeper.new) (K.may_leave keeper.old) }
-    ensures cause { HasFaultCause (K.faults keeper.old) (K.faults keeper.new) result }
-{
-    for table in 0..8 {
-        match keeper.page(alloc, table, &[], 1) {
-            Err(fault) => return Err(fault),
-            Ok(page) => {
-                if !page.is_empty() {
-                    return Ok(Some(table));
-                }
-            }
-        }
-    }
-    Ok(None)
-}
-
 fn fault_of(fault: KeepFault) -> BooksFault
     ensures { result ≡ books_fault fault }
 {
     match fault {
         KeepFault::Failed => BooksFault::StoreFault,
         KeepFault::NoMemory => BooksFault::NoMemory,
-    }
-}
-
-/// Opens a keeper whose tables 0 to 7 have no row.
-pub fn open_empty<K: Keeper>(alloc: Global, keeper: &mut K) -> Result<(), BooksFault>
-    ensures opened { OnOk result (K.is_open keeper.new) }
-    ensures bare { OnOk result (IfSome (K.held keeper.new) (WasBare (K.may_leave keeper.old))) }
-    ensures counts { OnOk result (K.faults keeper.new ≡ K.faults keeper.old) }
-    ensures told { is_some (K.held keeper.new) ≡ is_some (K.held keeper.old) }
-    ensures crash { IsWithin (K.may_leave keeper.new) (K.may_leave keeper.old) }
-    ensures fault { IfErr result (λ fault. IfSome (K.held keeper.new) (λ rows. IsBooksFault rows fault)) }
-    ensures untold_fault { IfErr result MayBeFault }
-    ensures found { IfErr result (λ fault. OnBad fault (IfSome (K.held keeper.new) (K.may_leave keeper.old))) }
-    ensures cause { IfErr result (λ fault. CountsFault fault (K.faults keeper.old) (K.faults keeper.new)) }
-{
-    if let Err(fault) = keeper.reopen(alloc) {
-        return Err(fault_of(fault));
-    }
-    match first_table(alloc, keeper) {
-        Err(fault) => Err(fault_of(fault)),
-        Ok(Some(table)) => Err(BooksFault::BadStore { table, row: 1 }),
-        Ok(None) => Ok(()),
     }
 }
 

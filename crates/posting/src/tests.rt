@@ -13,6 +13,7 @@ mod units;
 
 use super::batch::start_batch;
 use super::*;
+use calls::bare;
 use enq_base::{Key, Name, Status, Text, UnitKey, read_name};
 use keeper_api::{Change, Keeper};
 use keeper_mem::MemKeeper;
@@ -26,29 +27,6 @@ const KEY: UnitKey = UnitKey {
     session: 1,
     luw: 1,
 };
-
-#[test]
-fn a_bare_store_is_opened_once(rt: HostRuntime) -> Result<(), Fail> {
-    let alloc = rt.alloc();
-    let keeper = MemKeeper::new(alloc, Vec::new(alloc), Vec::new(alloc))?;
-    let Ok(books) = Books::open_bare(alloc, keeper, true) else {
-        return Err(Fail::from("refused"));
-    };
-    assert_eq!(rt; books.start(), 1);
-    assert_eq!(rt; books.marks(), 0);
-    assert_eq!(rt; books.waiting(1), 0);
-    assert_eq!(rt; books.waiting_at(1, 1), None);
-    assert_eq!(rt; books.waiting(2), 0);
-    assert_eq!(rt; books.waiting_at(2, 1), None);
-    assert_eq!(rt; books.status(&KEY), None);
-    match Books::open_bare(alloc, books.into_keeper(), true) {
-        Ok(_) => Err(Fail::from("opened")),
-        Err((fault, _)) => {
-            assert_eq!(rt; fault, BooksFault::BadStore { table: 0, row: 1 });
-            Ok(())
-        }
-    }
-}
 
 fn put(alloc: Global, keeper: &mut MemKeeper, batch: &[Change]) -> Result<(), Fail>
     requires opened { IsSettled keeper.old }
@@ -162,10 +140,13 @@ fn a_new_store_has_no_units_and_no_intervals(rt: HostRuntime) -> Result<(), Fail
     let (Some(object), Some(key)) = (read_name(b"STAT"), Key::new(b"A")) else {
         return Err(Fail::from("words"));
     };
-    let keeper = MemKeeper::new(alloc, Vec::new(alloc), Vec::new(alloc))?;
-    let Ok(mut books) = Books::open(alloc, keeper, true) else {
-        return Err(Fail::from("refused"));
-    };
+    let mut books = bare(alloc)?;
+    assert_eq!(rt; books.start(), 1);
+    assert_eq!(rt; books.marks(), 0);
+    assert_eq!(rt; books.status(&KEY), None);
+    assert_eq!(rt; (books.waiting(1), books.waiting(2)), (0, 0));
+    assert_eq!(rt; books.waiting_at(1, 1), None);
+    assert_eq!(rt; books.waiting_at(2, 1), None);
     assert_eq!(rt; books.numbers(), 0);
     assert_eq!(rt; books.level(&object, *b"01"), None);
     assert_eq!(rt; books.stored(0), None);
@@ -206,10 +187,7 @@ fn an_interval_is_stored(rt: HostRuntime) -> Result<(), Fail> {
     let Some(object) = read_name(b"STAT") else {
         return Err(Fail::from("words"));
     };
-    let keeper = MemKeeper::new(alloc, Vec::new(alloc), Vec::new(alloc))?;
-    let Ok(mut books) = Books::open_bare(alloc, keeper, true) else {
-        return Err(Fail::from("refused"));
-    };
+    let mut books = bare(alloc)?;
     let interval = interval_of(object);
     let Ok(prepared) = books.prepare_level(alloc, &interval) else {
         return Err(Fail::from("no memory"));

@@ -30,7 +30,7 @@ use Rattle.store_reading.proofs.Followings.{HaveEffects}
 use Rattle.store_reading.proofs.Legal.{all_marks, first_true, second_true}
 use Rattle.store_reading.proofs.Members.{record_stands}
 use Rattle.store_reading.proofs.Shelved.{Agrees}
-use Rattle.store_reading.proofs.Statuses.{one_unit}
+use Rattle.update_records.proofs.Status.{one_unit}
 
 -- ---- the start number
 

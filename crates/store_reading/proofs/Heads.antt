@@ -7,7 +7,7 @@ use Rattle.enq_base.specs.Owners.{same_unit}
 use Rattle.enq_base.specs.declared.owner.UnitKey.{UnitKey}
 use Rattle.enq_base.specs.declared.unit.Num.{Num as Number}
 use Rattle.update_records.specs.RecordRows.{unit_bytes}
-use Rattle.update_records.proofs.Status.{unit_refl}
+use Rattle.update_records.proofs.Status.{one_unit, unit_refl}
 use Rattle.update_records.specs.declared.stored.Record.{Record}
 use Rattle.update_records.specs.declared.stored.Record.TheVariants as rec
 use Rattle.store_reading.specs.Intervals.{numbers_after, numbers_at}
@@ -16,7 +16,6 @@ use Rattle.store_reading.specs.Stores.{is_header, user_at, user_told}
 use Rattle.store_reading.specs.Units.{counts_after, counts_at, no_counts}
 use Rattle.store_reading.specs.declared.counts.Counts.{Counts}
 use Rattle.store_reading.proofs.Rising.{In, IsAbove, Rise, any_in, key_of, not_again}
-use Rattle.store_reading.proofs.Statuses.{one_unit}
 
 abbrev pub header : UnitKey → List ℕ → ℕ → ℕ → ℕ → List Number → Record
 header key user v1 v2 locks numbers = rec.Header key user v1 v2 locks numbers

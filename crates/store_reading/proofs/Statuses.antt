@@ -4,10 +4,9 @@ use Rattle.std.specs.HashMap.{HashMap, get}
 use Rattle.std.specs.HashSet.{HashSet, contains}
 use Rattle.std.proofs.lemmas.List.Concat.{flat_map-append}
 use Rattle.enq_base.specs.Owners.{same_unit}
-use Rattle.enq_base.specs.declared.owner.Owner.TheVariants.{Upd}
 use Rattle.enq_base.specs.declared.owner.UnitKey.{UnitKey}
 use Rattle.enq_base.specs.declared.unit.Status.{Status}
-use Rattle.lock_entry.proofs.Naming.{same_owner-same}
+use Rattle.update_records.proofs.Status.{one_unit}
 use Rattle.update_records.specs.Marks.{given, status_after}
 use Rattle.update_records.specs.declared.records.Mark.{Mark}
 use Rattle.update_records.specs.declared.stored.Record.{Record}
@@ -16,9 +15,6 @@ use Rattle.update_records.specs.Ids.{id_of, same_id}
 use Rattle.store_reading.specs.Rules.{has_second, mark_in, marks_in, status_in}
 use Rattle.store_reading.specs.Standings.{AreSecond, AreStatuses}
 use Rattle.update_records.specs.declared.unit_id.UnitId.{UnitId}
-
-pub one_unit : (u v : UnitKey) → same_unit u v ≡ true → u ≡ v
-one_unit u v h = let e = same_owner-same (Upd u) (Upd v) h in cc
 
 -- the status with one mark more
 pub status_push : (b : Bool) (key : UnitKey) (s : Option Status) (marks : List Mark) (m : Mark)

@@ -25,7 +25,7 @@ use Rattle.update_records.specs.declared.stored.Record.TheVariants as rec
 use Rattle.store_reading.specs.Units.{are_distinct, differ, is_counted, is_named_for, names_in}
 use Rattle.store_reading.specs.declared.lock_id.LockId.{LockId}
 use Rattle.update_records.specs.declared.unit_id.UnitId.{UnitId}
-use Rattle.store_reading.proofs.Statuses.{one_unit}
+use Rattle.update_records.proofs.Status.{one_unit}
 
 -- ---- modes by their numbers
 

@@ -16,7 +16,7 @@ use Rattle.update_records.specs.declared.records.MarkKind.TheVariants.{Rec}
 use Rattle.update_records.specs.declared.records.Unit.{Unit as UnitOfWork}
 use Rattle.update_records.specs.declared.stored.Record.{Record}
 use Rattle.update_records.specs.declared.stored.Record.TheVariants as rec
-use Rattle.update_records.proofs.Status.{unit_refl}
+use Rattle.update_records.proofs.Status.{one_unit, unit_refl}
 use Rattle.store_reading.specs.Posts.{effects_of}
 use Rattle.store_reading.specs.Rules.{marks_in}
 use Rattle.store_reading.specs.Stores.{entry_in, unit_in, user_at}
@@ -25,7 +25,6 @@ use Rattle.store_reading.specs.declared.counts.Counts.{Counts}
 use Rattle.store_reading.proofs.Heads.{Head, HasHead, IsBare, IsHeaded, counted, head_or_none, headed, header_with}
 use Rattle.store_reading.proofs.Places.{is_own, locks_are, own_rows, place_of, run_own, steps_are}
 use Rattle.store_reading.proofs.Rising.{AreIn, In, Rise, any_in, filter_in, in_all, in_either, in_filter, in_left, in_right, one_record, table_of}
-use Rattle.store_reading.proofs.Statuses.{one_unit}
 
 -- what is known of the records of each table where no rule on units is broken
 pub record AreWhole (t : ℕ → List Record) : Type 0 where

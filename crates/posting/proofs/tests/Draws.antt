@@ -8,11 +8,11 @@ use Rattle.module_effects.proofs.Tables.{rows_total, same_row, same_row-Decides}
 use Rattle.module_effects.specs.Rows.{RowName, row_cmp}
 use Rattle.update_records.specs.Business.{interval_of}
 use Rattle.update_records.specs.Intervals.{level_of, named}
-use Rattle.update_records.specs.Ledger.{Ledger, Levels, IsRightLevel}
+use Rattle.update_records.specs.Growing.{with_start}
+use Rattle.update_records.specs.Ledger.{Ledger, Levels, IsRightLevel, no_ledger}
 use Rattle.update_records.specs.RecordRows.{Level}
 use Rattle.update_records.specs.declared.stored.StoredInterval.{StoredInterval}
 use Rattle.posting.specs.Intervals.{HasNr, MayStore}
-use Rattle.posting.specs.Opening.{first_ledger}
 
 abbrev stat : List ℕ
 stat = 83 ∷ 84 ∷ 65 ∷ 84 ∷ []
@@ -62,7 +62,7 @@ all_stored : All Stored (numbers stat)
 all_stored = All-push Stored (record { object = stat; nr = 48 ∷ 49 ∷ []; number = 1 } ∷ []) (record { object = stat; nr = 48 ∷ 49 ∷ []; number = 2 })
     (All-push Stored [] (record { object = stat; nr = 48 ∷ 49 ∷ []; number = 1 }) (All-nil Stored) is_stored) is_stored
 
-drawing : MayStore (first_ledger true) (interval stat ∷ []) (numbers stat)
+drawing : MayStore (with_start no_ledger 1) (interval stat ∷ []) (numbers stat)
 unfolding IsDistinct
 drawing = record {
   digits = All-push HasNr [] (interval stat) (All-nil HasNr) (record { two = refl; digits = refl });
@@ -71,9 +71,9 @@ drawing = record {
 }
 
 -- the first numbers of an interval may be stored in a store without marks
-pub may_draw : (ledger : Ledger) (object : List ℕ) (i : StoredInterval) (drawn : List Number) → ledger ≡ first_ledger true → object ≡ stat → i ≡ interval object → drawn ≡ numbers object → MayStore ledger (i ∷ []) drawn
+pub may_draw : (ledger : Ledger) (object : List ℕ) (i : StoredInterval) (drawn : List Number) → ledger ≡ with_start no_ledger 1 → object ≡ stat → i ≡ interval object → drawn ≡ numbers object → MayStore ledger (i ∷ []) drawn
 may_draw ledger object i drawn first same is are =
     subst (λ (l : Ledger). MayStore l (i ∷ []) drawn) (sym first)
-    (subst (MayStore (first_ledger true) (i ∷ [])) (sym are)
-    (subst (λ (j : StoredInterval). MayStore (first_ledger true) (j ∷ []) (numbers object)) (sym is)
-    (subst (λ o. MayStore (first_ledger true) (interval o ∷ []) (numbers o)) (sym same) drawing)))
+    (subst (MayStore (with_start no_ledger 1) (i ∷ [])) (sym are)
+    (subst (λ (j : StoredInterval). MayStore (with_start no_ledger 1) (j ∷ []) (numbers object)) (sym is)
+    (subst (λ o. MayStore (with_start no_ledger 1) (interval o ∷ []) (numbers o)) (sym same) drawing)))

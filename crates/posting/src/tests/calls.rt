@@ -2,6 +2,8 @@ ghost use Rattle.std.specs.Prelude.{◌≡◌, ◌⊎◌, true, IfOk, IsSome, Is
 ghost use Rattle.keeper_mem.specs.Memory.{IsSettled, held_rows};
 ghost use Rattle.posting.specs.Shelf.{IsUsable};
 ghost use Rattle.posting.specs.Steps.{IsSetByHand, MayGet};
+ghost use Rattle.update_records.specs.Growing.{with_start};
+ghost use Rattle.update_records.specs.Ledger.{no_ledger};
 ghost use Rattle.update_records.specs.Marks.{may_follow};
 ghost use Rattle.update_records.specs.declared.records.MarkKind.TheVariants.{Gone};
 
@@ -15,6 +17,18 @@ use update_records::MarkKind;
 
 /// The most marks that a store has.
 const MARKS: u32 = 1_048_576;
+
+/// The books of a store without rows, at start 1.
+pub fn bare(alloc: Global) -> Result<Books<MemKeeper>, Fail>
+    ensures usable { IfOk result (IsUsable held_rows IsSettled) }
+    ensures ledger { IfOk result (λ books. books.ledger ≡ with_start no_ledger 1) }
+{
+    let keeper = MemKeeper::new(alloc, Vec::new(alloc), Vec::new(alloc))?;
+    let Ok(books) = Books::open(alloc, keeper, true) else {
+        return Err(Fail::from("refused"));
+    };
+    Ok(books)
+}
 
 pub fn opened(alloc: Global, keeper: MemKeeper) -> Result<Books<MemKeeper>, Fail>
     ensures { IfOk result (IsUsable held_rows IsSettled) }

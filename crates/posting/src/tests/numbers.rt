@@ -2,12 +2,11 @@ ghost use Rattle.std.specs.Prelude.{◌≡◌, ◌+◌, ◌∷◌, [], false, tr
 ghost use Rattle.std.specs.List.{All};
 ghost use Rattle.keeper_mem.specs.Memory.{IsSettled, held_rows};
 ghost use Rattle.lock_entry.specs.declared.entry.Entry.{Entry as LockEntry};
-ghost use Rattle.posting.specs.Opening.{first_ledger};
 ghost use Rattle.posting.specs.Shelf.{IsUsable};
 ghost use Rattle.update_records.specs.Grammar.{IsHeldBy};
 ghost use Rattle.update_records.specs.declared.records.Unit.{Unit as UnitOfWork};
 
-use super::calls::{commit, opened, post1, queue};
+use super::calls::{bare, commit, opened, post1, queue};
 use super::told::{Told, kept};
 use super::units::{parts_of, put_of, unit_key};
 use crate::{Books, Outcome, StoredInterval, UnitView};
@@ -50,18 +49,6 @@ fn number_of(object: Name, number: u64) -> Num
         nr: *b"01",
         number,
     }
-}
-
-/// The books of a store without rows, at start 1.
-fn bare(alloc: Global) -> Result<Books<MemKeeper>, Fail>
-    ensures usable { IfOk result (IsUsable held_rows IsSettled) }
-    ensures ledger { IfOk result (λ books. books.ledger ≡ first_ledger true) }
-{
-    let keeper = MemKeeper::new(alloc, Vec::new(alloc), Vec::new(alloc))?;
-    let Ok(books) = Books::open_bare(alloc, keeper, true) else {
-        return Err(Fail::from("refused"));
-    };
-    Ok(books)
 }
 
 /// The books after unit 1 drew numbers 1 and 2, and before it is recorded.

@@ -48,5 +48,5 @@ may_store object is = record {
 pub prepare_level-requires-clause-store : goal.prepare_level-requires-clause-store
 prepare_level-requires-clause-store g c =
     let is : IsTrue (is_name c.in-Some.object) = subst (λ (t : List ℕ). IsTrue (is_name t)) (sym c.in-Some.ensures.value) refl in
-    subst (λ (l : Ledger). MayStore l (c.interval_of-interval.result ∷ []) []) (sym c.in-Ok.ensures.ledger)
+    subst (λ (l : Ledger). MayStore l (c.interval_of-interval.result ∷ []) []) (sym c.in_ok-books.ensures.ledger)
     (subst (λ (i : StoredInterval). MayStore (with_start no_ledger 1) (i ∷ []) []) (sym c.interval_of-interval.ensures) (may_store c.in-Some.object is))

@@ -1,11 +1,11 @@
 use Rattle.std.proofs.Common.{true, IfSome, refl, ap, sym, subst, ◌∙◌}
 use Rattle.keeper_api.specs.Rows.{Rows}
 use Rattle.store_reading.specs.Good.{ledger_of}
-use Rattle.posting.specs.Opening.{raised}
+use Rattle.posting.specs.Opening.{OnBad, raised}
 use Rattle.posting.specs.Reopening.{IsOpeningFault, MayBeLeftBy}
 use Rattle.posting.specs.Numbers.{AreNumbersRight}
 use Rattle.posting.proofs.Numbers.{raised_numbers, sound_numbers}
-use Rattle.posting.proofs.Reopened.{left_by, opened_usable, raise_fault, stood_now}
+use Rattle.posting.proofs.Reopened.{left_by, opened_usable, raise_fault, raise_found, stood_now}
 use Rattle.posting.proofs.books.Books.open.Goals as goal
 
 pub returns-then-not-raise-clause-usable : goal.returns-then-not-raise-clause-usable
@@ -63,3 +63,10 @@ returns-then-not-raise-clause-numbers g c = subst AreNumbersRight (sym c.in-Ok-r
 pub returns-in-Ok-raise-clause-numbers : goal.returns-in-Ok-raise-clause-numbers
 returns-in-Ok-raise-clause-numbers g c =
     subst AreNumbersRight (sym (c.in-Ok-raise.ensures.ledger ∙ ap (raised true) c.in-Ok-restored.ensures)) (raised_numbers true (ledger_of c.in-Ok.stored) (sound_numbers (ledger_of c.in-Ok.stored) c.in-Ok.ensures.sound))
+
+pub returns-in-Err-raise-clause-found : goal.returns-in-Err-raise-clause-found
+returns-in-Err-raise-clause-found g c =
+    let before = g.K.Keeper.may_leave c.args.keeper in
+    subst (λ k. OnBad c.in-Err-raise.fault (IfSome (g.K.Keeper.held k) before)) (sym c.into_keeper.ensures)
+    (raise_found (g.K.Keeper.held c.raise.new.self.keeper) (g.K.Keeper.held c.open_ledger.new.keeper) before (ledger_of c.in-Ok.stored) c.in-Ok-restored.register.ledger c.in-Err-raise.fault
+    c.in-Err-raise.ensures.fault c.in-Err-raise.ensures.rows c.in-Ok.ensures.stands)

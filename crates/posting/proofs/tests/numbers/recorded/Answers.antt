@@ -7,9 +7,9 @@ use Rattle.enq_base.specs.declared.unit.Num.{Num as Number}
 use Rattle.lock_entry.specs.declared.entry.Entry.{Entry as LockEntry}
 use Rattle.lock_entry.specs.Names.{has_distinct_names}
 use Rattle.update_records.specs.Grammar.{HasDigits, IsHeldBy}
-use Rattle.update_records.specs.Ledger.{Ledger}
+use Rattle.update_records.specs.Growing.{with_start}
+use Rattle.update_records.specs.Ledger.{Ledger, no_ledger}
 use Rattle.update_records.specs.declared.records.Unit.{Unit as UnitOfWork}
-use Rattle.posting.specs.Opening.{first_ledger}
 use Rattle.posting.specs.Steps.{IsNewUnit}
 use Rattle.posting.proofs.tests.Draws.{may_draw, numbers}
 use Rattle.posting.proofs.tests.numbers.recorded.Goals as goal
@@ -28,7 +28,7 @@ all_digits object =
     (All-push HasDigits [] (record { object = object; nr = 48 ∷ 49 ∷ []; number = 1 }) (All-nil HasDigits) (record { two = refl; digits = refl })) (record { two = refl; digits = refl })
 
 -- a unit with one effect, one lock and two numbers may be the first one
-new_unit : (unit : UnitOfWork) (object : List ℕ) → unit.key ≡ first_key → length unit.parts.v1 + length unit.parts.v2 ≡ 1 → unit.numbers ≡ numbers object → All (IsHeldBy unit) unit.entries → length unit.entries ≡ 1 → IsNewUnit (first_ledger true) unit
+new_unit : (unit : UnitOfWork) (object : List ℕ) → unit.key ≡ first_key → length unit.parts.v1 + length unit.parts.v2 ≡ 1 → unit.numbers ≡ numbers object → All (IsHeldBy unit) unit.entries → length unit.entries ≡ 1 → IsNewUnit (with_start no_ledger 1) unit
 new_unit unit object first one are held lock = record {
   fresh = refl;
   first = subst (λ (key : UnitKey). 1 ≤ key.start) (sym first) (omega arith);
