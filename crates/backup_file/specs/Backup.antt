@@ -1,13 +1,18 @@
 -- What an open backup file keeps.
-use Rattle.std.specs.Prelude.{◌≡◌, ℕ, ◌≤◌, Bool, List, Result, IsErrOf, OnOk}
+use Rattle.std.specs.Prelude.{◌≡◌, ℕ, ◌≤◌, Bool, List, [], ◌∷◌, ◌++◌, IsTrue, Result, IsErrOf, OnOk}
 use Rattle.enq_base.specs.Causes.{Rose}
 use Rattle.enq_base.specs.declared.owner.UnitKey.{UnitKey}
 use Rattle.gate_log.specs.Gates.{IsAtRest}
 use Rattle.backup_file.specs.declared.fault.WriteFault.{WriteFault}
 use Rattle.backup_file.specs.declared.fault.WriteFault.TheVariants.{Failed}
 use Rattle.backup_file.specs.declared.handed.Handed.{Handed}
-use Rattle.backup_file.specs.Lists.{units_of}
+use Rattle.backup_file.specs.declared.handed.Record.TheVariants.{Hand}
+use Rattle.backup_file.specs.Handing.{handed_of}
+use Rattle.backup_file.specs.Lists.{units_of, units_without}
+use Rattle.backup_file.specs.Spelling.{IsRecord, spelling}
 use Rattle.backup_file.specs.File.{Stands, IsFront}
+use Rattle.lock_entry.specs.Names.{has_distinct_names}
+use Rattle.lock_entry.specs.declared.entry.Entry.{Entry}
 
 -- the disk, where the closed gate stands, the units whose lists stand, and whether a write has failed
 pub record BackupView (D : Type 0) : Type 0 where
@@ -29,3 +34,15 @@ pub record HasWriteCause {T : Type 0} (before now : ℕ) (result : Result T Writ
   pub later : before ≤ now
   pub failed : IsErrOf result Failed → Rose before now
   pub quiet : OnOk result (now ≡ before)
+
+-- a list that is ready to be written: its text, and the units whose lists stand once it is
+pub record ReadyView : Type 0 where
+  pub units : List UnitKey
+  pub text : List ℕ
+
+-- it hands over these entries of the unit, in a file in which the lists of some units stand
+pub record IsHandFor (unit : UnitKey) (entries : List Entry) (standing : List UnitKey) (r : ReadyView) : Type 0 where
+  pub units : r.units ≡ units_without unit standing ++ unit ∷ []
+  pub text : r.text ≡ 1 ∷ (spelling (Hand (handed_of unit entries)) ++ 0 ∷ [])
+  pub is_record : IsRecord (Hand (handed_of unit entries))
+  pub distinct : IsTrue (has_distinct_names entries)

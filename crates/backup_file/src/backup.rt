@@ -8,7 +8,9 @@ ghost use Rattle.backup_file.specs.Lists.{after, has_unit, is_among, units_witho
 ghost use Rattle.backup_file.specs.File.{Stands, IsBad, IsShort, IsLong, Keeps, new_file};
 ghost use Rattle.backup_file.specs.Opening.{OnBad};
 ghost use Rattle.backup_file.specs.Handing.{IsHandable, handed_of};
-ghost use Rattle.backup_file.specs.Backup.{IsReady, HasWriteCause};
+ghost use Rattle.backup_file.specs.Backup.{IsHandFor, IsReady, HasWriteCause};
+ghost use Rattle.enq_base.specs.declared.owner.UnitKey.{UnitKey};
+ghost use Rattle.lock_entry.specs.declared.entry.Entry.{Entry};
 
 use crate::fault::{BackFault, WriteFault};
 use crate::handed::Handed;
@@ -16,11 +18,30 @@ use crate::lists::{forget_unit, holds, units_of, units_with};
 use crate::opening::open_file;
 use crate::writing::{free_text, hand_text};
 use bk_disk::Disk;
-use enq_base::{Failed, UnitKey};
+use enq_base::{Failed, NoMemory, UnitKey};
 use gate_log::add_record;
 use lock_entry::Entry;
 use std::alloc::Global;
 use std::marker::Model;
+
+/// A unit's list that is ready to be written into a file.
+#[derive(Drop)]
+pub struct ReadyHand {
+    units: Vec<UnitKey>,
+    text: Vec<u8>,
+}
+
+impl Model for ReadyHand {
+    ghost use Rattle.backup_file.specs.Backup.{ReadyView};
+
+    ghost Value = { ReadyView };
+
+    ghost view = { λ r. record { units = r.units.items; text = r.text.items } };
+
+    ghost use Rattle.std.specs.Prelude.{◌≤◌, length};
+
+    ghost invariant = { λ r. 1 ≤ length r.text.items };
+}
 
 /// An open backup file.
 #[derive(Drop)]
@@ -106,8 +127,48 @@ impl<D: Disk> Backup<D> {
         ensures no_memory { IsErrOf result WriteFault.NoMemory → self.new ≡ self.old }
         ensures cause { HasWriteCause (D.faults self.old.disk) (D.faults self.new.disk) result }
     {
-        let units = units_with(alloc, &self.units, unit)?;
-        let text = hand_text(alloc, unit, entries)?;
+        let ready = self.ready_hand(alloc, unit, entries)?;
+        self.write_hand(ready)?;
+        Ok(())
+    }
+
+    /// Takes the memory that the writing of the unit's list needs. Nothing is written. It answers want of memory too
+    /// where the list is too long for its record.
+    pub fn ready_hand(
+        &self,
+        alloc: Global,
+        unit: &UnitKey,
+        entries: &[Entry],
+    ) -> Result<ReadyHand, NoMemory>
+        requires { IsHandable unit.now entries.now }
+        ensures { IfOk result (IsHandFor unit.now entries.now self.now.units) }
+    {
+        Ok(ReadyHand {
+            units: units_with(alloc, &self.units, unit)?,
+            text: hand_text(alloc, unit, entries)?,
+        })
+    }
+
+    /// Writes a unit's list that was made ready when the lists stood that stand now; it becomes the last. It takes no
+    /// memory. After `Failed` only `into_disk` is allowed.
+    pub fn write_hand(&mut self, ready: ReadyHand) -> Result<(), Failed>
+        requires usable { self.old.failed ≡ false }
+        ensures handed { IsTrue D.tells → (unit : UnitKey) (entries : List Entry) → IsHandFor unit entries self.old.units ready
+            → (l : List Handed) → IsReady D.reads D.may_leave self.old l
+            → OnOk result (IsReady D.reads D.may_leave self.new (after l (Hand (handed_of unit entries)))) }
+        ensures units { (unit : UnitKey) (entries : List Entry) → IsHandFor unit entries self.old.units ready
+            → OnOk result (self.new.units ≡ units_without unit self.old.units ++ unit ∷ []) }
+        ensures usable { OnOk result (self.new.failed ≡ false) }
+        ensures failed { OnErr result (self.new.failed ≡ true) }
+
+        // A crash leaves the lists before the call or after it.
+        ensures images { IsTrue D.tells → (unit : UnitKey) (entries : List Entry) → IsHandFor unit entries self.old.units ready
+            → (l : List Handed) → IsReady D.reads D.may_leave self.old l
+            → (c : List ℕ) → D.may_leave self.new.disk c
+            → Stands c l ⊎ Stands c (after l (Hand (handed_of unit entries))) }
+        ensures cause { HasCause (D.faults self.old.disk) (D.faults self.new.disk) result }
+    {
+        let ReadyHand { units, text } = ready;
         self.add(&text)?;
         self.keep(units);
         Ok(())

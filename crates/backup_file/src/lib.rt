@@ -13,7 +13,7 @@ mod opening;
 mod reading;
 mod writing;
 
-pub use backup::Backup;
+pub use backup::{Backup, ReadyHand};
 pub use fault::{BackFault, WriteFault};
 pub use handed::{Handed, Record};
 pub use laws::one_meaning;

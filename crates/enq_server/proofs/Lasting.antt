@@ -1,0 +1,69 @@
+-- The entries of a unit that are handed over.
+use Rattle.std.proofs.Common.{◌≡◌, ◌⊎◌, ℕ, ◌≤◌, ◌<◌, Bool, true, false, not, ◌&&◌, nat_le, List, [], ◌∷◌, length, refl, sym, subst, arith}
+use Rattle.std.specs.List.{AllByRecursion, list_all}
+use Rattle.std.proofs.lemmas.Bool.{leb-true}
+use Rattle.enq_base.specs.declared.owner.Owner.TheVariants.{Upd}
+use Rattle.enq_base.specs.declared.owner.UnitKey.{UnitKey}
+use Rattle.mode_rules.specs.declared.Mode.{Mode}
+use Rattle.mode_rules.specs.declared.Mode.TheVariants.{S, E, X, O}
+use Rattle.mode_rules.specs.Modes.{same_mode}
+use Rattle.lock_entry.proofs.Lists.{list_all-filter_self}
+use Rattle.lock_entry.proofs.Naming.{same_owner-same}
+use Rattle.lock_entry.proofs.Sounds.{IsSound-filter}
+use Rattle.lock_entry.specs.Names.{is_of}
+use Rattle.lock_entry.specs.Sound.{IsSound, has_count}
+use Rattle.lock_entry.specs.declared.entry.Entry.{Entry}
+use Rattle.backup_file.specs.Spelling.{mode_byte}
+use Rattle.backup_file.specs.File.{Stands}
+use Rattle.backup_file.specs.Handing.{IsHandable, MayBeHanded, handed_of}
+use Rattle.backup_file.specs.Lists.{after}
+use Rattle.backup_file.specs.declared.handed.Handed.{Handed}
+use Rattle.backup_file.specs.declared.handed.Record.TheVariants.{Hand}
+use Rattle.enq_server.specs.Server.{is_lasting, lasting, with_list}
+
+first_of : (a b : Bool) → (a && b) ≡ true → a ≡ true
+first_of true b h = refl
+first_of false b h = h
+
+second_of : (a b : Bool) → (a && b) ≡ true → b ≡ true
+second_of true b h = h
+second_of false b h = cc
+
+lasts : (m : Mode) → not (same_mode m O) ≡ true → 0 < mode_byte m
+lasts S h = omega arith
+lasts E h = omega arith
+lasts X h = omega arith
+lasts O h = cc
+
+handed : (unit : UnitKey) (e : Entry) → is_lasting unit e ≡ true → has_count e ≡ true → MayBeHanded unit e
+handed unit e own count = record {
+  owned = same_owner-same e.owner (Upd unit) (first_of (is_of (Upd unit) e) (not (same_mode e.mode O)) own);
+  lasting = lasts e.mode (second_of (is_of (Upd unit) e) (not (same_mode e.mode O)) own);
+  counted = leb-true 1 e.count (first_of (nat_le 1 e.count) (nat_le e.count 9999) count);
+  countable = leb-true e.count 9999 (second_of (nat_le 1 e.count) (nat_le e.count 9999) count);
+}
+
+all_handed : (unit : UnitKey) (es : List Entry) → list_all (is_lasting unit) es ≡ true → list_all has_count es ≡ true → AllByRecursion (MayBeHanded unit) es
+all_handed unit [] own count = tt
+all_handed unit (e ∷ es) own count = (
+  handed unit e (first_of (is_lasting unit e) (list_all (is_lasting unit) es) own) (first_of (has_count e) (list_all has_count es) count),
+  all_handed unit es (second_of (is_lasting unit e) (list_all (is_lasting unit) es) own) (second_of (has_count e) (list_all has_count es) count),
+)
+
+-- what a unit holds in a sound table may be handed over
+pub lasting_handable : (unit : UnitKey) (entries : List Entry) → IsSound entries → 1 ≤ length (lasting unit entries) → IsHandable unit (lasting unit entries)
+lasting_handable unit entries sound some =
+    let kept = IsSound-filter (is_lasting unit) entries sound in
+    record {
+      some = some;
+      each = all_handed unit (lasting unit entries) (list_all-filter_self (is_lasting unit) entries) kept.counts;
+      distinct = kept.names;
+    }
+
+-- where there are entries the unit's list is the last
+pub listed : (unit : UnitKey) (es : List Entry) (l : List Handed) → 1 ≤ length es → with_list unit es l ≡ after l (Hand (handed_of unit es))
+listed unit [] l some = absurd (omega (arith, some))
+listed unit (e ∷ es) l some = refl
+
+pub listed_either : (unit : UnitKey) (es : List Entry) (l : List Handed) (bytes : List ℕ) → 1 ≤ length es → Stands bytes l ⊎ Stands bytes (after l (Hand (handed_of unit es))) → Stands bytes l ⊎ Stands bytes (with_list unit es l)
+listed_either unit es l bytes some either = subst (λ m. Stands bytes l ⊎ Stands bytes m) (sym (listed unit es l some)) either

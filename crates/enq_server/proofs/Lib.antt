@@ -1,0 +1,4 @@
+pub mod Others
+pub mod Differences
+pub mod Images
+pub mod Lasting

@@ -1,0 +1,56 @@
+-- A lock table and its backup file.
+use Rattle.std.specs.Prelude.{ℕ, ◌≡◌, Bool, ◌&&◌, not, [], ◌∷◌, List, length, if◌then◌else◌, nat_le, Ok}
+use Rattle.std.specs.List.{All, filter}
+use Rattle.enq_base.specs.declared.owner.Owner.TheVariants.{Upd}
+use Rattle.enq_base.specs.declared.owner.UnitKey.{UnitKey}
+use Rattle.mode_rules.specs.declared.Mode.TheVariants.{O}
+use Rattle.mode_rules.specs.Modes.{same_mode}
+use Rattle.lock_entry.specs.Converting.{converted}
+use Rattle.lock_entry.specs.Names.{is_of}
+use Rattle.lock_entry.specs.Table.{Table}
+use Rattle.lock_entry.specs.declared.entry.Asked.{Asked}
+use Rattle.lock_entry.specs.declared.entry.Asker.{Asker}
+use Rattle.lock_entry.specs.declared.entry.Entry.{Entry}
+use Rattle.lock_entry.specs.declared.entry.UnitLocks.{UnitLocks}
+use Rattle.backup_file.specs.Backup.{BackupView, IsReady}
+use Rattle.backup_file.specs.File.{Stands}
+use Rattle.backup_file.specs.Handing.{handed_of}
+use Rattle.backup_file.specs.Lists.{after}
+use Rattle.backup_file.specs.declared.handed.Handed.{Handed}
+use Rattle.backup_file.specs.declared.handed.Record.TheVariants.{Hand}
+use Rattle.enq_server.specs.Recovery.{Agrees, joined, lists_among}
+
+pub record Server (D : Type 0) : Type 0 where
+  pub table : Table
+  pub file : BackupView D
+
+abbrev pub larger : ℕ → ℕ → ℕ
+larger a b = if nat_le a b then b else a
+
+-- the table of the units' entries: where they are more than the limit, it is their number
+abbrev pub recovered : ℕ → List UnitLocks → Table
+recovered limit units = record { entries = joined units; limit = larger limit (length (joined units)) }
+
+-- the bytes stood for lists with which the units agree, and the file is ready with those of these units alone
+pub record IsRecovered {D : Type 0} (reads : D → List ℕ) (may_leave : D → List ℕ → Type 0) (bytes : List ℕ) (units : List UnitLocks) (file : BackupView D) : Type 0 where
+  pub lists : List Handed
+  pub stood : Stands bytes lists
+  pub agree : All (Agrees lists) units
+  pub ready : IsReady reads may_leave file (lists_among units lists)
+
+-- an S, E or X entry of the unit
+abbrev pub is_lasting : UnitKey → Entry → Bool
+is_lasting unit e = is_of (Upd unit) e && not (same_mode e.mode O)
+
+-- the unit's S, E and X entries
+abbrev pub lasting : UnitKey → List Entry → List Entry
+lasting unit entries = filter (is_lasting unit) entries
+
+-- the lists with that of the unit last, where it has entries
+abbrev pub with_list : UnitKey → List Entry → List Handed → List Handed
+with_list unit [] l = l
+with_list unit (e ∷ es) l = after l (Hand (handed_of unit (e ∷ es)))
+
+-- the conversion leaves these entries
+abbrev pub IsConverted : List Entry → Asker → List Asked → List Entry → Type 0
+IsConverted entries asker asked after = (removed : List Entry) × (converted entries asker asked ≡ Ok (record { entries = after; removed = removed }))

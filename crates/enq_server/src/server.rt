@@ -1,0 +1,293 @@
+ghost use Rattle.std.specs.Prelude.{◌≡◌, ◌⊎◌, ◌≤◌, ℕ, List, false, true, length, IsTrue, IfOk, IfErr, OnOk, OnErr, Ok, IsErrOf, MatchResult};
+ghost use Rattle.enq_base.specs.Causes.{HasCause};
+ghost use Rattle.enq_base.specs.declared.owner.Owner.TheVariants.{Upd};
+ghost use Rattle.bk_disk.specs.Disk.{Follows};
+ghost use Rattle.lock_entry.specs.Converting.{converted};
+ghost use Rattle.lock_entry.specs.Freeing.{freed, freed_owner, handed_over};
+ghost use Rattle.lock_entry.specs.Granting as granting;
+ghost use Rattle.lock_entry.specs.Names.{named};
+ghost use Rattle.lock_entry.specs.Pairs.{IsPair};
+ghost use Rattle.lock_entry.specs.Sound.{ReadmitsOnly};
+ghost use Rattle.lock_entry.specs.Table.{IsTable, entry_at, with_entries};
+ghost use Rattle.backup_file.specs.Backup.{HasWriteCause, IsReady};
+ghost use Rattle.backup_file.specs.File.{Stands};
+ghost use Rattle.backup_file.specs.Handing.{IsHandable};
+ghost use Rattle.backup_file.specs.Lists as lists;
+ghost use Rattle.backup_file.specs.declared.handed.Handed.{Handed};
+ghost use Rattle.enq_server.specs.Faults.{HasCallCause, HasOpenCause, IsOpenFault, IsReadmission, IsRefusal, OnBytes};
+ghost use Rattle.enq_server.specs.declared.fault.ServerFault.TheVariants as server;
+ghost use Rattle.enq_server.specs.Recovery.{KeepsLists};
+ghost use Rattle.enq_server.specs.Server.{IsConverted, IsRecovered, is_lasting, lasting, recovered, with_list};
+
+use crate::fault::{OpenFault, ServerFault};
+use crate::recovery::{free_others, recover};
+use backup_file::{Backup, WriteFault};
+use bk_disk::Disk;
+use enq_base::{Failed, Name, NoMemory, Owner, UnitKey};
+use lock_entry::{Asked, Asker, Entry, LockStore, Mode, Request, UnitLocks};
+use std::alloc::Global;
+use std::marker::Model;
+
+/// A lock table, and the backup file of the locks that were handed to the update (Standalone Enqueue Server).
+#[derive(Drop)]
+pub struct EnqServer<T: LockStore, D: Disk> {
+    table: T,
+    backup: Backup<D>,
+}
+
+impl<T: LockStore, D: Disk> Model for EnqServer<T, D> {
+    ghost use Rattle.enq_server.specs.Server.{Server};
+
+    ghost Value = { Server D };
+
+    ghost view = { λ s. record { table = T.table s.table; file = s.backup } };
+
+    ghost use Rattle.lock_entry.specs.Table.{IsTable};
+
+    ghost invariant = { λ s. IsTable (T.table s.table) };
+}
+
+impl<T: LockStore, D: Disk> EnqServer<T, D> {
+    /// Opens the file of a disk, with whose lists the entries of the units must agree: these are the table, with the
+    /// larger of `limit` and their number as its limit. Lists of other units are freed. An error gives the disk back.
+    pub fn open(
+        alloc: Global,
+        disk: D,
+        limit: u32,
+        units: &[UnitLocks],
+    ) -> Result<EnqServer<T, D>, (OpenFault, D)>
+        ensures table { IfOk result (λ s. s.table ≡ recovered limit units.now) }
+        ensures good { IfOk result (λ s. IsTable s.table) }
+        ensures usable { IfOk result (λ s. s.file.failed ≡ false) }
+        ensures file { IsTrue D.tells
+            → IfOk result (λ s. IsRecovered D.reads D.may_leave (D.reads disk) units.now s.file) }
+        ensures fault { IsTrue D.tells → IfErr result (λ e. IsOpenFault (D.reads disk) units.now e.0) }
+        // A file that stands for nothing stays.
+        ensures bad { IsTrue D.tells → IfErr result (λ e. OnBytes e.0 (D.reads e.1 ≡ D.reads disk)) }
+        // What a crash leaves has the lists of these units as they were.
+        ensures images { IsTrue D.tells → MatchResult result
+            (λ s. Follows (KeepsLists units.now) (D.may_leave disk) (D.may_leave s.file.disk))
+            (λ e. Follows (KeepsLists units.now) (D.may_leave disk) (D.may_leave e.1)) }
+        ensures quiet { IfOk result (λ s. D.faults s.file.disk ≡ D.faults disk) }
+        ensures cause { IfErr result (λ e. HasOpenCause (D.faults disk) (D.faults e.1) e.0) }
+    {
+        let (mut backup, lists) = match Backup::open(alloc, disk) {
+            Ok(opened) => opened,
+            Err((fault, disk)) => return Err((OpenFault::from(fault), disk)),
+        };
+        let table = match recover(alloc, limit, lists.as_slice(), units) {
+            Ok(table) => table,
+            Err(fault) => return Err((fault, backup.into_disk())),
+        };
+        match free_others(&mut backup, lists.as_slice(), units) {
+            Ok(()) => Ok(EnqServer { table, backup }),
+            Err(Failed) => Err((OpenFault::Failed, backup.into_disk())),
+        }
+    }
+
+    /// Grants all requests or none.
+    pub fn ask(
+        &mut self,
+        alloc: Global,
+        asker: &Asker,
+        user: &Name,
+        requests: &[Request],
+    ) -> Result<(), ServerFault>
+        requires { IsPair asker.now }
+        ensures granted { OnOk result (granting.asked self.old.table asker.now user.now requests.now ≡ Ok self.new.table.entries) }
+        ensures refused { IfErr result (IsRefusal (granting.asked self.old.table asker.now user.now requests.now)) }
+        ensures unchanged { OnErr result (self.new.table ≡ self.old.table) }
+        ensures limit { self.new.table.limit ≡ self.old.table.limit }
+        ensures good { IsTable self.new.table }
+        ensures file { self.new.file ≡ self.old.file }
+    {
+        Ok(self.table.ask(alloc, asker, user, requests)?)
+    }
+
+    /// Takes one from the entry of this name, which goes at 0. It takes no memory.
+    pub fn free_one(&mut self, owner: &Owner, asked: &Asked)
+        ensures after { self.new.table ≡ with_entries self.old.table (freed self.old.table.entries (named owner.now asked.now)) }
+        ensures good { IsTable self.new.table }
+        ensures file { self.new.file ≡ self.old.file }
+    {
+        self.table.free_one(owner, asked);
+    }
+
+    /// Removes the owner's entries. It takes no memory.
+    pub fn free_owner(&mut self, owner: &Owner)
+        ensures after { self.new.table ≡ with_entries self.old.table (freed_owner self.old.table.entries owner.now) }
+        ensures good { IsTable self.new.table }
+        ensures file { self.new.file ≡ self.old.file }
+    {
+        self.table.free_owner(owner);
+    }
+
+    /// Turns the pair's optimistic entries at these tables and arguments into exclusive ones, all or none, and removes
+    /// the optimistic entries of others that meet them.
+    pub fn convert(
+        &mut self,
+        alloc: Global,
+        asker: &Asker,
+        asked: &[Asked],
+    ) -> Result<(), ServerFault>
+        requires { IsPair asker.now }
+        ensures converted { OnOk result (IsConverted self.old.table.entries asker.now asked.now self.new.table.entries) }
+        ensures refused { IfErr result (IsRefusal (converted self.old.table.entries asker.now asked.now)) }
+        ensures unchanged { OnErr result (self.new.table ≡ self.old.table) }
+        ensures limit { self.new.table.limit ≡ self.old.table.limit }
+        ensures good { IsTable self.new.table }
+        ensures file { self.new.file ≡ self.old.file }
+    {
+        self.table.convert(alloc, asker, asked)?;
+        Ok(())
+    }
+
+    /// Writes the list of the unit's S, E and X entries into the file, and tells how many there are. Where there are
+    /// none nothing is written. The table is as before: `flag` is the rest of the handover. It takes its memory before
+    /// any write. After `Failed` only `len`, `at` and `into_disk` are allowed.
+    pub fn save(&mut self, alloc: Global, unit: &UnitKey) -> Result<u32, WriteFault>
+        requires usable { self.old.file.failed ≡ false }
+        ensures count { IfOk result (λ n. n ≡ length (lasting unit.now self.old.table.entries)) }
+        ensures table { self.new.table ≡ self.old.table }
+        ensures saved { IsTrue D.tells → (l : List Handed) → IsReady D.reads D.may_leave self.old.file l
+            → OnOk result (IsReady D.reads D.may_leave self.new.file (with_list unit.now (lasting unit.now self.old.table.entries) l)) }
+        ensures images { IsTrue D.tells → (l : List Handed) → IsReady D.reads D.may_leave self.old.file l
+            → (c : List ℕ) → D.may_leave self.new.file.disk c
+            → Stands c l ⊎ Stands c (with_list unit.now (lasting unit.now self.old.table.entries) l) }
+        ensures usable { OnOk result (self.new.file.failed ≡ false) }
+        ensures failed { IsErrOf result WriteFault.Failed → self.new.file.failed ≡ true }
+        ensures no_memory { IsErrOf result WriteFault.NoMemory → self.new.file ≡ self.old.file }
+        ensures cause { HasWriteCause (D.faults self.old.file.disk) (D.faults self.new.file.disk) result }
+    {
+        let entries = lasting(alloc, &self.table, unit)?;
+        let Ok(count) = u32::try_from(entries.len()) else {
+            return Err(WriteFault::NoMemory);
+        };
+        if count > 0 {
+            self.backup.hand(alloc, unit, entries.as_slice())?;
+        }
+        Ok(count)
+    }
+
+    /// The entry at this place, counted from 1. It takes no memory.
+    pub fn at(&self, place: u32) -> Option<Entry>
+        ensures { result ≡ entry_at self.now.table.entries place }
+    {
+        self.table.at(place)
+    }
+
+    /// How many entries stand. It takes no memory.
+    pub fn len(&self) -> u32
+        ensures { result ≡ length self.now.table.entries }
+    {
+        self.table.len()
+    }
+
+    /// The entries in order of granting.
+    pub fn list(&self, alloc: Global) -> Result<Vec<Entry>, NoMemory>
+        ensures { IfOk result (λ entries. entries.items ≡ self.now.table.entries) }
+    {
+        self.table.list(alloc)
+    }
+
+    /// Flags the unit's S, E and X entries as handed and removes its O entries, where its list was saved. It takes no
+    /// memory.
+    pub fn flag(&mut self, unit: &UnitKey)
+        ensures after { self.new.table ≡ with_entries self.old.table (handed_over self.old.table.entries unit.now) }
+        ensures good { IsTable self.new.table }
+        ensures file { self.new.file ≡ self.old.file }
+    {
+        self.table.hand(unit);
+    }
+
+    /// Grants the entries as they are, in place of those of the asker's update owner, all or none, and writes them as
+    /// the list of its unit. Where there are none nothing is written. It takes its memory before it grants. After
+    /// `Failed` the entries are granted, and only `len`, `at` and `into_disk` are allowed.
+    pub fn readmit(
+        &mut self,
+        alloc: Global,
+        asker: &Asker,
+        unit: &UnitKey,
+        entries: &[Entry],
+    ) -> Result<(), ServerFault>
+        requires usable { self.old.file.failed ≡ false }
+        requires pair { IsPair asker.now }
+        requires unit { asker.now.update ≡ Upd unit.now }
+        requires entries { ReadmitsOnly asker.now entries.now }
+        requires handable { 1 ≤ length entries.now → IsHandable unit.now entries.now }
+        ensures granted { OnOk result (granting.readmitted self.old.table asker.now entries.now ≡ Ok self.new.table.entries) }
+        ensures refused { IfErr result (IsReadmission (granting.readmitted self.old.table asker.now entries.now) self.old.table.entries self.new.table.entries) }
+        ensures limit { self.new.table.limit ≡ self.old.table.limit }
+        ensures good { IsTable self.new.table }
+        ensures listed { IsTrue D.tells → (l : List Handed) → IsReady D.reads D.may_leave self.old.file l
+            → OnOk result (IsReady D.reads D.may_leave self.new.file (with_list unit.now entries.now l)) }
+        ensures images { IsTrue D.tells → (l : List Handed) → IsReady D.reads D.may_leave self.old.file l
+            → (c : List ℕ) → D.may_leave self.new.file.disk c
+            → Stands c l ⊎ Stands c (with_list unit.now entries.now l) }
+        ensures usable { OnOk result (self.new.file.failed ≡ false) }
+        ensures untouched { IfErr result (λ f. f ≡ server.Failed ⊎ (self.new.file ≡ self.old.file)) }
+        ensures failed { IsErrOf result server.Failed → self.new.file.failed ≡ true }
+        ensures cause { HasCallCause (D.faults self.old.file.disk) (D.faults self.new.file.disk) result }
+    {
+        if entries.is_empty() {
+            self.table.readmit(alloc, asker, entries)?;
+            return Ok(());
+        }
+        let ready = self.backup.ready_hand(alloc, unit, entries)?;
+        self.table.readmit(alloc, asker, entries)?;
+        self.backup.write_hand(ready)?;
+        Ok(())
+    }
+
+    /// Frees the unit's list in the file, where it stands, and then removes the entries of its update owner. It takes
+    /// no memory. After `Failed` only `len`, `at` and `into_disk` are allowed.
+    pub fn end_unit(&mut self, unit: &UnitKey) -> Result<(), Failed>
+        requires usable { self.old.file.failed ≡ false }
+        ensures table { OnOk result (self.new.table ≡ with_entries self.old.table (freed_owner self.old.table.entries (Upd unit.now))) }
+        ensures kept { OnErr result (self.new.table ≡ self.old.table) }
+        ensures freed { IsTrue D.tells → (l : List Handed) → IsReady D.reads D.may_leave self.old.file l
+            → OnOk result (IsReady D.reads D.may_leave self.new.file (lists.without unit.now l)) }
+        ensures images { IsTrue D.tells → (l : List Handed) → IsReady D.reads D.may_leave self.old.file l
+            → (c : List ℕ) → D.may_leave self.new.file.disk c → Stands c l ⊎ Stands c (lists.without unit.now l) }
+        ensures usable { OnOk result (self.new.file.failed ≡ false) }
+        ensures failed { OnErr result (self.new.file.failed ≡ true) }
+        ensures cause { HasCause (D.faults self.old.file.disk) (D.faults self.new.file.disk) result }
+    {
+        if self.backup.stands(unit) {
+            self.backup.free(unit)?;
+        }
+        self.table.free_owner(&Owner::Upd(*unit));
+        Ok(())
+    }
+
+    /// The disk. It takes no memory.
+    pub fn into_disk(self) -> D
+        ensures { result ≡ self.file.disk }
+    {
+        let EnqServer { table, backup } = self;
+        drop(table);
+        backup.into_disk()
+    }
+}
+
+fn is_lasting(entry: &Entry, unit: &UnitKey) -> bool
+    ensures { result ≡ is_lasting unit.now entry.now }
+{
+    entry.is_of(&Owner::Upd(*unit)) && !entry.mode.is(Mode::O)
+}
+
+fn keep_lasting(entries: &mut Vec<Entry>, unit: &UnitKey)
+    ensures { entries.new.items ≡ lasting unit.now entries.old.items }
+{
+    entries.retain(|entry| is_lasting(entry, unit));
+}
+
+/// The unit's S, E and X entries, in order of granting.
+fn lasting<T: LockStore>(alloc: Global, table: &T, unit: &UnitKey) -> Result<Vec<Entry>, NoMemory>
+    ensures entries { IfOk result (λ entries. entries.items ≡ lasting unit.now (T.table table.now).entries) }
+    ensures handable { IfOk result (λ entries. 1 ≤ length entries.items → IsHandable unit.now entries.items) }
+{
+    let mut entries = table.list(alloc)?;
+    keep_lasting(&mut entries, unit);
+    Ok(entries)
+}
