@@ -190,8 +190,8 @@ impl<T: LockStore, D: Disk> EnqServer<T, D> {
         self.table.list(alloc)
     }
 
-    /// Flags the unit's S, E and X entries as handed and removes its O entries, where its list was saved. It takes no
-    /// memory.
+    /// Flags the unit's S, E and X entries as handed and removes its O entries: the rest of a handover, behind `save`.
+    /// It takes no memory.
     pub fn flag(&mut self, unit: &UnitKey)
         ensures after { self.new.table ≡ with_entries self.old.table (handed_over self.old.table.entries unit.now) }
         ensures good { IsTable self.new.table }
