@@ -17,6 +17,3 @@ pub use backup::{Backup, ReadyHand};
 pub use fault::{BackFault, WriteFault};
 pub use handed::{Handed, Record};
 pub use laws::one_meaning;
-
-#[cfg(test)]
-mod tests;

@@ -13,6 +13,3 @@ pub use enq_base::Failed;
 pub use file_disk::FileDisk;
 pub use mem_disk::MemDisk;
 pub use stop_disk::StopDisk;
-
-#[cfg(test)]
-mod tests;

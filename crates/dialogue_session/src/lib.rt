@@ -4,6 +4,3 @@
 mod dialogue;
 
 pub use dialogue::Dialogue;
-
-#[cfg(test)]
-mod tests;

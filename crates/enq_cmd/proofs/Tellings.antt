@@ -1,6 +1,6 @@
 -- The history of a run leads to the state that it ends in.
-use Rattle.std.proofs.Common.{inl, is_some, IsTrue, IfSome, ◌≡◌, ℕ, ◌+◌, Bool, true, false, List, [], ◌∷◌, fold, refl, sym, ap, ◌∙◌, subst, arith, lit<}
-use Rattle.std.specs.Prelude.{◌||◌, if◌then◌else◌, Option, Some, None, unwrap_or}
+use Rattle.std.proofs.Common.{inl, inr, is_some, IsTrue, IfSome, ◌≡◌, ℕ, ◌+◌, Bool, true, List, [], ◌∷◌, fold, refl, sym, ap, ◌∙◌, subst, arith, lit<}
+use Rattle.std.specs.Prelude.{Option, Some, None, unwrap_or}
 use Rattle.hall.specs.declared.command.Command.{Command}
 use Rattle.hall.specs.declared.command.PastEntry.{PastEntry}
 use Rattle.hall.specs.declared.command.Reply.TheVariants as reply
@@ -12,22 +12,26 @@ use Rattle.hall.proofs.Beginning.{first_sound}
 use Rattle.hall.proofs.Standings.{locks_return, locks_stand}
 use Rattle.hall.proofs.Recalls.{IsTold, stays_sound, told_first, told_step, told-answers}
 use Rattle.script_runner.specs.declared.runner.Why.{Why}
-use Rattle.script_runner.specs.declared.runner.Why.TheVariants.{BadLine, NoMemory}
+use Rattle.script_runner.specs.declared.runner.Why.TheVariants.{Done, BadWords, BadLine, SourceFault, SinkFault, LongLine, ManyLines, StoreFault, BadStore, NoStart, NoMemory}
 use Rattle.lock_objects.specs.Objects.{Object}
 use Rattle.script_lang.specs.Memory.{holds_lists}
 use Rattle.script_lang.specs.declared.script_line.ScriptLine.{ScriptLine}
-use Rattle.script_runner.specs.Lines.{Meaning, Calls, Declines, Changes, grows, line_in, meaning, settled}
+use Rattle.script_runner.specs.Lines.{Meaning, Calls, Declines, Changes, line_in, meaning, settled}
 use Rattle.script_runner.specs.Replay.{RunsScript, Seen}
-use Rattle.script_runner.specs.Run.{AreAllowed, CallMayHave, Called, LineMayHave, LineOutcome, MayHave, NoRoom, Progress, Turn, Turned, after_turn, begun, does, ends, line_does, next, run, said}
+use Rattle.script_runner.specs.Run.{AreAllowed, CallMayHave, Called, LineMayHave, LineOutcome, MayHave, NoRoom, Progress, Turn, after_turn, begun, does, line_does, next, run, said}
 use Rattle.script_runner.proofs.TurnLemmas.{answered-world}
 use Rattle.script_runner.specs.World.{World, first_world, world}
-use Rattle.script_runner.specs.Whole.{IsComplete}
-use Rattle.enq_cmd.specs.Main.{EndsComplete, IsServed, Ran, built_in, first_state}
+use Rattle.script_runner.specs.Replay.{doubt_of}
+use Rattle.script_runner.specs.Whole.{IsComplete, IsScript}
+use Rattle.enq_cmd.specs.Main.{EndsComplete, IsFaultless, IsNextOf, IsServed, Ran, SurvivesStop, built_in, first_state}
+use Rattle.ledger_laws.proofs.Books.{books_right, holds_books}
+use Rattle.ledger_laws.proofs.OneLedger.{one_ledger}
+use Rattle.update_records.specs.Growing.{with_start}
 use Rattle.keeper_api.specs.Rows.{Rows}
 use Rattle.posting.specs.Reopening.{HasStood, IsRaised}
 use Rattle.store_reading.specs.Good.{IsSound}
 use Rattle.update_records.specs.Ledger.{Ledger}
-use Rattle.hall.specs.Leaving.{StandForState}
+use Rattle.hall.specs.Leaving.{StandForPending, StandForState}
 
 told_does : (first : State) (w : World) (n : ℕ) (l : ScriptLine) (d : DeviceOutcome) (m : Meaning) → ((c : Command) → m ≡ Calls c → IsAllowed d w.hall c) → IsTold first w.hall → IsTold first (does w n l d m).world.hall
 told_does first w n l d (Calls c) allowed h =
@@ -36,21 +40,15 @@ told_does first w n l d (Calls c) allowed h =
 told_does first w n l d (Declines r) allowed h = subst (λ (x : World). IsTold first x.hall) (sym (answered-world w n (reply.Refused r))) h
 told_does first w n l d (Changes sides) allowed h = h
 
-told_either : (first : State) (b : Bool) (x y : Turned) → IsTold first x.world.hall → IsTold first y.world.hall → IsTold first (if b then x else y).world.hall
-told_either first true x y h k = h
-told_either first false x y h k = k
+may_have : (w : World) (lists : Bool) (l : ScriptLine) (call : Option DeviceOutcome) → MayHave w lists (Some l) (Called call) → (c : Command) → meaning w l ≡ Calls c → IsAllowed (unwrap_or call Well) w.hall c
+may_have w lists l (Some d) h c e = subst (λ m. CallMayHave w d m) e h
+may_have w lists l None h c e = tt
 
-may_have : (w : World) (l : ScriptLine) (call : Option DeviceOutcome) → MayHave w (Some l) (Called call) → (c : Command) → meaning w l ≡ Calls c → IsAllowed (unwrap_or call Well) w.hall c
-may_have w l (Some d) h c e = subst (λ m. CallMayHave w d m) e h
-may_have w l None h c e = tt
-
-told_said : (first : State) (w : World) (n : ℕ) (lists : Bool) (known : Option ScriptLine) (o : LineOutcome) → MayHave w known o → IsTold first w.hall → IsTold first (said w n lists known o).world.hall
-told_said first w n lists None NoRoom allowed h = told_either first lists (ends w NoMemory) (ends w (BadLine n)) h h
+told_said : (first : State) (w : World) (n : ℕ) (lists : Bool) (known : Option ScriptLine) (o : LineOutcome) → MayHave w lists known o → IsTold first w.hall → IsTold first (said w n known o).world.hall
+told_said first w n lists known NoRoom allowed h = h
 told_said first w n lists None (Called call) allowed h = h
-told_said first w n lists (Some l) NoRoom allowed h =
-    told_either first (lists || grows l) (ends w NoMemory) (does w n l Well (meaning w l)) h (told_does first w n l Well (meaning w l) (λ c e. tt) h)
 told_said first w n lists (Some l) (Called call) allowed h =
-    told_does first w n l (unwrap_or call Well) (meaning w l) (may_have w l call allowed) h
+    told_does first w n l (unwrap_or call Well) (meaning w l) (may_have w lists l call allowed) h
 
 told_line : (first : State) (w : World) (n : ℕ) (bytes : List ℕ) (o : LineOutcome) → LineMayHave w bytes o → IsTold first w.hall → IsTold first (line_does w n bytes o).world.hall
 told_line first w n bytes o allowed h = told_said first w n (holds_lists bytes) (line_in bytes) o allowed h
@@ -67,31 +65,45 @@ pub stays_sound_from_first : (t : Bool) (l : Ledger) (past : List PastEntry) →
 stays_sound_from_first t l past begun = stays_sound (first_state t l) past (first_sound 1000 1048576 t l (lit< tt) begun)
 
 -- the state in which a run from the first one ends is that to which its history leads
-told_after : (t : Bool) (l : Ledger) (old new : Seen) (past : List PastEntry) (why : Why) (h : Ran t l old new past why) → IsTold (first_state t l) h.after
-told_after t l old new past why h =
+told_after : (t : Bool) (l : Ledger) (after : State) (old new : Seen) (why : Why) → RunsScript built_in (first_state t l) after old new why → IsTold (first_state t l) after
+told_after t l after old new why h =
     let first = first_world built_in (first_state t l) in
-    let turns = h.runs.replays.turns in
-    let told : IsTold (first_state t l) (run first turns).world.hall = told_turns (first_state t l) (begun first) turns h.runs.replays.allowed (told_first (first_state t l) refl) in
-    subst (λ (x : World). IsTold (first_state t l) x.hall) (sym h.runs.replays.world) told
+    let turns = h.replays.turns in
+    let told : IsTold (first_state t l) (run first turns).world.hall = told_turns (first_state t l) (begun first) turns h.replays.allowed (told_first (first_state t l) refl) in
+    subst (λ (x : World). IsTold (first_state t l) x.hall) (sym h.replays.world) told
 
-told_ran : (t : Bool) (l : Ledger) (old new : Seen) (past : List PastEntry) (why : Why) → Ran t l old new past why → AreModelAnswers (first_state t l) past
-told_ran t l old new past why h = subst (λ es. AreModelAnswers (first_state t l) es) (sym h.history) (told-answers (first_state t l) h.after (told_after t l old new past why h))
+-- a run, said of what is known of its parts
+pub record HasRun (t : Bool) (l : Ledger) (before after : State) (objects : List Object) (old new : Seen) (past : List PastEntry) (why : Why) : Type 0 where
+  pub first : before ≡ first_state t l
+  pub known : objects ≡ built_in
+  pub history : past ≡ after.past
+  pub runs : RunsScript objects before after old new why
+  pub complete : (bytes : List ℕ) → old.left ≡ Some bytes → IsScript bytes → IsFaultless old new → IsComplete (first_world objects before) after bytes old.written new.written why
 
-abbrev pub ran : (t : Bool) (l : Ledger) (before after : State) (objects : List Object) (old new : Seen) (past : List PastEntry) (why : Why) → before ≡ (first_state t l) → objects ≡ built_in → past ≡ after.past → RunsScript objects before after old new why → Ran t l old new past why
-ran t l before after objects old new past why e known history r =
-    record { after = after; history = history; runs = subst (λ s. RunsScript built_in s after old new why) e (subst (λ os. RunsScript os before after old new why) known r) }
+runs_first : (t : Bool) (l : Ledger) (before after : State) (objects : List Object) (old new : Seen) (past : List PastEntry) (why : Why) → HasRun t l before after objects old new past why → RunsScript built_in (first_state t l) after old new why
+runs_first t l before after objects old new past why h =
+    subst (λ s. RunsScript built_in s after old new why) h.first (subst (λ os. RunsScript os before after old new why) h.known h.runs)
 
-pub told_replay : (t : Bool) (l : Ledger) (before after : State) (objects : List Object) (old new : Seen) (past : List PastEntry) (why : Why) → before ≡ (first_state t l) → objects ≡ built_in → past ≡ after.past → RunsScript objects before after old new why → AreModelAnswers (first_state t l) past
-told_replay t l before after objects old new past why e known history r = told_ran t l old new past why (ran t l before after objects old new past why e known history r)
+pub replay_leads : (t : Bool) (l : Ledger) (before after : State) (objects : List Object) (old new : Seen) (past : List PastEntry) (why : Why) → HasRun t l before after objects old new past why → after ≡ state_after (first_state t l) past
+replay_leads t l before after objects old new past why h =
+    (told_after t l after old new why (runs_first t l before after objects old new past why h)).state ∙ ap (state_after (first_state t l)) (sym h.history)
 
-pub replay_leads : (t : Bool) (l : Ledger) (before after : State) (objects : List Object) (old new : Seen) (past : List PastEntry) (why : Why) → before ≡ (first_state t l) → objects ≡ built_in → past ≡ after.past → RunsScript objects before after old new why → after ≡ state_after (first_state t l) past
-replay_leads t l before after objects old new past why e known history r =
-    (told_after t l old new past why (ran t l before after objects old new past why e known history r)).state ∙ ap (state_after (first_state t l)) (sym history)
+ran : (t : Bool) (l : Ledger) (before after : State) (objects : List Object) (old new : Seen) (past : List PastEntry) (why : Why) → HasRun t l before after objects old new past why → Ran t l old new past why
+ran t l before after objects old new past why h =
+    record {
+      after = after;
+      history = h.history;
+      leads = replay_leads t l before after objects old new past why h;
+      runs = runs_first t l before after objects old new past why h;
+      complete = λ bytes left script calm.
+          subst (λ s. IsComplete (first_world built_in s) after bytes old.written new.written why) h.first
+          (subst (λ os. IsComplete (first_world os before) after bytes old.written new.written why) h.known (h.complete bytes left script calm));
+    }
 
-pub runs_as : (t : Bool) (l : Ledger) (before after : State) (objects : List Object) (old new : Seen) (older newer : Seen) (past : List PastEntry) (why end : Why) → before ≡ (first_state t l) → objects ≡ built_in → past ≡ after.past → old ≡ older → new ≡ newer → why ≡ end → RunsScript objects before after old new why → Ran t l older newer past end
-runs_as t l before after objects old new older newer past why end e known history o n w r =
-    ran t l before after objects older newer past end e known history
-    (subst (λ x. RunsScript objects before after older newer x) w (subst (λ x. RunsScript objects before after older x why) n (subst (λ x. RunsScript objects before after x new why) o r)))
+told_ran : (t : Bool) (l : Ledger) (before after : State) (objects : List Object) (old new : Seen) (past : List PastEntry) (why : Why) → HasRun t l before after objects old new past why → AreModelAnswers (first_state t l) past
+told_ran t l before after objects old new past why h =
+    subst (λ es. AreModelAnswers (first_state t l) es) (sym h.history)
+    (told-answers (first_state t l) after (told_after t l after old new why (runs_first t l before after objects old new past why h)))
 
 pub locks_stand_from_first : (t : Bool) (l : Ledger) (past : List PastEntry) → IsRaised IsSound true l → AreModelAnswers (first_state t l) past → LocksStand (first_state t l) past
 locks_stand_from_first t l past begun h = locks_stand 1000 1048576 t l past (lit< tt) (omega arith) begun h
@@ -99,37 +111,74 @@ locks_stand_from_first t l past begun h = locks_stand 1000 1048576 t l past (lit
 pub locks_return_from_first : (t : Bool) (l : Ledger) (past : List PastEntry) → IsRaised IsSound true l → AreModelAnswers (first_state t l) past → LocksReturn (first_state t l) past
 locks_return_from_first t l past begun h = locks_return 1000 1048576 t l past (lit< tt) (omega arith) begun h
 
-pub completes_as : (t : Bool) (l : Ledger) (may_be : Rows → Type 0) (before after : State) (objects : List Object) (bytes : List ℕ) (old new : Option (List ℕ)) (past : List PastEntry) (why end : Why) → IsRaised (HasStood may_be) true l → before ≡ (first_state t l) → objects ≡ built_in → past ≡ after.past → why ≡ end → IsComplete (first_world objects before) after bytes old new why → EndsComplete t may_be bytes old new past end
-completes_as t l may_be before after objects bytes old new past why end found e known history w h =
-    inl (record {
-      stored = l;
-      found = found;
-      after = after;
-      history = history;
-      complete = subst (λ x. IsComplete (first_world built_in (first_state t l)) after bytes old new x) w
-          (subst (λ s. IsComplete (first_world built_in s) after bytes old new why) e (subst (λ os. IsComplete (first_world os before) after bytes old new why) known h));
-    })
+-- a run that is complete from a server that is up is done, or memory was wanting
+complete_ends : (may_be : Rows → Type 0) (t : Bool) (l : Ledger) (objects : List Object) (before after : State) (bytes : List ℕ) (old new : Option (List ℕ)) (why : Why) → before ≡ first_state t l → IsComplete (first_world objects before) after bytes old new why → EndsComplete may_be why
+complete_ends may_be t l objects before after bytes old new Done e h = inl refl
+complete_ends may_be t l objects before after bytes old new (StoreFault k) e h = absurd (let up = sym h.0 ∙ ap doubt_of e in cc)
+complete_ends may_be t l objects before after bytes old new NoMemory e h = inr (inl refl)
+complete_ends may_be t l objects before after bytes old new BadWords e h = absurd h
+complete_ends may_be t l objects before after bytes old new (BadLine n) e h = absurd h
+complete_ends may_be t l objects before after bytes old new SourceFault e h = absurd h
+complete_ends may_be t l objects before after bytes old new SinkFault e h = absurd h
+complete_ends may_be t l objects before after bytes old new (LongLine n) e h = absurd h
+complete_ends may_be t l objects before after bytes old new ManyLines e h = absurd h
+complete_ends may_be t l objects before after bytes old new (BadStore table row) e h = absurd h
+complete_ends may_be t l objects before after bytes old new NoStart e h = absurd h
+
+pub completes_as : (may_be : Rows → Type 0) (t : Bool) (l : Ledger) (objects : List Object) (before after : State) (bytes : List ℕ) (old new : Option (List ℕ)) (why end : Why) → before ≡ first_state t l → why ≡ end → IsComplete (first_world objects before) after bytes old new why → EndsComplete may_be end
+completes_as may_be t l objects before after bytes old new why end e w h =
+    subst (EndsComplete may_be) w (complete_ends may_be t l objects before after bytes old new why e h)
 
 -- what is said where rows are told
 pub where_told : (P : Type 0) (o : Option Rows) → IsTrue (is_some o) → IfSome o (λ _. P) → P
 where_told P None told h = absurd (cc)
 where_told P (Some rows) told h = h
 
+survives_pending : (rows : Rows) (s : State) (pending : Option Ledger) → s.pending ≡ pending → StandForPending rows pending → SurvivesStop rows s
+survives_pending rows s None is stand = absurd stand
+survives_pending rows s (Some ledger) is stand = record { ledger = ledger; known = inr is; stand = stand; right = books_right rows ledger stand; business = holds_books rows ledger stand }
+
+-- rows that stand for a state are what a stop may leave of it
+survives : (rows : Rows) (s : State) → StandForState rows s → SurvivesStop rows s
+survives rows s h = elim h [
+  | inl stand ↦ record { ledger = s.stored; known = inl refl; stand = stand; right = books_right rows s.stored stand; business = holds_books rows s.stored stand }
+  | inr pending ↦ survives_pending rows s s.pending refl pending
+]
+
+-- the next start finds the ledger that the rows stand for, and there is one
+follows_on : (may_leave : Rows → Type 0) (s : State) → ((rows : Rows) → may_leave rows → SurvivesStop rows s) → (next : Ledger) → IsRaised (HasStood may_leave) true next → IsNextOf s next
+follows_on may_leave s left next found =
+    let stood = found.1 in
+    let survives = left stood.0 stood.1 in
+    let one : found.0 ≡ survives.ledger = one_ledger stood.0 found.0 survives.ledger stood.2 survives.stand in
+    (survives.ledger, survives.known, found.2 ∙ ap (λ (l : Ledger). with_start l (l.start + 1)) one)
+
 -- all that is said of a program that opened its store
-pub served_as : (t : Bool) (l : Ledger) (may_be may_leave : Rows → Type 0) (before after : State) (objects : List Object) (old new older newer : Seen) (past : List PastEntry) (why end : Why)
-    → IsRaised IsSound true l → (IsTrue t → IsRaised (HasStood may_be) true l) → before ≡ (first_state t l) → objects ≡ built_in → past ≡ after.past → old ≡ older → new ≡ newer → why ≡ end
-    → (IsTrue t → (rows : Rows) → may_leave rows → StandForState rows after) → RunsScript objects before after old new why
-    → IsServed t may_be may_leave older newer past end
-served_as t l may_be may_leave before after objects old new older newer past why end good found e known history o n w left r =
-    let answers = told_replay t l before after objects old new past why e known history r in
+pub served_as : (t : Bool) (l : Ledger) (may_be may_leave : Rows → Type 0) (before after : State) (objects : List Object) (old new : Seen) (past : List PastEntry) (why : Why)
+    → IsRaised IsSound true l → (IsTrue t → IsRaised (HasStood may_be) true l) → HasRun t l before after objects old new past why
+    → (IsTrue t → (rows : Rows) → may_leave rows → StandForState rows after)
+    → IsServed t may_be may_leave old new past why
+served_as t l may_be may_leave before after objects old new past why good found h left =
+    let answers = told_ran t l before after objects old new past why h in
+    let left_after : IsTrue t → (rows : Rows) → may_leave rows → SurvivesStop rows (state_after (first_state t l) past) =
+    λ told rows may. subst (SurvivesStop rows) (replay_leads t l before after objects old new past why h) (survives rows after (left told rows may)) in
     record {
       stored = l;
       good = good;
       found = found;
-      run = runs_as t l before after objects old new older newer past why end e known history o n w r;
+      run = ran t l before after objects old new past why h;
       history = answers;
       sound = stays_sound_from_first t l past good;
       stand = locks_stand_from_first t l past good answers;
       back = locks_return_from_first t l past good answers;
-      left = λ told rows may. subst (StandForState rows) (replay_leads t l before after objects old new past why e known history r) (left told rows may);
+      left = λ told rows may. left_after told rows may;
+      next = λ told. follows_on may_leave (state_after (first_state t l) past) (left_after told);
     }
+
+-- the same of what was seen, under other names
+pub served_seen : (t : Bool) (may_be may_leave : Rows → Type 0) (old new older newer : Seen) (past : List PastEntry) (why end : Why)
+    → old ≡ older → new ≡ newer → why ≡ end → IsServed t may_be may_leave old new past why → IsServed t may_be may_leave older newer past end
+served_seen t may_be may_leave old new older newer past why end o n w h =
+    subst (λ x. IsServed t may_be may_leave older newer past x) w
+    (subst (λ x. IsServed t may_be may_leave older x past why) n
+    (subst (λ x. IsServed t may_be may_leave x new past why) o h))

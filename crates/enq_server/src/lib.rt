@@ -7,6 +7,3 @@ mod server;
 
 pub use fault::{OpenFault, ServerFault};
 pub use server::EnqServer;
-
-#[cfg(test)]
-mod tests;

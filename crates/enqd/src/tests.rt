@@ -29,6 +29,7 @@ fn each_end_has_its_line(rt: HostRuntime) -> Result<(), Fail> {
 fn texts_name_program_and_command(rt: HostRuntime) -> Result<(), Fail> {
     let alloc = rt.alloc();
     assert!(rt; help_text(alloc)?.contains("replay"));
+    assert!(rt; !help_text(alloc)?.contains("Print this message"));
     assert!(rt; usage_text(alloc)?.contains("enqd"));
     assert_eq!(rt; version_text(alloc)?.as_str(), "enqd 0.1.0\n");
     Ok(())

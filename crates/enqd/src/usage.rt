@@ -24,5 +24,6 @@ fn command(alloc: Global) -> Result<Command<'static>, AllocError> {
     Command::new(alloc, "enqd")
         .version("0.1.0")
         .about("Keeps logical locks and update units, as an enqueue server and an update task do")
+        .disable_help_subcommand(true)
         .subcommand(replay)
 }

@@ -1,5 +1,5 @@
 -- Bytes stand for one state at most, or break at one offset.
-use Rattle.std.proofs.Common.{◌≡◌, ◌≢◌, ◌⊎◌, ℕ, ◌+◌, ◌<◌, ◌≤◌, List, [], ◌∷◌, ◌++◌, length, take, drop, Option, Some, None, refl, sym, ap, subst, ◌∙◌, append_assoc, arith, inl, inr, length-append}
+use Rattle.std.proofs.Common.{◌≡◌, ◌≢◌, ℕ, ◌+◌, ◌≤◌, List, [], ◌∷◌, ◌++◌, length, take, drop, Option, Some, None, refl, sym, ap, subst, ◌∙◌, append_assoc, arith, inl, inr, length-append}
 use Rattle.std.specs.List.{flat_map}
 use Rattle.std.proofs.lemmas.Bool.{cases_lt}
 use Rattle.std.proofs.lemmas.List.{append-nil, take_at, drop_at}
@@ -7,7 +7,7 @@ use Rattle.std.proofs.lemmas.List.Concat.{flat_map-cons, flat_map-append}
 use Rattle.bk_disk.specs.Disk.{Follows}
 use Rattle.gate_log.specs.Gates.{IsShut}
 use Rattle.gate_log.specs.Grammars.{Grammar, IsReader}
-use Rattle.gate_log.specs.Logs.{Leads, opened, IsFront, IsShort, IsLong, Stands, EndsBadly, BreaksAt, IsBad, SameOrFirst, Keeps}
+use Rattle.gate_log.specs.Logs.{Leads, opened, IsFront, Stands, EndsBadly, BreaksAt, IsBad, SameOrFirst, Keeps}
 
 abbrev some : {A : Type 0} → A → Option A
 some x = Some x

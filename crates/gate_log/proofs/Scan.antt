@@ -1,8 +1,8 @@
 -- Reading a log record by record.
-use Rattle.std.proofs.Common.{◌≡◌, ◌≢◌, ◌⊎◌, ℕ, suc, ◌+◌, ◌-◌, ◌<◌, ◌≤◌, List, [], ◌∷◌, ◌++◌, length, take, drop, Option, Some, None, refl, sym, ap, subst, ◌∙◌, append_assoc, arith, inl, inr, length-append, take-append-drop}
+use Rattle.std.proofs.Common.{◌≡◌, ℕ, suc, ◌+◌, ◌-◌, ◌<◌, List, [], ◌∷◌, ◌++◌, length, take, drop, Option, Some, None, refl, sym, ap, subst, ◌∙◌, append_assoc, arith, inr, length-append, take-append-drop}
 use Rattle.gate_log.specs.Gates.{IsShut}
 use Rattle.gate_log.specs.Grammars.{Grammar, IsReader, IsBytes}
-use Rattle.gate_log.specs.Logs.{opened, IsFront, IsLong, EndsBadly, IsBad, IsReadUpTo}
+use Rattle.gate_log.specs.Logs.{opened, IsLong, EndsBadly, IsBad, IsReadUpTo}
 use Rattle.gate_log.proofs.Logs.{some_is, none_is, front-push, first_front}
 
 bytes-rest : (b : ℕ) (bytes : List ℕ) → IsBytes (b ∷ bytes) → IsBytes bytes

@@ -1,5 +1,5 @@
 -- What a stop may leave behind a call.
-use Rattle.std.proofs.Common.{◌≡◌, ◌⊎◌, inl, ℕ, Bool, true, false, sym, ap, ◌∙◌, subst}
+use Rattle.std.proofs.Common.{◌≡◌, ◌⊎◌, inl, ℕ, Bool, true, false, refl, sym, ap, ◌∙◌, subst}
 use Rattle.std.specs.Prelude.{nat_eq, Option, Some, None, IfSome, is_some, if◌then◌else◌}
 use Rattle.std.specs.Option.{option_map}
 use Rattle.enq_base.specs.declared.condition.Condition.{Condition}
@@ -19,9 +19,10 @@ use Rattle.hall.specs.declared.units.InFlight.{InFlight}
 use Rattle.update_records.specs.Ledger.{Ledger, StandFor}
 use Rattle.hall.specs.Acts.{OnAnswer, OnFailure, written_condition, written_pending}
 use Rattle.hall.specs.Kept.{WhileUp}
-use Rattle.hall.specs.Leaving.{HasStoreCause, LeavesWritten, StandForLanded, StandForPending, StandForWritten}
+use Rattle.hall.specs.Leaving.{HasStoreCause, KeepsStore, LeavesWritten, StandForLanded, StandForPending, StandForWritten}
 use Rattle.hall.specs.State.{State}
 use Rattle.hall.specs.Step.{closed, is_full, posted_reply}
+use Rattle.hall.specs.declared.command.Reply.{Reply}
 use Rattle.hall.specs.declared.command.Reply.TheVariants as reply
 use Rattle.hall.proofs.Cancels.{IsPlainRefusal}
 use Rattle.hall.specs.declared.units.Written.{Written}
@@ -101,6 +102,25 @@ posted_quiet part unit (outcome.Refused index reason) n m h =
 pub plain_quiet : (r : Refusal) (n m : ℕ) → m ≡ n → IsPlainRefusal r → HasStoreCause n m (reply.Refused r)
 plain_quiet refusal.StoreFault n m h plain = let well = plain.well in absurd (cc)
 plain_quiet _ n m h plain = h
+
+-- a refusal before anything was written
+pub refused_keeps : {K : Type 0} (held : K → Option Rows) (may_leave : K → Rows → Type 0) (old new : K) (r : Refusal) → held new ≡ held old → IsWithin (may_leave new) (may_leave old) → KeepsStore held may_leave old new (reply.Refused r)
+refused_keeps held may_leave old new refusal.StoreFault rows crash = tt
+refused_keeps held may_leave old new _ rows crash = (rows, crash)
+
+pub untouched_keeps : {K : Type 0} (held : K → Option Rows) (may_leave : K → Rows → Type 0) (k : K) (r : Refusal) → KeepsStore held may_leave k k (reply.Refused r)
+untouched_keeps held may_leave k r = refused_keeps held may_leave k k r refl (λ rows may. may)
+
+pub same_keeps : {K : Type 0} (held : K → Option Rows) (may_leave : K → Rows → Type 0) (old new : K) (r : Reply) → new ≡ old → KeepsStore held may_leave old new r
+same_keeps held may_leave old new (reply.Refused r) is = subst (λ k. KeepsStore held may_leave old k (reply.Refused r)) (sym is) (untouched_keeps held may_leave old r)
+same_keeps held may_leave old new _ is = tt
+
+-- a part that was tried isn't refused by the call
+pub posted_keeps : {K : Type 0} (held : K → Option Rows) (may_leave : K → Rows → Type 0) (old new : K) (part : ℕ) (unit : UnitKey) (o : Outcome) → KeepsStore held may_leave old new (posted_reply part unit o)
+posted_keeps held may_leave old new part unit outcome.Done =
+    elim (nat_eq part 1) as (λ b. KeepsStore held may_leave old new (if b then reply.Posted unit else reply.Closed unit)) [ true ↦ tt | false ↦ tt ]
+posted_keeps held may_leave old new part unit (outcome.Refused index reason) =
+    elim (nat_eq part 1) as (λ b. KeepsStore held may_leave old new (if b then reply.Bad unit index reason else reply.Bad2 unit index reason)) [ true ↦ tt | false ↦ tt ]
 
 -- ---- the hall behind it
 

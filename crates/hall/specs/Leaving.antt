@@ -2,6 +2,7 @@
 use Rattle.std.specs.Prelude.{ℕ, ◌≡◌, ◌⊎◌, ◌≤◌, Option, Some, None, IfSome}
 use Rattle.enq_base.specs.Causes.{Rose}
 use Rattle.enq_base.specs.declared.refusal.Refusal.TheVariants as refusal
+use Rattle.keeper_api.specs.Keeping.{IsWithin}
 use Rattle.keeper_api.specs.Rows.{Rows}
 use Rattle.posting.specs.Shelf.{Shelf}
 use Rattle.update_records.specs.Ledger.{Ledger, StandFor}
@@ -47,3 +48,9 @@ LeavesWritten held may_leave shelf written =
 abbrev pub HasStoreCause : ℕ → ℕ → Reply → Type 0
 HasStoreCause before now (reply.Refused refusal.StoreFault) = (before ≤ now) × Rose before now
 HasStoreCause before now _ = now ≡ before
+
+-- a call that is refused, but for a failure of the store, leaves what the keeper holds and what a stop may leave of it
+abbrev pub KeepsStore : {K : Type 0} → (K → Option Rows) → (K → Rows → Type 0) → K → K → Reply → Type 0
+KeepsStore held may_leave old new (reply.Refused refusal.StoreFault) = Unit {0}
+KeepsStore held may_leave old new (reply.Refused _) = (held new ≡ held old) × IsWithin (may_leave new) (may_leave old)
+KeepsStore held may_leave old new _ = Unit {0}

@@ -3,7 +3,7 @@ ghost use Rattle.std.specs.List.{AllByRecursion};
 ghost use Rattle.hall.specs.declared.command.Command.TheVariants as command;
 ghost use Rattle.hall.specs.Acts.{IsWritten, OnAnswer, OnFailure, post_of, written_reply};
 ghost use Rattle.hall.specs.Kept.{HasGoodLocks, HasItsUser, IsAhead, IsYoung, OfLock};
-ghost use Rattle.hall.specs.Leaving.{HasStoreCause, LeavesWritten};
+ghost use Rattle.hall.specs.Leaving.{HasStoreCause, KeepsStore, LeavesWritten};
 ghost use Rattle.hall.specs.Sessions.{owners_of};
 ghost use Rattle.hall.specs.State.{State};
 ghost use Rattle.hall.specs.Step as step;
@@ -79,6 +79,7 @@ pub(crate) fn post<T: LockStore, K: Keeper>(
     ensures told { is_some (K.held books.new.keeper) ≡ is_some (K.held books.old.keeper) }
     ensures left { LeavesWritten K.held K.may_leave books.new result }
     ensures cause { HasStoreCause (K.faults books.old.keeper) (K.faults books.new.keeper) (written_reply result) }
+    ensures kept { KeepsStore K.held K.may_leave books.old.keeper books.new.keeper (written_reply result) }
 {
     let Some(unit) = order_for(orders.as_slice(), books, worker, part) else {
         return Written::Answered(Reply::Refused(Refusal::NoOrder));
@@ -186,6 +187,7 @@ pub(crate) fn commit<T: LockStore, K: Keeper>(
     ensures told { is_some (K.held books.new.keeper) ≡ is_some (K.held books.old.keeper) }
     ensures left { LeavesWritten K.held K.may_leave books.new result }
     ensures cause { HasStoreCause (K.faults books.old.keeper) (K.faults books.new.keeper) (written_reply result) }
+    ensures kept { KeepsStore K.held K.may_leave books.old.keeper books.new.keeper (written_reply result) }
 {
     let session = match session_of(sessions, name) {
         Ok(session) => session,
@@ -240,6 +242,7 @@ pub(crate) fn cancel<T: LockStore, K: Keeper>(
     ensures told { is_some (K.held books.new.keeper) ≡ is_some (K.held books.old.keeper) }
     ensures left { LeavesWritten K.held K.may_leave books.new result }
     ensures cause { HasStoreCause (K.faults books.old.keeper) (K.faults books.new.keeper) (written_reply result) }
+    ensures kept { KeepsStore K.held K.may_leave books.old.keeper books.new.keeper (written_reply result) }
 {
     let status = match to_cancel(orders, books, &unit, max_marks) {
         Ok(status) => status,
@@ -324,6 +327,7 @@ pub(crate) fn resubmit<T: LockStore, K: Keeper>(
     ensures told { is_some (K.held books.new.keeper) ≡ is_some (K.held books.old.keeper) }
     ensures left { LeavesWritten K.held K.may_leave books.new result }
     ensures cause { HasStoreCause (K.faults books.old.keeper) (K.faults books.new.keeper) (written_reply result) }
+    ensures kept { KeepsStore K.held K.may_leave books.old.keeper books.new.keeper (written_reply result) }
 {
     match to_resubmit(books, &unit, max_marks) {
         Ok(Status::Bad) => reopen(alloc, locks, books, unit),
@@ -355,6 +359,7 @@ fn reopen<T: LockStore, K: Keeper>(
     ensures told { is_some (K.held books.new.keeper) ≡ is_some (K.held books.old.keeper) }
     ensures left { LeavesWritten K.held K.may_leave books.new result }
     ensures cause { HasStoreCause (K.faults books.old.keeper) (K.faults books.new.keeper) (written_reply result) }
+    ensures kept { KeepsStore K.held K.may_leave books.old.keeper books.new.keeper (written_reply result) }
 {
     let Ok(entries) = books.unit_locks(alloc, &unit) else {
         return Written::Answered(Reply::Refused(Refusal::NoMemory));
@@ -392,6 +397,7 @@ fn repost<T: LockStore, K: Keeper>(
     ensures told { is_some (K.held books.new.keeper) ≡ is_some (K.held books.old.keeper) }
     ensures left { LeavesWritten K.held K.may_leave books.new result }
     ensures cause { HasStoreCause (K.faults books.old.keeper) (K.faults books.new.keeper) (written_reply result) }
+    ensures kept { KeepsStore K.held K.may_leave books.old.keeper books.new.keeper (written_reply result) }
 {
     let Ok(prepared) = books.prepare_mark(alloc, &unit, MarkKind::Again2) else {
         return Written::Answered(Reply::Refused(Refusal::NoMemory));

@@ -22,8 +22,16 @@ pub enum Doubt {
     After,
 }
 
+/// The call from which on all fail, as where a machine stops, and whether a commit at it falls on the side after.
+#[derive(Clone, Copy, Debug, PartialEq, Eq)]
+pub struct Stop {
+    pub at: u64,
+    pub after: bool,
+}
+
 /// A keeper in memory. It fails at just the calls whose numbers, counted from 1, stand in a list; `room` isn't counted.
-/// A commit that fails falls on the side after where its number stands in a second list, else on the side before.
+/// A commit that fails falls on the side after where its number stands in a second list, else on the side before. It can
+/// be made to stop at a call: that one and all later ones fail too.
 #[derive(Drop)]
 pub struct MemKeeper {
     rows: SortedRows,
@@ -31,6 +39,7 @@ pub struct MemKeeper {
     doubt: Doubt,
     fails: Vec<u64>,
     after: Vec<u64>,
+    stop: Option<Stop>,
     calls: u64,
     faults: u64,
 }
@@ -51,6 +60,7 @@ impl Model for MemKeeper {
       doubt = k.doubt;
       fails = k.fails.items;
       after = k.after.items;
+      stop = k.stop;
       calls = k.calls;
       faults = k.faults;
     } };
@@ -67,6 +77,7 @@ impl MemKeeper {
             doubt: Doubt::Settled,
             fails,
             after,
+            stop: None,
             calls: 0,
             faults: 0,
         })
@@ -82,6 +93,7 @@ impl MemKeeper {
             doubt,
             fails: _,
             after: _,
+            stop: _,
             calls: _,
             faults,
         } = self;
@@ -91,9 +103,22 @@ impl MemKeeper {
             doubt,
             fails,
             after,
+            stop: None,
             calls: 0,
             faults,
         }
+    }
+
+    /// The same rows, with calls counted from 1 anew, where call `k` and all later ones fail and no other. A commit at
+    /// `k` falls on the side after where that is asked, and a later one on the side before. It takes no memory.
+    pub fn stop(mut self, k: u64, after: bool) -> MemKeeper
+        ensures { result ≡ memory.stopped k after self }
+    {
+        self.fails.clear();
+        self.after.clear();
+        self.stop = Some(Stop { at: k, after });
+        self.calls = 0;
+        self
     }
 
     /// Counts a call, and says whether it fails.
@@ -105,11 +130,29 @@ impl MemKeeper {
         ensures rose { result ≡ true → Rose self.old.faults self.new.faults }
     {
         self.calls = self.calls.saturating_add(1);
-        let fails = self.fails.contains(&self.calls);
+        let fails = self.fails.contains(&self.calls) || has_stopped(&self.stop, self.calls);
         if fails {
             self.faults = self.faults.saturating_add(1);
         }
         fails
+    }
+}
+
+fn has_stopped(stop: &Option<Stop>, call: u64) -> bool
+    ensures { result ≡ memory.has_stopped stop.now call }
+{
+    match stop {
+        Some(stop) => stop.at <= call,
+        None => false,
+    }
+}
+
+fn stops_after(stop: &Option<Stop>, call: u64) -> bool
+    ensures { result ≡ memory.stops_after stop.now call }
+{
+    match stop {
+        Some(stop) => stop.after && stop.at == call,
+        None => false,
     }
 }
 
@@ -256,7 +299,9 @@ impl Keeper for MemKeeper {
         ensures side { OnErr result (self.new ≡ memory.in_doubt self.old) }
     {
         if self.fails_now() {
-            self.doubt = if self.after.contains(&self.calls) {
+            self.doubt = if self.after.contains(&self.calls)
+                || stops_after(&self.stop, self.calls)
+            {
                 Doubt::After
             } else {
                 Doubt::Before

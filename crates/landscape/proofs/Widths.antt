@@ -1,12 +1,11 @@
 -- The widths of fields that are read.
-use Rattle.std.proofs.Common.{◌≡◌, ℕ, ◌≤◌, ◌&&◌, Bool, true, false, cond, ℤ, List, [], ◌∷◌, Option, Some, None, codes, refl, subst, ap, ◌∙◌}
-use Rattle.std.specs.Prelude.{IfSome, IsTrue, nat_le}
+use Rattle.std.proofs.Common.{◌≡◌, ℕ, ◌&&◌, Bool, true, false, cond, ℤ, List, [], ◌∷◌, Option, Some, None, codes, refl, subst, ap, ◌∙◌}
+use Rattle.std.specs.Prelude.{IfSome, nat_le}
 use Rattle.std.specs.List.{list_all}
 use Rattle.std.proofs.lemmas.Option.{same_Some, none-some}
 use Rattle.toml.specs.Data.{Data, as_table}
 use Rattle.enq_base.specs.Number.{◌>>=◌}
 use Rattle.lock_objects.specs.Objects.{Object, has_width}
-use Rattle.lock_objects.specs.declared.field.Field.{Field}
 use Rattle.landscape.specs.Objects.{each, field_of, key_table_of, object_of}
 use Rattle.landscape.specs.Tables.{integer_at, items_at, name_at, natural_of, number_within}
 

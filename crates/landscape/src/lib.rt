@@ -15,6 +15,3 @@ mod tables;
 pub use land_fault::LandFault;
 pub use landscape::Landscape;
 pub use read::read_landscape;
-
-#[cfg(test)]
-mod tests;

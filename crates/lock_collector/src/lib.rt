@@ -4,6 +4,3 @@
 mod collector;
 
 pub use collector::{CollectFault, Collector};
-
-#[cfg(test)]
-mod tests;

@@ -1,5 +1,5 @@
 -- Tests of arguments by their bytes, and what they say of keys.
-use Rattle.std.proofs.Common.{◌≡◌, ◌⊎◌, ℕ, List, [], ◌∷◌, Bool, true, false, cond, ◌&&◌, nat_eq, length, IsTrue, sym, ◌∙◌, ap, refl, arith, inl, inr, ⊎_elim}
+use Rattle.std.proofs.Common.{◌≡◌, ◌⊎◌, ℕ, List, [], ◌∷◌, Bool, true, cond, ◌&&◌, nat_eq, length, IsTrue, ap, refl, arith, inl, inr}
 use Rattle.std.specs.List.{list_all, zip}
 use Rattle.std.specs.Bool.{Decides}
 use Rattle.std.specs.Cmp.Lexicographic.{pointwise}

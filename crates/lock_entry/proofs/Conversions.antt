@@ -1,5 +1,5 @@
 -- The answers to a conversion, by the tests that lead to them.
-use Rattle.std.proofs.Common.{◌≡◌, List, Bool, true, false, Option, Some, None, Result, Ok, Err, sym, refl}
+use Rattle.std.proofs.Common.{◌≡◌, List, true, false, Some, None, Ok, Err, sym, refl}
 use Rattle.lock_entry.specs.declared.entry.Asked.{Asked}
 use Rattle.lock_entry.specs.declared.entry.Asker.{Asker}
 use Rattle.lock_entry.specs.declared.entry.Entry.{Entry}

@@ -1,28 +1,24 @@
 -- What is granted may stand together with what stood.
-use Rattle.std.proofs.Common.{◌≡◌, ℕ, ◌+◌, ◌<◌, ◌≤◌, List, [], ◌∷◌, ◌++◌, Bool, true, false, cond, not, ◌&&◌, ◌||◌, nat_eq, nat_lt, nat_le, length, map, Option, Some, None, Result, Ok, Err, sym, ◌∙◌, ap, refl, arith, subst, inl, inr}
-use Rattle.std.specs.Prelude.{is_some}
+use Rattle.std.proofs.Common.{◌≡◌, ℕ, ◌+◌, ◌≤◌, List, [], ◌∷◌, ◌++◌, Bool, true, false, cond, not, ◌&&◌, nat_eq, nat_lt, nat_le, length, map, Some, None, Ok, Err, sym, ◌∙◌, ap, refl, arith, subst, inl, inr}
 use Rattle.std.specs.List.{list_any, list_all, filter, find, count_by}
 use Rattle.std.specs.Option.{option_or, option_map_or}
-use Rattle.std.proofs.lemmas.Bool.{cases_Bool, and_parts, and_from, and_cases, or_parts, or_cases, or_left, or_right, and_left, not_from_false, not_from_true, not-true, ltb-false, leb-true, le-leb, eqb-true, eq-eqb}
+use Rattle.std.proofs.lemmas.Bool.{cases_Bool, and_parts, and_from, and_cases, or_parts, or_cases, or_left, or_right, not_from_false, not-true, ltb-false, leb-true, le-leb, eqb-true, eq-eqb}
 use Rattle.std.proofs.lemmas.List.{length-map, length-append}
 use Rattle.std.proofs.lemmas.List.Folds.{list_all-append}
-use Rattle.enq_base.specs.declared.owner.Owner.{Owner}
 use Rattle.enq_base.specs.Owners.{same_owner}
-use Rattle.lock_entry.specs.declared.entry.Asked.{Asked}
 use Rattle.lock_entry.specs.declared.entry.Asker.{Asker}
 use Rattle.lock_entry.specs.declared.entry.Request.{Request}
 use Rattle.lock_entry.specs.declared.entry.Entry.{Entry}
 use Rattle.lock_entry.specs.declared.entry.LockName.{LockName}
-use Rattle.lock_entry.specs.declared.fault.AskFault.{AskFault}
 use Rattle.lock_entry.specs.declared.fault.AskFault.TheVariants.{Count}
-use Rattle.lock_entry.specs.Names.{same_name, has_name, stands, count_at, halves, halves_of, times, each_once, name_of, asked_of, names_differ, has_distinct_names, all_pairs}
+use Rattle.lock_entry.specs.Names.{same_name, has_name, stands, count_at, halves, halves_of, times, each_once, name_of, names_differ, has_distinct_names, all_pairs}
 use Rattle.lock_entry.specs.Pairs.{IsPair, in_pair}
 use Rattle.lock_entry.specs.Barring.{bars}
-use Rattle.lock_entry.specs.Sound.{has_count, are_apart, in_conflict, IsSound}
+use Rattle.lock_entry.specs.Sound.{has_count, are_apart, IsSound}
 use Rattle.lock_entry.specs.Table.{Table, IsTable, with_entries}
 use Rattle.lock_entry.specs.Granting.{asked, first_bar, new_names, new_entry, is_full, is_over, granted, raised, unless_barred, unless_full}
 use Rattle.lock_entry.proofs.Naming.{same_owner-refl, same_name-refl, same_name-same, same_name-sym}
-use Rattle.lock_entry.proofs.Lists.{list_all-both, list_all-true, list_all-weaken, list_all-filter, list_all-filter_self, find-None, find-none_from, option_or-None, count_by-any, count_by-none, all_pairs-append, all_pairs-map}
+use Rattle.lock_entry.proofs.Lists.{list_all-both, list_all-true, list_all-weaken, list_all-filter, list_all-filter_self, find-None, option_or-None, count_by-any, count_by-none, all_pairs-append, all_pairs-map}
 use Rattle.lock_entry.proofs.EachOnce.{list_all-each_once, all_pairs-each_once}
 use Rattle.lock_entry.proofs.Sounds.{sound-apart, sound-from}
 use Rattle.lock_entry.proofs.Related.{pair-related, related-calm, apart-from, conflict-unbarred}

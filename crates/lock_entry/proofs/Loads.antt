@@ -1,5 +1,5 @@
 -- A list is sound exactly where it has no clash.
-use Rattle.std.proofs.Common.{◌≡◌, ℕ, ◌+◌, ◌<◌, ◌≤◌, get_or, take, drop, arith, List, [], ◌∷◌, ◌++◌, Bool, true, false, cond, ◌&&◌, length, Option, Some, None, sym, ◌∙◌, ap, refl, inl, inr}
+use Rattle.std.proofs.Common.{◌≡◌, ℕ, ◌+◌, ◌<◌, get_or, take, drop, arith, List, [], ◌∷◌, ◌++◌, true, false, cond, length, Some, None, sym, ◌∙◌, ap, refl, inl, inr}
 use Rattle.std.specs.List.{list_all}
 use Rattle.std.proofs.lemmas.Bool.{cases_Bool, and_parts, and_from, cond-true, cond-false}
 use Rattle.std.proofs.lemmas.List.{drop_more, take_more, length-take-le}

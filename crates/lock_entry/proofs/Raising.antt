@@ -1,6 +1,6 @@
 -- The counts of named entries rise one half after another.
-use Rattle.std.proofs.Common.{◌≡◌, ℕ, zero, suc, ◌+◌, ◌<◌, ◌≤◌, List, [], ◌∷◌, ◌++◌, Bool, true, false, cond, not, ◌&&◌, ◌||◌, length, map, get_or, set, Option, Some, None, sym, ◌∙◌, ap, refl, arith, inl, inr}
-use Rattle.std.specs.List.{list_any, list_all, find, position, position_or_len}
+use Rattle.std.proofs.Common.{◌≡◌, ℕ, zero, suc, ◌+◌, ◌<◌, List, [], ◌∷◌, ◌++◌, Bool, true, false, cond, not, ◌||◌, length, map, get_or, set, Some, sym, ◌∙◌, ap, refl, arith, inl, inr}
+use Rattle.std.specs.List.{list_all, find, position, position_or_len}
 use Rattle.std.specs.Option.{option_map_or}
 use Rattle.std.proofs.lemmas.Bool.{cases_Bool, and_parts, or_parts}
 use Rattle.std.proofs.lemmas.List.Sums.{sum_by_push}

@@ -1,7 +1,7 @@
 -- Entries that are granted as they are may stand together with what stood.
-use Rattle.std.proofs.Common.{◌≡◌, ℕ, ◌+◌, ◌<◌, ◌≤◌, List, [], ◌∷◌, ◌++◌, Bool, true, false, cond, not, ◌&&◌, ◌||◌, nat_lt, length, map, Option, Some, None, Result, Ok, Err, sym, ◌∙◌, ap, refl, arith, subst, inl, inr}
+use Rattle.std.proofs.Common.{◌≡◌, ◌+◌, ◌≤◌, List, [], ◌∷◌, ◌++◌, Bool, true, false, cond, not, ◌||◌, nat_lt, length, map, None, Ok, sym, ◌∙◌, ap, refl, arith, subst, inl, inr}
 use Rattle.std.specs.List.{list_any, list_all, filter, find}
-use Rattle.std.proofs.lemmas.Bool.{cases_Bool, and_parts, and_from, and_cases, or_parts, or_right, not_from_false, not-true, ltb-false}
+use Rattle.std.proofs.lemmas.Bool.{cases_Bool, and_parts, and_from, and_cases, or_parts, or_right, not_from_false, ltb-false}
 use Rattle.std.proofs.lemmas.List.{length-append}
 use Rattle.std.proofs.lemmas.List.Folds.{list_all-append}
 use Rattle.enq_base.specs.declared.owner.Owner.{Owner}
@@ -12,7 +12,7 @@ use Rattle.lock_entry.specs.declared.entry.LockName.{LockName}
 use Rattle.lock_entry.specs.Names.{same_name, has_name, is_of, stands, name_of, asked_of, names_differ, has_distinct_names, all_pairs}
 use Rattle.lock_entry.specs.Pairs.{IsPair, in_pair}
 use Rattle.lock_entry.specs.Barring.{bars}
-use Rattle.lock_entry.specs.Sound.{has_count, are_apart, in_conflict, IsSound, ReadmitsOnly}
+use Rattle.lock_entry.specs.Sound.{has_count, are_apart, in_conflict, ReadmitsOnly}
 use Rattle.lock_entry.specs.Table.{Table, IsTable, with_entries}
 use Rattle.lock_entry.specs.Freeing.{freed_owner}
 use Rattle.lock_entry.specs.Granting.{readmitted, first_bar, newcomers, is_full, unless_barred, unless_full}

@@ -1,5 +1,5 @@
 -- A list is sound where its counts are good and each two of its entries may stand together.
-use Rattle.std.proofs.Common.{◌≡◌, List, [], ◌∷◌, Bool, true, false, not, ◌&&◌, length, map, sym, ◌∙◌, refl, inl, inr}
+use Rattle.std.proofs.Common.{◌≡◌, List, [], ◌∷◌, Bool, true, not, map, refl}
 use Rattle.std.specs.List.{list_all, filter}
 use Rattle.std.proofs.lemmas.Bool.{and_parts, and_from}
 use Rattle.lock_entry.specs.declared.entry.Entry.{Entry}

@@ -1,11 +1,9 @@
 -- Entries turn by one test after another as by both at once.
 use Rattle.std.proofs.Common.{◌≡◌, ℕ, List, [], ◌∷◌, ◌++◌, Bool, true, false, cond, not, ◌&&◌, ◌||◌, Option, Some, None, sym, ◌∙◌, ap, refl, inl, inr}
 use Rattle.std.specs.Prelude.{option_and_then, is_some, min, ◌+◌}
-use Rattle.std.specs.List.{list_any, filter, filter_map, find, cons_option}
+use Rattle.std.specs.List.{list_any, filter_map, find, cons_option}
 use Rattle.std.specs.Option.{option_map_or}
-use Rattle.std.specs.Str.{bytes_eq}
-use Rattle.std.specs.Cmp.{both_ways}
-use Rattle.std.proofs.lemmas.Bool.{cases_Bool, and_parts, and_from, or_from}
+use Rattle.std.proofs.lemmas.Bool.{cases_Bool, or_from}
 use Rattle.std.proofs.lemmas.List.Folds.{list_any-append}
 use Rattle.enq_base.specs.declared.owner.Owner.{Owner}
 use Rattle.enq_base.specs.Owners.{same_owner}
@@ -15,7 +13,6 @@ use Rattle.mode_rules.specs.Modes.{same_mode}
 use Rattle.lock_entry.specs.declared.entry.Asked.{Asked}
 use Rattle.lock_entry.specs.declared.entry.Asker.{Asker}
 use Rattle.lock_entry.specs.declared.entry.Entry.{Entry}
-use Rattle.lock_entry.specs.declared.entry.LockName.{LockName}
 use Rattle.lock_entry.specs.Names.{has_name, stands, name_of, asked_of, same_place}
 use Rattle.lock_entry.specs.Pairs.{in_pair}
 use Rattle.lock_entry.specs.Turning.{name_in, with_count_of, turned_by, turned_entry, turned, is_at}

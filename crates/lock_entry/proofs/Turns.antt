@@ -1,9 +1,9 @@
 -- The entries of one owner, table and argument turn.
-use Rattle.std.proofs.Common.{◌≡◌, ℕ, List, [], ◌∷◌, ◌++◌, Bool, true, false, cond, not, ◌&&◌, map, Option, Some, None, sym, ◌∙◌, ap, refl, inl, inr}
+use Rattle.std.proofs.Common.{◌≡◌, ℕ, List, [], ◌∷◌, Bool, true, false, cond, not, ◌&&◌, map, Option, Some, None, sym, ◌∙◌, ap, refl, inl, inr}
 use Rattle.std.specs.List.{list_any, filter, filter_map, find, cons_option}
 use Rattle.std.specs.Option.{option_map_or}
 use Rattle.std.specs.Str.{bytes_eq}
-use Rattle.std.proofs.lemmas.Bool.{cases_Bool, and_parts, and_from, and_left, or_parts, or_from}
+use Rattle.std.proofs.lemmas.Bool.{cases_Bool, and_parts, and_left, or_parts}
 use Rattle.enq_base.specs.declared.owner.Owner.{Owner}
 use Rattle.enq_base.specs.Owners.{same_owner}
 use Rattle.mode_rules.specs.declared.Mode.{Mode}

@@ -2,7 +2,7 @@
 use Rattle.std.specs.Prelude.{◌≡◌, Bool, true, false, ◌&&◌, ◌||◌, IsTrue}
 use Rattle.std.specs.Str.{bytes_eq}
 use Rattle.mode_rules.specs.declared.Mode.{Mode}
-use Rattle.mode_rules.specs.declared.Mode.TheVariants.{S, E, X, O}
+use Rattle.mode_rules.specs.declared.Mode.TheVariants.{X}
 use Rattle.mode_rules.specs.Modes.{modes_clash, same_mode}
 use Rattle.lock_entry.specs.declared.entry.Asked.{Asked}
 use Rattle.lock_entry.specs.declared.entry.Asker.{Asker}

@@ -1,5 +1,5 @@
 -- What a table answers where optimistic locks are to become exclusive ones.
-use Rattle.std.specs.Prelude.{ℕ, ◌+◌, Bool, not, ◌&&◌, cond, nat_lt, List, [], ◌∷◌, Option, None, Result, Ok, Err}
+use Rattle.std.specs.Prelude.{◌+◌, Bool, not, ◌&&◌, cond, nat_lt, List, [], ◌∷◌, Option, None, Result, Ok, Err}
 use Rattle.std.specs.List.{list_any, filter, find}
 use Rattle.std.specs.Option.{option_or}
 use Rattle.mode_rules.specs.declared.Mode.TheVariants.{E, O}

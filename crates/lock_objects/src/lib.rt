@@ -12,6 +12,3 @@ mod value_faults;
 pub use field::{Field, KeyTable, ObjectFault};
 pub use object::LockObject;
 pub use value::{ArgFault, FieldValue, Value};
-
-#[cfg(test)]
-mod tests;

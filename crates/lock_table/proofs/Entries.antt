@@ -1,5 +1,5 @@
 -- Entries, for proofs.
-use Rattle.std.proofs.Common.{◌≡◌, ℕ, ◌-◌, ◌<◌, ◌≤◌, [], ◌∷◌, List, false, true, Bool, nat_le, refl, sym, ◌∙◌, arith}
+use Rattle.std.proofs.Common.{◌≡◌, ◌-◌, ◌<◌, ◌≤◌, [], ◌∷◌, false, true, nat_le}
 use Rattle.std.proofs.lemmas.Bool.{lt-leb, le-leb, cond-true, cond-false}
 use Rattle.enq_base.specs.declared.owner.Owner.TheVariants.{Dlg}
 use Rattle.mode_rules.specs.declared.Mode.TheVariants.{S}

@@ -1,15 +1,14 @@
 -- Given entries, one after another.
-use Rattle.std.proofs.Common.{◌≡◌, ℕ, zero, suc, ◌+◌, ◌<◌, ◌≤◌, List, [], ◌∷◌, ◌++◌, Bool, true, false, cond, not, ◌&&◌, length, map, take, drop, get_or, Option, Some, None, sym, ◌∙◌, ap, refl, arith, inl, inr}
+use Rattle.std.proofs.Common.{◌≡◌, ℕ, zero, suc, ◌+◌, ◌<◌, ◌≤◌, List, [], ◌∷◌, ◌++◌, Bool, true, false, cond, not, length, map, take, drop, get_or, Option, None, sym, ◌∙◌, ap, refl, arith}
 use Rattle.std.specs.Prelude.{is_some}
 use Rattle.std.specs.List.{list_all, filter, find, position}
 use Rattle.std.specs.Option.{option_or}
-use Rattle.std.proofs.lemmas.Bool.{cases_Bool, and_parts}
+use Rattle.std.proofs.lemmas.Bool.{and_parts}
 use Rattle.std.proofs.lemmas.List.{take_more, drop_more, length-append}
 use Rattle.std.proofs.lemmas.List.Elements.{filter-append}
 use Rattle.enq_base.specs.declared.owner.Owner.{Owner}
 use Rattle.lock_entry.specs.declared.entry.Asker.{Asker}
 use Rattle.lock_entry.specs.declared.entry.Entry.{Entry}
-use Rattle.lock_entry.specs.declared.entry.LockName.{LockName}
 use Rattle.lock_entry.specs.Names.{asked_of, name_of, named, has_name, is_of, stands}
 use Rattle.lock_entry.specs.Barring.{bars}
 use Rattle.lock_entry.specs.Granting.{first_bar, newcomers}

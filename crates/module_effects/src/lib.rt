@@ -11,6 +11,3 @@ pub use effects::apply;
 pub use fault::EffectFault;
 pub use integer::read_integer;
 pub use spot::{Spot, covers};
-
-#[cfg(test)]
-mod tests;

@@ -1,5 +1,5 @@
 -- The texts of replies.
-use Rattle.std.specs.Prelude.{ℕ, List, Option, Some, None, codes, decimal}
+use Rattle.std.specs.Prelude.{ℕ, List, Some, None, codes, decimal}
 use Rattle.enq_base.specs.Text.{◌␣◌, reason_text, status_text, unit_text}
 use Rattle.enq_base.specs.declared.refusal.ArgKind.{ArgKind}
 use Rattle.enq_base.specs.declared.refusal.ArgKind.TheVariants as kind

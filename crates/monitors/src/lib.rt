@@ -11,8 +11,3 @@ mod views;
 pub use monitor::{Bytes, audit, sm12, sm13, snro};
 pub use reply::{ReplyView, reply_line};
 pub use views::{RangeView, ServerView, UnitView};
-
-#[cfg(test)]
-mod reply_tests;
-#[cfg(test)]
-mod tests;

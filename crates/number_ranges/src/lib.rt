@@ -8,6 +8,3 @@ mod range;
 pub use block::{code, next_block};
 pub use interval::{Code, DrawFault, Interval};
 pub use range::Range;
-
-#[cfg(test)]
-mod tests;

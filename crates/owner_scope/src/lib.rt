@@ -17,6 +17,3 @@ pub fn halves(scope: Scope) -> (bool, bool)
         Scope::Three => (true, true),
     }
 }
-
-#[cfg(test)]
-mod tests;

@@ -1,5 +1,5 @@
 -- What is found in a store that is opened, and what an opening leaves.
-use Rattle.std.specs.Prelude.{ℕ, ◌≡◌, ◌+◌, ◌≤◌, Bool, true, if◌then◌else◌}
+use Rattle.std.specs.Prelude.{ℕ, ◌≡◌, ◌+◌, ◌≤◌, Bool, if◌then◌else◌}
 use Rattle.enq_base.specs.Causes.{Rose}
 use Rattle.keeper_api.specs.declared.fault.KeepFault.{KeepFault}
 use Rattle.keeper_api.specs.declared.fault.KeepFault.TheVariants as keep

@@ -17,6 +17,3 @@ pub use opening::BooksFault;
 pub use prepared::{Outcome, Prepared, Step};
 pub use update_records::StoredInterval;
 pub use view::UnitView;
-
-#[cfg(test)]
-mod tests;

@@ -14,6 +14,3 @@ pub use laws::{
 pub use link::Link;
 pub use mem_link::MemLink;
 pub use operation::{TableOp, apply_op};
-
-#[cfg(test)]
-mod tests;

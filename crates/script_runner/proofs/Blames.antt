@@ -1,18 +1,17 @@
 -- A run that a line ends comes to its end just at that line.
-use Rattle.std.proofs.Common.{inl, inr, ◌≡◌, ℕ, ◌+◌, List, [], ◌∷◌, ◌++◌, length, refl, sym, ap, ◌∙◌, subst, arith, true, false, append_assoc, Bool}
-use Rattle.std.specs.Prelude.{Option, Some, None, is_some, if◌then◌else◌}
+use Rattle.std.proofs.Common.{inl, inr, ◌≡◌, ℕ, ◌+◌, List, [], ◌∷◌, ◌++◌, length, refl, sym, ap, ◌∙◌, subst, arith, append_assoc}
+use Rattle.std.specs.Prelude.{Option, Some, None, is_some}
 use Rattle.std.specs.Io.KnownBytes.{Consumes}
 use Rattle.std.specs.List.{AllByRecursion}
 use Rattle.std.proofs.lemmas.List.{length-map}
 use Rattle.script_lang.specs.declared.script_line.ScriptLine.{ScriptLine}
 use Rattle.io_edge.specs.Lines.{lines_of}
-use Rattle.script_lang.specs.Memory.{holds_lists}
 use Rattle.script_runner.specs.declared.runner.Why.{Why}
 use Rattle.script_runner.specs.declared.runner.Why.TheVariants.{Done, BadWords, BadLine, SourceFault, SinkFault, LongLine, ManyLines, StoreFault, BadStore, NoStart, NoMemory}
 use Rattle.script_runner.specs.Lines.{line_in}
 use Rattle.script_runner.specs.LineFaults.{IsKnown, IsToBlame}
 use Rattle.script_runner.specs.Replay.{Replays, Seen, IsEnd}
-use Rattle.script_runner.specs.Run.{LineOutcome, NoRoom, Called, Turn, Progress, begun, next, moved, after_turn, said, ends, line_does}
+use Rattle.script_runner.specs.Run.{LineOutcome, NoRoom, Called, Turn, Progress, begun, next, moved, after_turn, said, line_does}
 use Rattle.script_runner.specs.World.{World}
 use Rattle.script_runner.proofs.Outcomes.{IsFine, line_fine}
 use Rattle.script_runner.proofs.Wholes.{lines_in, run_on, first_line, told, known_whole, begins, count_lines, some_tail, run_stops, run_counts}
@@ -21,34 +20,26 @@ bad_fine : (m : ℕ) → IsFine (Some (BadLine m)) → ⊥
 bad_fine m (inl e) = cc
 bad_fine m (inr e) = cc
 
-either_number : (b : Bool) (w : World) (n m : ℕ) → (if b then ends w NoMemory else ends w (BadLine n)).stop ≡ Some (BadLine m) → m ≡ n
-either_number true w n m h = cc
-either_number false w n m h = cc
-
-bad_number : (w : World) (n m : ℕ) (lists : Bool) (known : Option ScriptLine) (outcome : LineOutcome) → known ≡ None → (said w n lists known outcome).stop ≡ Some (BadLine m) → m ≡ n
-bad_number w n m lists None NoRoom e h = either_number lists w n m h
-bad_number w n m lists None (Called call) e h = cc
-bad_number w n m lists (Some l) outcome e h = cc
+bad_number : (w : World) (n m : ℕ) (known : Option ScriptLine) (outcome : LineOutcome) → known ≡ None → (said w n known outcome).stop ≡ Some (BadLine m) → m ≡ n
+bad_number w n m None NoRoom e h = cc
+bad_number w n m None (Called call) e h = cc
+bad_number w n m (Some l) outcome e h = cc
 
 -- how a line comes to be a bad one
 line_bad : (w : World) (n m : ℕ) (bytes : List ℕ) (outcome : LineOutcome) (known : Option ScriptLine) → line_in bytes ≡ known → (line_does w n bytes outcome).stop ≡ Some (BadLine m) → (line_in bytes ≡ None) × (m ≡ n)
 line_bad w n m bytes outcome (Some l) e h =
     let fine : IsFine (Some (BadLine m)) = subst IsFine h (line_fine w n bytes outcome (ap is_some e)) in
     absurd (bad_fine m fine)
-line_bad w n m bytes outcome None e h = (e, bad_number w n m (holds_lists bytes) (line_in bytes) outcome e h)
+line_bad w n m bytes outcome None e h = (e, bad_number w n m (line_in bytes) outcome e h)
 
-either_stops : (b : Bool) (w : World) (n : ℕ) → (if b then ends w NoMemory else ends w (BadLine n)).stop ≡ None → ⊥
-either_stops true w n h = cc
-either_stops false w n h = cc
-
-none_stops : (w : World) (n : ℕ) (lists : Bool) (known : Option ScriptLine) (outcome : LineOutcome) → known ≡ None → (said w n lists known outcome).stop ≡ None → ⊥
-none_stops w n lists None NoRoom e h = either_stops lists w n h
-none_stops w n lists None (Called call) e h = cc
-none_stops w n lists (Some l) outcome e h = cc
+none_stops : (w : World) (n : ℕ) (known : Option ScriptLine) (outcome : LineOutcome) → known ≡ None → (said w n known outcome).stop ≡ None → ⊥
+none_stops w n None NoRoom e h = cc
+none_stops w n None (Called call) e h = cc
+none_stops w n (Some l) outcome e h = cc
 
 goes_known : (w : World) (n : ℕ) (bytes : List ℕ) (outcome : LineOutcome) (known : Option ScriptLine) → line_in bytes ≡ known → (line_does w n bytes outcome).stop ≡ None → IsKnown bytes
 goes_known w n bytes outcome (Some l) e h = ap is_some e
-goes_known w n bytes outcome None e h = absurd (none_stops w n (holds_lists bytes) (line_in bytes) outcome e h)
+goes_known w n bytes outcome None e h = absurd (none_stops w n (line_in bytes) outcome e h)
 
 -- the turns before a bad line, and that line
 record Blamed (p : Progress) (turns : List Turn) (n : ℕ) : Type 0 where

@@ -1,6 +1,6 @@
 -- The server comes to be in doubt only by a line in which the store fails.
 use Rattle.std.proofs.Common.{inl, inr, ◌≡◌, ℕ, ◌+◌, ◌≤◌, Bool, true, false, List, [], ◌∷◌, refl, sym, ap, ◌∙◌, subst, arith}
-use Rattle.std.specs.Prelude.{◌||◌, if◌then◌else◌, fold, Option, Some, None}
+use Rattle.std.specs.Prelude.{◌||◌, fold, Option, Some, None}
 use Rattle.std.specs.List.{list_any}
 use Rattle.enq_base.specs.Causes.{Rose}
 use Rattle.enq_base.specs.declared.condition.Condition.{Condition}
@@ -8,15 +8,15 @@ use Rattle.hall.proofs.Conditions.{Becomes, is_store_failure, step_becomes}
 use Rattle.hall.specs.declared.command.Reply.TheVariants as reply
 use Rattle.hall.specs.History.{DeviceOutcome, Well, Wanting, StoreFails, Comes, step}
 use Rattle.hall.specs.State.{State}
-use Rattle.script_lang.specs.Memory.{holds_lists}
 use Rattle.script_lang.specs.declared.script_line.ScriptLine.{ScriptLine}
 use Rattle.script_runner.specs.declared.runner.Why.{Why}
-use Rattle.script_runner.specs.declared.runner.Why.TheVariants.{BadLine, NoMemory, StoreFault}
-use Rattle.script_runner.specs.Lines.{Meaning, Calls, Declines, Changes, grows, line_in, meaning, settled}
+use Rattle.script_runner.specs.declared.runner.Why.TheVariants.{StoreFault}
+use Rattle.script_runner.specs.Lines.{Meaning, Calls, Declines, Changes, line_in, meaning, settled}
 use Rattle.script_runner.specs.Replay.{HasDoubtCause, Replays, Seen, doubt_in, doubt_of}
-use Rattle.script_runner.specs.Run.{LineOutcome, NoRoom, Called, Turn, Turned, Progress, after_turn, begun, does, done, ends, next, said, store_fails, store_fails_in}
-use Rattle.script_runner.specs.Turns.{HasCounted}
+use Rattle.script_runner.specs.Run.{LineOutcome, NoRoom, Called, Turn, Turned, Progress, after_turn, begun, does, next, said, store_fails, store_fails_in}
+use Rattle.script_runner.specs.Turns.{CountsEach, HasCounted}
 use Rattle.script_runner.specs.World.{World, world}
+use Rattle.script_runner.proofs.Counted.{all_counted}
 use Rattle.script_runner.proofs.TurnLemmas.{answered-world}
 
 or_with : (a b : Bool) → b ≡ true → (a || b) ≡ true
@@ -56,22 +56,16 @@ does_becomes w n l d (Declines r) =
     inl (ap (λ (x : World). x.hall.condition) (answered-world w n (reply.Refused r)))
 does_becomes w n l d (Changes sides) = inl refl
 
-either_becomes : (b : Bool) (w : World) (x y : Turned) → LineBecomes false w x → LineBecomes false w y → LineBecomes false w (if b then x else y)
-either_becomes true w x y h k = h
-either_becomes false w x y h k = k
-
-said_becomes : (w : World) (n : ℕ) (lists : Bool) (known : Option ScriptLine) (outcome : LineOutcome) → LineBecomes (store_fails outcome) w (said w n lists known outcome)
-said_becomes w n lists None NoRoom = either_becomes lists w (ends w NoMemory) (ends w (BadLine n)) (inl refl) (inl refl)
-said_becomes w n lists None (Called call) = inl refl
-said_becomes w n lists (Some l) NoRoom =
-    either_becomes (lists || grows l) w (ends w NoMemory) (done w n l Well) (inl refl) (does_becomes w n l Well (meaning w l))
-said_becomes w n lists (Some l) (Called None) = does_becomes w n l Well (meaning w l)
-said_becomes w n lists (Some l) (Called (Some d)) = does_becomes w n l d (meaning w l)
+said_becomes : (w : World) (n : ℕ) (known : Option ScriptLine) (outcome : LineOutcome) → LineBecomes (store_fails outcome) w (said w n known outcome)
+said_becomes w n known NoRoom = inl refl
+said_becomes w n None (Called call) = inl refl
+said_becomes w n (Some l) (Called None) = does_becomes w n l Well (meaning w l)
+said_becomes w n (Some l) (Called (Some d)) = does_becomes w n l d (meaning w l)
 
 next_becomes : (p : Progress) (t : Turn) → Becomes (store_fails_in t) p.world.hall.condition (next p t).world.hall.condition
 next_becomes p t =
     elim (p.stop) as (λ o. Becomes (store_fails_in t) p.world.hall.condition (after_turn o p t).world.hall.condition) [
-      | None ↦ said_becomes p.world (p.number + 1) (holds_lists t.line) (line_in t.line) t.outcome
+      | None ↦ said_becomes p.world (p.number + 1) (line_in t.line) t.outcome
       | Some why ↦ inl refl
     ]
 
@@ -101,12 +95,15 @@ cause_case before d fails k f g (inr h) is counted =
     inr (omega (arith, number), rose_where fails f g h.0 counted)
 
 -- the store's count never falls
-pub counted_later : (fails : Bool) (f g : ℕ) → HasCounted fails f g → f ≤ g
+counted_later : (fails : Bool) (f g : ℕ) → HasCounted fails f g → f ≤ g
 counted_later true f g h = h.0
 counted_later false f g h = omega (arith, h)
+
+pub store_later : (turns : List Turn) (f g : ℕ) → CountsEach turns f g → f ≤ g
+store_later turns f g h = counted_later _ f g (all_counted turns f g h)
 
 -- a run that ends in doubt
 pub doubt_cause : (before after : World) (old new : Seen) (why : Why) (k : ℕ) → Replays before after old new why → why ≡ StoreFault k → HasDoubtCause before.hall k old.store_faults new.store_faults
 doubt_cause before after old new why k h is =
     let end = (subst (λ w. Replays before after old new w) is h) in
-    cause_case before.hall _ _ k _ _ (run_becomes (begun before) end.turns) end.end.1 end.store
+    cause_case before.hall _ _ k _ _ (run_becomes (begun before) end.turns) end.end.1 (all_counted end.turns _ _ end.store)

@@ -1,6 +1,6 @@
 -- The session of each private side is logged on, whatever the lines do.
 use Rattle.std.proofs.Common.{◌≡◌, ℕ, ◌+◌, Bool, true, false, true≢false, cond, inl, inr, List, [], ◌∷◌, ◌++◌, refl, sym, ap, ◌∙◌, subst}
-use Rattle.std.specs.Prelude.{◌||◌, nat_eq, nat_le, nat_lt, length, if◌then◌else◌, fold, Option, Some, None, Result, Ok, Err, is_some, unwrap_or}
+use Rattle.std.specs.Prelude.{nat_eq, nat_le, nat_lt, length, if◌then◌else◌, fold, Option, Some, None, Result, Ok, Err, is_some, unwrap_or}
 use Rattle.std.specs.Cmp.Lexicographic.{bytes_decides}
 use Rattle.std.specs.Str.{bytes_eq}
 use Rattle.std.proofs.lemmas.Bool.{cases_Bool}
@@ -16,13 +16,11 @@ use Rattle.hall.specs.declared.command.Command.TheVariants as command
 use Rattle.hall.specs.declared.command.Reply.{Reply}
 use Rattle.hall.specs.declared.command.Reply.TheVariants as reply
 use Rattle.hall.specs.declared.command.Session.{Session}
-use Rattle.script_lang.specs.Memory.{holds_lists}
 use Rattle.script_lang.specs.declared.script_line.ScriptLine.{ScriptLine}
 use Rattle.script_lang.specs.declared.script_line.ScriptLine.TheVariants as line
 use Rattle.script_runner.specs.declared.effects.Verb.TheVariants as verb
-use Rattle.script_runner.specs.declared.runner.Why.TheVariants.{BadLine, NoMemory}
-use Rattle.script_runner.specs.Lines.{Meaning, Calls, Declines, Changes, asking, collecting, effect_in, effecting, grows, line_in, meaning, of_session, registering, requesting, settled, unless_refused}
-use Rattle.script_runner.specs.Run.{LineOutcome, NoRoom, Called, Turn, Turned, Progress, after_turn, does, done, ends, next, said}
+use Rattle.script_runner.specs.Lines.{Meaning, Calls, Declines, Changes, asking, collecting, effect_in, effecting, line_in, meaning, of_session, registering, requesting, settled, unless_refused}
+use Rattle.script_runner.specs.Run.{LineOutcome, NoRoom, Called, Turn, Turned, Progress, after_turn, does, next, said}
 use Rattle.script_runner.specs.Sides.{AreLoggedOn, container_of, is_side_of, parts_of, side_of, with_new_side, with_side, without_side}
 use Rattle.script_runner.specs.World.{World, world}
 use Rattle.script_runner.proofs.TurnLemmas.{answered-world}
@@ -173,21 +171,15 @@ does_logged w n l d (Calls c) h k =
 does_logged w n l d (Declines r) h k = subst (λ (x : World). AreLoggedOn x.hall.sessions x.sides) (sym (answered-world w n (reply.Refused r))) h
 does_logged w n l d (Changes sides) h k = k
 
-either_logged : (b : Bool) (x y : Turned) → LeavesLogged x → LeavesLogged y → LeavesLogged (if b then x else y)
-either_logged true x y h k = h
-either_logged false x y h k = k
-
-said_logged : (w : World) (n : ℕ) (lists : Bool) (known : Option ScriptLine) (outcome : LineOutcome) → AreLoggedOn w.hall.sessions w.sides → LeavesLogged (said w n lists known outcome)
-said_logged w n lists None NoRoom h = either_logged lists (ends w NoMemory) (ends w (BadLine n)) h h
-said_logged w n lists None (Called call) h = h
-said_logged w n lists (Some l) NoRoom h =
-    either_logged (lists || grows l) (ends w NoMemory) (done w n l Well) h (does_logged w n l Well (meaning w l) h (meaning_logged w l h))
-said_logged w n lists (Some l) (Called call) h = does_logged w n l (unwrap_or call Well) (meaning w l) h (meaning_logged w l h)
+said_logged : (w : World) (n : ℕ) (known : Option ScriptLine) (outcome : LineOutcome) → AreLoggedOn w.hall.sessions w.sides → LeavesLogged (said w n known outcome)
+said_logged w n known NoRoom h = h
+said_logged w n None (Called call) h = h
+said_logged w n (Some l) (Called call) h = does_logged w n l (unwrap_or call Well) (meaning w l) h (meaning_logged w l h)
 
 next_logged : (p : Progress) (t : Turn) → AreLoggedOn p.world.hall.sessions p.world.sides → AreLoggedOn (next p t).world.hall.sessions (next p t).world.sides
 next_logged p t h =
     elim (p.stop) as (λ o. AreLoggedOn (after_turn o p t).world.hall.sessions (after_turn o p t).world.sides) [
-      | None ↦ said_logged p.world (p.number + 1) (holds_lists t.line) (line_in t.line) t.outcome h
+      | None ↦ said_logged p.world (p.number + 1) (line_in t.line) t.outcome h
       | Some why ↦ h
     ]
 

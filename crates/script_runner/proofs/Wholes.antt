@@ -7,12 +7,14 @@ use Rattle.std.proofs.lemmas.List.{length-map}
 use Rattle.std.proofs.lemmas.List.Elements.{recursion_from_All}
 use Rattle.std.specs.List.{AllByRecursion, list_any}
 use Rattle.io_edge.specs.Lines.{lines_of, onto_first, is_ended, IsUnbroken}
+use Rattle.script_lang.specs.Memory.{holds_lists}
 use Rattle.script_runner.specs.declared.runner.Why.{Why}
 use Rattle.script_runner.specs.declared.runner.Why.TheVariants.{Done, BadWords, BadLine, SourceFault, SinkFault, LongLine, ManyLines, StoreFault, BadStore, NoStart, NoMemory}
 use Rattle.script_runner.specs.Run.{AreAllowed, Turn, Progress, begun, next, run, moved, after_turn, line_does, store_fails_in}
 use Rattle.script_runner.specs.World.{World}
 use Rattle.script_runner.specs.Replay.{Replays, Seen, IsEnd, IsReadToEnd}
 use Rattle.script_runner.specs.Turns.{HasCounted}
+use Rattle.script_runner.proofs.Counted.{all_counted}
 use Rattle.script_runner.proofs.Doubts.{or_left, or_right, run_doubt}
 use Rattle.enq_base.specs.Causes.{Rose}
 use Rattle.script_runner.specs.Lines.{line_in}
@@ -133,7 +135,7 @@ run_allowed : (p : Progress) (turns : List Turn) → (run_on p turns).stop ≡ N
 run_allowed p [] h allowed = tt
 run_allowed p (t ∷ ts) h allowed =
     let goes = run_stops (next p t) ts h in (
-      calmed_may p.world (line_in t.line) t.outcome allowed.0,
+      calmed_may p.world (holds_lists t.line) (line_in t.line) t.outcome allowed.0,
       subst (λ q. AreAllowed q (map calm_turn ts)) (next_well p t goes) (run_allowed (next p t) ts h allowed.1),
     )
 
@@ -241,4 +243,4 @@ pub completes : (before after : World) (old new : Seen) (why : Why) (bytes : Lis
 completes before after old new why bytes h is script quiet_source quiet_sink quiet_store =
     let rest = told bytes (h.lines ++ h.rest) new.left (subst (λ o. Consumes o new.left (h.lines ++ h.rest)) is h.read) in
     let all = begins bytes h.lines h.rest rest.0 h.turns rest.2 (known_whole h.lines h.rest rest.0 new.left rest.1 h.whole) h.each in
-    ends before after bytes rest.0 h.lines h.rest h.turns old new why h.allowed rest.1 all script quiet_source quiet_sink (none_failed _ _ _ h.store quiet_store) h.world h.end
+    ends before after bytes rest.0 h.lines h.rest h.turns old new why h.allowed rest.1 all script quiet_source quiet_sink (none_failed _ _ _ (all_counted h.turns _ _ h.store) quiet_store) h.world h.end

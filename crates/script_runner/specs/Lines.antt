@@ -252,7 +252,7 @@ settled (line.Commit s) reply.Done sides = with_side s without_effects sides
 settled (line.Commit s) (reply.Unit unit) sides = with_side s without_effects sides
 settled _ _ sides = sides
 
--- the lines that may want memory once they are read: with lists or an effect, or that make or copy a private side
+-- the lines for which memory may be wanting once they are read: with lists or an effect, or that make or copy a private side
 abbrev pub grows : ScriptLine → Bool
 grows (line.Logon s user) = true
 grows (line.Flush s) = true

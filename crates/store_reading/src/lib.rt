@@ -39,6 +39,3 @@ pub use rules::{Place, meta_fault, number_fault};
 pub use store_rule::store_fault;
 pub use tables::read_table;
 pub use unit_rule::unit_fault;
-
-#[cfg(test)]
-mod tests;

@@ -5,6 +5,3 @@ mod counts;
 mod turns;
 
 pub use turns::Turns;
-
-#[cfg(test)]
-mod tests;

@@ -30,6 +30,3 @@ pub use records::{Mark, MarkKind, Unit};
 pub use stored::{Interval, Record, StoredInterval};
 pub use unit_id::{UnitId, id_of};
 pub use units::encode_unit;
-
-#[cfg(test)]
-mod tests;

@@ -6,7 +6,7 @@ use Rattle.update_records.specs.Growing.{with_mark}
 use Rattle.update_records.specs.Marks.{may_follow}
 use Rattle.update_records.specs.declared.records.MarkKind.TheVariants.{Gone}
 use Rattle.hall.proofs.Cancels.{can_be, may_follow_gone, refused_plainly}
-use Rattle.hall.proofs.Leaves.{answered_leaves, failed_leaves, plain_quiet, where_told}
+use Rattle.hall.proofs.Leaves.{answered_leaves, failed_leaves, plain_quiet, untouched_keeps, where_told}
 use Rattle.hall.proofs.Writes.{below_limit, cancels, cancels_in_doubt, cancels_not, cancels_wanting}
 use Rattle.hall.specs.declared.units.InFlight.TheVariants as flight
 use Rattle.hall.proofs.units.cancel.Goals as goal
@@ -82,3 +82,15 @@ pub returns-in-Err-write-clause-cause : goal.returns-in-Err-write-clause-cause
 returns-in-Err-write-clause-cause g c =
     let now = g.K.Keeper.faults c.write.new.self.keeper in
     subst (λ before. (before ≤ now) × Rose before now) c.prepare_mark.ensures.unmoved.count (c.write.ensures.cause.later, c.in-Err-write.ensures.cause.failed)
+
+pub returns-in-Err-clause-kept : goal.returns-in-Err-clause-kept
+returns-in-Err-clause-kept g c = untouched_keeps g.K.Keeper.held g.K.Keeper.may_leave c.args.books.now.keeper c.in-Err.refusal
+
+pub returns-in_default-clause-kept : goal.returns-in_default-clause-kept
+returns-in_default-clause-kept g c = (c.prepare_mark.ensures.unmoved.rows, c.prepare_mark.ensures.unmoved.crash)
+
+pub returns-in-Ok-write-clause-kept : goal.returns-in-Ok-write-clause-kept
+returns-in-Ok-write-clause-kept g c = tt
+
+pub returns-in-Err-write-clause-kept : goal.returns-in-Err-write-clause-kept
+returns-in-Err-write-clause-kept g c = tt

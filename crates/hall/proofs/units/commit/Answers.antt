@@ -6,7 +6,7 @@ use Rattle.posting.specs.Steps.{after_step}
 use Rattle.update_records.specs.Growing.{with_unit}
 use Rattle.update_records.specs.declared.records.Unit.{Unit as UnitOfWork}
 use Rattle.hall.proofs.Writes.{below_limit, commits, commits_full, commits_in_doubt, commits_nothing, commits_too_much, commits_unknown, may_record}
-use Rattle.hall.proofs.Leaves.{answered_leaves, failed_leaves, where_told}
+use Rattle.hall.proofs.Leaves.{answered_leaves, failed_leaves, untouched_keeps, where_told}
 use Rattle.hall.specs.Leaving.{HasStoreCause}
 use Rattle.hall.specs.Step.{unit_of}
 use Rattle.hall.specs.declared.command.Reply.TheVariants as reply
@@ -130,3 +130,21 @@ pub returns-in-Err-write-clause-cause : goal.returns-in-Err-write-clause-cause
 returns-in-Err-write-clause-cause g c =
     let now = g.K.Keeper.faults c.write.new.self.keeper in
     subst (λ before. (before ≤ now) × Rose before now) c.prepare_unit.ensures.unmoved.count (c.write.ensures.cause.later, c.in-Err-write.ensures.cause.failed)
+
+pub returns-in-Err-clause-kept : goal.returns-in-Err-clause-kept
+returns-in-Err-clause-kept g c = untouched_keeps g.K.Keeper.held g.K.Keeper.may_leave c.args.books.now.keeper c.in-Err.refusal
+
+pub returns-then-effects-gt-EFFECTS_LIMIT-clause-kept : goal.returns-then-effects-gt-EFFECTS_LIMIT-clause-kept
+returns-then-effects-gt-EFFECTS_LIMIT-clause-kept g c = (refl, λ rows may. may)
+
+pub returns-then-effects-eq0-clause-kept : goal.returns-then-effects-eq0-clause-kept
+returns-then-effects-eq0-clause-kept g c = tt
+
+pub returns-then-is_full-clause-kept : goal.returns-then-is_full-clause-kept
+returns-then-is_full-clause-kept g c = (refl, λ rows may. may)
+
+pub returns-in-Ok-write-clause-kept : goal.returns-in-Ok-write-clause-kept
+returns-in-Ok-write-clause-kept g c = tt
+
+pub returns-in-Err-write-clause-kept : goal.returns-in-Err-write-clause-kept
+returns-in-Err-write-clause-kept g c = tt

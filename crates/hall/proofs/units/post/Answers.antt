@@ -6,8 +6,8 @@ use Rattle.posting.specs.Steps.{after_step}
 use Rattle.update_records.specs.Growing.{with_mark}
 use Rattle.hall.proofs.Claims.{held_for}
 use Rattle.hall.proofs.Writes.{below_limit, landed_where_told, may_come, posts, posts_full, posts_in_doubt, posts_none, posts_wanting}
-use Rattle.hall.specs.Leaving.{HasStoreCause}
-use Rattle.hall.proofs.Leaves.{posted_quiet, answered_leaves, failed_leaves, told_too, unread_leaves}
+use Rattle.hall.specs.Leaving.{HasStoreCause, KeepsStore}
+use Rattle.hall.proofs.Leaves.{answered_leaves, failed_leaves, posted_keeps, posted_quiet, told_too, unread_leaves}
 use Rattle.hall.specs.Acts.{IsAct, post_of}
 use Rattle.hall.specs.declared.units.InFlight.TheVariants as flight
 use Rattle.hall.specs.Orders.{order_for, order_of}
@@ -135,3 +135,25 @@ pub returns-in-Err-clause-cause : goal.returns-in-Err-clause-cause
 returns-in-Err-clause-cause g c =
     let now = g.K.Keeper.faults c.write.new.self.keeper in
     subst (λ before. (before ≤ now) × Rose before now) c.in-Ok.ensures.cause.quiet (c.write.ensures.cause.later, c.in-Err.ensures.cause.failed)
+
+pub returns-in_default-clause-kept : goal.returns-in_default-clause-kept
+returns-in_default-clause-kept g c = (refl, λ rows may. may)
+
+pub returns-then-is_full-clause-kept : goal.returns-then-is_full-clause-kept
+returns-then-is_full-clause-kept g c = (refl, λ rows may. may)
+
+pub returns-in-Err-NoMemory-clause-kept : goal.returns-in-Err-NoMemory-clause-kept
+returns-in-Err-NoMemory-clause-kept g c =
+    let unmoved = rw c.in-Err-NoMemory.field-0-is at c.in-Err-NoMemory.ensures.unmoved in
+    (unmoved.rows, unmoved.crash)
+
+pub returns-in-Err-Failed-clause-kept : goal.returns-in-Err-Failed-clause-kept
+returns-in-Err-Failed-clause-kept g c = tt
+
+pub returns-in-Ok-write-clause-kept : goal.returns-in-Ok-write-clause-kept
+returns-in-Ok-write-clause-kept g c =
+    subst (KeepsStore g.K.Keeper.held g.K.Keeper.may_leave c.args.books.now.keeper c.write.new.self.keeper) (sym c.posted.ensures)
+    (posted_keeps g.K.Keeper.held g.K.Keeper.may_leave _ _ c.args.part c.in-Some.unit c.in-Ok.ready.1)
+
+pub returns-in-Err-clause-kept : goal.returns-in-Err-clause-kept
+returns-in-Err-clause-kept g c = tt

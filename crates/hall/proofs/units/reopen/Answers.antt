@@ -7,7 +7,7 @@ use Rattle.posting.specs.Posts.{entries_of}
 use Rattle.posting.specs.Steps.{after_step}
 use Rattle.update_records.specs.Growing.{with_mark}
 use Rattle.update_records.specs.declared.records.MarkKind.TheVariants.{Again1}
-use Rattle.hall.proofs.Leaves.{failed_leaves, where_told}
+use Rattle.hall.proofs.Leaves.{failed_leaves, refused_keeps, where_told}
 use Rattle.hall.proofs.Owned.{may_be_readmitted}
 use Rattle.hall.proofs.Writes.{reopens, reopens_in_doubt, reopens_in_vain}
 use Rattle.hall.specs.Sessions.{owners_of}
@@ -60,3 +60,12 @@ returns-clause-left g c =
     c.write.new.self.ledger c.prepare_mark.new.self.ledger c.in-Ok-prepare_mark.prepared.step (flight.Again c.args.unit 1)
     c.write.ensures.told c.in-Err-write.ensures.kept
     (where_told (held c.prepare_mark.new.self.keeper) _ (ap (after_step c.prepare_mark.new.self.ledger) c.in-Ok-prepare_mark.ensures.step)) c.write.ensures.left
+
+pub returns-in-Err-clause-kept : goal.returns-in-Err-clause-kept
+returns-in-Err-clause-kept g c = refused_keeps g.K.Keeper.held g.K.Keeper.may_leave c.args.books.now.keeper c.prepare_mark.new.self.keeper c.refusal_of.result c.prepare_mark.ensures.unmoved.rows c.prepare_mark.ensures.unmoved.crash
+
+pub returns-in-Ok-write-clause-kept : goal.returns-in-Ok-write-clause-kept
+returns-in-Ok-write-clause-kept g c = tt
+
+pub returns-clause-kept : goal.returns-clause-kept
+returns-clause-kept g c = tt

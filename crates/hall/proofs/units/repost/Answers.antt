@@ -31,3 +31,12 @@ returns-in-Err-clause-left g c =
     c.write.new.self.ledger c.prepare_mark.new.self.ledger c.in-Ok.prepared.step (flight.Again c.args.unit 2)
     c.write.ensures.told c.in-Err.ensures.kept
     (where_told (held c.prepare_mark.new.self.keeper) _ (ap (after_step c.prepare_mark.new.self.ledger) c.in-Ok.ensures.step)) c.write.ensures.left
+
+pub returns-in_default-clause-kept : goal.returns-in_default-clause-kept
+returns-in_default-clause-kept g c = (c.prepare_mark.ensures.unmoved.rows, c.prepare_mark.ensures.unmoved.crash)
+
+pub returns-in-Ok-write-clause-kept : goal.returns-in-Ok-write-clause-kept
+returns-in-Ok-write-clause-kept g c = tt
+
+pub returns-in-Err-clause-kept : goal.returns-in-Err-clause-kept
+returns-in-Err-clause-kept g c = tt

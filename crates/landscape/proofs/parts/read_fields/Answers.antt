@@ -1,4 +1,4 @@
-use Rattle.std.proofs.Common.{arith, rules, refl, ap, map, sym, ◌∙◌}
+use Rattle.std.proofs.Common.{arith, rules, refl, ap, map}
 use Rattle.std.proofs.lemmas.List.{drop_all}
 use Rattle.toml.specs.View.{view}
 use Rattle.landscape.specs.Objects.{field_of}

@@ -1,4 +1,4 @@
-use Rattle.std.proofs.Common.{arith, rules, ap, map}
+use Rattle.std.proofs.Common.{arith, ap, map}
 use Rattle.std.proofs.lemmas.List.{drop_all}
 use Rattle.std.proofs.lemmas.Result.{err_from_is_err_and}
 use Rattle.toml.specs.View.{view}

@@ -1,4 +1,4 @@
-use Rattle.std.proofs.Common.{rules, arith}
+use Rattle.std.proofs.Common.{arith}
 use Rattle.std.proofs.lemmas.Result.{err_from_is_err_and}
 use Rattle.landscape.proofs.Takings.{taken_by_failed}
 use Rattle.landscape.proofs.read.read_bytes.Goals as goal

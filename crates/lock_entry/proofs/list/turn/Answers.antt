@@ -1,8 +1,7 @@
-use Rattle.std.proofs.Common.{◌≡◌, List, Some, None, true, false, length, map, sym, ap, ◌∙◌}
+use Rattle.std.proofs.Common.{◌≡◌, Some, None, true, false, length, map, sym, ap, ◌∙◌}
 use Rattle.std.specs.List.{find}
 use Rattle.std.proofs.lemmas.List.{length-map}
 use Rattle.mode_rules.specs.declared.Mode.TheVariants.{E, O}
-use Rattle.lock_entry.specs.declared.entry.Entry.{Entry}
 use Rattle.lock_entry.specs.declared.entry.LockName.{LockName}
 use Rattle.lock_entry.specs.Names.{has_name, stands}
 use Rattle.lock_entry.specs.Freeing.{without}

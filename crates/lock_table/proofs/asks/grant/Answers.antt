@@ -1,4 +1,4 @@
-use Rattle.std.proofs.Common.{◌≡◌, ◌++◌, List, ap, sym, ◌∙◌}
+use Rattle.std.proofs.Common.{◌++◌, List, ap, sym, ◌∙◌}
 use Rattle.lock_entry.specs.declared.entry.Entry.{Entry}
 use Rattle.lock_table.proofs.Entries.{some_entry}
 use Rattle.lock_table.proofs.HalfLists.{Walk, walk-within, walk-count, walk-more, raised-nothing}

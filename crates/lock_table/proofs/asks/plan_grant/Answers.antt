@@ -1,8 +1,6 @@
-use Rattle.std.proofs.Common.{◌≡◌, ◌∙◌, ap, arith}
-use Rattle.std.specs.List.{list_any}
+use Rattle.std.proofs.Common.{arith}
 use Rattle.std.proofs.lemmas.Result.{err_from_is_err_and}
 use Rattle.lock_entry.specs.Table.{Table}
-use Rattle.lock_table.specs.Halves.{names_of, fresh_names, capped_entry}
 use Rattle.lock_table.proofs.HalfLists.{Tested, bar-asked, tested-Full, tested-Count, tested-counts, tested-Ok}
 use Rattle.lock_table.proofs.asks.plan_grant.Goals as goal
 

@@ -1,4 +1,3 @@
-use Rattle.std.proofs.Common.{sym, ◌∙◌}
 use Rattle.lock_entry.proofs.Conversions.{converted-Lost, converted-Foreign, converted-Count, converted-Ok}
 use Rattle.lock_table.proofs.converts.test.Goals as goal
 

@@ -1,4 +1,4 @@
-use Rattle.std.proofs.Common.{◌≡◌, ◌++◌, suc, List, take, drop, ap, sym, ◌∙◌}
+use Rattle.std.proofs.Common.{◌++◌, suc, List, take, drop, ap, sym, ◌∙◌}
 use Rattle.std.proofs.lemmas.List.{set_split, get_or_read}
 use Rattle.lock_entry.specs.declared.entry.Entry.{Entry}
 use Rattle.lock_entry.specs.Freeing.{lowered}

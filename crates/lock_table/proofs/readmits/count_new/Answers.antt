@@ -1,6 +1,5 @@
-use Rattle.std.proofs.Common.{◌≡◌, ◌≤◌, ◌+◌, ◌∙◌, ap, arith}
+use Rattle.std.proofs.Common.{◌≤◌, ◌+◌, ◌∙◌, arith}
 use Rattle.std.specs.Prelude.{is_some}
-use Rattle.std.specs.List.{find}
 use Rattle.lock_entry.specs.Barring.{bars}
 use Rattle.lock_table.proofs.GivenLists.{newcomers-more, one_at_most, first_bar-more}
 use Rattle.lock_table.proofs.readmits.count_new.Goals as goal

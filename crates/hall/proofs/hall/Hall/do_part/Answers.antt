@@ -4,7 +4,7 @@ use Rattle.enq_base.specs.declared.condition.Condition.{Condition}
 use Rattle.enq_base.specs.declared.condition.Condition.TheVariants.{Up}
 use Rattle.hall.proofs.Endings.{ending, state_with}
 use Rattle.hall.proofs.Ends.{who_posts}
-use Rattle.hall.proofs.Leaves.{also_failed, leaves_after, usable_after}
+use Rattle.hall.proofs.Leaves.{also_failed, leaves_after, same_keeps, usable_after}
 use Rattle.hall.specs.History.{IsStep, who_of}
 use Rattle.hall.specs.Step.{closed}
 use Rattle.hall.specs.State.{State}
@@ -69,3 +69,6 @@ returns-clause-left g c =
     let called = c.post-written in
     let ended = c.ended-reply in
     leaves_after g.K.Keeper.held g.K.Keeper.may_leave called.new.books old.pending ended.new.pending called.result ended.ensures.pending called.ensures.left
+
+pub returns-in-Some-clause-kept : goal.returns-in-Some-clause-kept
+returns-in-Some-clause-kept g c = same_keeps g.K.Keeper.held g.K.Keeper.may_leave _ _ c.refuse.result c.refuse.ensures.keeper

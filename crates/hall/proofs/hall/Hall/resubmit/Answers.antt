@@ -3,7 +3,7 @@ use Rattle.std.specs.Prelude.{None, is_some}
 use Rattle.enq_base.specs.declared.condition.Condition.{Condition}
 use Rattle.enq_base.specs.declared.condition.Condition.TheVariants.{Up}
 use Rattle.hall.proofs.Endings.{ending, state_with}
-use Rattle.hall.proofs.Leaves.{also_failed, leaves_after, usable_after}
+use Rattle.hall.proofs.Leaves.{also_failed, leaves_after, same_keeps, usable_after}
 use Rattle.hall.specs.History.{IsStep}
 use Rattle.hall.specs.Step.{closed}
 use Rattle.hall.specs.State.{State}
@@ -60,3 +60,6 @@ returns-clause-left g c =
     let called = c.resubmit-written in
     let ended = c.ended-reply in
     leaves_after g.K.Keeper.held g.K.Keeper.may_leave called.new.books old.pending ended.new.pending called.result ended.ensures.pending called.ensures.left
+
+pub returns-in-Some-clause-kept : goal.returns-in-Some-clause-kept
+returns-in-Some-clause-kept g c = same_keeps g.K.Keeper.held g.K.Keeper.may_leave _ _ c.refuse.result c.refuse.ensures.keeper

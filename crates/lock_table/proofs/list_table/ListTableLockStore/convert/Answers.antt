@@ -1,6 +1,6 @@
 use Rattle.std.proofs.Common.{◌≡◌, Ok, rules}
 use Rattle.lock_entry.specs.Table.{Table}
-use Rattle.lock_entry.specs.Converting.{Conversion, converted, conversion}
+use Rattle.lock_entry.specs.Converting.{converted, conversion}
 use Rattle.lock_entry.proofs.ConversionSound.{IsTable-converted}
 use Rattle.lock_table.proofs.list_table.ListTableLockStore.convert.Goals as goal
 

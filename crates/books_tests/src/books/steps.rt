@@ -1,0 +1,165 @@
+ghost use Rattle.std.specs.Prelude.{IfOk, OnOk};
+ghost use Rattle.keeper_mem.specs.Memory.{IsSettled, held_rows};
+ghost use Rattle.posting.specs.Shelf.{IsUsable};
+
+use super::calls::{cancel, commit, has_text, opened, post1, post2, try_again};
+use super::drawing::{commit_locked, draw, store};
+use super::told::{Told, are_numbers, are_open, are_views, has_lock, is_told};
+use super::units::{Act, parts_of, unit_key};
+use keeper_mem::MemKeeper;
+use posting::{Books, Outcome, UnitView};
+use std::alloc::Global;
+use std::process::Abort;
+use std::test::Fail;
+
+/// What is done with the books, where a unit of the first session is called by its number, and what is told then.
+#[derive(Clone, Copy)]
+pub enum Step<'a> {
+    /// They are taken apart and opened again, with the next start or without.
+    Open(bool),
+    /// A unit is recorded with these parts.
+    Record(u32, &'static [Act], &'static [Act]),
+    /// A unit is recorded with this V1 part, the first two numbers of STAT, and a lock.
+    Lock(u32, &'static [Act]),
+    /// A unit draws the first two numbers of STAT alone.
+    Draw(u32),
+    /// STAT 01 is stored.
+    Store,
+    /// A unit's V1 part comes to this.
+    Post1(u32, Outcome),
+    /// A unit's V2 part comes to this.
+    Post2(u32, Outcome),
+    /// The refused part of a unit may be tried again.
+    Again(u32),
+    Cancel(u32),
+    /// A business row of table T has this text, or isn't there.
+    Row(&'static [u8], Option<&'static [u8]>),
+    /// This is told of a unit, and again after another opening.
+    Unit(u32, Told<'a>),
+    /// The start, and how many marks there are.
+    Started(u32, u32),
+    /// So many numbers are committed, and STAT 01 has this level, or isn't stored.
+    Numbers(u64, Option<u64>),
+    /// What is told of the recorded units.
+    Views(&'a [UnitView]),
+    /// The units that wait for their V1 part, and how many locks each has.
+    Waiting(&'a [(u32, usize)]),
+    /// Whether a unit holds a lock, which is that of `lock_of`, or none.
+    Locks(u32, bool),
+}
+
+/// Posts, tries again, cancels or reads, and says whether that comes to what was told.
+fn act(alloc: Global, books: &mut Books<MemKeeper>, step: &Step) -> Result<bool, Fail>
+    requires usable { IsUsable held_rows IsSettled books.old }
+    ensures { OnOk result (IsUsable held_rows IsSettled books.new) }
+{
+    match step {
+        Step::Post1(luw, outcome) => Ok(post1(alloc, books, &unit_key(*luw))? == *outcome),
+        Step::Post2(luw, outcome) => Ok(post2(alloc, books, &unit_key(*luw))? == *outcome),
+        Step::Again(luw) => {
+            try_again(alloc, books, &unit_key(*luw))?;
+            Ok(true)
+        }
+        Step::Cancel(luw) => {
+            cancel(alloc, books, &unit_key(*luw))?;
+            Ok(true)
+        }
+        Step::Row(key, text) => has_text(alloc, books, key, *text),
+        _ => Ok(true),
+    }
+}
+
+/// Records, draws or stores.
+fn enter(alloc: Global, books: &mut Books<MemKeeper>, step: &Step) -> Result<(), Fail>
+    requires usable { IsUsable held_rows IsSettled books.old }
+    ensures { OnOk result (IsUsable held_rows IsSettled books.new) }
+{
+    match step {
+        Step::Record(luw, v1, v2) => {
+            let parts = parts_of(alloc, v1, v2)?;
+            commit(alloc, books, &unit_key(*luw), parts)
+        }
+        Step::Lock(luw, v1) => {
+            let parts = parts_of(alloc, v1, &[])?;
+            commit_locked(alloc, books, &unit_key(*luw), parts)
+        }
+        Step::Draw(luw) => draw(alloc, books, &unit_key(*luw)),
+        Step::Store => store(alloc, books),
+        _ => Ok(()),
+    }
+}
+
+/// Whether the books tell what they are to tell.
+fn tell(alloc: Global, books: &Books<MemKeeper>, step: &Step) -> Result<bool, Fail> {
+    match step {
+        Step::Unit(luw, told) => Ok(is_told(books, &unit_key(*luw), told)),
+        Step::Started(start, marks) => Ok(books.start() == *start && books.marks() == *marks),
+        Step::Numbers(count, level) => are_numbers(books, *count, *level),
+        Step::Views(views) => are_views(alloc, books, views),
+        Step::Waiting(units) => are_open(alloc, books, units),
+        Step::Locks(luw, locked) => has_lock(alloc, books, &unit_key(*luw), *locked),
+        _ => Ok(true),
+    }
+}
+
+/// The books after another opening, where the step asks for one.
+fn again(alloc: Global, books: Books<MemKeeper>, step: &Step) -> Result<Books<MemKeeper>, Fail>
+    requires usable { IsUsable held_rows IsSettled books }
+    ensures { IfOk result (IsUsable held_rows IsSettled) }
+{
+    match step {
+        Step::Open(raise) => opened(alloc, books.into_keeper(), *raise),
+        Step::Unit(..) => opened(alloc, books.into_keeper(), true),
+        _ => Ok(books),
+    }
+}
+
+/// Does one step, and says whether all is told as it says.
+fn do_step(
+    alloc: Global,
+    books: Books<MemKeeper>,
+    step: &Step,
+) -> Result<(Books<MemKeeper>, bool), Fail>
+    requires usable { IsUsable held_rows IsSettled books }
+    ensures { IfOk result (λ r. IsUsable held_rows IsSettled r.0) }
+{
+    let mut books = books;
+    enter(alloc, &mut books, step)?;
+    let right = act(alloc, &mut books, step)?;
+    let told = tell(alloc, &books, step)?;
+    let books = again(alloc, books, step)?;
+    let kept = tell(alloc, &books, step)?;
+    Ok((books, right && told && kept))
+}
+
+fn do_each(
+    rt: &impl Abort,
+    alloc: Global,
+    books: Books<MemKeeper>,
+    steps: &[Step],
+) -> Result<Books<MemKeeper>, Fail>
+    requires usable { IsUsable held_rows IsSettled books }
+    ensures { IfOk result (IsUsable held_rows IsSettled) }
+{
+    let mut books = books;
+    for place in 0..steps.len() {
+        let (after, right) = do_step(alloc, books, &steps[place])?;
+        assert!(rt; right, "step {place}, counted from 0");
+        books = after;
+    }
+    Ok(books)
+}
+
+/// Opens a store without rows, and does one step after the other, those of `first` before the others.
+pub fn do_steps(
+    rt: &impl Abort,
+    alloc: Global,
+    first: &[Step],
+    steps: &[Step],
+) -> Result<(), Fail> {
+    let keeper = MemKeeper::new(alloc, Vec::new(alloc), Vec::new(alloc))?;
+    let books = opened(alloc, keeper, true)?;
+    let books = do_each(rt, alloc, books, first)?;
+    do_each(rt, alloc, books, steps)?;
+    Ok(())
+}

@@ -1,0 +1,5 @@
+//! Tests of the books of update records.
+#![tactic(auto)]
+
+#[cfg(test)]
+mod books;

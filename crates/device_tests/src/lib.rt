@@ -1,0 +1,9 @@
+//! Tests of disks, of the backup file and of the lock table that is kept with it.
+#![tactic(auto)]
+
+#[cfg(test)]
+mod disks;
+#[cfg(test)]
+mod files;
+#[cfg(test)]
+mod servers;

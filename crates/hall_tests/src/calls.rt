@@ -1,0 +1,262 @@
+ghost use Rattle.std.specs.Prelude.{◌≤◌};
+
+use enq_base::{
+    Deed, Effect, Items, Key, Owner, Parts, Pattern, Refusal, Text, UnitKey, read_name,
+};
+use hall::{Hall, Reply};
+use keeper_mem::MemKeeper;
+use lock_entry::{Asked, Entry, Mode, Request};
+use lock_table::ListTable;
+use std::alloc::Global;
+use std::test::*;
+
+type MemHall = Hall<ListTable, MemKeeper>;
+
+// A call of the one session, or of a worker.
+#[derive(Clone, Copy)]
+enum Call {
+    Logon,
+    Logoff,
+    // For an exclusive lock of the dialogue on this order, or of the open unit in this mode.
+    Ask(&'static [u8]),
+    AskForUnit(&'static [u8], Mode),
+    // For an exclusive lock of both owners on this order.
+    AskForBoth(&'static [u8]),
+    Free(&'static [u8]),
+    // A commit of one effect, or of none.
+    Commit { effects: usize },
+    Take(u8),
+    Post(u8),
+    Drop(u8),
+    // Of the first unit.
+    Cancel,
+}
+
+fn parts_of(alloc: Global, effects: usize) -> Result<Parts, Fail> {
+    let mut v1 = Vec::new(alloc);
+    for _ in 0..effects {
+        let Ok(text) = Text::new(alloc, b"X") else {
+            return Err(Fail::from("a text"));
+        };
+        v1.push(Effect {
+            table: read_name(b"T").ok_or("a name")?,
+            key: Key::new(b"1").ok_or("a key")?,
+            deed: Deed::Put(text),
+        })?;
+    }
+    Ok(Parts {
+        v1: Items::from_vec(v1),
+        v2: Items::from_vec(Vec::new(alloc)),
+    })
+}
+
+fn make(alloc: Global, hall: &mut MemHall, call: Call) -> Result<Reply, Fail> {
+    let session = read_name(b"A").ok_or("a name")?;
+    let user = read_name(b"MILLER").ok_or("a name")?;
+    match call {
+        Call::Logon => Ok(hall.logon(1, session, user)),
+        Call::Logoff => Ok(hall.logoff(1, session)),
+        Call::Ask(order) => {
+            let request = lock(order, Mode::E, true, false).ok_or("a request")?;
+            Ok(hall.ask(alloc, 1, session, vec![in alloc; request]?))
+        }
+        Call::AskForBoth(order) => {
+            let request = lock(order, Mode::E, true, true).ok_or("a request")?;
+            Ok(hall.ask(alloc, 1, session, vec![in alloc; request]?))
+        }
+        Call::AskForUnit(order, mode) => {
+            let request = lock(order, mode, false, true).ok_or("a request")?;
+            Ok(hall.ask(alloc, 1, session, vec![in alloc; request]?))
+        }
+        Call::Free(order) => {
+            let request = lock(order, Mode::E, true, false).ok_or("a request")?;
+            Ok(hall.free(1, session, vec![in alloc; request]?))
+        }
+        Call::Commit { effects } => {
+            let parts = parts_of(alloc, effects)?;
+            Ok(hall.commit(alloc, 1, session, parts))
+        }
+        Call::Take(worker) => Ok(hall.take1(1, worker)),
+        Call::Post(worker) => Ok(hall.do1(alloc, 1, worker)),
+        Call::Drop(worker) => Ok(hall.drop_order(1, worker)),
+        Call::Cancel => Ok(hall.cancel(alloc, 1, FIRST_UNIT)),
+    }
+}
+
+// Makes calls, each of which is to be answered so, and to leave so many locks.
+fn make_all(alloc: Global, hall: &mut MemHall, calls: &[(Call, Reply, usize)]) -> Result<(), Fail> {
+    for (call, reply, locks) in calls {
+        if make(alloc, hall, *call)? != *reply {
+            return Err(Fail::from("another answer"));
+        }
+        if hall.entries(alloc)?.len() != *locks {
+            return Err(Fail::from("other locks"));
+        }
+    }
+    Ok(())
+}
+
+fn opened(alloc: Global, max_locks: u32, max_marks: u32) -> Result<MemHall, Fail>
+    requires { max_marks ≤ 1048576 }
+{
+    let keeper = MemKeeper::new(alloc, Vec::new(alloc), Vec::new(alloc))?;
+    match MemHall::open(alloc, keeper, max_locks, max_marks) {
+        Ok(hall) => Ok(hall),
+        Err(_) => Err(Fail::from("a hall")),
+    }
+}
+
+fn lock(argument: &[u8], mode: Mode, dialogue: bool, update: bool) -> Option<Request> {
+    let asked = Asked {
+        table: read_name(b"ZORDER")?,
+        pattern: Pattern::new(argument)?,
+        mode,
+    };
+    Some(Request {
+        asked,
+        dialogue,
+        update,
+    })
+}
+
+const FIRST_ORDER: &[u8] = b"1000000000001";
+
+const SECOND_ORDER: &[u8] = b"1000000000002";
+
+const FIRST_UNIT: UnitKey = UnitKey {
+    start: 1,
+    session: 1,
+    luw: 1,
+};
+
+#[test]
+fn a_hall_shows_its_locks_and_its_calls(rt: HostRuntime) -> Result<(), Fail> {
+    let alloc = rt.alloc();
+    let full = Refusal::LockTableFull { used: 1, limit: 1 };
+    let mut hall = opened(alloc, 1, 1)?;
+    make_all(
+        alloc,
+        &mut hall,
+        &[
+            (Call::Logon, Reply::Done, 0),
+            (Call::Ask(FIRST_ORDER), Reply::Done, 1),
+            (Call::Ask(SECOND_ORDER), Reply::Refused(full), 1),
+            (Call::Free(FIRST_ORDER), Reply::Done, 0),
+            (Call::Logoff, Reply::Done, 0),
+        ],
+    )?;
+    assert_eq!(rt; hall.past().len(), 5);
+    Ok(())
+}
+
+#[test]
+fn a_full_history_does_not_grow(rt: HostRuntime) -> Result<(), Fail> {
+    let alloc = rt.alloc();
+    let mut hall = opened(alloc, 1, 1)?;
+    for _ in 0..262_144 {
+        assert!(rt; hall.drop_order(0, 1) == Reply::Refused(Refusal::NoOrder));
+    }
+    make_all(
+        alloc,
+        &mut hall,
+        &[
+            (Call::Drop(1), Reply::Refused(Refusal::LogFull), 0),
+            (Call::Logon, Reply::Refused(Refusal::LogFull), 0),
+            (Call::Ask(FIRST_ORDER), Reply::Refused(Refusal::LogFull), 0),
+            (Call::Free(FIRST_ORDER), Reply::Refused(Refusal::LogFull), 0),
+            (
+                Call::Commit { effects: 0 },
+                Reply::Refused(Refusal::LogFull),
+                0,
+            ),
+            (Call::Take(1), Reply::Refused(Refusal::LogFull), 0),
+            (Call::Post(1), Reply::Refused(Refusal::LogFull), 0),
+            (Call::Cancel, Reply::Refused(Refusal::LogFull), 0),
+            (Call::Logoff, Reply::Refused(Refusal::LogFull), 0),
+        ],
+    )?;
+    assert_eq!(rt; hall.past().len(), 262_144);
+    Ok(())
+}
+
+// Whether all are exclusive locks of the first unit, handed over to the update.
+fn hands_over(entries: &[Entry]) -> bool {
+    let owner = Owner::Upd(FIRST_UNIT);
+    for entry in entries {
+        if entry.owner != owner || entry.mode != Mode::E || !entry.handed {
+            return false;
+        }
+    }
+    true
+}
+
+// An optimistic lock of the unit goes, and its exclusive one is handed over.
+#[test]
+fn a_commit_hands_its_locks_over(rt: HostRuntime) -> Result<(), Fail> {
+    let alloc = rt.alloc();
+    let mut hall = opened(alloc, 2, 1)?;
+    make_all(
+        alloc,
+        &mut hall,
+        &[
+            (Call::Logon, Reply::Done, 0),
+            (Call::AskForUnit(FIRST_ORDER, Mode::O), Reply::Done, 1),
+            (Call::AskForUnit(FIRST_ORDER, Mode::E), Reply::Done, 2),
+            (Call::Commit { effects: 1 }, Reply::Unit(FIRST_UNIT), 1),
+        ],
+    )?;
+    assert!(rt; hands_over(hall.entries(alloc)?.as_slice()));
+    Ok(())
+}
+
+// A lock of both owners is two: that of the unit goes with its post, and that of the dialogue stays.
+#[test]
+fn a_post_frees_the_locks_of_its_unit_alone(rt: HostRuntime) -> Result<(), Fail> {
+    let alloc = rt.alloc();
+    let mut hall = opened(alloc, 2, 2)?;
+    make_all(
+        alloc,
+        &mut hall,
+        &[
+            (Call::Logon, Reply::Done, 0),
+            (Call::AskForBoth(FIRST_ORDER), Reply::Done, 2),
+            (Call::Commit { effects: 1 }, Reply::Unit(FIRST_UNIT), 2),
+            (Call::Take(1), Reply::Unit(FIRST_UNIT), 2),
+            (Call::Post(1), Reply::Posted(FIRST_UNIT), 1),
+        ],
+    )
+}
+
+// A store that may have one mark takes no second: neither a post nor a commit nor a cancelling. What adds no mark goes
+// on.
+#[test]
+fn a_full_store_takes_no_mark(rt: HostRuntime) -> Result<(), Fail> {
+    let alloc = rt.alloc();
+    let mut hall = opened(alloc, 1, 1)?;
+    make_all(
+        alloc,
+        &mut hall,
+        &[
+            (Call::Logon, Reply::Done, 0),
+            (Call::Cancel, Reply::Refused(Refusal::UnknownUnit), 0),
+            (Call::Commit { effects: 1 }, Reply::Unit(FIRST_UNIT), 0),
+            (Call::Take(1), Reply::Unit(FIRST_UNIT), 0),
+            (Call::Cancel, Reply::Refused(Refusal::UnitClaimed(1)), 0),
+            (Call::Post(1), Reply::Refused(Refusal::StoreFull(1)), 0),
+            (Call::Post(2), Reply::Refused(Refusal::NoOrder), 0),
+            (
+                Call::Commit { effects: 1 },
+                Reply::Refused(Refusal::StoreFull(1)),
+                0,
+            ),
+            (
+                Call::Commit { effects: 201 },
+                Reply::Refused(Refusal::UnitTooLarge),
+                0,
+            ),
+            (Call::Commit { effects: 0 }, Reply::Done, 0),
+            (Call::Drop(1), Reply::Unit(FIRST_UNIT), 0),
+            (Call::Cancel, Reply::Refused(Refusal::StoreFull(1)), 0),
+        ],
+    )
+}

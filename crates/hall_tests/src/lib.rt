@@ -1,0 +1,5 @@
+//! Tests of the calls of the hall.
+#![tactic(auto)]
+
+#[cfg(test)]
+mod calls;

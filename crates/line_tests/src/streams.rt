@@ -1,0 +1,236 @@
+use io_edge::{
+    Failed, LineFault, LineReader, MemSink, MemSource, Sink, Source, StdSink, StdSource,
+    SureSource, put_all,
+};
+use std::io;
+use std::io::{ErrorKind, Read, Write};
+use std::test::*;
+
+const LINES: [(&[u8], &[&[u8]]); 6] = [
+    (b"", &[]),
+    (b"\n", &[b""]),
+    (
+        b"A LOGON MILLER\nA DEQ_ALL\nA LOGOFF\n",
+        &[b"A LOGON MILLER", b"A DEQ_ALL", b"A LOGOFF"],
+    ),
+    (
+        b"A LOGON MILLER\nA DEQ_ALL\nA LOGOFF",
+        &[b"A LOGON MILLER", b"A DEQ_ALL", b"A LOGOFF"],
+    ),
+    (b"A\n\nB", &[b"A", b"", b"B"]),
+    (b"A\r\n\n", &[b"A\r", b""]),
+];
+
+#[test]
+fn scripts_are_read_line_by_line(rt: HostRuntime) -> Result<(), Fail> {
+    for (script, lines) in LINES {
+        let mut source = MemSource::new(script.to_vec(rt.alloc())?, Vec::new(rt.alloc()))?;
+        let mut reader = LineReader::new();
+        for line in lines {
+            assert_eq!(rt; reader.next(&mut source), Ok(true), "{script:?}");
+            assert_eq!(rt; reader.line(), *line, "{script:?}");
+        }
+        assert_eq!(rt; reader.number() as usize, lines.len(), "{script:?}");
+        assert_eq!(rt; reader.next(&mut source), Ok(false), "{script:?}");
+        assert_eq!(rt; reader.next(&mut source), Ok(false), "{script:?}");
+    }
+    Ok(())
+}
+
+#[test]
+fn a_line_has_at_most_1024_bytes(rt: HostRuntime) -> Result<(), Fail> {
+    let alloc = rt.alloc();
+    let mut script = vec![in alloc; b'X'; 1024]?;
+    script.push(b'\n')?;
+    script.extend_from_slice(&[b'Y'; 1025])?;
+    script.extend_from_slice(b"Z\n")?;
+    let mut source = MemSource::new(script, Vec::new(alloc))?;
+    let mut reader = LineReader::new();
+    assert_eq!(rt; reader.next(&mut source), Ok(true));
+    assert_eq!(rt; reader.line(), [b'X'; 1024].as_slice());
+    assert_eq!(rt; reader.next(&mut source), Err(LineFault::TooLong(2)));
+    assert_eq!(rt; reader.next(&mut source), Err(LineFault::TooLong(2)));
+    let mut rest = [0; 2];
+    assert_eq!(rt; Source::read(&mut source, &mut rest), Ok(2));
+    assert_eq!(rt; &rest, b"Z\n");
+    Ok(())
+}
+
+#[test]
+fn a_script_has_at_most_200000_lines(rt: HostRuntime) -> Result<(), Fail> {
+    let alloc = rt.alloc();
+    let ends: [(&[u8], Result<bool, LineFault>); 2] = [
+        (b"", Ok(false)),
+        (b"\n", Err(LineFault::TooMany)),
+    ];
+    for (last, end) in ends {
+        let mut script = vec![in alloc; b'\n'; 200_000]?;
+        script.extend_from_slice(last)?;
+        let mut source = SureSource::new(script)?;
+        let mut reader = LineReader::new();
+        for _ in 0..200_000 {
+            assert_eq!(rt; reader.next(&mut source), Ok(true));
+        }
+        assert_eq!(rt; reader.number(), 200_000);
+        assert_eq!(rt; reader.next(&mut source), end);
+        assert_eq!(rt; reader.next(&mut source), end);
+    }
+    Ok(())
+}
+
+#[test]
+fn a_fault_within_a_line_is_answered_again(rt: HostRuntime) -> Result<(), Fail> {
+    let alloc = rt.alloc();
+    let script = b"AB\nCD\n".to_vec(alloc)?;
+    let mut source = MemSource::new(script, [5].to_vec(alloc)?)?;
+    let mut reader = LineReader::new();
+    assert_eq!(rt; reader.next(&mut source), Ok(true));
+    assert_eq!(rt; reader.next(&mut source), Err(LineFault::Failed));
+    assert_eq!(rt; reader.next(&mut source), Err(LineFault::Failed));
+    assert_eq!(rt; reader.number(), 1);
+    let mut rest = [0; 2];
+    assert_eq!(rt; Source::read(&mut source, &mut rest), Ok(2));
+    assert_eq!(rt; &rest, b"D\n");
+    Ok(())
+}
+
+#[test]
+fn bytes_come_in_pieces(rt: HostRuntime) -> Result<(), Fail> {
+    let alloc = rt.alloc();
+    let mut source = MemSource::new(b"ABCDEFG".to_vec(alloc)?, [2].to_vec(alloc)?)?;
+    let mut piece = [0; 4];
+    assert_eq!(rt; Source::read(&mut source, &mut piece), Ok(4));
+    assert_eq!(rt; &piece, b"ABCD");
+    assert_eq!(rt; Source::read(&mut source, &mut piece), Err(Failed));
+    assert_eq!(rt; Source::read(&mut source, &mut piece), Ok(3));
+    assert_eq!(rt; &piece, b"EFGD");
+    assert_eq!(rt; Source::read(&mut source, &mut piece), Ok(0));
+    Ok(())
+}
+
+#[test]
+fn listed_writes_fail(rt: HostRuntime) -> Result<(), Fail> {
+    let alloc = rt.alloc();
+    let mut sink = MemSink::new(alloc, [2, 4].to_vec(alloc)?)?;
+    assert_eq!(rt; put_all(&mut sink, b"1 OK\n"), Ok(()));
+    assert_eq!(rt; put_all(&mut sink, b"2 OK\n"), Err(Failed));
+    assert_eq!(rt; put_all(&mut sink, b"3 OK\n"), Ok(()));
+    assert_eq!(rt; put_all(&mut sink, b"4 OK\n"), Err(Failed));
+    assert_eq!(rt; put_all(&mut sink, b""), Ok(()));
+    assert_eq!(rt; sink.write(b"5"), Ok(1));
+    assert_eq!(rt; sink.bytes(), b"1 OK\n3 OK\n5".as_slice());
+    assert_eq!(rt; sink.refused(), 0);
+    Ok(())
+}
+
+#[test]
+fn a_reader_of_std_is_read_by_lines(rt: HostRuntime) -> Result<(), Fail> {
+    let mut script = Vec::new(rt.alloc());
+    for _ in 0..8 {
+        script.extend_from_slice(&[b'X'; 1000])?;
+        script.push(b'\n')?;
+    }
+    let mut source = StdSource::new(script.as_slice());
+    let mut reader = LineReader::new();
+    for _ in 0..8 {
+        assert_eq!(rt; reader.next(&mut source), Ok(true));
+        assert_eq!(rt; reader.line(), [b'X'; 1000].as_slice());
+    }
+    assert_eq!(rt; reader.next(&mut source), Ok(false));
+    Ok(())
+}
+
+#[test]
+fn a_writer_of_std_takes_all_bytes(rt: HostRuntime) -> Result<(), Fail> {
+    let mut written = Vec::new(rt.alloc());
+    let mut sink = StdSink::new(&mut written);
+    assert_eq!(rt; put_all(&mut sink, b"1 OK\n"), Ok(()));
+    assert_eq!(rt; put_all(&mut sink, b"2 OK\n"), Ok(()));
+    drop(sink);
+    assert_eq!(rt; written.as_slice(), b"1 OK\n2 OK\n".as_slice());
+    Ok(())
+}
+
+/// A reader that gives two bytes a call, and fails at one call.
+#[derive(Drop)]
+struct Halting<'a> {
+    rest: &'a [u8],
+    calls: u32,
+    fails: u32,
+}
+
+impl<'a> Read for Halting<'a> {
+    fn read(&mut self, into: &mut [u8]) -> io::Result<usize> {
+        self.calls = self.calls.saturating_add(1);
+        if self.calls == self.fails {
+            return Err(io::Error::from(ErrorKind::Other));
+        }
+        let count = into.len().min(2);
+        self.rest.read(&mut into[..count])
+    }
+}
+
+#[test]
+fn a_reader_of_std_that_fails_is_a_fault(rt: HostRuntime) {
+    let mut source = StdSource::new(Halting {
+        rest: b"AB\nCDE",
+        calls: 0,
+        fails: 3,
+    });
+    let mut reader = LineReader::new();
+    assert_eq!(rt; reader.next(&mut source), Ok(true));
+    assert_eq!(rt; reader.line(), b"AB".as_slice());
+    assert_eq!(rt; reader.next(&mut source), Err(LineFault::Failed));
+    let mut rest = [0; 2];
+    assert_eq!(rt; Source::read(&mut source, &mut rest), Ok(2));
+    assert_eq!(rt; &rest, b"DE");
+    assert_eq!(rt; Source::read(&mut source, &mut rest), Ok(0));
+}
+
+/// A writer that takes two bytes a call, as long as it has room, and shows how many of them were flushed.
+#[derive(Drop)]
+struct Narrow {
+    room: usize,
+    taken: usize,
+    flushed: usize,
+    is_flushable: bool,
+}
+
+impl Write for Narrow {
+    fn write(&mut self, from: &[u8]) -> io::Result<usize> {
+        let count = from.len().min(2).min(self.room);
+        self.room -= count;
+        self.taken = self.taken.saturating_add(count);
+        Ok(count)
+    }
+
+    fn flush(&mut self) -> io::Result<()> {
+        if !self.is_flushable {
+            return Err(io::Error::from(ErrorKind::Other));
+        }
+        self.flushed = self.taken;
+        Ok(())
+    }
+}
+
+#[test]
+fn a_writer_of_std_is_flushed(rt: HostRuntime) {
+    // Room, whether a flush succeeds; the answer, and how many bytes were taken and flushed.
+    for (room, is_flushable, answer, taken, flushed) in [
+        (9, true, Ok(()), 5, 5),
+        (3, true, Err(Failed), 3, 3),
+        (0, true, Err(Failed), 0, 0),
+        (9, false, Err(Failed), 2, 0),
+    ] {
+        let mut writer = Narrow {
+            room,
+            taken: 0,
+            flushed: 0,
+            is_flushable,
+        };
+        let mut sink = StdSink::new(&mut writer);
+        assert_eq!(rt; put_all(&mut sink, b"1 OK\n"), answer, "{room}");
+        drop(sink);
+        assert_eq!(rt; (writer.taken, writer.flushed), (taken, flushed), "{room}");
+    }
+}

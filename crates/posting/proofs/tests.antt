@@ -1,3 +1,0 @@
--- What the tests of this crate need.
-mod Bare
-mod Draws

@@ -1,0 +1,197 @@
+use enq_base::{Deed, Effect, Key, Name, Reason, Text, read_name};
+use module_effects::{EffectFault, Spot, apply, covers, read_integer};
+use std::alloc::Global;
+use std::process::Abort;
+use std::test::Fail;
+
+/// What is done to a row.
+#[derive(Clone, Copy)]
+enum Verb {
+    Put(&'static [u8]),
+    Insert(&'static [u8]),
+    Delete,
+    Add(i64),
+}
+
+/// A row's key, and its text, where it is there.
+type Row = (&'static [u8], Option<&'static [u8]>);
+
+/// Rows, the effects of a part on them, and their texts afterwards, or the first effect that is refused and why.
+#[derive(Clone, Copy)]
+struct Part {
+    rows: &'static [Row],
+    effects: &'static [(&'static [u8], Verb)],
+    after: Result<&'static [Option<&'static [u8]>], (u32, Reason)>,
+}
+
+const NUMBERS: &[Row] = &[(b"7", Some(b"OLD")), (b"8", None)];
+
+const PARTS: [Part; 6] = [
+    Part {
+        rows: &[
+            (b"6", None),
+            (b"7", Some(b"OLD")),
+            (b"8", Some(b"5")),
+            (b"9", None),
+        ],
+        effects: &[
+            (b"6", Verb::Put(b"A")),
+            (b"7", Verb::Delete),
+            (b"7", Verb::Insert(b"B")),
+            (b"8", Verb::Add(-12)),
+            (b"6", Verb::Delete),
+            (b"9", Verb::Add(3)),
+        ],
+        after: Ok(&[None, Some(b"B"), Some(b"-7"), Some(b"3")]),
+    },
+    Part {
+        rows: &[(b"6", None), (b"7", Some(b"OLD")), (b"8", None)],
+        effects: &[
+            (b"6", Verb::Put(b"A")),
+            (b"7", Verb::Insert(b"B")),
+            (b"8", Verb::Put(b"C")),
+        ],
+        after: Err((2, Reason::Duplicate)),
+    },
+    Part {
+        rows: NUMBERS,
+        effects: &[(b"8", Verb::Delete)],
+        after: Err((1, Reason::Missing)),
+    },
+    Part {
+        rows: NUMBERS,
+        effects: &[(b"7", Verb::Add(1))],
+        after: Err((1, Reason::NotNumber)),
+    },
+    Part {
+        rows: NUMBERS,
+        effects: &[(b"8", Verb::Add(i64::MAX)), (b"8", Verb::Add(1))],
+        after: Err((2, Reason::Overflow)),
+    },
+    Part {
+        rows: NUMBERS,
+        effects: &[(b"8", Verb::Add(i64::MIN)), (b"8", Verb::Add(-1))],
+        after: Err((2, Reason::Overflow)),
+    },
+];
+
+fn table() -> Result<Name, Fail> {
+    Ok(read_name(b"ZORDER").ok_or("a name")?)
+}
+
+fn key(bytes: &[u8]) -> Result<Key, Fail> {
+    Ok(Key::new(bytes).ok_or("a key")?)
+}
+
+fn spot(alloc: Global, row: Row) -> Result<Spot, Fail> {
+    let (at, text) = row;
+    let text = match text {
+        Some(bytes) => Some(Text::new(alloc, bytes)?),
+        None => None,
+    };
+    Ok(Spot {
+        table: table()?,
+        key: key(at)?,
+        text,
+    })
+}
+
+fn spots(alloc: Global, rows: &[Row]) -> Result<Vec<Spot>, Fail> {
+    let mut spots = Vec::new(alloc);
+    for row in rows {
+        spots.push(spot(alloc, *row)?)?;
+    }
+    Ok(spots)
+}
+
+fn deed(alloc: Global, verb: Verb) -> Result<Deed, Fail> {
+    match verb {
+        Verb::Put(bytes) => Ok(Deed::Put(Text::new(alloc, bytes)?)),
+        Verb::Insert(bytes) => Ok(Deed::Ins(Text::new(alloc, bytes)?)),
+        Verb::Delete => Ok(Deed::Del),
+        Verb::Add(number) => Ok(Deed::Add(number)),
+    }
+}
+
+fn effect(alloc: Global, at: &[u8], verb: Verb) -> Result<Effect, Fail> {
+    let table = table()?;
+    let key = key(at)?;
+    let deed = deed(alloc, verb)?;
+    Ok(Effect { table, key, deed })
+}
+
+fn effects(alloc: Global, steps: &[(&'static [u8], Verb)]) -> Result<Vec<Effect>, Fail> {
+    let mut effects = Vec::new(alloc);
+    for (at, verb) in steps {
+        effects.push(effect(alloc, at, *verb)?)?;
+    }
+    Ok(effects)
+}
+
+/// What the effects make of the spots, which have a spot for each.
+fn applied(
+    rt: &impl Abort,
+    alloc: Global,
+    spots: &[Spot],
+    effects: &[Effect],
+) -> Result<Vec<Spot>, EffectFault> {
+    assert!(rt; covers(spots, effects));
+    apply(alloc, spots, effects)
+}
+
+fn are_texts(spots: &[Spot], texts: &[Option<&'static [u8]>]) -> bool {
+    for (spot, text) in spots.iter().zip(texts) {
+        if spot.text.as_ref().map(|text| text.bytes()) != *text {
+            return false;
+        }
+    }
+    spots.len() == texts.len()
+}
+
+#[test]
+fn effects_are_done_in_order_or_the_first_refused_is_told(rt: HostRuntime) -> Result<(), Fail> {
+    let alloc = rt.alloc();
+    for part in PARTS {
+        let spots = spots(alloc, part.rows)?;
+        let effects = effects(alloc, part.effects)?;
+        let got = applied(&rt, alloc, spots.as_slice(), effects.as_slice());
+        match (got, part.after) {
+            (Ok(spots), Ok(texts)) => assert!(rt; are_texts(spots.as_slice(), texts)),
+            (Err(fault), Err((index, reason))) => {
+                assert_eq!(rt; fault, EffectFault::Refused { index, reason });
+            }
+            _ => return Err(Fail::from("another end")),
+        }
+    }
+    Ok(())
+}
+
+#[test]
+fn a_row_without_a_spot_is_not_covered(rt: HostRuntime) -> Result<(), Fail> {
+    let alloc = rt.alloc();
+    let spots = spots(alloc, &[(b"6", None)])?;
+    let effects = effects(alloc, &[(b"6", Verb::Add(1)), (b"7", Verb::Add(1))])?;
+    assert!(rt; !covers(spots.as_slice(), effects.as_slice()));
+    Ok(())
+}
+
+#[test]
+fn numbers_are_read_in_shortest_form_alone(rt: HostRuntime) {
+    for (text, number) in [
+        (b"0".as_slice(), Some(0)),
+        (b"-1", Some(-1)),
+        (b"9223372036854775807", Some(i64::MAX)),
+        (b"-9223372036854775808", Some(i64::MIN)),
+        (b"", None),
+        (b"-", None),
+        (b"-0", None),
+        (b"007", None),
+        (b"+5", None),
+        (b"1X", None),
+        (b"9223372036854775808", None),
+        (b"-9223372036854775809", None),
+        (b"99999999999999999999", None),
+    ] {
+        assert_eq!(rt; read_integer(text), number, "{text:?}");
+    }
+}

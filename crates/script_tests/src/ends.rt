@@ -1,0 +1,160 @@
+use crate::runs::{empty_store, run_over, run_words, word};
+use enq_base::Items;
+use enq_cmd::Why;
+use io_edge::MemSource;
+use std::alloc::Global;
+use std::process::Abort;
+use std::test::*;
+
+// What a script is answered, and how the run ends.
+#[derive(Drop)]
+struct Row {
+    script: &'static [u8],
+    replies: &'static [u8],
+    why: Why,
+    status: u8,
+}
+
+const ROWS: [Row; 9] = [
+    Row {
+        script: b"",
+        replies: b"",
+        why: Why::Done,
+        status: 0,
+    },
+    Row {
+        script: b"Z LOGOFF\nA LOGON MILLER\nA LOGON MILLER\nA LOGOFF",
+        replies: b"1 UNKNOWN_SESSION\n2 OK\n3 SESSION_EXISTS\n4 OK\n",
+        why: Why::Done,
+        status: 0,
+    },
+    Row {
+        script: b"A LOGON MILLER\nA NUM ZORDNR 01 N\n",
+        replies: b"1 OK\n",
+        why: Why::BadLine(2),
+        status: 4,
+    },
+    Row {
+        script: b"A LOGON MILLER\nA FOO\nA LOGOFF\n",
+        replies: b"1 OK\n",
+        why: Why::BadLine(2),
+        status: 4,
+    },
+    Row {
+        script: b"A LOGON MILLER\n\nA LOGOFF\n",
+        replies: b"1 OK\n",
+        why: Why::BadLine(2),
+        status: 4,
+    },
+    // A second exclusive lock is refused with the holder's user, table and argument.
+    Row {
+        script: b"A LOGON MILLER\n\
+            A ENQ EZORDER E 1 MANDT=100 ORDNR=0000000001\n\
+            B LOGON SMITH\n\
+            B ENQ EZORDER E 1 MANDT=100 ORDNR=0000000001\n",
+        replies: b"1 OK\n2 OK\n3 OK\n4 FOREIGN_LOCK MILLER ZORDER 1000000000001\n",
+        why: Why::Done,
+        status: 0,
+    },
+    // A lock that is asked for twice and freed once is still held.
+    Row {
+        script: b"A LOGON MILLER\n\
+            B LOGON SMITH\n\
+            A ENQ EZORDER E 1 MANDT=100 ORDNR=0000000001\n\
+            A ENQ EZORDER E 1 MANDT=100 ORDNR=0000000001\n\
+            A DEQ EZORDER E 1 MANDT=100 ORDNR=0000000001\n\
+            B ENQ EZORDER E 1 MANDT=100 ORDNR=0000000001\n\
+            A DEQ EZORDER E 1 MANDT=100 ORDNR=0000000001\n\
+            B ENQ EZORDER E 1 MANDT=100 ORDNR=0000000001\n",
+        replies: b"1 OK\n2 OK\n3 OK\n4 OK\n5 OK\n6 FOREIGN_LOCK MILLER ZORDER 1000000000001\n7 OK\n8 OK\n",
+        why: Why::Done,
+        status: 0,
+    },
+    // A session's locks end with it, and another's lock is not freed.
+    Row {
+        script: b"A LOGON MILLER\n\
+            B LOGON SMITH\n\
+            A ENQ EZORDER E 1 MANDT=100 ORDNR=0000000001\n\
+            B DEQ EZORDER E 1 MANDT=100 ORDNR=0000000001\n\
+            B ENQ EZORDER E 1 MANDT=100 ORDNR=0000000001\n\
+            A LOGOFF\n\
+            B ENQ EZORDER E 1 MANDT=100 ORDNR=0000000001\n",
+        replies: b"1 OK\n2 OK\n3 OK\n4 OK\n5 FOREIGN_LOCK MILLER ZORDER 1000000000001\n6 OK\n7 OK\n",
+        why: Why::Done,
+        status: 0,
+    },
+    // A variable has no meaning yet.
+    Row {
+        script: b"A LOGON MILLER\nA ENQ EZORDER E 1 MANDT=100 ORDNR=$N\n",
+        replies: b"1 OK\n",
+        why: Why::BadLine(2),
+        status: 4,
+    },
+];
+
+#[test]
+fn scripts_are_answered_line_by_line(rt: HostRuntime) -> Result<(), Fail> {
+    let alloc = rt.alloc();
+    for row in ROWS {
+        let run = run_over(alloc, row.script, empty_store(alloc)?)?;
+        assert_eq!(rt; run.replies.as_slice(), row.replies);
+        assert_eq!(rt; run.why, row.why);
+        assert_eq!(rt; run.status, row.status);
+    }
+    Ok(())
+}
+
+// Tests that a run ended at once by its words.
+fn has_bad_words(rt: &impl Abort, alloc: Global, words: &[Items<u8>]) -> Result<(), Fail> {
+    let source = MemSource::new(b"A LOGON MILLER\n".to_vec(alloc)?, Vec::new(alloc))?;
+    let run = run_words(alloc, words, source, Vec::new(alloc), empty_store(alloc)?)?;
+    assert_eq!(rt; run.why, Why::BadWords);
+    assert_eq!(rt; run.status, 2);
+    assert_eq!(rt; run.replies.len(), 0);
+    Ok(())
+}
+
+#[test]
+fn other_words_are_refused(rt: HostRuntime) -> Result<(), Fail> {
+    let alloc = rt.alloc();
+    for text in [b"".as_slice(), b"Replay", b"replay ", b"run", b"--help"] {
+        has_bad_words(&rt, alloc, word(alloc, text)?.as_slice())?;
+    }
+    let mut two = word(alloc, b"replay")?;
+    two.push(Items::from_vec(b"replay".to_vec(alloc)?))?;
+    has_bad_words(&rt, alloc, two.as_slice())?;
+    has_bad_words(&rt, alloc, &[])
+}
+
+#[test]
+fn a_long_line_ends_the_run(rt: HostRuntime) -> Result<(), Fail> {
+    let alloc = rt.alloc();
+    let run = run_over(alloc, &[b'A'; 1025], empty_store(alloc)?)?;
+    assert_eq!(rt; run.why, Why::LongLine(1));
+    assert_eq!(rt; run.status, 11);
+    assert_eq!(rt; run.replies.len(), 0);
+    Ok(())
+}
+
+// Which reads and writes fail, and how the run then ends, after so many calls of the hall.
+const FAULTS: [(&[u64], &[u64], Why, u8, usize); 2] = [
+    (&[], &[2], Why::SinkFault, 6, 2),
+    (&[18], &[], Why::SourceFault, 5, 1),
+];
+
+#[test]
+fn a_fault_ends_the_run(rt: HostRuntime) -> Result<(), Fail> {
+    let alloc = rt.alloc();
+    for (reads, writes, why, status, calls) in FAULTS {
+        let words = word(alloc, b"replay")?;
+        let script = b"A LOGON MILLER\nA LOGOFF\n".to_vec(alloc)?;
+        let source = MemSource::new(script, reads.to_vec(alloc)?)?;
+        let writes = writes.to_vec(alloc)?;
+        let run = run_words(alloc, words.as_slice(), source, writes, empty_store(alloc)?)?;
+        assert_eq!(rt; run.why, why);
+        assert_eq!(rt; run.status, status);
+        assert_eq!(rt; run.calls, calls);
+        assert_eq!(rt; run.replies.as_slice(), b"1 OK\n".as_slice());
+    }
+    Ok(())
+}

@@ -1,0 +1,27 @@
+//! Tests of scripts, from their words and first line to what they leave and the starts that come after.
+#![tactic(auto)]
+
+#[cfg(test)]
+mod again;
+#[cfg(test)]
+mod cancels;
+#[cfg(test)]
+mod effects;
+#[cfg(test)]
+mod ends;
+#[cfg(test)]
+mod faults;
+#[cfg(test)]
+mod limits;
+#[cfg(test)]
+mod locks;
+#[cfg(test)]
+mod runs;
+#[cfg(test)]
+mod second_parts;
+#[cfg(test)]
+mod starts;
+#[cfg(test)]
+mod stops;
+#[cfg(test)]
+mod units;

@@ -1,0 +1,103 @@
+use enq_base::Items;
+use enq_cmd::{Site, Why, enqueue_main};
+use io_edge::{MemSink, MemSource};
+use keeper_api::Keeper;
+use keeper_mem::MemKeeper;
+use std::alloc::Global;
+use std::process::Abort;
+use std::test::*;
+
+// A script, and what it is answered.
+pub(crate) type Script = (&'static [u8], &'static [u8]);
+
+// A row of the store: its table, its key, its value, and whether it stands.
+pub(crate) type Row = (u8, &'static [u8], &'static [u8], bool);
+
+// What a run has left.
+#[derive(Drop)]
+pub(crate) struct Run {
+    pub(crate) replies: Vec<u8>,
+    pub(crate) calls: usize,
+    pub(crate) why: Why,
+    pub(crate) status: u8,
+    pub(crate) keeper: MemKeeper,
+}
+
+pub(crate) fn empty_store(alloc: Global) -> Result<MemKeeper, Fail> {
+    Ok(MemKeeper::new(alloc, Vec::new(alloc), Vec::new(alloc))?)
+}
+
+// Does these words over these devices.
+pub(crate) fn run_words(
+    alloc: Global,
+    words: &[Items<u8>],
+    source: MemSource,
+    writes: Vec<u64>,
+    keeper: MemKeeper,
+) -> Result<Run, Fail> {
+    let mut source = source;
+    let mut sink = MemSink::new(alloc, writes)?;
+    let ended = enqueue_main(alloc, words, &mut source, &mut sink, Site { keeper });
+    let replies = sink.bytes().to_vec(alloc)?;
+    Ok(Run {
+        replies,
+        calls: ended.past.as_slice().len(),
+        why: ended.why,
+        status: ended.status,
+        keeper: ended.site.keeper,
+    })
+}
+
+pub(crate) fn word(alloc: Global, word: &[u8]) -> Result<Vec<Items<u8>>, Fail> {
+    Ok(vec![in alloc; Items::from_vec(word.to_vec(alloc)?)]?)
+}
+
+// Replays a script over a store.
+pub(crate) fn run_over(alloc: Global, script: &[u8], keeper: MemKeeper) -> Result<Run, Fail> {
+    let words = word(alloc, b"replay")?;
+    let source = MemSource::new(script.to_vec(alloc)?, Vec::new(alloc))?;
+    run_words(alloc, words.as_slice(), source, Vec::new(alloc), keeper)
+}
+
+// Replays scripts, each over an empty store and in order to its end.
+pub(crate) fn are_answered(rt: &impl Abort, alloc: Global, scripts: &[Script]) -> Result<(), Fail> {
+    for (script, replies) in scripts {
+        let run = run_over(alloc, script, empty_store(alloc)?)?;
+        assert_eq!(rt; run.replies.as_slice(), *replies);
+        assert_eq!(rt; run.status, 0);
+    }
+    Ok(())
+}
+
+// Whether a store that is opened again has a row of this value.
+fn has_row(
+    alloc: Global,
+    keeper: &mut MemKeeper,
+    table: u8,
+    key: &[u8],
+    value: &[u8],
+) -> Result<bool, Fail> {
+    let Ok(()) = keeper.reopen(alloc) else {
+        return Err(Fail::from("not opened"));
+    };
+    let Ok(found) = keeper.get(alloc, table, key) else {
+        return Err(Fail::from("not read"));
+    };
+    match found {
+        Some(found) => Ok(found.as_slice() == value),
+        None => Ok(false),
+    }
+}
+
+// Tests which rows a store has.
+pub(crate) fn has_rows(
+    rt: &impl Abort,
+    alloc: Global,
+    keeper: &mut MemKeeper,
+    rows: &[Row],
+) -> Result<(), Fail> {
+    for (table, key, value, stands) in rows {
+        assert_eq!(rt; has_row(alloc, keeper, *table, key, value)?, *stands);
+    }
+    Ok(())
+}

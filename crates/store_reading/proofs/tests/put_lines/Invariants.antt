@@ -1,5 +1,0 @@
-use Rattle.keeper_mem.specs.Memory.{IsSettled}
-use Rattle.store_reading.proofs.tests.put_lines.Given as goal
-
-abbrev pub invariant-loop-line : goal.invariant-loop-line
-invariant-loop-line l = IsSettled l.keeper

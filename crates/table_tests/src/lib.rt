@@ -1,0 +1,9 @@
+//! Tests of the lock table and of its replica.
+#![tactic(auto)]
+
+#[cfg(test)]
+mod copies;
+#[cfg(test)]
+mod steps;
+#[cfg(test)]
+mod tables;

@@ -1,0 +1,276 @@
+ghost use Rattle.std.specs.Prelude.{◌≡◌};
+ghost use Rattle.lock_entry.specs.Pairs.{IsPair};
+
+use enq_base::{Name, Owner, Pattern, UnitKey, read_name};
+use lock_entry::{AskFault, Asked, Asker, Entry, LoadFault, LockStore, Mode, Request};
+use std::alloc::Global;
+use std::process::Abort;
+use std::test::Fail;
+
+/// One of the two owners of a session.
+#[derive(Clone, Copy, Debug, PartialEq, Eq)]
+pub(crate) enum Who {
+    Dialogue(u32),
+    Update(u32),
+}
+
+/// A table, an argument and a mode.
+pub(crate) type Place = (&'static [u8], &'static [u8], Mode);
+
+/// An entry: its owner, its place, its count, and whether it was handed over.
+pub(crate) type Row = (Who, Place, u16, bool);
+
+#[derive(Clone, Copy)]
+pub(crate) enum Act {
+    /// A session asks for places, each for its dialogue owner, and where this is set for its update owner too.
+    Ask(u32, &'static [(Place, bool)]),
+    Free(Who, Place),
+    FreeOwner(Who),
+    Convert(u32, Place),
+    Hand(u32),
+    /// A session's unit asks for an exclusive lock that was stored with it.
+    Readmit(u32, Place),
+}
+
+#[derive(Clone, Copy, Debug)]
+pub(crate) enum Answer {
+    /// How many entries were freed, handed over or taken away; 0 for a grant.
+    Done(u32),
+    /// The entry that stands in the way is of this owner and at this place.
+    Foreign(Who, Place),
+    Full(u32, u32),
+    Count,
+    Lost,
+}
+
+/// What is done, what it is answered, and which entries stand then.
+pub(crate) type Step = (Act, Answer, &'static [Row]);
+
+/// Steps from a table with these entries.
+pub(crate) struct Case {
+    pub(crate) limit: u32,
+    pub(crate) loaded: &'static [Row],
+    pub(crate) steps: &'static [Step],
+}
+
+fn unit(session: u32) -> UnitKey
+    ensures { result ≡ record { start = 1; session = session; luw = 1 } }
+{
+    UnitKey {
+        start: 1,
+        session,
+        luw: 1,
+    }
+}
+
+fn pair(session: u32) -> Asker
+    ensures { IsPair result }
+{
+    Asker {
+        dialogue: Owner::Dlg { start: 1, session },
+        update: Owner::Upd(unit(session)),
+    }
+}
+
+fn owner(who: Who) -> Owner {
+    match who {
+        Who::Dialogue(session) => Owner::Dlg { start: 1, session },
+        Who::Update(session) => Owner::Upd(unit(session)),
+    }
+}
+
+fn user() -> Result<Name, Fail> {
+    Ok(read_name(b"MILLER").ok_or("a name")?)
+}
+
+fn asked(place: Place) -> Result<Asked, Fail> {
+    let (table, argument, mode) = place;
+    Ok(Asked {
+        table: read_name(table).ok_or("a name")?,
+        pattern: Pattern::new(argument).ok_or("an argument")?,
+        mode,
+    })
+}
+
+fn entry(row: Row) -> Result<Entry, Fail> {
+    let (who, place, count, handed) = row;
+    let Asked {
+        table,
+        pattern,
+        mode,
+    } = asked(place)?;
+    Ok(Entry {
+        owner: owner(who),
+        user: user()?,
+        table,
+        pattern,
+        mode,
+        count,
+        handed,
+    })
+}
+
+pub(crate) fn entries(alloc: Global, rows: &[Row]) -> Result<Vec<Entry>, Fail> {
+    let mut list = Vec::new(alloc);
+    for row in rows {
+        list.push(entry(*row)?)?;
+    }
+    Ok(list)
+}
+
+fn requests(alloc: Global, places: &[(Place, bool)]) -> Result<Vec<Request>, Fail> {
+    let mut list = Vec::new(alloc);
+    for (place, update) in places {
+        list.push(Request {
+            asked: asked(*place)?,
+            dialogue: true,
+            update: *update,
+        })?;
+    }
+    Ok(list)
+}
+
+fn ask<T: LockStore>(
+    alloc: Global,
+    table: &mut T,
+    session: u32,
+    user: &Name,
+    requests: &[Request],
+) -> Result<u32, AskFault> {
+    table.ask(alloc, &pair(session), user, requests)?;
+    Ok(0)
+}
+
+fn convert<T: LockStore>(
+    alloc: Global,
+    table: &mut T,
+    session: u32,
+    asked: &Asked,
+) -> Result<u32, AskFault> {
+    let removed = table.convert(alloc, &pair(session), &[*asked])?;
+    Ok(u32::try_from(removed.len()).unwrap_or(u32::MAX))
+}
+
+fn readmit<T: LockStore>(
+    alloc: Global,
+    table: &mut T,
+    session: u32,
+    user: &Name,
+    place: &Asked,
+) -> Result<u32, AskFault> {
+    let pair = pair(session);
+    let given = [Entry {
+        owner: pair.update,
+        user: *user,
+        table: place.table,
+        pattern: place.pattern,
+        mode: Mode::E,
+        count: 1,
+        handed: true,
+    }];
+    table.readmit(alloc, &pair, &given)?;
+    Ok(0)
+}
+
+fn take<T: LockStore>(
+    alloc: Global,
+    table: &mut T,
+    act: Act,
+) -> Result<Result<u32, AskFault>, Fail> {
+    match act {
+        Act::Ask(session, places) => {
+            let requests = requests(alloc, places)?;
+            Ok(ask(alloc, table, session, &user()?, requests.as_slice()))
+        }
+        Act::Free(who, place) => Ok(Ok(u32::from(table.free_one(&owner(who), &asked(place)?)))),
+        Act::FreeOwner(who) => Ok(Ok(table.free_owner(&owner(who)))),
+        Act::Convert(session, place) => Ok(convert(alloc, table, session, &asked(place)?)),
+        Act::Hand(session) => Ok(Ok(table.hand(&unit(session)))),
+        Act::Readmit(session, place) => {
+            Ok(readmit(alloc, table, session, &user()?, &asked(place)?))
+        }
+    }
+}
+
+fn is_answer(got: &Result<u32, AskFault>, answer: &Answer) -> Result<bool, Fail> {
+    match (got, answer) {
+        (Ok(count), Answer::Done(wanted)) => Ok(*count == *wanted),
+        (Err(AskFault::Foreign(entry)), Answer::Foreign(who, place)) => {
+            Ok(entry.owner == owner(*who) && entry.asked() == asked(*place)?)
+        }
+        (Err(AskFault::Full { used, limit }), Answer::Full(u, l)) => {
+            Ok(*used == *u && *limit == *l)
+        }
+        (Err(AskFault::Count), Answer::Count) => Ok(true),
+        (Err(AskFault::Lost), Answer::Lost) => Ok(true),
+        _ => Ok(false),
+    }
+}
+
+/// Whether the table has each of these entries at its place, and by its name.
+fn has_each<T: LockStore>(table: &T, entries: &[Entry]) -> bool {
+    let mut place = 0_u32;
+    for entry in entries {
+        place = place.saturating_add(1);
+        if table.at(place) != Some(*entry) {
+            return false;
+        }
+        if table.find(&entry.owner, &entry.asked()) != Some(*entry) {
+            return false;
+        }
+    }
+    table.len() == place && table.at(0).is_none() && table.at(place.saturating_add(1)).is_none()
+}
+
+/// Tests that the table has just these entries.
+fn has_all<T: LockStore>(
+    rt: &impl Abort,
+    alloc: Global,
+    table: &T,
+    rows: &[Row],
+) -> Result<(), Fail> {
+    let wanted = entries(alloc, rows)?;
+    let list = table.list(alloc)?;
+    assert_eq!(rt; list.as_slice(), wanted.as_slice());
+    assert!(rt; has_each(table, list.as_slice()));
+    Ok(())
+}
+
+pub(crate) fn load<T: LockStore>(
+    alloc: Global,
+    limit: u32,
+    entries: Vec<Entry>,
+) -> Result<T, LoadFault> {
+    if entries.len() > limit as usize {
+        return Err(LoadFault::NoMemory);
+    }
+    T::load(alloc, limit, entries)
+}
+
+fn first_table<T: LockStore>(alloc: Global, limit: u32, rows: &[Row]) -> Result<T, Fail> {
+    if rows.is_empty() {
+        return Ok(T::empty(alloc, limit)?);
+    }
+    match load(alloc, limit, entries(alloc, rows)?) {
+        Ok(table) => Ok(table),
+        Err(_) => Err(Fail::from("no table")),
+    }
+}
+
+/// Takes the steps of each case.
+pub(crate) fn take_all<T: LockStore>(
+    rt: &impl Abort,
+    alloc: Global,
+    cases: &[Case],
+) -> Result<(), Fail> {
+    for case in cases {
+        let mut table: T = first_table(alloc, case.limit, case.loaded)?;
+        has_all(rt, alloc, &table, case.loaded)?;
+        for (act, answer, rows) in case.steps {
+            let got = take(alloc, &mut table, *act)?;
+            assert!(rt; is_answer(&got, answer)?, "{answer:?}");
+            has_all(rt, alloc, &table, rows)?;
+        }
+    }
+    Ok(())
+}

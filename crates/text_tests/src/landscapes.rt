@@ -1,0 +1,306 @@
+ghost use Rattle.std.specs.Prelude.{◌≤◌};
+
+use enq_base::{Name, read_name};
+use io_edge::{MemSource, Source};
+use landscape::{LandFault, read_landscape};
+use number_ranges::Interval;
+use std::alloc::Global;
+use std::test::*;
+
+const WHOLE: &str = "max_locks = 1000\n\
+[[object]]\n\
+name = \"EZORDER\"\n\
+fields = [{ name = \"MANDT\", width = 3 }, { name = \"ORDNR\", width = 10 }]\n\
+[[object.table]]\n\
+name = \"ZORDER\"\n\
+keys = [\"MANDT\", \"ORDNR\"]\n\
+[[range]]\n\
+object = \"ZORDNR\"\n\
+nr = \"01\"\n\
+from = 1\n\
+to = 9999999999\n\
+buffer = 0\n\
+percent = 10\n\
+[[range]]\n\
+object = \"ZSMALL\"\n\
+nr = \"01\"\n\
+from = 98\n\
+to = 100\n\
+buffer = 0\n\
+percent = 40\n\
+[[range]]\n\
+object = \"ZBUF\"\n\
+nr = \"01\"\n\
+from = 1\n\
+to = 1000\n\
+buffer = 10\n\
+percent = 0\n";
+
+// A part of the landscape, what is put in its place, and the rule that is then broken, with its place.
+const BROKEN: [(&str, &str, u8, u32); 50] = [
+    ("max_locks = 1000", "max_locks = ", 2, 0),
+    ("max_locks = 1000", "max_locks = 1\nmax_locks = 2", 2, 0),
+    ("max_locks = 1000", "max_locks = 9223372036854775808", 2, 0),
+    ("max_locks = 1000", "max_lock = 1000", 3, 0),
+    ("max_locks = 1000", "max_locks = 0\nsessions = 1", 3, 0),
+    ("max_locks = 1000", "max_locks = 0", 4, 0),
+    ("max_locks = 1000", "max_locks = -1", 4, 0),
+    ("max_locks = 1000", "max_locks = 100001", 4, 0),
+    ("max_locks = 1000", "max_locks = 1000.0", 4, 0),
+    ("max_locks = 1000", "max_locks = \"1000\"", 4, 0),
+    ("max_locks = 1000", "max_locks = 0\nmax_marks = 0", 4, 0),
+    ("max_locks = 1000", "max_marks = 0", 5, 0),
+    ("max_locks = 1000", "max_marks = 1048577", 5, 0),
+    ("max_locks = 1000", "max_marks = true", 5, 0),
+    ("name = \"EZORDER\"\n", "", 6, 1),
+    ("name = \"EZORDER\"", "name = 1", 6, 1),
+    ("name = \"EZORDER\"", "name = \"EZORDER\"\nclient = 1", 6, 1),
+    ("width = 3", "width = \"3\"", 6, 1),
+    ("width = 3", "width = 3, kind = 1", 6, 1),
+    ("keys = [\"MANDT\", \"ORDNR\"]\n", "", 6, 1),
+    ("keys = [\"MANDT\", ", "keys = [1, ", 6, 1),
+    ("[[object]]\n", "[[object]]\n[[object]]\n", 6, 1),
+    ("[[range]]\n", "[[object]]\n[[range]]\n", 6, 2),
+    ("name = \"EZORDER\"", "name = \"ezorder\"", 7, 1),
+    ("name = \"MANDT\"", "name = \"\"", 7, 1),
+    ("name = \"ZORDER\"", "name = \"9ORDER\"", 7, 1),
+    ("keys = [\"MANDT\", ", "keys = [\"mandt\", ", 7, 1),
+    ("width = 3", "width = 0", 7, 1),
+    ("width = 3", "width = 151", 7, 1),
+    ("width = 3", "width = 256", 7, 1),
+    ("keys = [\"MANDT\", ", "keys = [\"BUKRS\", ", 8, 1),
+    ("keys = [\"MANDT\", \"ORDNR\"]", "keys = []", 8, 1),
+    ("width = 3", "width = 141", 8, 1),
+    (
+        "[[object.table]]",
+        "[[object.table]]\nname = \"ZORDER\"\nkeys = [\"MANDT\"]\n[[object.table]]",
+        8,
+        1,
+    ),
+    ("percent = 10\n", "", 10, 1),
+    ("percent = 10\n", "percent = 10\nlevel = 0\n", 10, 1),
+    ("from = 98", "from = \"98\"", 10, 2),
+    ("from = 98", "from = 98.0", 10, 2),
+    ("object = \"ZSMALL\"", "object = \"zsmall\"", 11, 2),
+    ("nr = \"01\"", "nr = \"1\"", 11, 1),
+    ("nr = \"01\"", "nr = \"0A\"", 11, 1),
+    ("nr = \"01\"", "nr = \"001\"", 11, 1),
+    ("from = 98", "from = 0", 12, 2),
+    ("from = 98", "from = 101", 12, 2),
+    ("to = 9999999999", "to = 1000000000000000000", 12, 1),
+    ("buffer = 10", "buffer = 1000001", 13, 3),
+    ("buffer = 10", "buffer = -1", 13, 3),
+    ("percent = 40", "percent = 100", 13, 2),
+    ("percent = 40", "percent = -1", 13, 2),
+    ("object = \"ZBUF\"", "object = \"ZORDNR\"", 14, 3),
+];
+
+// A part of the landscape, and what may stand in its place.
+const RIGHT: [(&str, &str); 12] = [
+    ("max_locks = 1000", "max_locks = 1\nmax_marks = 1"),
+    (
+        "max_locks = 1000",
+        "max_marks = 1048576\nmax_locks = 100000",
+    ),
+    ("width = 3", "width = 140"),
+    ("keys = [\"MANDT\", \"ORDNR\"]", "keys = [\"ORDNR\"]"),
+    ("object = \"ZBUF\"", "object = \"EZORDER\""),
+    (
+        "object = \"ZBUF\"\nnr = \"01\"",
+        "object = \"ZORDNR\"\nnr = \"02\"",
+    ),
+    ("from = 98", "from = 100"),
+    ("to = 9999999999", "to = 999999999999999999"),
+    ("buffer = 10", "buffer = 1000000"),
+    ("percent = 40", "percent = 99"),
+    ("from = 98\nto = 100", "to = 100\nfrom = 98"),
+    ("from = 98", "from = 0x62"),
+];
+
+// Whole documents, and the rule that each breaks, with its place.
+const DOCUMENTS: [(&[u8], u8, u32); 14] = [
+    (b"max_locks = 1 # \xff", 2, 0),
+    (b"max_locks", 2, 0),
+    (b"object = 1", 3, 0),
+    (b"object = [1]", 3, 0),
+    (b"object = [[]]", 3, 0),
+    (b"[object]\nname = \"E\"", 3, 0),
+    (b"range = {}", 3, 0),
+    (b"range = [{}, 1]", 3, 0),
+    (b"[[object]]", 6, 1),
+    (b"[[range]]", 10, 1),
+    (b"[[range]]\n[[object]]", 6, 1),
+    (
+        b"object = [{ name = \"E\", fields = [], table = [] }]",
+        8,
+        1,
+    ),
+    (
+        b"object = [{ name = \"e\", fields = [], table = [] }, {}]",
+        7,
+        1,
+    ),
+    (b"max_locks = 0\n[[object]]\n[[range]]", 4, 0),
+];
+
+const ONE_OBJECT: &str = "name = \"E\", fields = [{ width = 150, name = \"F\" }], \
+                          table = [{ keys = [\"F\"], name = \"T\" }]";
+
+fn name(text: &[u8]) -> Result<Name, Fail> {
+    Ok(read_name(text).ok_or("a name")?)
+}
+
+fn source_of(alloc: Global, document: &[u8], fails: &[u64]) -> Result<MemSource, Fail> {
+    let document = Vec::from_slice(alloc, document)?;
+    let fails = Vec::from_slice(alloc, fails)?;
+    Ok(MemSource::new(document, fails)?)
+}
+
+fn fault_in(alloc: Global, document: &[u8]) -> Result<Option<LandFault>, Fail> {
+    let mut source = source_of(alloc, document, &[])?;
+    Ok(read_landscape(alloc, &mut source).err())
+}
+
+/// The landscape with something else in the place of a part.
+fn changed(alloc: Global, old: &str, new: &str) -> Result<String, Fail> {
+    let (head, tail) = WHOLE.split_once(old).ok_or("a part of the landscape")?;
+    Ok(format!(in alloc; "{head}{new}{tail}")?)
+}
+
+fn limits_of(alloc: Global, document: &[u8]) -> Result<(u32, u32), Fail> {
+    let mut source = source_of(alloc, document, &[])?;
+    let landscape = read_landscape(alloc, &mut source)?;
+    Ok((landscape.max_locks, landscape.max_marks))
+}
+
+fn interval(object: &[u8], from: u64, to: u64, buffer: u32, percent: u8) -> Result<Interval, Fail>
+    requires { 1 ≤ from }
+{
+    Ok(Interval {
+        object: name(object)?,
+        nr: *b"01",
+        from,
+        to,
+        level: from - 1,
+        buffer,
+        percent,
+    })
+}
+
+#[test]
+fn the_objects_are_read(rt: HostRuntime) -> Result<(), Fail> {
+    let mut source = source_of(rt.alloc(), WHOLE.as_bytes(), &[])?;
+    let landscape = read_landscape(rt.alloc(), &mut source)?;
+    match landscape.objects.as_slice() {
+        [object] => {
+            assert_eq!(rt; object.name(), name(b"EZORDER")?);
+            let [mandt, ordnr] = [name(b"MANDT")?, name(b"ORDNR")?];
+            match object.fields() {
+                [first, second] => {
+                    assert_eq!(rt; (first.name, first.width), (mandt, 3));
+                    assert_eq!(rt; (second.name, second.width), (ordnr, 10));
+                }
+                _ => assert!(rt; false),
+            }
+            match object.tables() {
+                [table] => {
+                    assert_eq!(rt; table.name, name(b"ZORDER")?);
+                    assert_eq!(rt; table.keys.as_slice(), [mandt, ordnr].as_slice());
+                }
+                _ => assert!(rt; false),
+            }
+        }
+        _ => assert!(rt; false),
+    }
+    Ok(())
+}
+
+#[test]
+fn the_ranges_are_read_in_their_order(rt: HostRuntime) -> Result<(), Fail> {
+    let mut source = source_of(rt.alloc(), WHOLE.as_bytes(), &[])?;
+    let landscape = read_landscape(rt.alloc(), &mut source)?;
+    let ranges = [
+        interval(b"ZORDNR", 1, 9999999999, 0, 10)?,
+        interval(b"ZSMALL", 98, 100, 0, 40)?,
+        interval(b"ZBUF", 1, 1000, 10, 0)?,
+    ];
+    assert_eq!(rt; landscape.ranges.as_slice(), ranges.as_slice());
+    Ok(())
+}
+
+#[test]
+fn limits_that_are_absent_are_the_largest(rt: HostRuntime) -> Result<(), Fail> {
+    for (document, limits) in [
+        (b"".as_slice(), (100_000, 1_048_576)),
+        (WHOLE.as_bytes(), (1000, 1_048_576)),
+        (b"max_marks = 7", (100_000, 7)),
+        (
+            b"max_marks = 3\nmax_locks = 2\nobject = []\nrange = []",
+            (2, 3),
+        ),
+    ] {
+        assert_eq!(rt; limits_of(rt.alloc(), document)?, limits);
+    }
+    Ok(())
+}
+
+#[test]
+fn the_first_broken_rule_is_named(rt: HostRuntime) -> Result<(), Fail> {
+    for (old, new, rule, place) in BROKEN {
+        let document = changed(rt.alloc(), old, new)?;
+        let fault = fault_in(rt.alloc(), document.as_bytes())?;
+        assert_eq!(rt; fault, Some(LandFault::Bad { rule, place }), "{new}");
+    }
+    Ok(())
+}
+
+#[test]
+fn what_keeps_the_rules_is_read(rt: HostRuntime) -> Result<(), Fail> {
+    for (old, new) in RIGHT {
+        let document = changed(rt.alloc(), old, new)?;
+        assert_eq!(rt; fault_in(rt.alloc(), document.as_bytes())?, None, "{new}");
+    }
+    Ok(())
+}
+
+#[test]
+fn other_documents_are_refused(rt: HostRuntime) -> Result<(), Fail> {
+    for (document, rule, place) in DOCUMENTS {
+        let fault = fault_in(rt.alloc(), document)?;
+        assert_eq!(rt; fault, Some(LandFault::Bad { rule, place }), "{document:?}");
+    }
+    Ok(())
+}
+
+#[test]
+fn an_object_has_its_name_alone(rt: HostRuntime) -> Result<(), Fail> {
+    let one = format!(in rt.alloc(); "object = [{{ {ONE_OBJECT} }}]")?;
+    assert_eq!(rt; fault_in(rt.alloc(), one.as_bytes())?, None);
+    let two = format!(in rt.alloc(); "object = [{{ {ONE_OBJECT} }}, {{ {ONE_OBJECT} }}, {{}}]")?;
+    let fault = fault_in(rt.alloc(), two.as_bytes())?;
+    assert_eq!(rt; fault, Some(LandFault::Bad { rule: 9, place: 2 }));
+    Ok(())
+}
+
+#[test]
+fn a_document_has_at_most_1_048_576_bytes(rt: HostRuntime) -> Result<(), Fail> {
+    let longest = vec![in rt.alloc(); b'#'; 1_048_576]?;
+    assert_eq!(rt; fault_in(rt.alloc(), longest.as_slice())?, None);
+    let longer = vec![in rt.alloc(); b'#'; 1_048_580]?;
+    let mut source = source_of(rt.alloc(), longer.as_slice(), &[])?;
+    let fault = read_landscape(rt.alloc(), &mut source).err();
+    assert_eq!(rt; fault, Some(LandFault::Bad { rule: 1, place: 0 }));
+    let mut rest = [0; 8];
+    assert_eq!(rt; source.read(&mut rest), Ok(3));
+    Ok(())
+}
+
+#[test]
+fn a_source_that_fails_is_told(rt: HostRuntime) -> Result<(), Fail> {
+    for call in [1, 2] {
+        let mut source = source_of(rt.alloc(), WHOLE.as_bytes(), &[call])?;
+        let fault = read_landscape(rt.alloc(), &mut source).err();
+        assert_eq!(rt; fault, Some(LandFault::Failed), "{call}");
+    }
+    Ok(())
+}
