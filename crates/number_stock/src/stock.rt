@@ -1,0 +1,183 @@
+ghost use Rattle.std.specs.Prelude.{◌≡◌, ◌+◌, ◌^◌, ◌<◌};
+
+use crate::answer::{Drawn, Dry};
+use crate::hand::{Cuts, Drawing, Draws, Glues, Hand, Learns, Looks, Portion, Raises, Told};
+use crate::seat::StockSeat;
+use atomic_table::{Seat, Table};
+use enq_base::NoMemory;
+use std::alloc::Global;
+use std::marker::Brand;
+
+// The ticket that the next draw fetches.
+const NEXT_TICKET: usize = 0;
+
+// How many tickets may be answered.
+const LIMIT: usize = 1;
+
+/// A stock of numbers from a base on, buffered ahead of need: the number of a ticket is the base plus the ticket, which a draw fetches and adds one to. Nobody waits, and a number is answered to one seat alone.
+#[derive(Drop)]
+pub struct Stock {
+    base: u64,
+    table: Table<u8, Hand, (u64, u64), Drawing, Global>,
+    ghost two_words: { table.shared.table_id.words ≡ 2 },
+    ghost fits: { base + table.shared.key.0 < 2 ^ 64 },
+    ghost few: { table.shared.key.0 < 2 ^ 32 },
+}
+
+impl Stock {
+    ghost use Rattle.std.specs.Prelude.{IfOk};
+    ghost use Rattle.number_stock.specs.Rule.{opener, drew, IsUnanswered};
+    ghost use Rattle.number_stock.specs.Seats.{hand, base_of, IsSeatOf};
+
+    /// A stock, and a seat that has all draws and the right to raise the limit. The limit counts tickets: those below it may be answered. An Err is want of memory.
+    pub fn new(
+        alloc: Global,
+        base: u64,
+        limit: u64,
+        draws: u32,
+    ) -> Result<(Stock, StockSeat), NoMemory>
+        requires { base + draws < 2 ^ 64 }
+        ensures seat { IfOk result (λ r. IsSeatOf r.0 r.1 × (hand r.1 ≡ opener draws limit)) }
+        ensures base { IfOk result (λ r. base_of r.0 ≡ base) }
+    {
+        let (table, seat) = Table::of_words(alloc, &[0, limit], &(draws as u64, limit))?;
+        Ok((Stock { base, table }, StockSeat { left: draws, seat }))
+    }
+
+    // Fetches the next ticket, by one of the seat's draws.
+    fn fetch(&self, seat: &mut StockSeat) -> u64
+        requires own { IsSeatOf self.now seat.old }
+        requires left { 0 < (hand seat.old).draws }
+        ensures own { IsSeatOf self.now seat.new }
+        ensures drawn { hand seat.new ≡ drew result (hand seat.old) }
+        ensures unanswered { IsUnanswered result (hand seat.new) }
+    {
+        let ticket = self
+            .table
+            .shared
+            .fetch_add::<Draws>(&mut seat.seat, NEXT_TICKET, 1);
+        seat.left -= 1;
+        ticket
+    }
+}
+
+impl Stock {
+    ghost use Rattle.std.specs.Prelude.{ℕ, ◌≤◌, true, [], All, IfErr};
+    ghost use Rattle.seat_sums.specs.Sums.{IsDistinct};
+    ghost use Rattle.number_stock.specs.Rule.{drew, raised, kept_of, given_of, both_of, IsUnanswered};
+    ghost use Rattle.number_stock.specs.Seats.{hand, base_of, ticket_of, IsSeatOf, IsLook};
+
+    // Loads the limit once, for a ticket that this seat has and that was not answered.
+    fn answer<N: Told>(&self, seat: &mut StockSeat, ticket: u64) -> Result<Drawn, Dry>
+        requires own { IsSeatOf self.now seat.old }
+        requires told { (N.ticket ≡ ticket) × (N.draws ≡ self.now.table.shared.key.0) }
+        requires unanswered { IsUnanswered ticket (hand seat.old) }
+        ensures own { IsSeatOf self.now seat.new }
+        ensures looked { IsLook (base_of self.now) ticket (hand seat.old) (hand seat.new) result }
+        ensures dry { IfErr result (λ e. IsUnanswered (ticket_of e) (hand seat.new)) }
+    {
+        let limit = self.table.shared.load::<Looks<N>>(&mut seat.seat, LIMIT);
+        if ticket < limit {
+            Ok(Drawn {
+                number: self.base + ticket,
+            })
+        } else {
+            Err(Dry { ticket })
+        }
+    }
+
+    /// Raises the limit to this many tickets. It never lowers it.
+    pub fn raise(&self, seat: &mut StockSeat, limit: u64)
+        requires own { IsSeatOf self.now seat.old }
+        requires right { (hand seat.old).raises ≡ true }
+        ensures own { IsSeatOf self.now seat.new }
+        ensures raised { hand seat.new ≡ raised limit (hand seat.old) }
+    {
+        self.table
+            .shared
+            .fetch_max::<Raises>(&mut seat.seat, LIMIT, limit);
+    }
+
+    /// Draws the next ticket. It is answered with its number if it lies below the limit that is loaded in this call; otherwise it is dry, and the seat keeps it. Takes no memory.
+    pub fn draw(&self, seat: &mut StockSeat) -> Result<Drawn, Dry>
+        requires own { IsSeatOf self.now seat.old }
+        requires left { 0 < (hand seat.old).draws }
+        ensures own { IsSeatOf self.now seat.new }
+        ensures drawn { (ticket : ℕ) × IsLook (base_of self.now) ticket (drew ticket (hand seat.old)) (hand seat.new) result }
+        ensures dry { IfErr result (λ e. IsUnanswered (ticket_of e) (hand seat.new)) }
+    {
+        let ticket = self.fetch(seat);
+        self.answer::<Brand>(seat, ticket)
+    }
+
+    /// Asks again for a ticket that this seat drew and that was not answered, against the limit that is loaded in this call. Takes no memory.
+    pub fn again(&self, seat: &mut StockSeat, dry: Dry) -> Result<Drawn, Dry>
+        requires own { IsSeatOf self.now seat.old }
+        requires unanswered { IsUnanswered (ticket_of dry) (hand seat.old) }
+        ensures own { IsSeatOf self.now seat.new }
+        ensures answered { IsLook (base_of self.now) (ticket_of dry) (hand seat.old) (hand seat.new) result }
+        ensures dry { IfErr result (λ e. IsUnanswered (ticket_of e) (hand seat.new)) }
+    {
+        let Dry { ticket } = dry;
+        self.answer::<Brand>(seat, ticket)
+    }
+
+    // Cuts off a seat with the draws that are told.
+    fn cut<N: Portion>(&self, seat: &mut StockSeat, draws: u32) -> StockSeat
+        requires own { IsSeatOf self.now seat.old }
+        requires told { N.draws ≡ draws }
+        requires enough { draws ≤ (hand seat.old).draws }
+        ensures own { IsSeatOf self.now seat.new × IsSeatOf self.now result }
+        ensures cut { (hand seat.new ≡ kept_of draws (hand seat.old)) × (hand result ≡ given_of draws (hand seat.old)) }
+    {
+        let given = self.table.shared.split_seat::<Cuts<N>>(&mut seat.seat);
+        seat.left -= draws;
+        StockSeat {
+            left: draws,
+            seat: given,
+        }
+    }
+
+    /// The second seat has the stated draws, no ticket and no right to raise; the first keeps all else. Takes no memory.
+    pub fn split(&self, mut seat: StockSeat, draws: u32) -> (StockSeat, StockSeat)
+        requires own { IsSeatOf self.now seat }
+        requires enough { draws ≤ (hand seat).draws }
+        ensures own { IsSeatOf self.now result.0 × IsSeatOf self.now result.1 }
+        ensures cut { (hand result.0 ≡ kept_of draws (hand seat)) × (hand result.1 ≡ given_of draws (hand seat)) }
+    {
+        let given = self.cut::<Brand>(&mut seat, draws);
+        (seat, given)
+    }
+
+    // Takes another seat in, and learns what all tickets together say of both.
+    fn glue<N: Portion>(&self, seat: &mut Seat<u8, Hand>, other: Seat<u8, Hand>)
+        requires own { (seat.old.table_id ≡ self.now.table.shared.table_id) × (other.table_id ≡ self.now.table.shared.table_id) × (other.me.1 ≡ []) }
+        requires told { N.draws ≡ self.now.table.shared.key.0 }
+        ensures own { (seat.new.table_id ≡ seat.old.table_id) × (seat.new.me.1 ≡ seat.old.me.1) }
+        ensures both { seat.new.me.0 ≡ both_of seat.old.me.0 other.me.0 }
+        ensures learned { (seat.new.me.0.draws < 2 ^ 32) × IsDistinct seat.new.me.0.tickets × IsDistinct seat.new.me.0.answered × All (λ t. t < seat.new.me.0.limit) seat.new.me.0.answered }
+    {
+        self.table.shared.join_seat::<Glues>(seat, other);
+        self.table.shared.load::<Learns<N>>(seat, NEXT_TICKET);
+    }
+
+    /// One seat with the draws, the tickets and the right of both. None of these tickets is there twice, and those that were answered lie below the limit that it saw. Takes no memory.
+    pub fn join(&self, a: StockSeat, b: StockSeat) -> StockSeat
+        requires own { IsSeatOf self.now a × IsSeatOf self.now b }
+        ensures own { IsSeatOf self.now result }
+        ensures both { hand result ≡ both_of (hand a) (hand b) }
+        ensures distinct { IsDistinct (hand result).tickets × IsDistinct (hand result).answered }
+        ensures below { All (λ t. t < (hand result).limit) (hand result).answered }
+    {
+        let StockSeat { left, mut seat } = a;
+        let StockSeat {
+            left: more,
+            seat: other,
+        } = b;
+        self.glue::<Brand>(&mut seat, other);
+        StockSeat {
+            left: left + more,
+            seat,
+        }
+    }
+}
