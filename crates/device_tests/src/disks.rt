@@ -1,4 +1,4 @@
-use bk_disk::{Disk, Failed, FileDisk, MAX_LENGTH, MemDisk, StopDisk};
+use bk_disk::{Disk, Failed, FileDisk, MemDisk};
 use enq_base::Short;
 use std::alloc::Global;
 use std::fs::remove_file;
@@ -111,39 +111,5 @@ fn a_crash_may_leave_each_image(rt: HostRuntime) -> Result<(), Fail> {
     assert_eq!(rt; disk.sync(), Ok(()));
     leaves(&rt, alloc, &disk, [b"axyd\0z"; 4])?;
     assert_eq!(rt; disk.refused(), 0);
-    Ok(())
-}
-
-#[test]
-fn a_disk_has_a_greatest_length(rt: HostRuntime) -> Result<(), Fail> {
-    let mut disk = disk_of(rt.alloc(), b"abcd", &[])?;
-    for refused in [
-        Act::Write(MAX_LENGTH, b"x"),
-        Act::Write(u64::MAX, b""),
-        Act::Cut(MAX_LENGTH + 1),
-    ] {
-        assert_eq!(rt; make(&mut disk, refused), Err(Failed));
-    }
-    assert_eq!(rt; disk.refused(), 3);
-    assert_eq!(rt; disk.read_at(u64::MAX, &mut [0; 4]), Ok(0));
-    check(&rt, &mut disk, b"abcd");
-    Ok(())
-}
-
-#[test]
-fn calls_fail_where_they_are_told_to(rt: HostRuntime) -> Result<(), Fail> {
-    let alloc = rt.alloc();
-    for k in 1..7 {
-        let mut once = disk_of(alloc, b"abcd", &[k])?;
-        let mut stopping = StopDisk::new(disk_of(alloc, b"abcd", &[])?, k);
-        for call in 1..7 {
-            assert_eq!(rt; once.sync().is_err(), call == k, "{call} of {k}");
-            assert_eq!(rt; stopping.sync().is_err(), call >= k, "{call} of {k}");
-        }
-        assert_eq!(rt;
-            stopping.into_disk().image(alloc, 1)?.as_slice(),
-            b"abcd".as_slice()
-        );
-    }
     Ok(())
 }

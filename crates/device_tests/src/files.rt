@@ -148,32 +148,6 @@ fn a_file_with_another_byte_is_read_as_its_grammar_says(rt: HostRuntime) -> Resu
     Ok(())
 }
 
-#[test]
-fn records_behind_the_first_are_read(rt: HostRuntime) -> Result<(), Fail> {
-    let alloc = rt.alloc();
-    let mut twice = FILE[..61].to_vec(alloc)?;
-    twice.extend_from_slice(&FILE[8..])?;
-    let mut freed = FILE[..61].to_vec(alloc)?;
-    freed.extend_from_slice(&FREE)?;
-    let mut freed_twice = freed.as_slice()[..79].to_vec(alloc)?;
-    freed_twice.extend_from_slice(&FREE)?;
-    let mut behind_a_closed_gate = FILE.to_vec(alloc)?;
-    behind_a_closed_gate.extend_from_slice(&FREE)?;
-    assert_eq!(rt; opened(alloc, &twice)?, Ok(1), "a later hand of one unit");
-    assert_eq!(rt; opened(alloc, &freed)?, Ok(0), "a free");
-    assert_eq!(rt;
-        opened(alloc, &freed_twice)?,
-        Err(BackFault::Bad(79)),
-        "a second free"
-    );
-    assert_eq!(rt;
-        opened(alloc, &behind_a_closed_gate)?,
-        Ok(1),
-        "a free that is not read"
-    );
-    Ok(())
-}
-
 /// Hands the other unit's lock over, and gives the disk back.
 fn hand_other<D: Disk>(rt: &impl Abort, alloc: Global, disk: D, lock: &Entry, done: bool) -> D
     requires { MayBeHanded OTHER lock.now }
@@ -241,31 +215,6 @@ fn a_stop_leaves_the_lists_before_or_after(rt: HostRuntime) -> Result<(), Fail> 
                 wanted,
                 "stopped at {k}"
             );
-        }
-    }
-    Ok(())
-}
-
-#[test]
-fn a_failed_call_leaves_the_lists_before_or_after(rt: HostRuntime) -> Result<(), Fail> {
-    let alloc = rt.alloc();
-    let lock = lock_of(&OTHER)?;
-    for (after, is_hand) in [(2, true), (0, false)] {
-        for k in 1..9 {
-            let done = k > 7;
-            let failing = disk_of(alloc, &FILE, &[k])?;
-            let failed = if is_hand {
-                hand_other(&rt, alloc, failing, &lock, done)
-            } else {
-                free_unit(&rt, alloc, failing, done)
-            };
-            let wanted = match k {
-                0..=5 => [Ok(1); 4],
-                6 => [Ok(1), Ok(1), Ok(1), Ok(after)],
-                7 => [Ok(1), Ok(after), Ok(1), Ok(after)],
-                _ => [Ok(after); 4],
-            };
-            assert_eq!(rt; counts_of(alloc, &failed)?, wanted, "failed at {k}");
         }
     }
     Ok(())

@@ -1,6 +1,9 @@
-ghost use Rattle.std.specs.Prelude.{◌≡◌, ◌⊎◌, ◌≤◌, ℕ, List, false, true, length, IsTrue, IfOk, IfErr, OnOk, OnErr, Ok, IsErrOf, MatchResult};
+ghost use Rattle.std.specs.Prelude.{◌≡◌, ◌⊎◌, ◌≤◌, ℕ, List, false, true, length, IsTrue, IfOk, IfErr, OnOk, OnErr, Ok, IsErrOf, MatchResult, not};
+ghost use Rattle.std.specs.List.{filter};
 ghost use Rattle.enq_base.specs.Causes.{HasCause};
 ghost use Rattle.enq_base.specs.declared.owner.Owner.TheVariants.{Upd};
+ghost use Rattle.mode_rules.specs.Modes.{same_mode};
+ghost use Rattle.mode_rules.specs.declared.Mode.TheVariants.{O};
 ghost use Rattle.bk_disk.specs.Disk.{Follows};
 ghost use Rattle.lock_entry.specs.Converting.{converted};
 ghost use Rattle.lock_entry.specs.Freeing.{freed, freed_owner, handed_over};
@@ -17,7 +20,7 @@ ghost use Rattle.backup_file.specs.declared.handed.Handed.{Handed};
 ghost use Rattle.enq_server.specs.Faults.{HasCallCause, HasOpenCause, IsOpenFault, IsReadmission, IsRefusal, OnBytes};
 ghost use Rattle.enq_server.specs.declared.fault.ServerFault.TheVariants as server;
 ghost use Rattle.enq_server.specs.Recovery.{KeepsLists};
-ghost use Rattle.enq_server.specs.Server.{IsConverted, IsRecovered, is_lasting, lasting, recovered, with_list};
+ghost use Rattle.enq_server.specs.Server.{IsConverted, IsRecovered, lasting, recovered, with_list};
 
 use crate::fault::{OpenFault, ServerFault};
 use crate::recovery::{free_others, recover};
@@ -270,16 +273,10 @@ impl<T: LockStore, D: Disk> EnqServer<T, D> {
     }
 }
 
-fn is_lasting(entry: &Entry, unit: &UnitKey) -> bool
-    ensures { result ≡ is_lasting unit.now entry.now }
+fn drop_optimistic(entries: &mut Vec<Entry>)
+    ensures { entries.new.items ≡ filter (λ e. not (same_mode e.mode O)) entries.old.items }
 {
-    entry.is_of(&Owner::Upd(*unit)) && !entry.mode.is(Mode::O)
-}
-
-fn keep_lasting(entries: &mut Vec<Entry>, unit: &UnitKey)
-    ensures { entries.new.items ≡ lasting unit.now entries.old.items }
-{
-    entries.retain(|entry| is_lasting(entry, unit));
+    entries.retain(|entry| !entry.mode.is(Mode::O));
 }
 
 /// The unit's S, E and X entries, in order of granting.
@@ -287,7 +284,7 @@ fn lasting<T: LockStore>(alloc: Global, table: &T, unit: &UnitKey) -> Result<Vec
     ensures entries { IfOk result (λ entries. entries.items ≡ lasting unit.now (T.table table.now).entries) }
     ensures handable { IfOk result (λ entries. 1 ≤ length entries.items → IsHandable unit.now entries.items) }
 {
-    let mut entries = table.list(alloc)?;
-    keep_lasting(&mut entries, unit);
+    let mut entries = table.entries_of(alloc, &Owner::Upd(*unit))?;
+    drop_optimistic(&mut entries);
     Ok(entries)
 }

@@ -23,14 +23,14 @@ const CONDITION: usize = 5;
 // How often a look tries to read the words while none is written.
 const TRIES: u32 = 64;
 
-/// Readings that one thread publishes and others look at. After 2^63 publishes they stand still.
+/// Readings that one thread publishes and others look at: a sequence lock with one writer, whose sequence number is odd while the words change. Nobody waits. After 2^63 publishes they stand still.
 #[derive(Drop)]
 pub struct Gauges {
     table: Table<u8, Watch, Readings, Board, Global>,
     ghost six_words: { table.shared.table_id.words ≡ 6 },
 }
 
-/// The right to publish.
+/// The right to publish, which one thread has.
 #[derive(Drop)]
 pub struct GaugeWriter {
     sequence: u64,
@@ -212,7 +212,7 @@ impl Gauges {
     ghost use Rattle.seat_sums.specs.Entries.{entries_at};
     ghost use Rattle.gauges.specs.Boards.{told, latest, seen, IsWriterOf, IsReaderOf};
 
-    /// The gauges with the first readings, which count as published, their writer and a pass that has seen nothing.
+    /// The gauges with the first readings, which count as published, their writer and a pass that has seen nothing. An Err is want of memory.
     pub fn new(alloc: Global, first: Readings) -> Result<(Gauges, GaugeWriter, GaugePass), NoMemory>
         ensures own { IfOk result (λ r. IsWriterOf r.0 r.1 × IsReaderOf r.0 r.2) }
         ensures told { IfOk result (λ r. (told r.1 ≡ first ∷ []) × (latest r.1 ≡ first)) }
@@ -238,7 +238,7 @@ impl Gauges {
         ))
     }
 
-    /// Readings of one publish, which are no older than what the pass had seen. Where each of 64 tries met a publish, they are those that the pass had last.
+    /// Readings of one publish, which are no older than what the pass had seen. Where each of 64 tries met a publish, they are those that the pass had last: how fresh they are isn't promised. Takes no memory.
     pub fn look(&self, pass: &mut GaugePass) -> Readings
         requires own { IsReaderOf self.now pass.old }
         ensures own { IsReaderOf self.now pass.new }
@@ -249,7 +249,7 @@ impl Gauges {
         pass.last
     }
 
-    /// Publishes the readings.
+    /// Publishes the readings, between two steps of the sequence number: a look shows all five or none of them. After 2^63 publishes it only adds to the writer's list. Takes no memory.
     pub fn publish(&self, writer: &mut GaugeWriter, now: &Readings)
         requires own { IsWriterOf self.now writer.old }
         requires risen { (latest writer.old).past ≤ now.now.past }
@@ -262,7 +262,7 @@ impl Gauges {
         writer.sequence = self.end(&mut writer.seat, odd, now);
     }
 
-    /// A second pass, which has seen as much.
+    /// A second pass, for another thread. Takes no memory.
     pub fn split(&self, pass: GaugePass) -> (GaugePass, GaugePass)
         requires own { IsReaderOf self.now pass }
         ensures own { IsReaderOf self.now result.0 × IsReaderOf self.now result.1 }
@@ -273,7 +273,7 @@ impl Gauges {
         (GaugePass { last, seat }, GaugePass { last, seat: second })
     }
 
-    /// What the pass saw stands in what was published, at places that never fall from one look to the next.
+    /// Ends a pass, and so learns that what it saw stands in what was published, at places that never fall from one look to the next. Takes no memory.
     pub fn join(&self, writer: &mut GaugeWriter, pass: GaugePass)
         requires own { IsWriterOf self.now writer.old × IsReaderOf self.now pass }
         ensures own { IsWriterOf self.now writer.new }

@@ -129,7 +129,7 @@ served_becomes Wanting s c = inl refl
 served_becomes (Comes o) s c = inl (verdict-condition (λ part unit. o) s c)
 served_becomes StoreFails s c = failed_becomes s (verdict (outcome_in s.stored) s c)
 
-noted_case : (n : ℕ) (c : Command) (r : Served) (b : Bool) → (if b then r else record r { state = record r.state { past = r.state.past ++ past_entry n c r.reply ∷ [] } }).state.condition ≡ r.state.condition
+noted_case : (n : ℕ) (c : Command) (r : Served) (b : Bool) → (if b then r else record r { state = record r.state { past = r.state.past ++ past_entry n c r ∷ [] } }).state.condition ≡ r.state.condition
 noted_case n c r true = refl
 noted_case n c r false = refl
 

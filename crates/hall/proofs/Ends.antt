@@ -1,5 +1,5 @@
 -- The state behind a call that writes the store, answered or in doubt.
-use Rattle.std.proofs.Common.{◌≡◌, ◌⊎◌, inl, inr, ℕ, Bool, false, List, length, refl, sym, ap, ◌∙◌, subst, arith}
+use Rattle.std.proofs.Common.{◌≡◌, ◌⊎◌, inl, inr, ℕ, Bool, true, false, List, length, refl, sym, ap, ◌∙◌, subst, arith}
 use Rattle.std.specs.Prelude.{nat_eq, Option, Some, None}
 use Rattle.std.proofs.lemmas.Bool.Decides.{nat_tests}
 use Rattle.std.specs.Option.{option_map}
@@ -12,17 +12,15 @@ use Rattle.update_records.specs.Ledger.{Ledger}
 use Rattle.hall.specs.Acts.{IsAct, IsWritten, OnFailure, post_of, take_of, written_condition, written_pending, written_reply}
 use Rattle.enq_base.specs.declared.refusal.Refusal.TheVariants as refusal
 use Rattle.hall.proofs.Calls.{verdict-room}
-use Rattle.hall.proofs.Fair.{verdict-fair}
-use Rattle.hall.specs.declared.command.Who.TheVariants as who
 use Rattle.posting.specs.Steps.{waiting_for}
 use Rattle.posting.specs.declared.prepared.Outcome.{Outcome}
 use Rattle.hall.specs.declared.command.Reply.{Reply}
 use Rattle.hall.specs.declared.command.Reply.TheVariants as reply
-use Rattle.hall.specs.Kept.{IsKept}
+use Rattle.hall.specs.Serving.{IsCall, touches_store}
 use Rattle.hall.specs.Coming.{outcome_in}
 use Rattle.hall.specs.Orders.{first_unclaimed, order_of}
 use Rattle.hall.specs.Step.{Refuses, closed, own_verdict, take, taking, verdict}
-use Rattle.hall.specs.History.{IsAllowed, IsStep, Served, Well, doubted, is_unrecorded, judged, noted, served, shown, who_of}
+use Rattle.hall.specs.History.{IsAllowed, Served, Well, doubted, judged, served, shown}
 use Rattle.hall.specs.State.{State, state_of}
 use Rattle.hall.specs.declared.command.Command.{Command}
 use Rattle.hall.specs.declared.command.PastEntry.{PastEntry}
@@ -66,14 +64,14 @@ IsPart part = (part ≡ 1) ⊎ (part ≡ 2)
 pub is_second : (part : ℕ) → (part ≡ 1 → ⊥) → nat_eq part 1 ≡ false
 is_second part h = grind (arith, nat_tests)
 
--- a worker makes the calls for both parts
-pub who_takes : (part worker : ℕ) → IsPart part → who.Worker worker ≡ who_of (take_of part worker)
-who_takes part worker (inl e) = subst (λ p. who.Worker worker ≡ who_of (take_of p worker)) (sym e) refl
-who_takes part worker (inr e) = subst (λ p. who.Worker worker ≡ who_of (take_of p worker)) (sym e) refl
+-- of the calls for both parts
+pub touches_take : (part worker : ℕ) → IsPart part → touches_store (take_of part worker) ≡ false
+touches_take part worker (inl e) = subst (λ p. touches_store (take_of p worker) ≡ false) (sym e) refl
+touches_take part worker (inr e) = subst (λ p. touches_store (take_of p worker) ≡ false) (sym e) refl
 
-pub who_posts : (part worker : ℕ) → IsPart part → who.Worker worker ≡ who_of (post_of part worker)
-who_posts part worker (inl e) = subst (λ p. who.Worker worker ≡ who_of (post_of p worker)) (sym e) refl
-who_posts part worker (inr e) = subst (λ p. who.Worker worker ≡ who_of (post_of p worker)) (sym e) refl
+pub touches_post : (part worker : ℕ) → IsPart part → touches_store (post_of part worker) ≡ true
+touches_post part worker (inl e) = subst (λ p. touches_store (post_of p worker) ≡ true) (sym e) refl
+touches_post part worker (inr e) = subst (λ p. touches_store (post_of p worker) ≡ true) (sym e) refl
 
 own_take : (part : ℕ) (come : ℕ → UnitKey → Outcome) (s : State) (worker : ℕ) → IsPart part → own_verdict come s (take_of part worker) ≡ take part s worker
 own_take part come s worker (inl e) = subst (λ p. own_verdict come s (take_of p worker) ≡ take p s worker) (sym e) refl
@@ -84,21 +82,9 @@ take_verdict part s worker is room =
     verdict-room (outcome_in s.stored) s (take_of part worker) room ∙ own_take part (outcome_in s.stored) s worker is
 
 -- an order that is answered as its command says
-pub taken_act : (part : ℕ) (s : State) (worker : ℕ) (after : State) (r : Reply) → IsPart part → closed s ≡ None → judged s (take part s worker) ≡ record { state = after; reply = r } → is_unrecorded r ≡ false → IsAct s (take_of part worker) after r
-taken_act part s worker after r is room h noted =
+pub taken_call : (part : ℕ) (s : State) (worker : ℕ) (after : State) (r : Reply) → IsPart part → closed s ≡ None → judged s (take part s worker) ≡ record { state = after; reply = r } → IsCall s (take_of part worker) after r
+taken_call part s worker after r is room h =
     let c = take_of part worker in
     let e : judged s (verdict (outcome_in s.stored) s c) ≡ record { state = after; reply = r } = ap (judged s) (take_verdict part s worker is room) ∙ h in
     let well : shown r ≡ Well = ap (λ (x : Served). shown x.reply) (sym h) ∙ taken-well s worker (order_of s.orders worker) (first_unclaimed s.orders (waiting_for part s.stored)) in
-    record { same = ap (λ o. served o s c) well ∙ e; allowed = subst (λ o. IsAllowed o s c) (sym well) tt; noted = noted }
-
--- a worker that finds no unit
-pub idle_call : (part : ℕ) (s : State) (line worker : ℕ) (after : State) → IsPart part → closed s ≡ None → judged s (take part s worker) ≡ record { state = after; reply = reply.Refused refusal.Idle } → IsStep s after line (take_of part worker) (reply.Refused refusal.Idle)
-idle_call part s line worker after is room h =
-    record { same = sym (ap (noted line (take_of part worker)) (ap (judged s) (take_verdict part s worker is room) ∙ h)); allowed = tt }
-
-pub idle_kept : (part : ℕ) (s : State) (worker : ℕ) (after : State) → IsPart part → closed s ≡ None → judged s (take part s worker) ≡ record { state = after; reply = reply.Refused refusal.Idle } → IsKept s → IsKept after
-idle_kept part s worker after is room h kept =
-    let c = take_of part worker in
-    let e : judged s (verdict (outcome_in s.stored) s c) ≡ record { state = after; reply = reply.Refused refusal.Idle } = ap (judged s) (take_verdict part s worker is room) ∙ h in
-    let same : after ≡ s = ap (λ (x : Served). x.state) (sym e) ∙ (verdict-fair (outcome_in s.stored) s c).quiet (ap (λ (x : Served). is_unrecorded x.reply) e) in
-    subst IsKept (sym same) kept
+    record { same = ap (λ o. served o s c) well ∙ e; allowed = subst (λ o. IsAllowed o s c) (sym well) tt }

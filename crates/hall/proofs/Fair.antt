@@ -260,6 +260,6 @@ served-sound Wanting s c h = h
 served-sound (Comes o) s c h = (verdict-fair (λ part unit. o) s c).sound h
 served-sound StoreFails s c h = failed-sound s (verdict (outcome_in s.stored) s c) h
 
-pub noted-sound : (line : ℕ) (c : Command) (r : Served) (b : Bool) → HasSoundLocks r.state → HasSoundLocks (if b then r else record r { state = record r.state { past = r.state.past ++ past_entry line c r.reply ∷ [] } }).state
+pub noted-sound : (line : ℕ) (c : Command) (r : Served) (b : Bool) → HasSoundLocks r.state → HasSoundLocks (if b then r else record r { state = record r.state { past = r.state.past ++ past_entry line c r ∷ [] } }).state
 noted-sound line c r true h = h
 noted-sound line c r false h = over_table h.stored h.table

@@ -523,7 +523,7 @@ full_at n h = grind (arith, nat_tests)
 pub room_at : (n : ℕ) → n < 262144 → nat_le 262144 n ≡ false
 room_at n h = grind (arith, nat_tests)
 
-full_or : (P : Type 0) (b : Bool) → (b ≡ true → P) → (b ≡ false → P) → P
+pub full_or : (P : Type 0) (b : Bool) → (b ≡ true → P) → (b ≡ false → P) → P
 full_or P true f g = f refl
 full_or P false f g = g refl
 
@@ -555,25 +555,20 @@ with_past n s past h =
     }
 
 -- a call with room for it in the history
-pub kept_call : (s : State) (line : ℕ) (c : Command) (after : State) (r : Reply) → IsKept s → is_full s ≡ false → IsAct s c after r → IsKept (record after { past = after.past ++ past_entry line c r ∷ [] })
+pub kept_call : (s : State) (line : ℕ) (c : Command) (after : State) (r : Reply) → IsKept s → is_full s ≡ false → IsAct s c after r → IsKept (record after { past = after.past ++ past_entry line c (record { state = after; reply = r }) ∷ [] })
 kept_call s line c after r kept room act =
     let before : Holds (length s.past) s = record { few = kept.few; steady = kept.steady } in
     let holds : Holds (length s.past + 1) after = subst (λ x. Holds (length s.past + 1) x.state) act.same (served-holds (length s.past) (shown r) s c kept.sound before) in
     let sound : HasSoundLocks after = subst (λ x. HasSoundLocks x.state) act.same (served-sound (shown r) s c kept.sound) in
     let past : after.past ≡ s.past = ap (λ x. x.state.past) (sym act.same) ∙ served-past (shown r) s c in
-    let longer : length (after.past ++ past_entry line c r ∷ []) ≡ length s.past + 1 = length-append after.past (past_entry line c r ∷ []) ∙ ap (λ p. length p + 1) past in
-    let whole = with_past (length s.past + 1) after (after.past ++ past_entry line c r ∷ []) holds in
+    let longer : length (after.past ++ past_entry line c (record { state = after; reply = r }) ∷ []) ≡ length s.past + 1 = length-append after.past (past_entry line c (record { state = after; reply = r }) ∷ []) ∙ ap (λ p. length p + 1) past in
+    let whole = with_past (length s.past + 1) after (after.past ++ past_entry line c (record { state = after; reply = r }) ∷ []) holds in
     record {
       within = subst (λ n. n ≤ 262144) (sym longer) (below_limit (length s.past) room);
-      few = subst (λ n. HasFew n (record after { past = after.past ++ past_entry line c r ∷ [] })) (sym longer) whole.few;
+      few = subst (λ n. HasFew n (record after { past = after.past ++ past_entry line c (record { state = after; reply = r }) ∷ [] })) (sym longer) whole.few;
       steady = whole.steady;
       sound = over_table sound.stored sound.table;
     }
-
--- the state behind a call, by what stands in its history
-pub stays_kept : (s : State) (line : ℕ) (c : Command) (after : State) (said r : Reply) (past : List PastEntry) → IsKept s → is_full s ≡ false → r ≡ said → IsAct s c after said → past ≡ after.past ++ past_entry line c r ∷ [] → IsKept (record after { past = past })
-stays_kept s line c after said r past kept room is act noted =
-    subst (λ p. IsKept (record after { past = p })) (sym noted) (kept_call s line c after r kept room (subst (λ x. IsAct s c after x) (sym is) act))
 
 pub young_enough : (s : State) → IsKept s → AllByRecursion (IsYoung 262145) s.sessions
 young_enough s kept = young_more (length s.past + 1) 262145 s.sessions (omega (arith, kept.within)) kept.few.units

@@ -184,7 +184,7 @@ served-keeps StoreFails s c = failed-keeps s c (verdict (outcome_in s.stored) s 
 served-keeps (Comes o) s c = verdict-keeps (λ part unit. o) s c
 
 -- a call is noted, and nothing else changes
-noted-keeps : (s : State) (c : Command) (line : ℕ) (r : Served) (b : Bool) → KeepsSessions s c r → KeepsSessions s c (if b then r else record r { state = record r.state { past = r.state.past ++ past_entry line c r.reply ∷ [] } })
+noted-keeps : (s : State) (c : Command) (line : ℕ) (r : Served) (b : Bool) → KeepsSessions s c r → KeepsSessions s c (if b then r else record r { state = record r.state { past = r.state.past ++ past_entry line c r ∷ [] } })
 noted-keeps s c line r true each = each
 noted-keeps s c line r false each = each
 
@@ -220,7 +220,7 @@ served-enters StoreFails s name user = failed-enters s name (verdict (outcome_in
 served-enters (Comes o) s name user = logon-enters s name user (closed s) _ _
 
 abbrev noting : ℕ → Command → Served → Bool → Served
-noting line c r b = if b then r else record r { state = record r.state { past = r.state.past ++ past_entry line c r.reply ∷ [] } }
+noting line c r b = if b then r else record r { state = record r.state { past = r.state.past ++ past_entry line c r ∷ [] } }
 
 noted-enters : (name : List ℕ) (line : ℕ) (c : Command) (r : Served) (b : Bool) → EntersSession name r.reply r.state.sessions → EntersSession name (noting line c r b).reply (noting line c r b).state.sessions
 noted-enters name line c r true h = h

@@ -17,7 +17,7 @@ use Rattle.hall.specs.Coming.{MayComeTo, outcome_in}
 use Rattle.hall.specs.Orders.{order_for}
 use Rattle.hall.specs.declared.command.Command.{Command}
 use Rattle.hall.specs.declared.command.PastEntry.{PastEntry}
-use Rattle.hall.specs.History.{DeviceOutcome, Well, Wanting, StoreFails, Comes, IsAllowed, Served, failed, is_post, is_unrecorded, judged, noted, past_entry, served, shown, step}
+use Rattle.hall.specs.History.{Comes, DeviceOutcome, IsAllowed, Served, StoreFails, Wanting, Well, after_of, failed, is_post, is_unrecorded, judged, noted, past_entry, served, shown, step}
 use Rattle.hall.specs.Kept.{HasSoundLocks}
 use Rattle.hall.specs.Recall.{AreModelAnswers, IsModelAnswer, StaysSound, recalled, state_after}
 use Rattle.hall.specs.State.{State}
@@ -182,13 +182,13 @@ told_first first none =
 told_noted : (first s : State) (o : DeviceOutcome) (line : ℕ) (c : Command) → IsTold first s → IsAllowed o s c → is_unrecorded (served o s c).reply ≡ false → IsTold first (step o s line c).state
 told_noted first s o line c h allowed recorded =
     let r : Served = served o s c in
-    let e : PastEntry = past_entry line c r.reply in
+    let e : PastEntry = past_entry line c r in
     let entered : Served = record r { state = record r.state { past = r.state.past ++ e ∷ [] } } in
     let stepped : step o s line c ≡ entered = ap (λ b. if b then r else entered) recorded in
     let shows : ShowsAgain s c r = shows_again o s c allowed in
     let again : step (shown r.reply) s line c ≡ entered = ap (noted line c) shows.same ∙ stepped in
     let past : entered.state.past ≡ s.past ++ e ∷ [] = ap (λ es. es ++ e ∷ []) (served-past o s c) in
-    let answer : IsModelAnswer s e = record { who = refl; reply = ap (λ x. x.reply) again; allowed = shows.allowed } in
+    let answer : IsModelAnswer s e = record { who = refl; reply = ap (λ x. x.reply) again; after = sym (ap (λ (x : Served). after_of x.state) again); allowed = shows.allowed } in
     let answers : AnswersFrom first (s.past ++ e ∷ []) = answers_more first s.past e h.answers (subst (λ x. IsModelAnswer x e) h.state answer) in
     let leads : state_after first (s.past ++ e ∷ []) ≡ entered.state =
     fold-append recalled first s.past (e ∷ []) ∙ ap (λ x. recalled x e) (sym h.state) ∙ ap (λ x. x.state) again in
@@ -199,7 +199,7 @@ told_noted first s o line c h allowed recorded =
 told_unnoted : (first s : State) (o : DeviceOutcome) (line : ℕ) (c : Command) → IsTold first s → is_unrecorded (served o s c).reply ≡ true → IsTold first (step o s line c).state
 told_unnoted first s o line c h lost =
     let r : Served = served o s c in
-    let entered : Served = record r { state = record r.state { past = r.state.past ++ past_entry line c r.reply ∷ [] } } in
+    let entered : Served = record r { state = record r.state { past = r.state.past ++ past_entry line c r ∷ [] } } in
     let stepped : step o s line c ≡ r = ap (λ b. if b then r else entered) lost in
     subst (λ x. IsTold first x) (sym (ap (λ x. x.state) stepped ∙ unnoted-served o s c lost)) h
 

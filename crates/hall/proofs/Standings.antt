@@ -380,7 +380,7 @@ served-stands Wanting s c steady sound = stands_still s _
 served-stands (Comes o) s c steady sound = verdict-stands (λ part unit. o) s c steady sound
 served-stands StoreFails s c steady sound = failed-stands s (verdict (outcome_in s.stored) s c)
 
-noted-stands : (s : State) (line : ℕ) (c : Command) (r : Served) (b : Bool) → Stands c s r → Stands c s (if b then r else record r { state = record r.state { past = r.state.past ++ past_entry line c r.reply ∷ [] } })
+noted-stands : (s : State) (line : ℕ) (c : Command) (r : Served) (b : Bool) → Stands c s r → Stands c s (if b then r else record r { state = record r.state { past = r.state.past ++ past_entry line c r ∷ [] } })
 noted-stands s line c r true h = h
 noted-stands s line c r false h = record {
   sure = λ k. h.sure k;
@@ -407,9 +407,9 @@ reached_first : (limit mark_limit : ℕ) (told : Bool) (ledger : Ledger) → lim
 reached_first limit mark_limit told ledger fits limited first =
     record { calls = 0; sound = first_sound limit mark_limit told ledger fits first; holds = record { few = first_few limit mark_limit told ledger; steady = first_steady limit mark_limit told ledger limited first }; sure = refl }
 
-noted-holds : (n line : ℕ) (c : Command) (r : Served) (b : Bool) → Holds n r.state → Holds n (if b then r else record r { state = record r.state { past = r.state.past ++ past_entry line c r.reply ∷ [] } }).state
+noted-holds : (n line : ℕ) (c : Command) (r : Served) (b : Bool) → Holds n r.state → Holds n (if b then r else record r { state = record r.state { past = r.state.past ++ past_entry line c r ∷ [] } }).state
 noted-holds n line c r true h = h
-noted-holds n line c r false h = with_past n r.state (r.state.past ++ past_entry line c r.reply ∷ []) h
+noted-holds n line c r false h = with_past n r.state (r.state.past ++ past_entry line c r ∷ []) h
 
 reached_next : (s : State) (call : PastEntry) → IsReached s → IsReached (recalled s call)
 reached_next s call h =
@@ -480,7 +480,7 @@ verdict-hands unit s (command.Commit name parts) server is =
     (λ room. call-hands unit s name parts (served_up (is_full s) s.condition server room))
 verdict-hands unit s _ server is = absurd (cc)
 
-noted-hands : (unit : UnitKey) (s : State) (line : ℕ) (c : Command) (r : Served) (b : Bool) → HandsIf unit s r → HandsIf unit s (if b then r else record r { state = record r.state { past = r.state.past ++ past_entry line c r.reply ∷ [] } })
+noted-hands : (unit : UnitKey) (s : State) (line : ℕ) (c : Command) (r : Served) (b : Bool) → HandsIf unit s r → HandsIf unit s (if b then r else record r { state = record r.state { past = r.state.past ++ past_entry line c r ∷ [] } })
 noted-hands unit s line c r true h e = h e
 noted-hands unit s line c r false h e =
     let k = h e in
@@ -563,7 +563,7 @@ unfolding verdict
 verdict-back unit s (command.Resubmit other) is = unless-back unit s (closed s) (resubmit s other) (resubmit-back unit s other)
 verdict-back unit s _ is = absurd (cc)
 
-noted-back : (unit : UnitKey) (s : State) (line : ℕ) (c : Command) (r : Served) (b : Bool) → BackIf unit s r → BackIf unit s (if b then r else record r { state = record r.state { past = r.state.past ++ past_entry line c r.reply ∷ [] } })
+noted-back : (unit : UnitKey) (s : State) (line : ℕ) (c : Command) (r : Served) (b : Bool) → BackIf unit s r → BackIf unit s (if b then r else record r { state = record r.state { past = r.state.past ++ past_entry line c r ∷ [] } })
 noted-back unit s line c r true h = h
 noted-back unit s line c r false h = λ told waits. h told (record { up = waits.up; waits = waits.waits })
 

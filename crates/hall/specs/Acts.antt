@@ -28,11 +28,6 @@ take_of part worker = if nat_eq part 1 then command.Take1 worker else command.Ta
 abbrev pub post_of : ℕ → ℕ → Command
 post_of part worker = if nat_eq part 1 then command.Do1 worker else command.Do2 worker
 
--- a worker that asks for an order and finds no unit is told so
-abbrev pub taken_reply : Option Reply → Reply
-taken_reply None = reply.Refused refusal.Idle
-taken_reply (Some r) = r
-
 -- a call that writes the store leaves this state, or where the store fails a server in doubt
 abbrev pub IsWritten : State → Command → State → Written → Type 0
 IsWritten s c after (Answered r) = IsAct s c after r

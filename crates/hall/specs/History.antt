@@ -3,6 +3,7 @@ use Rattle.std.specs.Prelude.{◌≡◌, ℕ, ◌+◌, Bool, true, false, nat_le
 use Rattle.std.specs.Prelude.{[], ◌∷◌, ◌++◌, length, Some, None, is_some, is_ok, IfSome}
 use Rattle.enq_base.specs.declared.condition.Condition.TheVariants as condition
 use Rattle.enq_base.specs.declared.refusal.Refusal.TheVariants as refusal
+use Rattle.hall.specs.declared.command.After.{After}
 use Rattle.hall.specs.declared.command.Command.{Command}
 use Rattle.hall.specs.declared.command.Command.TheVariants as command
 use Rattle.hall.specs.declared.command.PastEntry.{PastEntry}
@@ -135,14 +136,22 @@ is_unrecorded (reply.Refused refusal.LogFull) = true
 is_unrecorded (reply.Refused refusal.Idle) = true
 is_unrecorded _ = false
 
-abbrev pub past_entry : ℕ → Command → Reply → PastEntry
-past_entry line c r = record { who = who_of c; line = line; command = c; reply = r }
+-- what stands after a call; there is no replica yet, and no restart
+abbrev pub after_of : State → After
+after_of s = record { condition = s.condition; attached = false; taken = false }
+
+-- what the history keeps of a call
+abbrev pub entry_of : ℕ → Command → Reply → After → PastEntry
+entry_of line c r after = record { who = who_of c; line = line; command = c; reply = r; after = after }
+
+abbrev pub past_entry : ℕ → Command → Served → PastEntry
+past_entry line c r = entry_of line c r.reply (after_of r.state)
 
 -- the call goes last into the history
 abbrev pub noted : ℕ → Command → Served → Served
 noted line c r =
     if is_unrecorded r.reply then r
-    else record r { state = record r.state { past = r.state.past ++ past_entry line c r.reply ∷ [] } }
+    else record r { state = record r.state { past = r.state.past ++ past_entry line c r ∷ [] } }
 
 -- one call, of this line of the script
 abbrev pub step : DeviceOutcome → State → ℕ → Command → Served

@@ -1,7 +1,8 @@
 ghost use Rattle.std.specs.Prelude.{◌≡◌};
+ghost use Rattle.hall.specs.History.{who_of};
 ghost use Rattle.hall.specs.Step.{answer_of};
 
-use enq_base::{Items, Name, Parts, Reason, Refusal, UnitKey};
+use enq_base::{Condition, Items, Name, Parts, Reason, Refusal, UnitKey};
 use lock_entry::{Asked, Request};
 
 /// Who makes a call.
@@ -79,6 +80,30 @@ pub enum Command {
     },
 }
 
+impl Command {
+    /// Who makes the call.
+    pub fn who(&self) -> Who
+        ensures { result ≡ who_of self.now }
+    {
+        match self {
+            Command::Logon { session, .. }
+            | Command::Logoff { session }
+            | Command::Ask { session, .. }
+            | Command::Free { session, .. }
+            | Command::FreeAll { session }
+            | Command::Convert { session, .. }
+            | Command::Rollback { session }
+            | Command::Commit { session, .. } => Who::Session(*session),
+            Command::Take1 { worker }
+            | Command::Do1 { worker }
+            | Command::Take2 { worker }
+            | Command::Do2 { worker }
+            | Command::DropOrder { worker } => Who::Worker(*worker),
+            Command::Cancel { .. } | Command::Resubmit { .. } => Who::Admin,
+        }
+    }
+}
+
 /// What a call is answered.
 #[derive(Clone, Copy, Debug, PartialEq, Eq)]
 pub enum Reply {
@@ -104,6 +129,16 @@ pub enum Reply {
     Refused(Refusal),
 }
 
+/// What stands after a call.
+#[derive(Clone, Copy, Debug, PartialEq, Eq)]
+pub struct After {
+    pub condition: Condition,
+    /// Whether a replica follows the lock table. There is none yet.
+    pub attached: bool,
+    /// Whether a restart found the change that was in doubt. There is no restart yet.
+    pub taken: bool,
+}
+
 /// A call of the history.
 #[derive(Drop)]
 pub struct PastEntry {
@@ -112,6 +147,7 @@ pub struct PastEntry {
     pub line: u32,
     pub command: Command,
     pub reply: Reply,
+    pub after: After,
 }
 
 impl Reply {

@@ -1,7 +1,7 @@
-ghost use Rattle.std.specs.Prelude.{◌≡◌, ◌⊎◌, ◌<◌, None, IfSome, false, length};
+ghost use Rattle.std.specs.Prelude.{◌≡◌, ◌⊎◌, ◌<◌, None, IfSome, length};
 ghost use Rattle.hall.specs.declared.command.Command.TheVariants as command;
-ghost use Rattle.hall.specs.Acts.{IsAct, taken_reply};
-ghost use Rattle.hall.specs.History.{is_unrecorded, judged};
+ghost use Rattle.hall.specs.Acts.{IsAct};
+ghost use Rattle.hall.specs.History.{judged};
 ghost use Rattle.hall.specs.Orders as claims;
 ghost use Rattle.hall.specs.State.{State};
 ghost use Rattle.hall.specs.Step.{closed, take};
@@ -107,27 +107,27 @@ fn first_unclaimed<K: Keeper>(
     None
 }
 
-/// Gives a worker an order for the oldest unit that waits for a part and that no worker has an order for. None: there is
-/// none.
+/// Gives a worker an order for the oldest unit that waits for a part and that no worker has an order for.
 pub(crate) fn take<K: Keeper>(
     orders: &mut Vec<Option<UnitKey>>,
     books: &Books<K>,
     worker: u8,
     part: u8,
-) -> Option<Reply>
+) -> Reply
     requires places { length orders.old.items ≡ 256 }
     requires part { (part ≡ 1) ⊎ (part ≡ 2) }
     ensures verdict { (s : State) → s.orders ≡ orders.old.items → s.stored ≡ books.now.ledger
         → judged s (take part s worker)
-        ≡ record { state = record s { orders = orders.new.items }; reply = taken_reply result } }
-    ensures recorded { IfSome result (λ r. is_unrecorded r ≡ false) }
+        ≡ record { state = record s { orders = orders.new.items }; reply = result } }
 {
     if let Some(unit) = order_of(orders.as_slice(), worker) {
-        return Some(Reply::Refused(Refusal::WorkerBusy(unit)));
+        return Reply::Refused(Refusal::WorkerBusy(unit));
     }
-    let unit = first_unclaimed(orders.as_slice(), books, part)?;
+    let Some(unit) = first_unclaimed(orders.as_slice(), books, part) else {
+        return Reply::Refused(Refusal::Idle);
+    };
     orders[worker as usize] = Some(unit);
-    Some(Reply::Unit(unit))
+    Reply::Unit(unit)
 }
 
 /// Takes a worker's order back.

@@ -486,9 +486,7 @@ fn handed_locks<T: LockStore>(
     ensures locks { IfOk result (λ entries. entries.items ≡ step.handed_locks (T.table locks.now).entries unit.now) }
     ensures good { IfOk result (λ _. IsTable (T.table locks.now)) }
 {
-    let owner = Owner::Upd(*unit);
-    let mut entries = locks.list(alloc)?;
+    let mut entries = locks.entries_of(alloc, &Owner::Upd(*unit))?;
     hand_over(&mut entries, unit);
-    entries.retain(|e| e.is_of(&owner));
     Ok(entries)
 }

@@ -1,18 +1,16 @@
 ghost use Rattle.std.specs.Prelude.{◌≡◌, ◌≤◌, ◌↔◌, ◌+◌, true, false, IsTrue, Option, Some, IfOk, OnOk, OnErr, IsErr, IsOkAnd, IfSome, is_some};
 ghost use Rattle.enq_base.specs.Causes.{HasCause, Rose};
-ghost use Rattle.keeper_api.specs.Batch.{changed, changed_once, held_after, IsBatch};
+ghost use Rattle.keeper_api.specs.Batch.{changed, held_after, IsBatch};
 ghost use Rattle.keeper_api.specs.Keeping.{HasFaultCause, Stays, UnlessFailed, OnNoMemory, OnFailed, IsWithin, IsBeforeOrAfter};
 ghost use Rattle.keeper_api.specs.Rows.{Rows, value_at, page_of, IsPage};
 ghost use Rattle.keeper_mem.specs.Memory as memory;
 ghost use Rattle.keeper_mem.specs.Memory.{Leaves, held_rows, IsSettled, HasMade};
 
-use crate::sorted_rows::SortedRows;
-use crate::stored::copy_bytes;
 use enq_base::{Failed, NoMemory};
 use keeper_api::{Bytes, Change, KeepFault, Keeper, Row};
+use sorted_rows::SortedRows;
 use std::alloc::Global;
 use std::marker::Model;
-use std::mem;
 
 /// On which side a commit fell that failed, until the next `reopen`.
 #[derive(Clone, Copy, Debug, PartialEq, Eq)]
@@ -35,7 +33,6 @@ pub struct Stop {
 #[derive(Drop)]
 pub struct MemKeeper {
     rows: SortedRows,
-    made: SortedRows,
     doubt: Doubt,
     fails: Vec<u64>,
     after: Vec<u64>,
@@ -50,13 +47,13 @@ impl Model for MemKeeper {
     ghost Value = { KeeperView };
 
     ghost use Rattle.std.specs.Coded.{codes};
-    ghost use Rattle.keeper_mem.specs.Codes.{rows_code};
+    ghost use Rattle.sorted_rows.specs.Views.{rows_code};
 
     ghost coded = { Prim.hlevel (codes, rows_code) };
 
     ghost view = { λ k. record {
-      rows = k.rows;
-      made = k.made;
+      rows = k.rows.rows;
+      made = k.rows.made;
       doubt = k.doubt;
       fails = k.fails.items;
       after = k.after.items;
@@ -73,7 +70,6 @@ impl MemKeeper {
     {
         Ok(MemKeeper {
             rows: SortedRows::new(alloc),
-            made: SortedRows::new(alloc),
             doubt: Doubt::Settled,
             fails,
             after,
@@ -89,7 +85,6 @@ impl MemKeeper {
     {
         let MemKeeper {
             rows,
-            made,
             doubt,
             fails: _,
             after: _,
@@ -99,7 +94,6 @@ impl MemKeeper {
         } = self;
         MemKeeper {
             rows,
-            made,
             doubt,
             fails,
             after,
@@ -156,32 +150,6 @@ fn stops_after(stop: &Option<Stop>, call: u64) -> bool
     }
 }
 
-fn change_row(rows: &mut SortedRows, alloc: Global, change: &Change) -> Result<(), NoMemory>
-    ensures { OnOk result (rows.new ≡ changed_once change.now rows.old) }
-{
-    match change {
-        Change::Put { table, key, value } => {
-            let key = copy_bytes(alloc, key.as_slice())?;
-            let value = copy_bytes(alloc, value.as_slice())?;
-            rows.put(*table, key, value)
-        }
-        Change::Del { table, key } => {
-            rows.del(*table, key.as_slice());
-            Ok(())
-        }
-    }
-}
-
-fn with_batch(alloc: Global, rows: &SortedRows, batch: &[Change]) -> Result<SortedRows, NoMemory>
-    ensures { IfOk result (λ next. next ≡ changed batch.now rows.now) }
-{
-    let mut next = rows.copy(alloc)?;
-    for change in batch {
-        change_row(&mut next, alloc, change)?;
-    }
-    Ok(next)
-}
-
 impl Keeper for MemKeeper {
     ghost use Rattle.keeper_mem.specs.Memory.{Leaves, held_rows, IsSettled, HasMade, settled_leaves};
 
@@ -214,7 +182,7 @@ impl Keeper for MemKeeper {
             return Err(KeepFault::Failed);
         }
         if self.doubt == Doubt::After {
-            mem::swap(&mut self.rows, &mut self.made);
+            self.rows.make();
         }
         self.doubt = Doubt::Settled;
         Ok(())
@@ -280,8 +248,7 @@ impl Keeper for MemKeeper {
         ensures made { OnOk result (self.new ≡ memory.ready batch.now self.old) }
         ensures unchanged { OnErr result (self.new ≡ self.old) }
     {
-        self.made = with_batch(alloc, &self.rows, batch)?;
-        Ok(())
+        self.rows.room(alloc, batch)
     }
 
     fn commit(&mut self, batch: &[Change]) -> Result<(), Failed>
@@ -308,7 +275,7 @@ impl Keeper for MemKeeper {
             };
             return Err(Failed);
         }
-        mem::swap(&mut self.rows, &mut self.made);
+        self.rows.make();
         Ok(())
     }
 }

@@ -38,25 +38,6 @@ fn scripts_are_read_line_by_line(rt: HostRuntime) -> Result<(), Fail> {
 }
 
 #[test]
-fn a_line_has_at_most_1024_bytes(rt: HostRuntime) -> Result<(), Fail> {
-    let alloc = rt.alloc();
-    let mut script = vec![in alloc; b'X'; 1024]?;
-    script.push(b'\n')?;
-    script.extend_from_slice(&[b'Y'; 1025])?;
-    script.extend_from_slice(b"Z\n")?;
-    let mut source = MemSource::new(script, Vec::new(alloc))?;
-    let mut reader = LineReader::new();
-    assert_eq!(rt; reader.next(&mut source), Ok(true));
-    assert_eq!(rt; reader.line(), [b'X'; 1024].as_slice());
-    assert_eq!(rt; reader.next(&mut source), Err(LineFault::TooLong(2)));
-    assert_eq!(rt; reader.next(&mut source), Err(LineFault::TooLong(2)));
-    let mut rest = [0; 2];
-    assert_eq!(rt; Source::read(&mut source, &mut rest), Ok(2));
-    assert_eq!(rt; &rest, b"Z\n");
-    Ok(())
-}
-
-#[test]
 fn a_script_has_at_most_200000_lines(rt: HostRuntime) -> Result<(), Fail> {
     let alloc = rt.alloc();
     let ends: [(&[u8], Result<bool, LineFault>); 2] = [
@@ -75,36 +56,6 @@ fn a_script_has_at_most_200000_lines(rt: HostRuntime) -> Result<(), Fail> {
         assert_eq!(rt; reader.next(&mut source), end);
         assert_eq!(rt; reader.next(&mut source), end);
     }
-    Ok(())
-}
-
-#[test]
-fn a_fault_within_a_line_is_answered_again(rt: HostRuntime) -> Result<(), Fail> {
-    let alloc = rt.alloc();
-    let script = b"AB\nCD\n".to_vec(alloc)?;
-    let mut source = MemSource::new(script, [5].to_vec(alloc)?)?;
-    let mut reader = LineReader::new();
-    assert_eq!(rt; reader.next(&mut source), Ok(true));
-    assert_eq!(rt; reader.next(&mut source), Err(LineFault::Failed));
-    assert_eq!(rt; reader.next(&mut source), Err(LineFault::Failed));
-    assert_eq!(rt; reader.number(), 1);
-    let mut rest = [0; 2];
-    assert_eq!(rt; Source::read(&mut source, &mut rest), Ok(2));
-    assert_eq!(rt; &rest, b"D\n");
-    Ok(())
-}
-
-#[test]
-fn bytes_come_in_pieces(rt: HostRuntime) -> Result<(), Fail> {
-    let alloc = rt.alloc();
-    let mut source = MemSource::new(b"ABCDEFG".to_vec(alloc)?, [2].to_vec(alloc)?)?;
-    let mut piece = [0; 4];
-    assert_eq!(rt; Source::read(&mut source, &mut piece), Ok(4));
-    assert_eq!(rt; &piece, b"ABCD");
-    assert_eq!(rt; Source::read(&mut source, &mut piece), Err(Failed));
-    assert_eq!(rt; Source::read(&mut source, &mut piece), Ok(3));
-    assert_eq!(rt; &piece, b"EFGD");
-    assert_eq!(rt; Source::read(&mut source, &mut piece), Ok(0));
     Ok(())
 }
 

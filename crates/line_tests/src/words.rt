@@ -1,6 +1,6 @@
 use enq_base::{
-    Deed, Effect, Items, Key, Owner, Parts, Pattern, Short, Text, TextFault, UnitKey, put_number,
-    read_name, read_number, read_unit_key,
+    Key, Owner, Pattern, Short, Text, TextFault, UnitKey, put_number, read_name, read_number,
+    read_unit_key,
 };
 use std::test::*;
 
@@ -28,19 +28,6 @@ fn words_are_tested_by_their_grammars(rt: HostRuntime) {
         assert_eq!(rt; Key::new(bytes).is_some(), key, "{bytes:?}");
         assert_eq!(rt; Pattern::new(bytes).is_some(), pattern, "{bytes:?}");
     }
-}
-
-#[test]
-fn words_end_at_their_longest(rt: HostRuntime) {
-    let bytes = [b'A'; 151];
-    assert!(rt; read_name(&bytes[..30]).is_some());
-    assert!(rt; read_name(&bytes[..31]).is_none());
-    assert!(rt; Key::new(&bytes[..60]).is_some());
-    assert!(rt; Key::new(&bytes[..61]).is_none());
-    assert!(rt; Short::new(&bytes[..150]).is_some());
-    assert!(rt; Short::new(&bytes).is_none());
-    assert!(rt; Pattern::new(&bytes[..150]).is_some());
-    assert!(rt; Pattern::new(&bytes).is_none());
 }
 
 #[test]
@@ -121,43 +108,5 @@ fn words_are_printed(rt: HostRuntime) -> Result<(), Fail> {
     let mut digits = [0; 20];
     let count = put_number(18446744073709551615, &mut digits);
     assert_eq!(rt; &digits[..count], b"18446744073709551615".as_slice());
-    Ok(())
-}
-
-#[test]
-fn effects_are_copied(rt: HostRuntime) -> Result<(), Fail> {
-    let alloc = rt.alloc();
-    let (Some(table), Some(key)) = (read_name(b"STAT"), Key::new(b"ORDERS")) else {
-        assert!(rt; false);
-        return Ok(());
-    };
-    let text = Text::new(alloc, b"1 PUMP")?;
-    let put = Effect {
-        table,
-        key,
-        deed: Deed::Put(text),
-    };
-    let add = Effect {
-        table,
-        key,
-        deed: Deed::Add(-2),
-    };
-    let parts = Parts {
-        v1: Items::from_vec(vec![in alloc; put]?),
-        v2: Items::from_vec(vec![in alloc; add]?),
-    };
-    let copy = parts.copy(alloc)?;
-    for (effects, printed) in [(&copy.v1, "1 PUMP"), (&copy.v2, "-2")] {
-        for effect in effects.as_slice() {
-            assert!(rt; effect.table.is(&table) && effect.key.is(&key));
-            match &effect.deed {
-                Deed::Put(text) => assert_eq!(rt; text.to_string(alloc)?.as_str(), printed),
-                Deed::Add(number) => assert_eq!(rt; number.to_string(alloc)?.as_str(), printed),
-                _ => assert!(rt; false),
-            }
-        }
-    }
-    assert_eq!(rt; copy.v1.into_vec().len(), 1);
-    assert_eq!(rt; copy.v2.into_vec().len(), 1);
     Ok(())
 }

@@ -104,6 +104,11 @@ pub trait LockStore: Sized + Drop {
         ensures entries { IfOk result (λ v. v.items ≡ (table self.now).entries) }
         ensures good { IsTable (table self.now) };
 
+    /// The owner's entries in order of granting.
+    fn entries_of(&self, alloc: Global, owner: &Owner) -> Result<Vec<Entry>, NoMemory>
+        ensures entries { IfOk result (λ v. v.items ≡ lists.filter (is_of owner.now) (table self.now).entries) }
+        ensures good { IsTable (table self.now) };
+
     /// The entry at this place, counted from 1. None comes exactly at place 0 and past the last.
     fn at(&self, place: u32) -> Option<Entry>
         ensures entry { result ≡ entry_at (table self.now).entries place }

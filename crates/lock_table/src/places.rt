@@ -1,4 +1,5 @@
-ghost use Rattle.std.specs.Prelude.{◌≡◌, ◌<◌, ◌++◌, suc, length, take, drop, count_by, slice_index_or};
+ghost use Rattle.std.specs.Prelude.{◌≡◌, ◌<◌, ◌++◌, suc, length, take, drop, count_by, slice_index_or, IfOk};
+ghost use Rattle.std.specs.List.{filter};
 ghost use Rattle.lock_entry.specs.Names.{count_at, is_of, stands};
 ghost use Rattle.lock_entry.specs.Freeing.{freed, lowered};
 ghost use Rattle.lock_entry.specs.Table.{entry_at};
@@ -6,12 +7,24 @@ ghost use Rattle.lock_entry.specs.declared.entry.Entry.{Entry};
 
 use enq_base::Owner;
 use lock_entry::{Entry, LockName, find_entry, place_of};
+use std::alloc::{AllocError, Global};
 
 /// How many entries the owner has.
 pub fn count_of(entries: &[Entry], owner: &Owner) -> usize
     ensures { result ≡ count_by (is_of owner.now) entries.now }
 {
     entries.iter().filter(|e| e.is_of(owner)).count()
+}
+
+/// The owner's entries, in order.
+pub fn entries_of(alloc: Global, entries: &[Entry], owner: &Owner) -> Result<Vec<Entry>, AllocError>
+    ensures { IfOk result (λ v. v.items ≡ filter (is_of owner.now) entries.now) }
+{
+    entries
+        .iter()
+        .filter(|e| e.is_of(owner))
+        .copied()
+        .collect(alloc)
 }
 
 /// The count of the entry of this name, or 0.

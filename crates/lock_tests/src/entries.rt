@@ -1,8 +1,5 @@
 use enq_base::{Name, Owner, Pattern, UnitKey, read_name};
-use lock_entry::{
-    Asker, Entry, Mode, are_related, bars, drop_entry, find_entry, fits_key, free_owner, hand_over,
-    meets, place_of, stands, turn,
-};
+use lock_entry::{Asker, Entry, Mode, are_related, bars, fits_key, meets};
 use std::test::*;
 
 const F1: &[u8] = b"1000000000001";
@@ -28,12 +25,6 @@ const NEXT_UNIT: Owner = Owner::Upd(UnitKey {
     session: 1,
     luw: 2,
 });
-
-const UNIT: UnitKey = UnitKey {
-    start: 1,
-    session: 1,
-    luw: 1,
-};
 
 // Two arguments, and whether they meet.
 const ARGUMENTS: [(&[u8], &[u8], bool); 8] = [
@@ -133,55 +124,5 @@ fn an_entry_bars_by_its_mode_or_within_the_pair_by_x(rt: HostRuntime) -> Result<
             .asked();
         assert_eq!(rt; bars(&held, &asker, &asked), barred, "{owner:?} {wanted:?}");
     }
-    Ok(())
-}
-
-#[test]
-fn an_optimistic_entry_turns_in_its_place_or_joins(rt: HostRuntime) -> Result<(), Fail> {
-    let optimistic = entry(DIALOGUE, F1, Mode::O, 2).ok_or("an entry")?;
-    let exclusive = entry(DIALOGUE, F1, Mode::E, 3).ok_or("an entry")?;
-    let other = entry(OTHER, F1, Mode::O, 1).ok_or("an entry")?;
-    let table = optimistic.table;
-    let mut list = Vec::from_slice(rt.alloc(), &[optimistic, other])?;
-    turn(&mut list, &DIALOGUE, &table, &optimistic.pattern);
-    assert_eq!(rt; list.len(), 2);
-    assert_eq!(rt;
-        find_entry(list.as_slice(), &exclusive.name()).map(|e| e.count),
-        Some(2)
-    );
-    assert_eq!(rt; place_of(list.as_slice(), &exclusive.name()), Some(0));
-    let mut list = Vec::from_slice(rt.alloc(), &[optimistic, other, exclusive])?;
-    turn(&mut list, &DIALOGUE, &table, &optimistic.pattern);
-    assert_eq!(rt; list.len(), 2);
-    assert_eq!(rt;
-        find_entry(list.as_slice(), &exclusive.name()).map(|e| e.count),
-        Some(5)
-    );
-    assert!(rt; stands(list.as_slice(), &other.name()));
-    Ok(())
-}
-
-#[test]
-fn a_handover_flags_a_units_entries_and_drops_its_optimistic_ones(
-    rt: HostRuntime,
-) -> Result<(), Fail> {
-    let exclusive = entry(UPDATE, F1, Mode::E, 1).ok_or("an entry")?;
-    let optimistic = entry(UPDATE, F1, Mode::O, 1).ok_or("an entry")?;
-    let other = entry(DIALOGUE, F1, Mode::E, 1).ok_or("an entry")?;
-    let mut list = Vec::from_slice(rt.alloc(), &[exclusive, optimistic, other])?;
-    hand_over(&mut list, &UNIT);
-    assert_eq!(rt; list.len(), 2);
-    assert_eq!(rt;
-        find_entry(list.as_slice(), &exclusive.name()).map(|e| e.handed),
-        Some(true)
-    );
-    assert_eq!(rt;
-        find_entry(list.as_slice(), &other.name()).map(|e| e.handed),
-        Some(false)
-    );
-    drop_entry(&mut list, &exclusive.name());
-    assert_eq!(rt; list.len(), 1);
-    free_owner(&mut list, &DIALOGUE);
-    assert_eq!(rt; list.len(), 0);
     Ok(())
 }

@@ -2,9 +2,9 @@ ghost use Rattle.std.specs.Prelude.{◌≤◌, IsTrue, IfOk};
 ghost use Rattle.std.specs.List.{list_all};
 ghost use Rattle.lock_objects.specs.Objects.{has_width};
 
-use enq_base::{Items, Name, Pattern, Short, Text, read_name};
+use enq_base::{Items, Name, Pattern, Short, read_name};
 use lock_entry::Asked;
-use lock_objects::{ArgFault, Field, FieldValue, KeyTable, LockObject, ObjectFault, Value};
+use lock_objects::{Field, FieldValue, KeyTable, LockObject, ObjectFault, Value};
 use mode_rules::Mode;
 use std::alloc::Global;
 use std::test::*;
@@ -30,23 +30,6 @@ fn two_fields(alloc: Global) -> Result<Vec<Field>, Fail>
     Ok(Vec::from_slice(alloc, &fields)?)
 }
 
-/// The client and the number of an order.
-fn order_fields(alloc: Global) -> Result<Vec<Field>, Fail>
-    ensures { IfOk result (λ v. IsTrue (list_all has_width v.items)) }
-{
-    let fields = [
-        Field {
-            name: name(b"MANDT")?,
-            width: 3,
-        },
-        Field {
-            name: name(b"ORDNR")?,
-            width: 10,
-        },
-    ];
-    Ok(Vec::from_slice(alloc, &fields)?)
-}
-
 /// A table with the keys that the text names.
 fn push_table(
     tables: &mut Vec<KeyTable>,
@@ -65,24 +48,10 @@ fn push_table(
     Ok(())
 }
 
-fn order_object(alloc: Global) -> Result<LockObject, Fail> {
-    let mut tables = Vec::new(alloc);
-    push_table(&mut tables, alloc, "ZORDER", "MANDT ORDNR")?;
-    let object = LockObject::new(name(b"EZORDER")?, order_fields(alloc)?, tables);
-    Ok(object.map_err(|_| "an object")?)
-}
-
 fn given(field: &[u8], text: &[u8]) -> Result<FieldValue, Fail> {
     Ok(FieldValue {
         field: name(field)?,
         value: Value::Given(Short::new(text).ok_or("a value")?),
-    })
-}
-
-fn initial(field: &[u8]) -> Result<FieldValue, Fail> {
-    Ok(FieldValue {
-        field: name(field)?,
-        value: Value::Initial,
     })
 }
 
@@ -111,21 +80,6 @@ fn each_table_has_its_own_argument(rt: HostRuntime) -> Result<(), Fail> {
     assert_eq!(rt; object.name(), object_name);
     assert_eq!(rt; object.fields().len(), 2);
     assert_eq!(rt; object.tables().len(), 2);
-    Ok(())
-}
-
-#[test]
-fn the_keys_of_a_table_give_the_order(rt: HostRuntime) -> Result<(), Fail> {
-    let mut tables = Vec::new(rt.alloc());
-    push_table(&mut tables, rt.alloc(), "T1", "G F")?;
-    let fields = two_fields(rt.alloc())?;
-    let object = LockObject::new(name(b"EOBJ")?, fields, tables).map_err(|_| "an object")?;
-    let values = [given(b"F", b"A")?, given(b"G", b"Z")?];
-    let list = object
-        .arguments(rt.alloc(), &values, Mode::E)
-        .map_err(|_| "arguments")?;
-    let expected = [asked(b"T1", b"ZA ")?];
-    assert_eq!(rt; list.as_slice(), expected.as_slice());
     Ok(())
 }
 
@@ -200,98 +154,5 @@ fn an_argument_has_at_most_150_bytes(rt: HostRuntime) -> Result<(), Fail> {
     let fields = a_field_and_a_byte(rt.alloc(), 149, b"G")?;
     let got = made_of(rt.alloc(), fields, "T:F G")?;
     assert_eq!(rt; got, Ok(object));
-    Ok(())
-}
-
-#[test]
-fn a_field_stands_once(rt: HostRuntime) -> Result<(), Fail> {
-    let f = name(b"F")?;
-    let fields = a_field_and_a_byte(rt.alloc(), 2, b"F")?;
-    let got = made_of(rt.alloc(), fields, "T:H")?;
-    assert_eq!(rt; got, Err(ObjectFault::Repeat(f)));
-    Ok(())
-}
-
-fn of_two(
-    alloc: Global,
-    first: FieldValue,
-    second: FieldValue,
-) -> Result<Result<Vec<Asked>, ArgFault>, Fail> {
-    let object = order_object(alloc)?;
-    let values = [first, second];
-    Ok(object.arguments(alloc, &values, Mode::E))
-}
-
-fn order_argument(alloc: Global, values: &[FieldValue]) -> Result<Vec<Asked>, Fail> {
-    let object = order_object(alloc)?;
-    let made = object.arguments(alloc, values, Mode::E);
-    Ok(made.map_err(|_| "arguments")?)
-}
-
-#[test]
-fn an_absent_field_is_generic(rt: HostRuntime) -> Result<(), Fail> {
-    let values = [given(b"MANDT", b"100")?];
-    let list = order_argument(rt.alloc(), &values)?;
-    let expected = [asked(b"ZORDER", b"100@@@@@@@@@@")?];
-    assert_eq!(rt; list.as_slice(), expected.as_slice());
-    Ok(())
-}
-
-#[test]
-fn an_initial_field_is_spaces(rt: HostRuntime) -> Result<(), Fail> {
-    let values = [given(b"MANDT", b"100")?, initial(b"ORDNR")?];
-    let list = order_argument(rt.alloc(), &values)?;
-    let expected = [asked(b"ZORDER", b"100          ")?];
-    assert_eq!(rt; list.as_slice(), expected.as_slice());
-    Ok(())
-}
-
-#[test]
-fn a_given_value_is_padded(rt: HostRuntime) -> Result<(), Fail> {
-    let values = [given(b"ORDNR", b"7")?, given(b"MANDT", b"1")?];
-    let list = order_argument(rt.alloc(), &values)?;
-    let expected = [asked(b"ZORDER", b"1  7         ")?];
-    assert_eq!(rt; list.as_slice(), expected.as_slice());
-    Ok(())
-}
-
-fn fault_of(made: Result<Vec<Asked>, ArgFault>) -> Option<ArgFault> {
-    made.map(|list| list.len()).err()
-}
-
-#[test]
-fn the_first_wrong_value_is_named(rt: HostRuntime) -> Result<(), Fail> {
-    let good = given(b"MANDT", b"1")?;
-    let unknown = given(b"PLANT", b"1")?;
-    let again = given(b"MANDT", b"2000")?;
-    let wide = given(b"MANDT", b"1000")?;
-    let bad = given(b"ORDNR", b"1@")?;
-    let long = FieldValue {
-        field: name(b"ORDNR")?,
-        value: Value::Long,
-    };
-    for (first, second, fault) in [
-        (unknown, good, Some(ArgFault::UnknownField)),
-        (good, again, Some(ArgFault::Repeat)),
-        (wide, bad, Some(ArgFault::TooWide)),
-        (good, bad, Some(ArgFault::BadByte)),
-        (good, long, Some(ArgFault::TooWide)),
-        (bad, long, Some(ArgFault::BadByte)),
-        (long, unknown, Some(ArgFault::TooWide)),
-    ] {
-        let made = of_two(rt.alloc(), first, second)?;
-        assert_eq!(rt; fault_of(made), fault);
-    }
-    Ok(())
-}
-
-#[test]
-fn a_text_over_150_bytes_is_too_long_for_any_field(rt: HostRuntime) -> Result<(), Fail> {
-    let bytes = [b'A'; 151];
-    let short = Text::new(rt.alloc(), &bytes[..150]).map_err(|_| "a text")?;
-    let long = Text::new(rt.alloc(), &bytes).map_err(|_| "a text")?;
-    let value = Value::Given(Short::new(&bytes[..150]).ok_or("a value")?);
-    assert_eq!(rt; Value::of_text(&short), value);
-    assert_eq!(rt; Value::of_text(&long), Value::Long);
     Ok(())
 }

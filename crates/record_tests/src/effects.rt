@@ -167,15 +167,6 @@ fn effects_are_done_in_order_or_the_first_refused_is_told(rt: HostRuntime) -> Re
 }
 
 #[test]
-fn a_row_without_a_spot_is_not_covered(rt: HostRuntime) -> Result<(), Fail> {
-    let alloc = rt.alloc();
-    let spots = spots(alloc, &[(b"6", None)])?;
-    let effects = effects(alloc, &[(b"6", Verb::Add(1)), (b"7", Verb::Add(1))])?;
-    assert!(rt; !covers(spots.as_slice(), effects.as_slice()));
-    Ok(())
-}
-
-#[test]
 fn numbers_are_read_in_shortest_form_alone(rt: HostRuntime) {
     for (text, number) in [
         (b"0".as_slice(), Some(0)),

@@ -1,4 +1,4 @@
-//! Tests of effects, intervals, update records and the turns of units.
+//! Tests of effects, intervals and update records.
 #![tactic(auto)]
 
 #[cfg(test)]
@@ -7,5 +7,3 @@ mod effects;
 mod intervals;
 #[cfg(test)]
 mod records;
-#[cfg(test)]
-mod turns;

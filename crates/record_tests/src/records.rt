@@ -1,13 +1,9 @@
-use enq_base::{
-    Deed, Effect, Items, Key, Num, Owner, Parts, Pattern, Reason, Text, UnitKey, read_name,
-};
+use enq_base::{Deed, Effect, Items, Key, Num, Owner, Parts, Pattern, Text, UnitKey, read_name};
 use keeper_api::{Change, Row};
 use lock_entry::{Entry, Mode};
 use std::alloc::Global;
 use std::test::Fail;
-use update_records::{
-    Interval, Mark, MarkKind, Record, RowFault, Unit, decode_row, encode_level, encode_unit,
-};
+use update_records::{Interval, Record, RowFault, Unit, decode_row, encode_level, encode_unit};
 
 // Unit 1.2.3, as it begins the keys of its rows.
 const UNIT: UnitKey = UnitKey {
@@ -123,39 +119,6 @@ fn rows_that_are_cut_or_go_on_are_bad(rt: HostRuntime) -> Result<(), Fail> {
 }
 
 #[test]
-fn counts_are_read(rt: HostRuntime) -> Result<(), Fail> {
-    let alloc = rt.alloc();
-    let meta = b"\x00\x00\x00\x05\x00\x00\x00\x00\x00\x00\x01\x06";
-    let Ok(Record::Meta { start, marks }) = read(alloc, 0, b"S", meta)? else {
-        return Err(Fail::from("table 0"));
-    };
-    assert!(rt; start == 5 && marks == 262);
-    let unit = b"\x00\x00\x00\x01\x00\x00\x00\x02\x00\x00\x00\x03";
-    let header = b"\x04ANNA\x00\x02\x00\x01\x00\x00\x00\x03\x00\x00";
-    let Ok(Record::Header { v1, v2, locks, .. }) = read(alloc, 1, unit, header)? else {
-        return Err(Fail::from("table 1"));
-    };
-    assert!(rt; v1 == 2 && v2 == 1 && locks == 3);
-    Ok(())
-}
-
-#[test]
-fn a_refusal_is_read(rt: HostRuntime) -> Result<(), Fail> {
-    let alloc = rt.alloc();
-    let seq = b"\x00\x00\x00\x00\x00\x00\x01\x09";
-    let refusal = b"\x07\x00\x00\x00\x01\x00\x00\x00\x02\x00\x00\x00\x03\x00\x00\x00\x08\x04";
-    let Ok(Record::Mark(mark)) = read(alloc, 4, seq, refusal)? else {
-        return Err(Fail::from("table 4"));
-    };
-    assert!(rt; mark.seq == 265 && mark.unit == UNIT);
-    let MarkKind::Bad2 { index, reason } = mark.kind else {
-        return Err(Fail::from("a second refusal"));
-    };
-    assert!(rt; index == 8 && reason == Reason::Overflow);
-    Ok(())
-}
-
-#[test]
 fn what_is_out_of_range_is_bad(rt: HostRuntime) -> Result<(), Fail> {
     let alloc = rt.alloc();
     let unit = b"\x00\x00\x00\x01\x00\x00\x00\x02\x00\x00\x00\x03".as_slice();
@@ -263,43 +226,6 @@ fn what_is_out_of_range_is_bad(rt: HostRuntime) -> Result<(), Fail> {
     ];
     for (what, table, key, value) in rows {
         assert!(rt; is_bad(alloc, table, key, value)?, "{what}");
-    }
-    Ok(())
-}
-
-#[test]
-fn the_longest_keys_and_texts_are_read(rt: HostRuntime) -> Result<(), Fail> {
-    let alloc = rt.alloc();
-    let mut key = b"\x04STAT".to_vec(alloc)?;
-    key.extend_from_slice(&[b'~'; 60])?;
-    let text = [b' '; 512];
-    assert!(rt; read(alloc, 6, key.as_slice(), &text)?.is_ok());
-    assert!(rt; is_bad(alloc, 6, key.as_slice(), &[b' '; 513])?);
-    key.push(b'~')?;
-    assert!(rt; is_bad(alloc, 6, key.as_slice(), &text)?);
-    let step = b"\x00\x00\x00\x01\x00\x00\x00\x02\x00\x00\x00\x03\x01\x00\x01".as_slice();
-    let added = [
-        (
-            b"\x04\x01T\x01A\xff\xff\xff\xff\xff\xff\xff\xff".as_slice(),
-            -1,
-        ),
-        (
-            b"\x04\x01T\x01A\x7f\xff\xff\xff\xff\xff\xff\xff".as_slice(),
-            i64::MAX,
-        ),
-        (
-            b"\x04\x01T\x01A\x80\x00\x00\x00\x00\x00\x00\x00".as_slice(),
-            i64::MIN,
-        ),
-    ];
-    for (value, wanted) in added {
-        let Ok(Record::Step { effect, .. }) = read(alloc, 3, step, value)? else {
-            return Err(Fail::from("an addition"));
-        };
-        let Deed::Add(number) = effect.deed else {
-            return Err(Fail::from("a number"));
-        };
-        assert_eq!(rt; number, wanted);
     }
     Ok(())
 }

@@ -5,5 +5,3 @@
 mod lines;
 #[cfg(test)]
 mod openings;
-#[cfg(test)]
-mod stores;

@@ -162,8 +162,9 @@ fn mark_cases() -> [Case; 5] {
     ]
 }
 
-/// A unit lacks its effect, no mark records a header, a unit has an effect more, and nothing posted a business row.
-fn row_cases() -> [Case; 5] {
+/// A unit lacks its effect, no mark records a header, a unit has an effect or a lock more, and nothing posted a business
+/// row.
+fn row_cases() -> [Case; 6] {
     let [_, header, ..] = good();
     [
         without(6, header, (4, 3)),
@@ -181,6 +182,14 @@ fn row_cases() -> [Case; 5] {
         ),
         over(row_of(6, b"\x04STATA", b"Y"), (6, 1)),
         over(row_of(6, b"\x04STATB", b"X"), (6, 2)),
+        over(
+            row_of(
+                7,
+                b"\0\0\0\x01\0\0\0\x02\0\0\0\x03\0\0\0\x01",
+                b"\x04STAT\x02\0\x01\x01A",
+            ),
+            (7, 1),
+        ),
     ]
 }
 

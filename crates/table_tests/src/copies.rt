@@ -139,26 +139,6 @@ fn operations_change_the_entries_that_they_name(rt: HostRuntime) -> Result<(), F
 }
 
 #[test]
-fn operations_on_entries_that_are_not_there_change_nothing(rt: HostRuntime) -> Result<(), Fail> {
-    let alloc = rt.alloc();
-    check(
-        &rt,
-        alloc,
-        drop_of(OPTIMISTIC)?,
-        &[FOREIGN, EXCLUSIVE],
-        &[FOREIGN, EXCLUSIVE],
-    )?;
-    check(
-        &rt,
-        alloc,
-        turn_of(OPTIMISTIC)?,
-        &[FOREIGN, EXCLUSIVE],
-        &[FOREIGN, EXCLUSIVE],
-    )?;
-    check(&rt, alloc, TableOp::Handed(UNIT), &[FOREIGN], &[FOREIGN])
-}
-
-#[test]
 fn a_link_gives_the_snapshot_after_what_was_shipped(rt: HostRuntime) -> Result<(), Fail> {
     let alloc = rt.alloc();
     let snapshot = list_of(alloc, &[EXCLUSIVE])?;

@@ -3,7 +3,7 @@ ghost use Rattle.lock_entry.specs.Pairs.{IsPair};
 
 use enq_base::{Name, Owner, Pattern, UnitKey, read_name};
 use lock_entry::{AskFault, Asked, Asker, Entry, LoadFault, LockStore, Mode, Request};
-use std::alloc::Global;
+use std::alloc::{AllocError, Global};
 use std::process::Abort;
 use std::test::Fail;
 
@@ -222,6 +222,29 @@ fn has_each<T: LockStore>(table: &T, entries: &[Entry]) -> bool {
     table.len() == place && table.at(0).is_none() && table.at(place.saturating_add(1)).is_none()
 }
 
+/// Tests that the table tells the entries of each owner.
+fn has_own<T: LockStore>(
+    rt: &impl Abort,
+    alloc: Global,
+    table: &T,
+    entries: &[Entry],
+) -> Result<(), Fail> {
+    for entry in entries {
+        let own = table.entries_of(alloc, &entry.owner)?;
+        let wanted = own_of(alloc, entries, &entry.owner)?;
+        assert_eq!(rt; own.as_slice(), wanted.as_slice());
+    }
+    Ok(())
+}
+
+fn own_of(alloc: Global, entries: &[Entry], owner: &Owner) -> Result<Vec<Entry>, AllocError> {
+    entries
+        .iter()
+        .filter(|e| e.owner == *owner)
+        .copied()
+        .collect(alloc)
+}
+
 /// Tests that the table has just these entries.
 fn has_all<T: LockStore>(
     rt: &impl Abort,
@@ -233,7 +256,7 @@ fn has_all<T: LockStore>(
     let list = table.list(alloc)?;
     assert_eq!(rt; list.as_slice(), wanted.as_slice());
     assert!(rt; has_each(table, list.as_slice()));
-    Ok(())
+    has_own(rt, alloc, table, wanted.as_slice())
 }
 
 pub(crate) fn load<T: LockStore>(

@@ -1,7 +1,9 @@
 use crate::steps::{Act, Answer, Case, Place, Row, Who, entries, load, take_all};
-use lock_entry::{LoadFault, Mode};
+use lock_entry::{LoadFault, LockStore, Mode};
+use lock_index::IndexTable;
 use lock_table::ListTable;
 use std::alloc::Global;
+use std::process::Abort;
 use std::test::*;
 
 const E1: Place = (b"ZORDER", b"1000000000001", Mode::E);
@@ -165,9 +167,15 @@ const RULES: [Case; 7] = [
     },
 ];
 
+/// Takes the steps of each case with the list, and with the index.
+fn take_both(rt: &impl Abort, alloc: Global, cases: &[Case]) -> Result<(), Fail> {
+    take_all::<ListTable>(rt, alloc, cases)?;
+    take_all::<IndexTable>(rt, alloc, cases)
+}
+
 #[test]
 fn locks_are_granted_by_the_rules(rt: HostRuntime) -> Result<(), Fail> {
-    take_all::<ListTable>(&rt, rt.alloc(), &RULES)
+    take_both(&rt, rt.alloc(), &RULES)
 }
 
 const T1_GENERIC: Place = (b"T1", b"AB@", Mode::E);
@@ -236,7 +244,7 @@ const CONTAINERS: [Case; 3] = [
 
 #[test]
 fn a_container_is_granted_whole_or_not_at_all(rt: HostRuntime) -> Result<(), Fail> {
-    take_all::<ListTable>(&rt, rt.alloc(), &CONTAINERS)
+    take_both(&rt, rt.alloc(), &CONTAINERS)
 }
 
 const CONVERSIONS: [Case; 5] = [
@@ -293,7 +301,7 @@ const CONVERSIONS: [Case; 5] = [
 
 #[test]
 fn optimistic_locks_are_converted(rt: HostRuntime) -> Result<(), Fail> {
-    take_all::<ListTable>(&rt, rt.alloc(), &CONVERSIONS)
+    take_both(&rt, rt.alloc(), &CONVERSIONS)
 }
 
 const UNITS: [Case; 4] = [
@@ -345,7 +353,61 @@ const UNITS: [Case; 4] = [
 
 #[test]
 fn a_unit_is_handed_over_freed_and_readmitted(rt: HostRuntime) -> Result<(), Fail> {
-    take_all::<ListTable>(&rt, rt.alloc(), &UNITS)
+    take_both(&rt, rt.alloc(), &UNITS)
+}
+
+const D3_E2: Row = (D3, E2, 1, false);
+
+const ORDERS: [Case; 3] = [
+    // A lock that is freed in the middle leaves the others in order, and comes last when it is granted again.
+    Case {
+        limit: 3,
+        loaded: &[D1_E1, D3_E2, (D1, E3, 1, false)],
+        steps: &[
+            (
+                Act::Free(D3, E2),
+                Answer::Done(1),
+                &[D1_E1, (D1, E3, 1, false)],
+            ),
+            (
+                Act::Ask(3, &[(E2, false)]),
+                Answer::Done(0),
+                &[D1_E1, (D1, E3, 1, false), D3_E2],
+            ),
+            (Act::FreeOwner(D1), Answer::Done(2), &[D3_E2]),
+        ],
+    },
+    // The oldest lock in the way is told, be it generic or not.
+    Case {
+        limit: 3,
+        loaded: &[(D2, S1, 1, false), (D1, S_ANY, 1, false)],
+        steps: &[(
+            Act::Ask(3, &[(E1, false)]),
+            Answer::Foreign(D2, S1),
+            &[(D2, S1, 1, false), (D1, S_ANY, 1, false)],
+        )],
+    },
+    Case {
+        limit: 3,
+        loaded: &[(D1, S_ANY, 1, false), (D2, S1, 1, false)],
+        steps: &[
+            (
+                Act::Ask(3, &[(E1, false)]),
+                Answer::Foreign(D1, S_ANY),
+                &[(D1, S_ANY, 1, false), (D2, S1, 1, false)],
+            ),
+            (
+                Act::Ask(3, &[(E2, false)]),
+                Answer::Foreign(D1, S_ANY),
+                &[(D1, S_ANY, 1, false), (D2, S1, 1, false)],
+            ),
+        ],
+    },
+];
+
+#[test]
+fn locks_stand_in_order_of_granting(rt: HostRuntime) -> Result<(), Fail> {
+    take_both(&rt, rt.alloc(), &ORDERS)
 }
 
 /// Entries, and the places of the first two that clash.
@@ -364,8 +426,8 @@ const LOADED: [(&[Row], Option<(u32, u32)>); 6] = [
     (&[(D1, X1, 1, false), (U1, X1, 1, true)], None),
 ];
 
-fn clash_of(alloc: Global, rows: &[Row]) -> Result<Option<(u32, u32)>, Fail> {
-    match load::<ListTable>(alloc, 3, entries(alloc, rows)?) {
+fn clash_of<T: LockStore>(alloc: Global, rows: &[Row]) -> Result<Option<(u32, u32)>, Fail> {
+    match load::<T>(alloc, 3, entries(alloc, rows)?) {
         Ok(_table) => Ok(None),
         Err(LoadFault::Clash { first, second }) => Ok(Some((first, second))),
         Err(LoadFault::NoMemory) => Err(Fail::from("no memory")),
@@ -375,7 +437,8 @@ fn clash_of(alloc: Global, rows: &[Row]) -> Result<Option<(u32, u32)>, Fail> {
 #[test]
 fn entries_that_clash_are_no_table(rt: HostRuntime) -> Result<(), Fail> {
     for (rows, clash) in LOADED {
-        assert_eq!(rt; clash_of(rt.alloc(), rows)?, clash);
+        assert_eq!(rt; clash_of::<ListTable>(rt.alloc(), rows)?, clash);
+        assert_eq!(rt; clash_of::<IndexTable>(rt.alloc(), rows)?, clash);
     }
     Ok(())
 }

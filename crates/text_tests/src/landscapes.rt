@@ -143,9 +143,6 @@ const DOCUMENTS: [(&[u8], u8, u32); 14] = [
     (b"max_locks = 0\n[[object]]\n[[range]]", 4, 0),
 ];
 
-const ONE_OBJECT: &str = "name = \"E\", fields = [{ width = 150, name = \"F\" }], \
-                          table = [{ keys = [\"F\"], name = \"T\" }]";
-
 fn name(text: &[u8]) -> Result<Name, Fail> {
     Ok(read_name(text).ok_or("a name")?)
 }
@@ -165,12 +162,6 @@ fn fault_in(alloc: Global, document: &[u8]) -> Result<Option<LandFault>, Fail> {
 fn changed(alloc: Global, old: &str, new: &str) -> Result<String, Fail> {
     let (head, tail) = WHOLE.split_once(old).ok_or("a part of the landscape")?;
     Ok(format!(in alloc; "{head}{new}{tail}")?)
-}
-
-fn limits_of(alloc: Global, document: &[u8]) -> Result<(u32, u32), Fail> {
-    let mut source = source_of(alloc, document, &[])?;
-    let landscape = read_landscape(alloc, &mut source)?;
-    Ok((landscape.max_locks, landscape.max_marks))
 }
 
 fn interval(object: &[u8], from: u64, to: u64, buffer: u32, percent: u8) -> Result<Interval, Fail>
@@ -229,22 +220,6 @@ fn the_ranges_are_read_in_their_order(rt: HostRuntime) -> Result<(), Fail> {
 }
 
 #[test]
-fn limits_that_are_absent_are_the_largest(rt: HostRuntime) -> Result<(), Fail> {
-    for (document, limits) in [
-        (b"".as_slice(), (100_000, 1_048_576)),
-        (WHOLE.as_bytes(), (1000, 1_048_576)),
-        (b"max_marks = 7", (100_000, 7)),
-        (
-            b"max_marks = 3\nmax_locks = 2\nobject = []\nrange = []",
-            (2, 3),
-        ),
-    ] {
-        assert_eq!(rt; limits_of(rt.alloc(), document)?, limits);
-    }
-    Ok(())
-}
-
-#[test]
 fn the_first_broken_rule_is_named(rt: HostRuntime) -> Result<(), Fail> {
     for (old, new, rule, place) in BROKEN {
         let document = changed(rt.alloc(), old, new)?;
@@ -273,16 +248,6 @@ fn other_documents_are_refused(rt: HostRuntime) -> Result<(), Fail> {
 }
 
 #[test]
-fn an_object_has_its_name_alone(rt: HostRuntime) -> Result<(), Fail> {
-    let one = format!(in rt.alloc(); "object = [{{ {ONE_OBJECT} }}]")?;
-    assert_eq!(rt; fault_in(rt.alloc(), one.as_bytes())?, None);
-    let two = format!(in rt.alloc(); "object = [{{ {ONE_OBJECT} }}, {{ {ONE_OBJECT} }}, {{}}]")?;
-    let fault = fault_in(rt.alloc(), two.as_bytes())?;
-    assert_eq!(rt; fault, Some(LandFault::Bad { rule: 9, place: 2 }));
-    Ok(())
-}
-
-#[test]
 fn a_document_has_at_most_1_048_576_bytes(rt: HostRuntime) -> Result<(), Fail> {
     let longest = vec![in rt.alloc(); b'#'; 1_048_576]?;
     assert_eq!(rt; fault_in(rt.alloc(), longest.as_slice())?, None);
@@ -292,15 +257,5 @@ fn a_document_has_at_most_1_048_576_bytes(rt: HostRuntime) -> Result<(), Fail> {
     assert_eq!(rt; fault, Some(LandFault::Bad { rule: 1, place: 0 }));
     let mut rest = [0; 8];
     assert_eq!(rt; source.read(&mut rest), Ok(3));
-    Ok(())
-}
-
-#[test]
-fn a_source_that_fails_is_told(rt: HostRuntime) -> Result<(), Fail> {
-    for call in [1, 2] {
-        let mut source = source_of(rt.alloc(), WHOLE.as_bytes(), &[call])?;
-        let fault = read_landscape(rt.alloc(), &mut source).err();
-        assert_eq!(rt; fault, Some(LandFault::Failed), "{call}");
-    }
     Ok(())
 }

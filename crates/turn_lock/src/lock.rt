@@ -129,7 +129,7 @@ impl<S: History> TurnLock<S> {
             .fetch_add::<Gives<S>>(seat, NOW_SERVING, 1);
     }
 
-    /// Takes a ticket, waits until it is served, runs the act once while this pass holds the state alone, and serves the next ticket. It waits for ever after 2^64 - 1 tickets, or where a pass that holds an earlier one never ends its act.
+    /// One turn: takes a ticket, waits until it is served, runs the act once while this pass holds the state alone, and serves the next ticket by a fetch-and-add. It waits for ever after 2^64 - 1 tickets, or where a pass that holds an earlier one never ends its act.
     /// The pass has then seen the state's whole history, and what the act added to it counts as the pass's own.
     pub fn with<W: Wait, B, A: Act<S, B>>(&self, rt: &W, pass: &mut Pass<S>, act: &mut A) -> B
         requires own { IsPassOf self.now pass.old }

@@ -1,21 +1,25 @@
-use Rattle.std.proofs.Common.{is_some}
-use Rattle.hall.proofs.Beginning.{first_kept, first_leaves}
-use Rattle.hall.proofs.Leaves.{answered_leaves}
+use Rattle.std.proofs.Common.{◌≡◌, [], ◌∙◌, None, refl, sym, subst, is_some}
+use Rattle.enq_base.specs.declared.condition.Condition.TheVariants.{Up}
+use Rattle.hall.proofs.Beginning.{first_kept}
+use Rattle.hall.specs.Kept.{IsKept}
+use Rattle.hall.specs.Serving.{with_calls}
+use Rattle.hall.specs.State.{State, opened, state_of}
 use Rattle.hall.proofs.hall.Hall.first.Goals as goal
 
 pub invariant_of-result : goal.invariant_of-result
-invariant_of-result g c = (
-  c.requires.room,
-  first_kept (is_some (g.K.Keeper.held c.args.books.keeper)) (g.T.LockStore.table c.args.tables.locks) c.args.max_marks c.args.books.ledger c.new.result c.args.tables.orders.items c.args.tables.past.items
-      c.requires.limited c.requires.sound c.requires.good c.requires.locks c.new.ensures c.requires.orders c.requires.past,
-  (
-    c.requires.usable,
-    first_leaves (g.K.Keeper.held c.args.books.keeper) (g.K.Keeper.may_leave c.args.books.keeper) c.args.books.ledger
-        (answered_leaves g.K.Keeper.held g.K.Keeper.is_open g.K.Keeper.may_leave c.args.books g.met.K.Keeper.settled c.requires.usable),
-  ),
-)
+invariant_of-result g c =
+    let told = is_some (g.K.Keeper.held c.args.books.keeper) in
+    let table = g.T.LockStore.table c.args.tables.locks in
+    let orders = c.args.tables.orders.items in
+    let past = c.args.tables.past.items in
+    let state : State = state_of told Up [] 1 orders table c.args.max_marks c.args.books.ledger None past in
+    let is : with_calls c.first.result.state past ≡ state =
+    (λ i. with_calls (c.first.ensures.state i) past)
+    ∙ (λ i. record (state_of told Up [] 1 (sym c.requires.orders i) table c.args.max_marks c.args.books.ledger None past) { locks = sym c.requires.locks i }) in (
+      c.requires.room,
+      subst IsKept (sym is)
+          (first_kept told table c.args.max_marks c.args.books.ledger [] orders past c.requires.limited c.requires.sound c.requires.good c.requires.locks refl c.requires.orders c.requires.past),
+    )
 
-pub returns-clause-left : goal.returns-clause-left
-returns-clause-left g c =
-    first_leaves (g.K.Keeper.held c.args.books.keeper) (g.K.Keeper.may_leave c.args.books.keeper) c.args.books.ledger
-    (answered_leaves g.K.Keeper.held g.K.Keeper.is_open g.K.Keeper.may_leave c.args.books g.met.K.Keeper.settled c.requires.usable)
+pub returns-clause-state : goal.returns-clause-state
+returns-clause-state g c = λ i. with_calls (c.first.ensures.state i) (c.requires.past i)

@@ -1,0 +1,381 @@
+ghost use Rattle.std.specs.Prelude.{◌≡◌, ◌⊎◌, [], false, length, replicate, None, IfOk, is_some};
+ghost use Rattle.hall.specs.declared.command.Command.TheVariants as command;
+ghost use Rattle.hall.specs.Acts.{post_of, take_of, written_condition, written_pending, written_reply};
+ghost use Rattle.hall.specs.Kept.{IsKept};
+ghost use Rattle.hall.specs.Leaving.{LeavesState};
+ghost use Rattle.hall.specs.Serving.{IsCall, IsDue, MayWrite, Serves, touches_store, with_calls};
+ghost use Rattle.hall.specs.State.{opened};
+ghost use Rattle.hall.specs.History.{after_of, is_unrecorded};
+ghost use Rattle.hall.specs.Step.{closed, is_full};
+ghost use Rattle.posting.specs.Shelf.{IsUsable};
+
+use crate::command::{After, Command, PastEntry, Reply};
+use crate::locks::{ask, convert, free, free_all, log_off, roll_back};
+use crate::opening::HISTORY_LIMIT;
+use crate::orders::{drop_order, take};
+use crate::sessions::{Sessions, log_on};
+use crate::units::{InFlight, Written, cancel, commit, post, resubmit};
+use enq_base::{Condition, Name, NoMemory, Parts, Refusal, UnitKey};
+use keeper_api::Keeper;
+use lock_entry::{Asked, Entry, LockStore, Request};
+use posting::Books;
+use std::alloc::Global;
+use std::marker::Model;
+
+/// All that calls change, but for the history. It is seen as a state without a history, and the keeper.
+#[derive(Drop)]
+pub(crate) struct Server<T: LockStore, K: Keeper> {
+    pub(crate) condition: Condition,
+    pub(crate) sessions: Sessions,
+    pub(crate) next_session: u32,
+    pub(crate) orders: Vec<Option<UnitKey>>,
+    pub(crate) locks: T,
+    pub(crate) max_marks: u32,
+    pub(crate) books: Books<K>,
+    pub(crate) pending: Option<InFlight>,
+}
+
+impl<T: LockStore, K: Keeper> Model for Server<T, K> {
+    ghost use Rattle.hall.specs.State.{View, state_of};
+
+    ghost Value = { View K };
+
+    ghost use Rattle.std.specs.Coded.{codes};
+    ghost use Rattle.update_records.specs.Codes.{levels_code};
+
+    ghost coded = { Prim.hlevel (codes, levels_code, K.code) };
+
+    ghost use Rattle.std.specs.Prelude.{[], is_some};
+    ghost use Rattle.std.specs.Option.{option_map};
+    ghost use Rattle.hall.specs.Kept.{WhileUp};
+    ghost use Rattle.hall.specs.Leaving.{LeavesState};
+    ghost use Rattle.posting.specs.Shelf.{IsUsable};
+    ghost use Rattle.hall.specs.Flights.{landed};
+
+    ghost view = { λ h. record {
+      state = state_of (is_some (K.held h.books.keeper)) h.condition h.sessions h.next_session h.orders.items (T.table h.locks) h.max_marks h.books.ledger
+          (option_map (landed h.books.ledger) h.pending) [];
+      keeper = h.books.keeper;
+    } };
+
+    ghost invariant = { λ h.
+        let s = state_of (is_some (K.held h.books.keeper)) h.condition h.sessions h.next_session h.orders.items (T.table h.locks) h.max_marks h.books.ledger
+        (option_map (landed h.books.ledger) h.pending) [] in
+        WhileUp h.condition (IsUsable K.held K.is_open h.books)
+        × LeavesState K.held K.may_leave (record { state = s; keeper = h.books.keeper }) };
+}
+
+impl<T: LockStore, K: Keeper> Server<T, K> {
+    /// The server of a start, before any call.
+    pub(crate) fn first(
+        alloc: Global,
+        locks: T,
+        orders: Vec<Option<UnitKey>>,
+        max_marks: u32,
+        books: Books<K>,
+    ) -> Server<T, K>
+        requires usable { IsUsable K.held K.is_open books }
+        requires locks { (T.table locks).entries ≡ [] }
+        requires orders { orders.items ≡ replicate 256 None }
+        ensures state { result.state ≡ opened (T.table locks).limit max_marks (is_some (K.held books.keeper)) books.ledger }
+        ensures keeper { result.keeper ≡ books.keeper }
+        ensures left { LeavesState K.held K.may_leave result }
+    {
+        Server {
+            condition: Condition::Up,
+            sessions: Sessions::new(alloc),
+            next_session: 1,
+            orders,
+            locks,
+            max_marks,
+            books,
+            pending: None,
+        }
+    }
+
+    /// Whether the server is up, and if not since when.
+    pub(crate) fn condition(&self) -> Condition
+        ensures { result ≡ self.now.state.condition }
+    {
+        self.condition
+    }
+
+    /// What stands now, as the history keeps it of the last call.
+    pub(crate) fn after(&self) -> After
+        ensures { result ≡ after_of self.now.state }
+    {
+        After {
+            condition: self.condition,
+            attached: false,
+            taken: false,
+        }
+    }
+
+    /// The locks in the order in which they were granted: none where the server isn't up.
+    pub(crate) fn entries(&self, alloc: Global) -> Result<Vec<Entry>, NoMemory>
+        ensures { IfOk result (λ list. list.items ≡ self.now.state.locks) }
+    {
+        match self.condition {
+            Condition::Up => self.locks.list(alloc),
+            Condition::NoServer => Ok(Vec::new(alloc)),
+            Condition::Doubt(_) => Ok(Vec::new(alloc)),
+        }
+    }
+
+    /// The keeper, as the last call left it.
+    pub(crate) fn into_keeper(self) -> K
+        ensures { result ≡ self.keeper }
+    {
+        self.books.into_keeper()
+    }
+
+    /// Tells what holds of every server: what a stop may leave in the store stands for the state.
+    pub(crate) fn read_invariant(&self)
+        ensures { LeavesState K.held K.may_leave self.now }
+    {
+        let _ = &self.condition;
+    }
+
+    /// Why no call is served now.
+    fn closed(&self, past: &Vec<PastEntry>) -> Option<Refusal>
+        ensures { result ≡ closed (with_calls self.now.state past.now.items) }
+    {
+        if past.len() >= HISTORY_LIMIT {
+            return Some(Refusal::LogFull);
+        }
+        match self.condition {
+            Condition::Up => None,
+            Condition::NoServer => None,
+            Condition::Doubt(call) => Some(Refusal::Down(call)),
+        }
+    }
+
+    /// Serves a call behind those of the past. It isn't put into the history.
+    pub(crate) fn serve(&mut self, alloc: Global, past: &Vec<PastEntry>, command: &Command) -> Reply
+        requires { IsKept (with_calls self.old.state past.now.items) }
+        ensures call { IsCall (with_calls self.old.state past.now.items) command.now (with_calls self.new.state past.now.items) result }
+        ensures store { MayWrite K.held K.may_leave K.faults self.old.keeper self.new.keeper result }
+        ensures keeper { touches_store command.now ≡ false → self.new.keeper ≡ self.old.keeper }
+        ensures room { is_unrecorded result ≡ false → is_full (with_calls self.old.state past.now.items) ≡ false }
+    {
+        match self.closed(past) {
+            Some(refusal) => Reply::Refused(refusal),
+            None => self.act(alloc, past, command),
+        }
+    }
+
+    /// Does a call that nothing bars.
+    fn act(&mut self, alloc: Global, past: &Vec<PastEntry>, command: &Command) -> Reply
+        requires { IsDue self.old.state past.now.items }
+        ensures { Serves K.held K.may_leave K.faults self.old self.new past.now.items command.now result }
+    {
+        match command {
+            Command::Logon { session, user } => self.log_on(past, *session, *user),
+            Command::Logoff { session } => self.log_off(past, session),
+            Command::Ask { session, requests } => {
+                self.ask(alloc, past, session, requests.as_slice())
+            }
+            Command::Free { session, requests } => self.free(past, session, requests.as_slice()),
+            Command::FreeAll { session } => self.free_all(past, session),
+            Command::Convert { session, asked } => {
+                self.convert(alloc, past, session, asked.as_slice())
+            }
+            Command::Rollback { session } => self.roll_back(past, session),
+            Command::Commit { session, parts } => self.commit(alloc, past, session, parts),
+            Command::Take1 { worker } => self.take(past, *worker, 1),
+            Command::Do1 { worker } => self.post(alloc, past, *worker, 1),
+            Command::Take2 { worker } => self.take(past, *worker, 2),
+            Command::Do2 { worker } => self.post(alloc, past, *worker, 2),
+            Command::DropOrder { worker } => self.drop_order(past, *worker),
+            Command::Cancel { unit } => self.cancel(alloc, past, *unit),
+            Command::Resubmit { unit } => self.resubmit(alloc, past, *unit),
+        }
+    }
+
+    fn log_on(&mut self, past: &Vec<PastEntry>, session: Name, user: Name) -> Reply
+        requires { IsDue self.old.state past.now.items }
+        ensures { Serves K.held K.may_leave K.faults self.old self.new past.now.items (command.Logon session user) result }
+    {
+        Reply::of(log_on(&mut self.sessions, &mut self.next_session, session, user))
+    }
+
+    fn log_off(&mut self, past: &Vec<PastEntry>, session: &Name) -> Reply
+        requires { IsDue self.old.state past.now.items }
+        ensures { Serves K.held K.may_leave K.faults self.old self.new past.now.items (command.Logoff session.now) result }
+    {
+        let start = self.books.start();
+        Reply::of(log_off(start, &mut self.sessions, &mut self.locks, session))
+    }
+
+    fn ask(
+        &mut self,
+        alloc: Global,
+        past: &Vec<PastEntry>,
+        session: &Name,
+        requests: &[Request],
+    ) -> Reply
+        requires { IsDue self.old.state past.now.items }
+        ensures { Serves K.held K.may_leave K.faults self.old self.new past.now.items (command.Ask session.now requests.now) result }
+    {
+        let start = self.books.start();
+        Reply::of(ask(
+            alloc,
+            start,
+            &self.sessions,
+            &mut self.locks,
+            session,
+            requests,
+        ))
+    }
+
+    fn free(&mut self, past: &Vec<PastEntry>, session: &Name, requests: &[Request]) -> Reply
+        requires { IsDue self.old.state past.now.items }
+        ensures { Serves K.held K.may_leave K.faults self.old self.new past.now.items (command.Free session.now requests.now) result }
+    {
+        let start = self.books.start();
+        Reply::of(free(start, &self.sessions, &mut self.locks, session, requests))
+    }
+
+    fn free_all(&mut self, past: &Vec<PastEntry>, session: &Name) -> Reply
+        requires { IsDue self.old.state past.now.items }
+        ensures { Serves K.held K.may_leave K.faults self.old self.new past.now.items (command.FreeAll session.now) result }
+    {
+        let start = self.books.start();
+        Reply::of(free_all(start, &self.sessions, &mut self.locks, session))
+    }
+
+    fn convert(
+        &mut self,
+        alloc: Global,
+        past: &Vec<PastEntry>,
+        session: &Name,
+        asked: &[Asked],
+    ) -> Reply
+        requires { IsDue self.old.state past.now.items }
+        ensures { Serves K.held K.may_leave K.faults self.old self.new past.now.items (command.Convert session.now asked.now) result }
+    {
+        let start = self.books.start();
+        Reply::of(convert(
+            alloc,
+            start,
+            &self.sessions,
+            &mut self.locks,
+            session,
+            asked,
+        ))
+    }
+
+    fn roll_back(&mut self, past: &Vec<PastEntry>, session: &Name) -> Reply
+        requires { IsDue self.old.state past.now.items }
+        ensures { Serves K.held K.may_leave K.faults self.old self.new past.now.items (command.Rollback session.now) result }
+    {
+        let start = self.books.start();
+        Reply::of(roll_back(start, &mut self.sessions, &mut self.locks, session))
+    }
+
+    fn commit(
+        &mut self,
+        alloc: Global,
+        past: &Vec<PastEntry>,
+        session: &Name,
+        parts: &Parts,
+    ) -> Reply
+        requires { IsDue self.old.state past.now.items }
+        ensures { Serves K.held K.may_leave K.faults self.old self.new past.now.items (command.Commit session.now parts.now) result }
+    {
+        let written = commit(
+            alloc,
+            &mut self.sessions,
+            &mut self.locks,
+            &mut self.books,
+            session,
+            parts,
+            self.max_marks,
+        );
+        ended(&mut self.condition, &mut self.pending, past, written)
+    }
+
+    /// Gives a worker an order for a part, 1 for V1 and 2 for V2.
+    fn take(&mut self, past: &Vec<PastEntry>, worker: u8, part: u8) -> Reply
+        requires due { IsDue self.old.state past.now.items }
+        requires part { (part ≡ 1) ⊎ (part ≡ 2) }
+        ensures { Serves K.held K.may_leave K.faults self.old self.new past.now.items (take_of part worker) result }
+    {
+        take(&mut self.orders, &self.books, worker, part)
+    }
+
+    /// Posts a part, 1 for V1 and 2 for V2.
+    fn post(&mut self, alloc: Global, past: &Vec<PastEntry>, worker: u8, part: u8) -> Reply
+        requires due { IsDue self.old.state past.now.items }
+        requires part { (part ≡ 1) ⊎ (part ≡ 2) }
+        ensures { Serves K.held K.may_leave K.faults self.old self.new past.now.items (post_of part worker) result }
+    {
+        let written = post(
+            alloc,
+            &mut self.orders,
+            &mut self.locks,
+            &mut self.books,
+            worker,
+            part,
+            self.max_marks,
+        );
+        ended(&mut self.condition, &mut self.pending, past, written)
+    }
+
+    fn drop_order(&mut self, past: &Vec<PastEntry>, worker: u8) -> Reply
+        requires { IsDue self.old.state past.now.items }
+        ensures { Serves K.held K.may_leave K.faults self.old self.new past.now.items (command.DropOrder worker) result }
+    {
+        drop_order(&mut self.orders, worker)
+    }
+
+    fn cancel(&mut self, alloc: Global, past: &Vec<PastEntry>, unit: UnitKey) -> Reply
+        requires { IsDue self.old.state past.now.items }
+        ensures { Serves K.held K.may_leave K.faults self.old self.new past.now.items (command.Cancel unit) result }
+    {
+        let written = cancel(
+            alloc,
+            self.orders.as_slice(),
+            &mut self.locks,
+            &mut self.books,
+            unit,
+            self.max_marks,
+        );
+        ended(&mut self.condition, &mut self.pending, past, written)
+    }
+
+    fn resubmit(&mut self, alloc: Global, past: &Vec<PastEntry>, unit: UnitKey) -> Reply
+        requires { IsDue self.old.state past.now.items }
+        ensures { Serves K.held K.may_leave K.faults self.old self.new past.now.items (command.Resubmit unit) result }
+    {
+        let written = resubmit(
+            alloc,
+            &mut self.locks,
+            &mut self.books,
+            unit,
+            self.max_marks,
+        );
+        ended(&mut self.condition, &mut self.pending, past, written)
+    }
+}
+
+/// What a call that writes the store is answered. Where the store fails the server is in doubt since this call.
+fn ended(
+    condition: &mut Condition,
+    pending: &mut Option<InFlight>,
+    past: &Vec<PastEntry>,
+    written: Written,
+) -> Reply
+    ensures reply { result ≡ written_reply written }
+    ensures condition { condition.new ≡ written_condition condition.old (length past.now.items) written }
+    ensures pending { pending.new ≡ written_pending pending.old written }
+{
+    match written {
+        Written::Answered(reply) => reply,
+        Written::Failed(change) => {
+            *condition = Condition::Doubt(past.len() as u64 + 1);
+            *pending = Some(change);
+            Reply::Refused(Refusal::StoreFault)
+        }
+    }
+}

@@ -1,0 +1,12 @@
+//! A keeper of rows over a SQLite file, or over any open connection.
+#![tactic(auto)]
+
+mod adopted_keeper;
+mod calls;
+mod gate;
+mod page;
+mod sqlite_keeper;
+mod statements;
+
+pub use adopted_keeper::AdoptedKeeper;
+pub use sqlite_keeper::SqliteKeeper;

@@ -1,0 +1,16 @@
+pub mod Literals
+pub mod Numbers
+pub mod Oldest
+pub mod Candidates
+pub mod Slots
+pub mod Live
+pub mod Names
+pub mod Changed
+pub mod Owned
+pub mod MadeExclusive
+pub mod Filters
+pub mod InOrder
+pub mod Cleared
+pub mod Turned
+pub mod Conversions
+pub mod Found

@@ -1,0 +1,25 @@
+use Rattle.script_runner.proofs.preparing.prepare.Goals as goal
+
+pub returns-in-Logon-clause-prepared : goal.returns-in-Logon-clause-prepared
+returns-in-Logon-clause-prepared c = λ hall. rw c.in-Logon.is (c.log_on.ensures.prepared c.args.objects.now hall)
+
+pub returns-in-Logoff-clause-prepared : goal.returns-in-Logoff-clause-prepared
+returns-in-Logoff-clause-prepared c = λ hall. rw c.in-Logoff.is (c.log_off.ensures c.args.objects.now hall)
+
+pub returns-in-DeqAll-clause-prepared : goal.returns-in-DeqAll-clause-prepared
+returns-in-DeqAll-clause-prepared c = λ hall. rw c.in-DeqAll.is (c.free_all.ensures c.args.objects.now hall)
+
+pub returns-in-Rollback-clause-prepared : goal.returns-in-Rollback-clause-prepared
+returns-in-Rollback-clause-prepared c = λ hall. rw c.in-Rollback.is (c.roll_back.ensures c.args.objects.now hall)
+
+pub returns-in-Flush-clause-prepared : goal.returns-in-Flush-clause-prepared
+returns-in-Flush-clause-prepared c = λ hall. rw c.in-Flush.is (c.flush.ensures c.args.objects.now hall)
+
+pub returns-in-Reset-clause-prepared : goal.returns-in-Reset-clause-prepared
+returns-in-Reset-clause-prepared c = λ hall. rw c.in-Reset.is (c.empty.ensures c.args.objects.now hall)
+
+pub returns-in-Commit-clause-prepared : goal.returns-in-Commit-clause-prepared
+returns-in-Commit-clause-prepared c = λ hall. rw c.in-Commit.is (c.commit.ensures c.args.objects.now hall)
+
+pub returns-in-Put-clause-prepared : goal.returns-in-Put-clause-prepared
+returns-in-Put-clause-prepared c = λ hall. c.prepare_effect.ensures c.args.objects.now hall

@@ -1,0 +1,402 @@
+ghost use Rattle.std.specs.Prelude.{◌≡◌, ◌⊎◌, List, false, true};
+ghost use Rattle.hall.specs.State.{State};
+ghost use Rattle.lock_objects.specs.Objects.{Object};
+ghost use Rattle.script_lang.specs.declared.script_line.ScriptLine.TheVariants as line;
+ghost use Rattle.script_runner.specs.Lines.{effect_line, grows, is_built, meaning, settled};
+ghost use Rattle.script_runner.specs.Preparing.{HasRoomFor, IsPrepared, MayEnter, is_effect_line, is_lock_line};
+ghost use Rattle.script_runner.specs.World.{world};
+
+use crate::effects::{Verb, effect_in};
+use crate::requests::{asked_of, requests_of};
+use crate::sides::Sides;
+use enq_base::{Items, Name, Refusal, Scope};
+use hall::{Command, Reply};
+use lock_objects::LockObject;
+use mode_rules::Mode;
+use script_lang::{RawValue, ScriptLine};
+use std::alloc::Global;
+
+/// What a line comes to that isn't refused before any call.
+#[derive(Drop)]
+pub(crate) enum Prepared {
+    Call(Command),
+    /// The private side was changed, and there is no call.
+    Changed,
+}
+
+/// What a line comes to, with the memory for all that it makes before a call. A private side is changed only where there
+/// is no call.
+pub(crate) fn prepare(
+    alloc: Global,
+    objects: &[LockObject],
+    line: &ScriptLine,
+    sides: &mut Sides,
+) -> Result<Prepared, Refusal>
+    requires { is_built line.now ≡ true }
+    ensures prepared { (hall : State) → IsPrepared (meaning (world objects.now hall sides.old.items) line.now) (grows line.now) sides.old.items sides.new.items result }
+    ensures room { HasRoomFor line.now result sides.new }
+{
+    match line {
+        ScriptLine::Logon { session, user } => log_on(sides, *session, *user),
+        ScriptLine::Logoff { session } => log_off(sides, *session),
+        ScriptLine::DeqAll { session } => free_all(sides, *session),
+        ScriptLine::Rollback { session } => roll_back(sides, *session),
+        ScriptLine::Flush { session } => flush(alloc, sides, *session),
+        ScriptLine::Reset { session } => empty(sides, *session),
+        ScriptLine::Commit { session } => commit(alloc, sides, *session),
+        ScriptLine::Enq { .. }
+        | ScriptLine::Deq { .. }
+        | ScriptLine::Collect { .. }
+        | ScriptLine::Convert { .. } => prepare_locks(alloc, objects, line, sides),
+        ScriptLine::Put { .. }
+        | ScriptLine::Ins { .. }
+        | ScriptLine::Del { .. }
+        | ScriptLine::Add { .. } => prepare_effect(alloc, line, sides),
+        ScriptLine::Take1 { worker } => Ok(Prepared::Call(Command::Take1 { worker: *worker })),
+        ScriptLine::Do1 { worker } => Ok(Prepared::Call(Command::Do1 { worker: *worker })),
+        ScriptLine::Take2 { worker } => Ok(Prepared::Call(Command::Take2 { worker: *worker })),
+        ScriptLine::Do2 { worker } => Ok(Prepared::Call(Command::Do2 { worker: *worker })),
+        ScriptLine::DropOrder { worker } => {
+            Ok(Prepared::Call(Command::DropOrder { worker: *worker }))
+        }
+        ScriptLine::Cancel { unit } => Ok(Prepared::Call(Command::Cancel { unit: *unit })),
+        ScriptLine::Resubmit { unit } => Ok(Prepared::Call(Command::Resubmit { unit: *unit })),
+        _ => unreachable!(),
+    }
+}
+
+/// A line with values of a lock object.
+fn prepare_locks(
+    alloc: Global,
+    objects: &[LockObject],
+    line: &ScriptLine,
+    sides: &mut Sides,
+) -> Result<Prepared, Refusal>
+    requires { is_lock_line line.now ≡ true }
+    ensures { (hall : State) → IsPrepared (meaning (world objects.now hall sides.old.items) line.now) (grows line.now) sides.old.items sides.new.items result }
+{
+    match line {
+        ScriptLine::Enq {
+            session,
+            object,
+            mode,
+            scope,
+            values,
+        } => {
+            let values = values.as_slice();
+            enqueue(
+                alloc, objects, sides, *session, object, *mode, *scope, values,
+            )
+        }
+        ScriptLine::Deq {
+            session,
+            object,
+            mode,
+            scope,
+            values,
+        } => {
+            let values = values.as_slice();
+            dequeue(
+                alloc, objects, sides, *session, object, *mode, *scope, values,
+            )
+        }
+        ScriptLine::Collect {
+            session,
+            object,
+            mode,
+            scope,
+            values,
+        } => {
+            let values = values.as_slice();
+            collect(
+                alloc, objects, sides, *session, object, *mode, *scope, values,
+            )
+        }
+        ScriptLine::Convert {
+            session,
+            object,
+            values,
+        } => { convert(alloc, objects, sides, *session, object, values.as_slice()) }
+        _ => unreachable!(),
+    }
+}
+
+/// A line of an effect.
+fn prepare_effect(alloc: Global, line: &ScriptLine, sides: &mut Sides) -> Result<Prepared, Refusal>
+    requires { is_effect_line line.now ≡ true }
+    ensures { (objects : List Object) (hall : State) → IsPrepared (meaning (world objects hall sides.old.items) line.now) (grows line.now) sides.old.items sides.new.items result }
+{
+    match line {
+        ScriptLine::Put {
+            session,
+            part,
+            table,
+            key,
+            text,
+        } => {
+            let (key, text) = (key.as_slice(), text.as_slice());
+            effect(alloc, Verb::Put, sides, *session, *part, *table, key, text)
+        }
+        ScriptLine::Ins {
+            session,
+            part,
+            table,
+            key,
+            text,
+        } => {
+            let (key, text) = (key.as_slice(), text.as_slice());
+            effect(alloc, Verb::Ins, sides, *session, *part, *table, key, text)
+        }
+        ScriptLine::Del {
+            session,
+            part,
+            table,
+            key,
+        } => {
+            let key = key.as_slice();
+            effect(alloc, Verb::Del, sides, *session, *part, *table, key, &[])
+        }
+        ScriptLine::Add {
+            session,
+            part,
+            table,
+            key,
+            number,
+        } => {
+            let (key, number) = (key.as_slice(), number.as_slice());
+            effect(
+                alloc,
+                Verb::Add,
+                sides,
+                *session,
+                *part,
+                *table,
+                key,
+                number,
+            )
+        }
+        _ => unreachable!(),
+    }
+}
+
+/// A logon, with the memory for a private side.
+fn log_on(sides: &mut Sides, session: Name, user: Name) -> Result<Prepared, Refusal>
+    ensures prepared { (objects : List Object) (hall : State) → IsPrepared (meaning (world objects hall sides.old.items) (line.Logon session user)) true sides.old.items sides.new.items result }
+    ensures room { HasRoomFor (line.Logon session user) result sides.new }
+{
+    if sides.make_room().is_err() {
+        return Err(Refusal::NoMemory);
+    }
+    Ok(Prepared::Call(Command::Logon { session, user }))
+}
+
+/// A logoff.
+fn log_off(sides: &Sides, session: Name) -> Result<Prepared, Refusal>
+    ensures { (objects : List Object) (hall : State) → IsPrepared (meaning (world objects hall sides.now.items) (line.Logoff session)) false sides.now.items sides.now.items result }
+{
+    if !sides.has_side(&session) {
+        return Err(Refusal::UnknownSession);
+    }
+    Ok(Prepared::Call(Command::Logoff { session }))
+}
+
+/// A call that frees all locks of a session.
+fn free_all(sides: &Sides, session: Name) -> Result<Prepared, Refusal>
+    ensures { (objects : List Object) (hall : State) → IsPrepared (meaning (world objects hall sides.now.items) (line.DeqAll session)) false sides.now.items sides.now.items result }
+{
+    if !sides.has_side(&session) {
+        return Err(Refusal::UnknownSession);
+    }
+    Ok(Prepared::Call(Command::FreeAll { session }))
+}
+
+/// A rollback.
+fn roll_back(sides: &Sides, session: Name) -> Result<Prepared, Refusal>
+    ensures { (objects : List Object) (hall : State) → IsPrepared (meaning (world objects hall sides.now.items) (line.Rollback session)) false sides.now.items sides.now.items result }
+{
+    if !sides.has_side(&session) {
+        return Err(Refusal::UnknownSession);
+    }
+    Ok(Prepared::Call(Command::Rollback { session }))
+}
+
+/// A call for all that a session has collected.
+fn flush(alloc: Global, sides: &Sides, session: Name) -> Result<Prepared, Refusal>
+    ensures { (objects : List Object) (hall : State) → IsPrepared (meaning (world objects hall sides.now.items) (line.Flush session)) true sides.now.items sides.now.items result }
+{
+    if !sides.has_side(&session) {
+        return Err(Refusal::UnknownSession);
+    }
+    let Ok(requests) = sides.container(alloc, &session) else {
+        return Err(Refusal::NoMemory);
+    };
+    let requests = Items::from_vec(requests);
+    Ok(Prepared::Call(Command::Ask { session, requests }))
+}
+
+/// A commit of the effects that a session has registered.
+fn commit(alloc: Global, sides: &Sides, session: Name) -> Result<Prepared, Refusal>
+    ensures { (objects : List Object) (hall : State) → IsPrepared (meaning (world objects hall sides.now.items) (line.Commit session)) true sides.now.items sides.now.items result }
+{
+    if !sides.has_side(&session) {
+        return Err(Refusal::UnknownSession);
+    }
+    let Ok(parts) = sides.parts(alloc, &session) else {
+        return Err(Refusal::NoMemory);
+    };
+    Ok(Prepared::Call(Command::Commit { session, parts }))
+}
+
+/// Empties a session's container.
+fn empty(sides: &mut Sides, session: Name) -> Result<Prepared, Refusal>
+    ensures { (objects : List Object) (hall : State) → IsPrepared (meaning (world objects hall sides.old.items) (line.Reset session)) false sides.old.items sides.new.items result }
+{
+    if !sides.has_side(&session) {
+        return Err(Refusal::UnknownSession);
+    }
+    sides.reset(&session);
+    Ok(Prepared::Changed)
+}
+
+/// A call for the locks of a line.
+fn enqueue(
+    alloc: Global,
+    objects: &[LockObject],
+    sides: &Sides,
+    session: Name,
+    object: &Name,
+    mode: Mode,
+    scope: Scope,
+    values: &[RawValue],
+) -> Result<Prepared, Refusal>
+    ensures { (hall : State) → IsPrepared (meaning (world objects.now hall sides.now.items) (line.Enq session object.now mode scope values.now)) true sides.now.items sides.now.items result }
+{
+    if !sides.has_side(&session) {
+        return Err(Refusal::UnknownSession);
+    }
+    match requests_of(alloc, objects, object, mode, scope, values) {
+        Ok(requests) => {
+            let requests = Items::from_vec(requests);
+            Ok(Prepared::Call(Command::Ask { session, requests }))
+        }
+        Err(refusal) => Err(refusal),
+    }
+}
+
+/// A call that takes one from each lock of a line.
+fn dequeue(
+    alloc: Global,
+    objects: &[LockObject],
+    sides: &Sides,
+    session: Name,
+    object: &Name,
+    mode: Mode,
+    scope: Scope,
+    values: &[RawValue],
+) -> Result<Prepared, Refusal>
+    ensures { (hall : State) → IsPrepared (meaning (world objects.now hall sides.now.items) (line.Deq session object.now mode scope values.now)) true sides.now.items sides.now.items result }
+{
+    if !sides.has_side(&session) {
+        return Err(Refusal::UnknownSession);
+    }
+    match requests_of(alloc, objects, object, mode, scope, values) {
+        Ok(requests) => {
+            let requests = Items::from_vec(requests);
+            Ok(Prepared::Call(Command::Free { session, requests }))
+        }
+        Err(refusal) => Err(refusal),
+    }
+}
+
+/// Collects the requests of a line.
+fn collect(
+    alloc: Global,
+    objects: &[LockObject],
+    sides: &mut Sides,
+    session: Name,
+    object: &Name,
+    mode: Mode,
+    scope: Scope,
+    values: &[RawValue],
+) -> Result<Prepared, Refusal>
+    ensures { (hall : State) → IsPrepared (meaning (world objects.now hall sides.old.items) (line.Collect session object.now mode scope values.now)) true sides.old.items sides.new.items result }
+{
+    if !sides.has_side(&session) {
+        return Err(Refusal::UnknownSession);
+    }
+    let requests = match requests_of(alloc, objects, object, mode, scope, values) {
+        Ok(requests) => requests,
+        Err(refusal) => return Err(refusal),
+    };
+    match sides.collect(&session, requests.as_slice()) {
+        Ok(()) => Ok(Prepared::Changed),
+        Err(refusal) => Err(refusal),
+    }
+}
+
+/// A call that turns the optimistic locks of a line into exclusive ones.
+fn convert(
+    alloc: Global,
+    objects: &[LockObject],
+    sides: &Sides,
+    session: Name,
+    object: &Name,
+    values: &[RawValue],
+) -> Result<Prepared, Refusal>
+    ensures { (hall : State) → IsPrepared (meaning (world objects.now hall sides.now.items) (line.Convert session object.now values.now)) true sides.now.items sides.now.items result }
+{
+    if !sides.has_side(&session) {
+        return Err(Refusal::UnknownSession);
+    }
+    match asked_of(alloc, objects, object, Mode::O, values) {
+        Ok(asked) => {
+            let asked = Items::from_vec(asked);
+            Ok(Prepared::Call(Command::Convert { session, asked }))
+        }
+        Err(refusal) => Err(refusal),
+    }
+}
+
+/// Registers an effect. The text is what stands behind the key.
+fn effect(
+    alloc: Global,
+    verb: Verb,
+    sides: &mut Sides,
+    session: Name,
+    part: u8,
+    table: Name,
+    key: &[u8],
+    text: &[u8],
+) -> Result<Prepared, Refusal>
+    requires { (part ≡ 1) ⊎ (part ≡ 2) }
+    ensures { (objects : List Object) (hall : State) → IsPrepared (meaning (world objects hall sides.old.items) (effect_line verb session part table key.now text.now)) true sides.old.items sides.new.items result }
+{
+    if !sides.has_side(&session) {
+        return Err(Refusal::UnknownSession);
+    }
+    let effect = match effect_in(alloc, verb, table, key, text) {
+        Ok(effect) => effect,
+        Err(refusal) => return Err(refusal),
+    };
+    match sides.register(&session, part, effect) {
+        Ok(()) => Ok(Prepared::Changed),
+        Err(refusal) => Err(refusal),
+    }
+}
+
+/// Lets the private sides follow the answer of a line's call.
+pub(crate) fn settle(alloc: Global, line: &ScriptLine, reply: &Reply, sides: &mut Sides)
+    requires { MayEnter line.now reply.now sides.old }
+    ensures { sides.new.items ≡ settled line.now reply.now sides.old.items }
+{
+    match (line, reply) {
+        (ScriptLine::Logon { session, .. }, Reply::Done) => sides.enter(alloc, *session),
+        (ScriptLine::Logoff { session }, Reply::Done) => sides.leave(session),
+        (ScriptLine::Flush { session }, Reply::Done) => sides.reset(session),
+        (ScriptLine::Rollback { session }, Reply::Done) => sides.clear(session),
+        (ScriptLine::Commit { session }, Reply::Done | Reply::Unit(_)) => {
+            sides.drop_effects(session)
+        }
+        _ => {}
+    }
+}

@@ -1,0 +1,6 @@
+pub mod Places
+pub mod Searches
+pub mod Numbered
+pub mod Rooms
+pub mod Views
+pub mod Rise

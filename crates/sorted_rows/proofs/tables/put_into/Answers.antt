@@ -1,0 +1,27 @@
+use Rattle.std.proofs.Common.{Vec, Global, ◌≡◌, ◌+◌, ◌<◌, ◌≤◌, length, arith, vec_len, vec_capacity}
+use Rattle.keeper_api.specs.declared.rows.Row.{Row}
+use Rattle.sorted_rows.proofs.Rooms.{place_within, place_there, place_set}
+use Rattle.sorted_rows.proofs.Numbered.{put_table, sorted_table}
+use Rattle.sorted_rows.proofs.tables.put_into.Goals as goal
+
+pub index_mut-requires : goal.index_mut-requires
+index_mut-requires c = let within : c.args.table < length c.args.tables.now.items = place_within 1 c.args.table c.args.tables.now.items c.requires.room in omega arith
+
+pub put_row-requires : goal.put_row-requires
+put_row-requires c =
+    let old : Vec Row Global = c.index_mut.result.now in
+    let place : vec_len old + 1 ≤ vec_capacity old = place_there 1 c.args.table c.args.tables.now.items old c.requires.room c.index_mut.ensures.value in
+    omega arith
+
+pub returns-clause-put : goal.returns-clause-put
+returns-clause-put c =
+    let tables = c.args.tables.now.items in
+    let old : Vec Row Global = c.index_mut.result.now in
+    let at : c.args.table ≡ 0 + c.args.table = omega arith in
+    let within : c.args.table < length tables = place_within 1 c.args.table tables c.requires.room in
+    put_table c.args.table 0 c.args.table c.args.key c.args.value tables old c.put_row.new.rows at within c.index_mut.ensures.value
+    (c.put_row.ensures.put c.args.table (sorted_table c.args.table 0 c.args.table tables old at within c.index_mut.ensures.value c.requires.sorted))
+
+pub returns-clause-room : goal.returns-clause-room
+returns-clause-room c = λ n other place.
+    place_set (n + 1) n c.args.table other c.args.tables.now.items c.index_mut.result.now c.put_row.new.rows (omega arith) c.index_mut.ensures.value (λ h. omega (arith, c.put_row.ensures.one, c.put_row.ensures.room)) place
