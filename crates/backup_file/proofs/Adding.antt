@@ -1,12 +1,12 @@
 -- A record that is added to a file leads it to other lists.
-use Rattle.std.proofs.Common.{◌≡◌, ◌⊎◌, ℕ, List, ◌∷◌, ◌++◌, inl, inr}
+use Rattle.std.proofs.Common.{◌⊎◌, ℕ, List, ◌∷◌, ◌++◌, inl, inr, sym, subst, ◌∙◌}
 use Rattle.gate_log.specs.Gates.{IsShut, IsAtRest}
 use Rattle.gate_log.proofs.Logs.{front-push, shut_stands}
 use Rattle.backup_file.specs.declared.handed.Handed.{Handed}
 use Rattle.backup_file.specs.declared.handed.Record.{Record}
 use Rattle.backup_file.specs.Spelling.{spelling, IsRecord}
-use Rattle.backup_file.specs.Backup.{BackupView, IsReady}
-use Rattle.backup_file.specs.Lists.{IsLegal, after, units_of}
+use Rattle.backup_file.specs.Backup.{BackupView, IsReady, IsSame}
+use Rattle.backup_file.specs.Lists.{AreUnits, IsLegal, after}
 use Rattle.backup_file.specs.File.{Stands, IsFront, grammar}
 
 module _ (l : List Handed) (r : Record) (front : List ℕ) (is_front : IsFront front l) (is : IsRecord r) (legal : IsLegal l r) where
@@ -22,7 +22,7 @@ pub rest_stands : (l : List Handed) (front bytes : List ℕ) (images : List ℕ 
 rest_stands l front bytes images gate f rest = shut_stands grammar front bytes l f (record { byte = rest.byte; rest = rest.more; whole = rest.whole; closed = rest.closed })
 
 -- a file that was at rest and got a record is ready for the lists after it
-pub ready_after : {D : Type 0} (reads : D → List ℕ) (may_leave : D → List ℕ → Type 0) (l : List Handed) (r : Record) (front : List ℕ) → IsFront front l → IsRecord r → IsLegal l r → (b : BackupView D) → IsAtRest (reads b.disk) (may_leave b.disk) b.gate (front ++ 1 ∷ spelling r) → b.units ≡ units_of (after l r) → IsReady reads may_leave b (after l r)
+pub ready_after : {D : Type 0} (reads : D → List ℕ) (may_leave : D → List ℕ → Type 0) (l : List Handed) (r : Record) (front : List ℕ) → IsFront front l → IsRecord r → IsLegal l r → (b : BackupView D) → IsAtRest (reads b.disk) (may_leave b.disk) b.gate (front ++ 1 ∷ spelling r) → AreUnits b.units (after l r) → IsReady reads may_leave b (after l r)
 ready_after reads may_leave l r front is_front is legal b rest units =
     let next = next_front l r front is_front is legal in
     record {
@@ -32,3 +32,13 @@ ready_after reads may_leave l r front is_front is legal b rest units =
       at_rest = rest;
       units = units;
     }
+
+-- the same file is ready too
+pub ready_same : {D : Type 0} (reads : D → List ℕ) (may_leave : D → List ℕ → Type 0) (l : List Handed) (old new : BackupView D) → IsSame old new → IsReady reads may_leave old l → IsReady reads may_leave new l
+ready_same reads may_leave l old new same ready = record {
+  stands = subst (λ d. Stands (reads d) l) (sym same.disk) ready.stands;
+  front = ready.front;
+  is_front = ready.is_front;
+  at_rest = subst (λ g. IsAtRest (reads new.disk) (may_leave new.disk) g ready.front) (sym same.gate) (subst (λ d. IsAtRest (reads d) (may_leave d) old.gate ready.front) (sym same.disk) ready.at_rest);
+  units = λ u. same.units u ∙ ready.units u;
+}

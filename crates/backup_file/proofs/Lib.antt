@@ -5,3 +5,5 @@ pub mod Records
 pub mod Handover
 pub mod Units
 pub mod Adding
+pub mod Names
+pub mod ReadBack

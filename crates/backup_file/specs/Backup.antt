@@ -1,25 +1,34 @@
 -- What an open backup file keeps.
-use Rattle.std.specs.Prelude.{◌≡◌, ℕ, ◌≤◌, Bool, List, [], ◌∷◌, ◌++◌, IsTrue, Result, IsErrOf, OnOk}
+use Rattle.std.specs.Prelude.{◌≡◌, ℕ, ◌≤◌, Bool, List, [], ◌∷◌, ◌++◌, IsTrue, Result, Ok, Err, IsErrOf}
 use Rattle.enq_base.specs.Causes.{Rose}
 use Rattle.enq_base.specs.declared.owner.UnitKey.{UnitKey}
 use Rattle.gate_log.specs.Gates.{IsAtRest}
 use Rattle.backup_file.specs.declared.fault.WriteFault.{WriteFault}
-use Rattle.backup_file.specs.declared.fault.WriteFault.TheVariants.{Failed}
+use Rattle.backup_file.specs.declared.fault.WriteFault.TheVariants.{Failed, NoMemory}
 use Rattle.backup_file.specs.declared.handed.Handed.{Handed}
 use Rattle.backup_file.specs.declared.handed.Record.TheVariants.{Hand}
+use Rattle.backup_file.specs.declared.ids.UnitId.{UnitId}
 use Rattle.backup_file.specs.Handing.{handed_of}
-use Rattle.backup_file.specs.Lists.{units_of, units_without}
+use Rattle.backup_file.specs.Lists.{AreUnits, is_known}
 use Rattle.backup_file.specs.Spelling.{IsRecord, spelling}
 use Rattle.backup_file.specs.File.{Stands, IsFront}
 use Rattle.lock_entry.specs.Names.{has_distinct_names}
 use Rattle.lock_entry.specs.declared.entry.Entry.{Entry}
 
--- the disk, where the closed gate stands, the units whose lists stand, and whether a write has failed
+-- the disk, where the closed gate stands, the units whose lists stand, in no order, for how many more there is room, and whether a write has failed
 pub record BackupView (D : Type 0) : Type 0 where
   pub disk : D
   pub gate : ℕ
-  pub units : List UnitKey
+  pub units : List UnitId
+  pub room : ℕ
   pub failed : Bool
+
+-- the same file, but for the room that it has
+pub record IsSame {D : Type 0} (old new : BackupView D) : Type 0 where
+  pub disk : new.disk ≡ old.disk
+  pub gate : new.gate ≡ old.gate
+  pub units : (u : UnitKey) → is_known u new.units ≡ is_known u old.units
+  pub failed : new.failed ≡ old.failed
 
 -- the file, as read and in every image, stands for these lists, and may be written
 pub record IsReady {D : Type 0} (reads : D → List ℕ) (may_leave : D → List ℕ → Type 0) (b : BackupView D) (l : List Handed) : Type 0 where
@@ -27,22 +36,28 @@ pub record IsReady {D : Type 0} (reads : D → List ℕ) (may_leave : D → List
   pub front : List ℕ
   pub is_front : IsFront front l
   pub at_rest : IsAtRest (reads b.disk) (may_leave b.disk) b.gate front
-  pub units : b.units ≡ units_of l
+  pub units : AreUnits b.units l
 
--- the count has not fallen, `Failed` comes only where it rose, and where all went well it stands still
+-- P, unless the disk failed
+abbrev pub UnlessFailed : {T : Type 0} → Result T WriteFault → Type 0 → Type 0
+UnlessFailed (Ok x) P = P
+UnlessFailed (Err Failed) P = Unit {0}
+UnlessFailed (Err NoMemory) P = P
+
+-- the count has not fallen, `Failed` comes only where it rose, and with any other answer it stands still
 pub record HasWriteCause {T : Type 0} (before now : ℕ) (result : Result T WriteFault) : Type 0 where
   pub later : before ≤ now
   pub failed : IsErrOf result Failed → Rose before now
-  pub quiet : OnOk result (now ≡ before)
+  pub quiet : UnlessFailed result (now ≡ before)
 
--- a list that is ready to be written: its text, and the units whose lists stand once it is
+-- a list that is ready to be written: its unit and its text
 pub record ReadyView : Type 0 where
-  pub units : List UnitKey
+  pub unit : UnitKey
   pub text : List ℕ
 
--- it hands over these entries of the unit, in a file in which the lists of some units stand
-pub record IsHandFor (unit : UnitKey) (entries : List Entry) (standing : List UnitKey) (r : ReadyView) : Type 0 where
-  pub units : r.units ≡ units_without unit standing ++ unit ∷ []
+-- it hands over these entries of the unit
+pub record IsHandFor (unit : UnitKey) (entries : List Entry) (r : ReadyView) : Type 0 where
+  pub owned : r.unit ≡ unit
   pub text : r.text ≡ 1 ∷ (spelling (Hand (handed_of unit entries)) ++ 0 ∷ [])
   pub is_record : IsRecord (Hand (handed_of unit entries))
   pub distinct : IsTrue (has_distinct_names entries)

@@ -1,5 +1,7 @@
 pub mod Spelling
 pub mod Reading
+pub mod Ids
+pub mod Sameness
 pub mod Lists
 pub mod File
 pub mod Opening

@@ -1,33 +1,36 @@
-ghost use Rattle.std.specs.Prelude.{◌≡◌, ◌⊎◌, ◌≤◌, ◌++◌, ◌∷◌, [], ℕ, List, length, true, false, IsTrue, IfOk, IfErr, OnOk, OnErr, IsErrOf, MatchResult};
-ghost use Rattle.enq_base.specs.Causes.{HasCause, Rose};
+ghost use Rattle.std.specs.Prelude.{◌≡◌, ◌⊎◌, ◌≤◌, ◌&&◌, ◌||◌, not, ◌++◌, ◌∷◌, [], ℕ, List, length, true, false, IsTrue, IfOk, IfErr, OnOk, OnErr, IsErrOf, MatchResult};
+ghost use Rattle.enq_base.specs.Causes.{HasCause};
 ghost use Rattle.bk_disk.specs.Disk.{Follows};
 ghost use Rattle.gate_log.specs.Gates.{IsShut, IsAtRest};
 ghost use Rattle.backup_file.specs.declared.handed.Handed.{Handed};
 ghost use Rattle.backup_file.specs.declared.handed.Record.TheVariants.{Hand, Free};
-ghost use Rattle.backup_file.specs.Lists.{after, has_unit, is_among, units_without, units_of};
+ghost use Rattle.backup_file.specs.Lists.{AreUnits, after, has_unit, is_known};
 ghost use Rattle.backup_file.specs.File.{Stands, IsBad, IsShort, IsLong, Keeps, new_file};
-ghost use Rattle.backup_file.specs.Opening.{OnBad};
+ghost use Rattle.backup_file.specs.Opening.{CountsFault, OnBad};
 ghost use Rattle.backup_file.specs.Handing.{IsHandable, handed_of};
-ghost use Rattle.backup_file.specs.Backup.{IsHandFor, IsReady, HasWriteCause};
+ghost use Rattle.backup_file.specs.Backup.{IsHandFor, IsReady, IsSame, HasWriteCause};
+ghost use Rattle.enq_base.specs.Owners.{same_unit};
 ghost use Rattle.enq_base.specs.declared.owner.UnitKey.{UnitKey};
 ghost use Rattle.lock_entry.specs.declared.entry.Entry.{Entry};
 
 use crate::fault::{BackFault, WriteFault};
 use crate::handed::Handed;
-use crate::lists::{forget_unit, holds, units_of, units_with};
+use crate::ids::{UnitId, id_of};
 use crate::opening::open_file;
+use crate::unit_set::{forget, holds};
 use crate::writing::{free_text, hand_text};
 use bk_disk::Disk;
 use enq_base::{Failed, NoMemory, UnitKey};
 use gate_log::add_record;
 use lock_entry::Entry;
 use std::alloc::Global;
+use std::collections::HashSet;
 use std::marker::Model;
 
 /// A unit's list that is ready to be written into a file.
 #[derive(Drop)]
 pub struct ReadyHand {
-    units: Vec<UnitKey>,
+    unit: UnitKey,
     text: Vec<u8>,
 }
 
@@ -36,7 +39,7 @@ impl Model for ReadyHand {
 
     ghost Value = { ReadyView };
 
-    ghost view = { λ r. record { units = r.units.items; text = r.text.items } };
+    ghost view = { λ r. record { unit = r.unit; text = r.text.items } };
 
     ghost use Rattle.std.specs.Prelude.{◌≤◌, length};
 
@@ -48,16 +51,17 @@ impl Model for ReadyHand {
 pub struct Backup<D> {
     disk: D,
     gate: u64,
-    units: Vec<UnitKey>,
+    units: HashSet<UnitId>,
     failed: bool,
 }
 
 impl<D> Model for Backup<D> {
+    ghost use Rattle.std.specs.HashSet.{spare};
     ghost use Rattle.backup_file.specs.Backup.{BackupView};
 
     ghost Value = { BackupView D };
 
-    ghost view = { λ b. record { disk = b.disk; gate = b.gate; units = b.units.items; failed = b.failed } };
+    ghost view = { λ b. record { disk = b.disk; gate = b.gate; units = b.units.keys; room = spare b.units; failed = b.failed } };
 }
 
 impl<D: Disk> Backup<D> {
@@ -67,7 +71,7 @@ impl<D: Disk> Backup<D> {
         ensures lists { IsTrue D.tells → IfOk result (λ found. Stands (D.reads disk) found.1.items) }
         ensures ready { IsTrue D.tells
             → IfOk result (λ found. IsReady D.reads D.may_leave found.0 found.1.items) }
-        ensures units { IfOk result (λ found. found.0.units ≡ units_of found.1.items) }
+        ensures units { IfOk result (λ found. AreUnits found.0.units found.1.items) }
         ensures fresh { IfOk result (λ found. found.0.failed ≡ false) }
         ensures anew { IsTrue D.tells → IsShort (D.reads disk)
             → IfOk result (λ found. D.reads found.0.disk ≡ new_file) }
@@ -83,24 +87,33 @@ impl<D: Disk> Backup<D> {
             (λ found. Follows Keeps (D.may_leave disk) (D.may_leave found.0.disk))
             (λ e. Follows Keeps (D.may_leave disk) (D.may_leave e.1)) }
         ensures quiet { IfOk result (λ found. D.faults found.0.disk ≡ D.faults disk) }
-        ensures later { IfErr result (λ e. D.faults disk ≤ D.faults e.1) }
-        ensures failed { IfErr result (λ e. e.0 ≡ BackFault.Failed → Rose (D.faults disk) (D.faults e.1)) }
+        ensures cause { IfErr result (λ e. CountsFault e.0 (D.faults disk) (D.faults e.1)) }
     {
         let mut disk = disk;
         match open_file(alloc, &mut disk) {
-            Ok((gate, lists)) => match units_of(alloc, &lists) {
-                Ok(units) => {
-                    let backup = Backup {
-                        disk,
-                        gate,
-                        units,
-                        failed: false,
-                    };
-                    Ok((backup, lists))
-                }
-                Err(_) => Err((BackFault::NoMemory, disk)),
-            },
+            Ok(found) => {
+                let backup = Backup {
+                    disk,
+                    gate: found.gate,
+                    units: found.units,
+                    failed: false,
+                };
+                Ok((backup, found.lists))
+            }
             Err(fault) => Err((fault, disk)),
+        }
+    }
+
+    /// A file that was not opened, or not again: only `into_disk` is allowed. It takes no memory.
+    pub fn shut(alloc: Global, disk: D) -> Backup<D>
+        ensures disk { result.disk ≡ disk }
+        ensures failed { result.failed ≡ true }
+    {
+        Backup {
+            disk,
+            gate: 0,
+            units: HashSet::new(alloc),
+            failed: true,
         }
     }
 
@@ -116,7 +129,7 @@ impl<D: Disk> Backup<D> {
         requires handable { IsHandable unit.now entries.now }
         ensures handed { IsTrue D.tells → (l : List Handed) → IsReady D.reads D.may_leave self.old l
             → OnOk result (IsReady D.reads D.may_leave self.new (after l (Hand (handed_of unit.now entries.now)))) }
-        ensures units { OnOk result (self.new.units ≡ units_without unit.now self.old.units ++ unit.now ∷ []) }
+        ensures units { OnOk result ((other : UnitKey) → is_known other self.new.units ≡ (same_unit unit.now other || is_known other self.old.units)) }
         ensures usable { OnOk result (self.new.failed ≡ false) }
         ensures failed { IsErrOf result WriteFault.Failed → self.new.failed ≡ true }
 
@@ -124,7 +137,7 @@ impl<D: Disk> Backup<D> {
         ensures images { IsTrue D.tells → (l : List Handed) → IsReady D.reads D.may_leave self.old l
             → (c : List ℕ) → D.may_leave self.new.disk c
             → Stands c l ⊎ Stands c (after l (Hand (handed_of unit.now entries.now))) }
-        ensures no_memory { IsErrOf result WriteFault.NoMemory → self.new ≡ self.old }
+        ensures no_memory { IsErrOf result WriteFault.NoMemory → IsSame self.old self.new }
         ensures cause { HasWriteCause (D.faults self.old.disk) (D.faults self.new.disk) result }
     {
         let ready = self.ready_hand(alloc, unit, entries)?;
@@ -135,52 +148,63 @@ impl<D: Disk> Backup<D> {
     /// Takes the memory that the writing of the unit's list needs. Nothing is written. It answers want of memory too
     /// where the list is too long for its record.
     pub fn ready_hand(
-        &self,
+        &mut self,
         alloc: Global,
         unit: &UnitKey,
         entries: &[Entry],
     ) -> Result<ReadyHand, NoMemory>
         requires { IsHandable unit.now entries.now }
-        ensures { IfOk result (IsHandFor unit.now entries.now self.now.units) }
+        ensures ready { IfOk result (IsHandFor unit.now entries.now) }
+        ensures room { OnOk result (1 ≤ self.new.room) }
+        ensures same { IsSame self.old self.new }
     {
-        Ok(ReadyHand {
-            units: units_with(alloc, &self.units, unit)?,
-            text: hand_text(alloc, unit, entries)?,
-        })
+        let text = hand_text(alloc, unit, entries)?;
+        self.make_room()?;
+        Ok(ReadyHand { unit: *unit, text })
     }
 
-    /// Writes a unit's list that was made ready when the lists stood that stand now; it becomes the last. It takes no
-    /// memory. After `Failed` only `into_disk` is allowed.
+    /// Makes room for a unit more.
+    fn make_room(&mut self) -> Result<(), NoMemory>
+        ensures room { OnOk result (1 ≤ self.new.room) }
+        ensures same { IsSame self.old self.new }
+    {
+        self.units.reserve(1)?;
+        Ok(())
+    }
+
+    /// Writes a unit's list that was made ready; it becomes the last. It takes no memory. After `Failed` only
+    /// `into_disk` is allowed.
     pub fn write_hand(&mut self, ready: ReadyHand) -> Result<(), Failed>
         requires usable { self.old.failed ≡ false }
-        ensures handed { IsTrue D.tells → (unit : UnitKey) (entries : List Entry) → IsHandFor unit entries self.old.units ready
+        requires room { 1 ≤ self.old.room }
+        ensures handed { IsTrue D.tells → (unit : UnitKey) (entries : List Entry) → IsHandFor unit entries ready
             → (l : List Handed) → IsReady D.reads D.may_leave self.old l
             → OnOk result (IsReady D.reads D.may_leave self.new (after l (Hand (handed_of unit entries)))) }
-        ensures units { (unit : UnitKey) (entries : List Entry) → IsHandFor unit entries self.old.units ready
-            → OnOk result (self.new.units ≡ units_without unit self.old.units ++ unit ∷ []) }
+        ensures units { (unit : UnitKey) (entries : List Entry) → IsHandFor unit entries ready
+            → OnOk result ((other : UnitKey) → is_known other self.new.units ≡ (same_unit unit other || is_known other self.old.units)) }
         ensures usable { OnOk result (self.new.failed ≡ false) }
         ensures failed { OnErr result (self.new.failed ≡ true) }
 
         // A crash leaves the lists before the call or after it.
-        ensures images { IsTrue D.tells → (unit : UnitKey) (entries : List Entry) → IsHandFor unit entries self.old.units ready
+        ensures images { IsTrue D.tells → (unit : UnitKey) (entries : List Entry) → IsHandFor unit entries ready
             → (l : List Handed) → IsReady D.reads D.may_leave self.old l
             → (c : List ℕ) → D.may_leave self.new.disk c
             → Stands c l ⊎ Stands c (after l (Hand (handed_of unit entries))) }
         ensures cause { HasCause (D.faults self.old.disk) (D.faults self.new.disk) result }
     {
-        let ReadyHand { units, text } = ready;
+        let ReadyHand { unit, text } = ready;
         self.add(&text)?;
-        self.keep(units);
+        self.keep(&unit);
         Ok(())
     }
 
     /// Takes the list of a unit away, which stands. It takes no memory. After `Failed` only `into_disk` is allowed.
     pub fn free(&mut self, unit: &UnitKey) -> Result<(), Failed>
         requires usable { self.old.failed ≡ false }
-        requires stands { IsTrue (is_among unit.now self.old.units) }
+        requires stands { IsTrue (is_known unit.now self.old.units) }
         ensures freed { IsTrue D.tells → (l : List Handed) → IsReady D.reads D.may_leave self.old l
             → OnOk result (IsReady D.reads D.may_leave self.new (after l (Free unit.now))) }
-        ensures units { OnOk result (self.new.units ≡ units_without unit.now self.old.units) }
+        ensures units { OnOk result ((other : UnitKey) → is_known other self.new.units ≡ (not (same_unit unit.now other) && is_known other self.old.units)) }
         ensures usable { OnOk result (self.new.failed ≡ false) }
         ensures failed { OnErr result (self.new.failed ≡ true) }
 
@@ -198,6 +222,7 @@ impl<D: Disk> Backup<D> {
     fn add(&mut self, text: &[u8]) -> Result<(), Failed>
         requires { 1 ≤ length text.now }
         ensures units { self.new.units ≡ self.old.units }
+        ensures room { self.new.room ≡ self.old.room }
         ensures usable { OnOk result (self.new.failed ≡ self.old.failed) }
         ensures failed { OnErr result (self.new.failed ≡ true) }
         ensures added { IsTrue D.tells → (front body : List ℕ)
@@ -222,21 +247,28 @@ impl<D: Disk> Backup<D> {
         }
     }
 
-    fn keep(&mut self, units: Vec<UnitKey>)
-        ensures { self.new ≡ record self.old { units = units.items } }
+    fn keep(&mut self, unit: &UnitKey)
+        requires { 1 ≤ self.old.room }
+        ensures units { (other : UnitKey) → is_known other self.new.units ≡ (same_unit unit.now other || is_known other self.old.units) }
+        ensures disk { self.new.disk ≡ self.old.disk }
+        ensures gate { self.new.gate ≡ self.old.gate }
+        ensures failed { self.new.failed ≡ self.old.failed }
     {
-        self.units = units;
+        let _ = self.units.insert(id_of(unit));
     }
 
     fn forget(&mut self, unit: &UnitKey)
-        ensures { self.new ≡ record self.old { units = units_without unit.now self.old.units } }
+        ensures units { (other : UnitKey) → is_known other self.new.units ≡ (not (same_unit unit.now other) && is_known other self.old.units) }
+        ensures disk { self.new.disk ≡ self.old.disk }
+        ensures gate { self.new.gate ≡ self.old.gate }
+        ensures failed { self.new.failed ≡ self.old.failed }
     {
-        forget_unit(&mut self.units, unit);
+        forget(&mut self.units, unit);
     }
 
     /// Whether the list of a unit stands. It takes no memory.
     pub fn stands(&self, unit: &UnitKey) -> bool
-        ensures units { result ≡ is_among unit.now self.now.units }
+        ensures units { result ≡ is_known unit.now self.now.units }
         ensures lists { IsTrue D.tells → (l : List Handed) → IsReady D.reads D.may_leave self.now l
             → result ≡ has_unit unit.now l }
     {

@@ -52,6 +52,14 @@ impl From<AllocError> for BackFault {
     }
 }
 
+impl<T: Drop> From<AllocFailed<T>> for BackFault {
+    ghost from_gives = { λ _ e. e ≡ faults.NoMemory };
+
+    fn from(_e: AllocFailed<T>) -> BackFault {
+        BackFault::NoMemory
+    }
+}
+
 /// Why a list could not be written.
 #[derive(Clone, Copy, Debug, PartialEq, Eq)]
 pub enum WriteFault {

@@ -5,15 +5,18 @@
 mod backup;
 mod fault;
 mod handed;
+mod ids;
 mod laws;
 mod lists;
 mod log;
 mod numbers;
 mod opening;
 mod reading;
+mod unit_set;
 mod writing;
 
 pub use backup::{Backup, ReadyHand};
 pub use fault::{BackFault, WriteFault};
 pub use handed::{Handed, Record};
+pub use ids::{UnitId, id_of};
 pub use laws::one_meaning;

@@ -1,116 +1,97 @@
-ghost use Rattle.std.specs.Prelude.{◌≡◌, ◌↔◌, ◌++◌, ◌∷◌, [], OnOk, IfOk, IsTrue};
-ghost use Rattle.std.specs.List.{list_all};
-ghost use Rattle.enq_base.specs.Owners.{same_unit};
-ghost use Rattle.lock_entry.specs.Names.{has_distinct_names, names_differ};
+ghost use Rattle.std.specs.Prelude.{◌≡◌, ◌↔◌, ◌∷◌, [], List, reverse, OnOk, IfOk, IsTrue};
+ghost use Rattle.std.specs.List.{fold};
+ghost use Rattle.lock_entry.specs.Names.{has_distinct_names};
 ghost use Rattle.backup_file.specs.Lists as kept;
+ghost use Rattle.backup_file.specs.Lists.{AreTouched, AreUnits};
+ghost use Rattle.backup_file.specs.declared.handed.Handed.{Handed};
+ghost use Rattle.backup_file.specs.declared.handed.Record.{Record};
 
 use crate::handed::{Handed, Record};
+use crate::ids::{LockId, UnitId, lock_id};
+use crate::unit_set::{add, forget, holds};
 use enq_base::{NoMemory, UnitKey};
 use lock_entry::Entry;
 use std::alloc::Global;
+use std::collections::HashSet;
 
-/// Whether the unit's list stands.
-pub fn holds_unit(lists: &[Handed], unit: &UnitKey) -> bool
-    ensures { result ≡ kept.has_unit unit.now lists.now }
-{
-    lists.iter().any(|h| is_unit(&h.unit, unit))
-}
-
-fn is_unit(a: &UnitKey, b: &UnitKey) -> bool
-    ensures { result ≡ same_unit a.now b.now }
-{
-    a.is(b)
-}
-
-/// Takes the unit's list away.
-pub fn drop_unit(lists: &mut Vec<Handed>, unit: &UnitKey)
-    ensures { lists.new.items ≡ kept.without unit.now lists.old.items }
-{
-    lists.retain(|h| !is_unit(&h.unit, unit));
-}
-
-/// Does what the record says to the lists.
-pub fn follow(lists: &mut Vec<Handed>, step: Record) -> Result<(), NoMemory>
-    ensures { OnOk result (lists.new.items ≡ kept.after lists.old.items step) }
+/// Notes what the record does to the units whose lists stand.
+pub fn follow(units: &mut HashSet<UnitId>, step: &Record) -> Result<(), NoMemory>
+    ensures { (l : List Handed) → AreUnits units.old.keys l → OnOk result (AreUnits units.new.keys (kept.after l step.now)) }
 {
     match step {
-        Record::Hand(handed) => {
-            drop_unit(lists, &handed.unit);
-            lists.push(handed)?;
-        }
-        Record::Free(unit) => drop_unit(lists, &unit),
+        Record::Hand(handed) => add(units, &handed.unit)?,
+        Record::Free(unit) => forget(units, unit),
     }
     Ok(())
 }
 
-fn differ(a: &Entry, b: &Entry) -> bool
-    ensures { result ≡ names_differ a.now b.now }
+/// Whether the record may follow, where the lists of these units stand.
+pub fn may_follow(alloc: Global, units: &HashSet<UnitId>, step: &Record) -> Result<bool, NoMemory>
+    ensures { (l : List Handed) → AreUnits units.now.keys l → IfOk result (λ may. IsTrue may ↔ kept.IsLegal l step.now) }
 {
-    !a.name().is(&b.name())
-}
-
-/// Whether none of the others has the entry's name.
-fn is_named_once(entry: &Entry, others: &[Entry]) -> bool
-    ensures { result ≡ list_all (names_differ entry.now) others.now }
-{
-    others.iter().all(|other| differ(entry, other))
+    match step {
+        Record::Hand(handed) => are_distinct(alloc, handed.entries.as_slice()),
+        Record::Free(unit) => Ok(holds(units, unit)),
+    }
 }
 
 /// Whether each entry has a name of its own.
-pub fn are_distinct(entries: &[Entry]) -> bool
-    ensures { result ≡ has_distinct_names entries.now }
+pub fn are_distinct(alloc: Global, entries: &[Entry]) -> Result<bool, NoMemory>
+    ensures { IfOk result (λ distinct. distinct ≡ has_distinct_names entries.now) }
 {
-    let mut rest = entries;
-    while let [first, after @ ..] = rest {
-        if !is_named_once(first, after) {
-            return false;
+    let mut seen: HashSet<LockId> = HashSet::new(alloc);
+    let mut left = entries.len();
+    while left > 0 {
+        left -= 1;
+        let name = lock_id(&entries[left]);
+        if seen.contains(&name) {
+            return Ok(false);
         }
-        rest = after;
+        seen.insert(name)?;
     }
-    true
+    Ok(true)
 }
 
-/// Whether the record may follow these lists.
-pub fn may_follow(lists: &[Handed], step: &Record) -> bool
-    ensures { IsTrue result ↔ kept.IsLegal lists.now step.now }
+/// Notes a record before those that were read, the last first: a hand's list stands where none of these is of its unit.
+fn read_back(
+    seen: &mut HashSet<UnitId>,
+    lists: &mut Vec<Handed>,
+    step: Record,
+) -> Result<(), NoMemory>
+    ensures { (later : List Record) → AreTouched seen.old.keys later → reverse lists.old.items ≡ kept.hands later
+        → OnOk result (AreTouched seen.new.keys (step ∷ later) × (reverse lists.new.items ≡ kept.hands (step ∷ later))) }
 {
     match step {
-        Record::Hand(handed) => are_distinct(handed.entries.as_slice()),
-        Record::Free(unit) => holds_unit(lists, unit),
+        Record::Hand(handed) => put_first(seen, lists, handed),
+        Record::Free(unit) => add(seen, &unit),
     }
 }
 
-/// The units whose lists stand.
-pub fn units_of(alloc: Global, lists: &[Handed]) -> Result<Vec<UnitKey>, NoMemory>
-    ensures { IfOk result (λ v. v.items ≡ kept.units_of lists.now) }
+fn put_first(
+    seen: &mut HashSet<UnitId>,
+    lists: &mut Vec<Handed>,
+    handed: Handed,
+) -> Result<(), NoMemory>
+    ensures { (later : List Record) → AreTouched seen.old.keys later → reverse lists.old.items ≡ kept.hands later
+        → OnOk result (AreTouched seen.new.keys (Record.Hand handed ∷ later) × (reverse lists.new.items ≡ kept.hands (Record.Hand handed ∷ later))) }
 {
-    Ok(lists.iter().map(|h| h.unit).collect(alloc)?)
+    let unit: UnitKey = handed.unit;
+    if !holds(seen, &unit) {
+        lists.push(handed)?;
+    }
+    add(seen, &unit)
 }
 
-/// Takes the unit away.
-pub fn forget_unit(units: &mut Vec<UnitKey>, unit: &UnitKey)
-    ensures { units.new.items ≡ kept.units_without unit.now units.old.items }
+/// The lists that stand after these records.
+pub fn lists_of(alloc: Global, records: Vec<Record>) -> Result<Vec<Handed>, NoMemory>
+    ensures { IfOk result (λ lists. lists.items ≡ fold kept.after [] records.items) }
 {
-    units.retain(|u| !is_unit(u, unit));
-}
-
-/// The units with this one last.
-pub fn units_with(
-    alloc: Global,
-    units: &[UnitKey],
-    unit: &UnitKey,
-) -> Result<Vec<UnitKey>, NoMemory>
-    ensures { IfOk result (λ v. v.items ≡ kept.units_without unit.now units.now ++ unit.now ∷ []) }
-{
-    let mut next = Vec::from_slice(alloc, units)?;
-    forget_unit(&mut next, unit);
-    next.push(*unit)?;
-    Ok(next)
-}
-
-/// Whether the unit is among these.
-pub fn holds(units: &[UnitKey], unit: &UnitKey) -> bool
-    ensures { result ≡ kept.is_among unit.now units.now }
-{
-    units.iter().any(|u| is_unit(u, unit))
+    let mut records = records;
+    let mut seen = HashSet::new(alloc);
+    let mut lists = Vec::new(alloc);
+    while let Some(step) = records.pop() {
+        read_back(&mut seen, &mut lists, step)?;
+    }
+    lists.reverse();
+    Ok(lists)
 }

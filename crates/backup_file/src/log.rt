@@ -1,34 +1,48 @@
 ghost use Rattle.std.specs.Prelude.{◌≡◌, ◌<◌, ◌↔◌, ℕ, List, length, take, IsTrue, IfOk, IfErr, IsErrOf, IfSome, IfNone, ◌∷◌};
 ghost use Rattle.gate_log.specs.Gates.{IsShut};
 ghost use Rattle.backup_file.specs.File.{name, IsBad, IsLong, IsFront};
+ghost use Rattle.backup_file.specs.Lists.{AreUnits};
 ghost use Rattle.backup_file.specs.Opening.{OnBad, IsRead};
 
 use crate::fault::BackFault;
 use crate::handed::Handed;
-use crate::lists::{follow, may_follow};
+use crate::ids::UnitId;
+use crate::lists::{follow, lists_of, may_follow};
 use crate::reading::{ReadFault, record_of};
 use std::alloc::Global;
+use std::collections::HashSet;
 
-/// The lists that a file stands for, and where its closed gate stands.
-pub fn read_log(alloc: Global, bytes: &[u8]) -> Result<(Vec<Handed>, u64), BackFault>
+/// What a file stands for: its lists, the units of these, and where its closed gate stands.
+#[derive(Drop)]
+pub struct Found {
+    pub lists: Vec<Handed>,
+    pub units: HashSet<UnitId>,
+    pub gate: u64,
+}
+
+/// What a file stands for.
+pub fn read_log(alloc: Global, bytes: &[u8]) -> Result<Found, BackFault>
     requires { IsLong bytes.now }
-    ensures shut { IfOk result (λ found. IsRead bytes.now found.1 found.0.items) }
+    ensures shut { IfOk result (λ found. IsRead bytes.now found.gate found.lists.items) }
+    ensures units { IfOk result (λ found. AreUnits found.units.keys found.lists.items) }
     ensures bad { IfErr result (OnBad (IsBad bytes.now)) }
     ensures not_failed { IsErrOf result BackFault.Failed → ⊥ }
 {
     if !has_name(bytes) {
         return Err(BackFault::Bad(0));
     }
-    let mut lists = Vec::new(alloc);
+    let mut records = Vec::new(alloc);
+    let mut units = HashSet::new(alloc);
     let mut rest = &bytes[8..];
     while let Some(behind) = behind_open_gate(rest) {
         let at = (bytes.len() - rest.len()) as u64;
         match record_of(alloc, behind) {
             Ok((step, after)) => {
-                if !may_follow(&lists, &step) {
+                if !may_follow(alloc, &units, &step)? {
                     return Err(BackFault::Bad(at));
                 }
-                follow(&mut lists, step)?;
+                follow(&mut units, &step)?;
+                records.push(step)?;
                 rest = after;
             }
             Err(ReadFault::Bad) => return Err(BackFault::Bad(at)),
@@ -39,7 +53,11 @@ pub fn read_log(alloc: Global, bytes: &[u8]) -> Result<(Vec<Handed>, u64), BackF
     if rest.is_empty() {
         return Err(BackFault::Bad(at));
     }
-    Ok((lists, at))
+    Ok(Found {
+        lists: lists_of(alloc, records)?,
+        units,
+        gate: at,
+    })
 }
 
 /// Whether the file has the name of backup files.

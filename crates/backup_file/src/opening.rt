@@ -2,21 +2,22 @@ ghost use Rattle.std.specs.Prelude.{◌≡◌, IsTrue, IfOk, IfErr};
 ghost use Rattle.bk_disk.specs.Disk.{Follows};
 ghost use Rattle.gate_log.specs.Logs.{SameOrFirst};
 ghost use Rattle.backup_file.specs.File.{Stands, IsBad, IsShort, IsLong, grammar, new_file};
+ghost use Rattle.backup_file.specs.Lists.{AreUnits};
 ghost use Rattle.backup_file.specs.Opening.{OnBad, HasBackCause, IsOpened};
 
 use crate::fault::BackFault;
-use crate::handed::Handed;
-use crate::log::read_log;
+use crate::log::{Found, read_log};
 use bk_disk::Disk;
 use gate_log::{make_new, read_all};
 use std::alloc::Global;
+use std::collections::HashSet;
 
-/// Reads a file, and makes it anew where it is of at most 9 bytes. The answer is where the closed gate stands, and the
-/// lists.
-pub fn open_file<D: Disk>(alloc: Global, disk: &mut D) -> Result<(u64, Vec<Handed>), BackFault>
-    ensures lists { IsTrue D.tells → IfOk result (λ found. Stands (D.reads disk.old) found.1.items) }
+/// Reads a file, and makes it anew where it is of at most 9 bytes.
+pub fn open_file<D: Disk>(alloc: Global, disk: &mut D) -> Result<Found, BackFault>
+    ensures lists { IsTrue D.tells → IfOk result (λ found. Stands (D.reads disk.old) found.lists.items) }
     ensures at_rest { IsTrue D.tells
-        → IfOk result (λ found. IsOpened (D.reads disk.new) (D.may_leave disk.new) found.0 found.1.items) }
+        → IfOk result (λ found. IsOpened (D.reads disk.new) (D.may_leave disk.new) found.gate found.lists.items) }
+    ensures units { IfOk result (λ found. AreUnits found.units.keys found.lists.items) }
     ensures anew { IsTrue D.tells → IsShort (D.reads disk.old) → IfOk result (λ _. D.reads disk.new ≡ new_file) }
     ensures stays { IsTrue D.tells → IsLong (D.reads disk.old)
         → IfOk result (λ _. D.reads disk.new ≡ D.reads disk.old) }
@@ -31,8 +32,11 @@ pub fn open_file<D: Disk>(alloc: Global, disk: &mut D) -> Result<(u64, Vec<Hande
     let bytes = read_all(alloc, disk)?;
     if bytes.len() <= 9 {
         make_new(disk, b"ENQBCK01\0")?;
-        return Ok((8, Vec::new(alloc)));
+        return Ok(Found {
+            lists: Vec::new(alloc),
+            units: HashSet::new(alloc),
+            gate: 8,
+        });
     }
-    let (lists, gate) = read_log(alloc, &bytes)?;
-    Ok((gate, lists))
+    read_log(alloc, &bytes)
 }

@@ -8,11 +8,11 @@ mod told;
 mod units;
 
 use enq_base::Status;
-use posting::UnitView;
 use std::test::*;
 use steps::{Step, do_steps};
 use told::Told;
 use units::{Act, name_of, unit_key};
+use update_records::UnitView;
 
 #[test]
 fn each_opening_is_the_next_start(rt: HostRuntime) -> Result<(), Fail> {
@@ -54,6 +54,9 @@ fn a_recorded_unit_waits_after_an_opening(rt: HostRuntime) -> Result<(), Fail> {
     };
     let steps = [
         Step::Record(1, &[Act::Put(b"1", b"X")], &[Act::Put(b"2", b"Y")]),
+        Step::Reopen,
+        Step::Started(1, 1),
+        Step::Waiting(&[(1, 0)]),
         Step::Open(true),
         Step::Started(2, 1),
         Step::Views(&[view]),

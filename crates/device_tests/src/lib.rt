@@ -1,9 +1,11 @@
-//! Tests of disks, of the backup file and of the lock table that is kept with it.
+//! Tests of disks, of the backup file, and of the lock table that is kept with it and with a replica.
 #![tactic(auto)]
 
 #[cfg(test)]
 mod disks;
 #[cfg(test)]
 mod files;
+#[cfg(test)]
+mod replicas;
 #[cfg(test)]
 mod servers;

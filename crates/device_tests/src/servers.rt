@@ -1,4 +1,4 @@
-ghost use Rattle.std.specs.Prelude.{◌≡◌, ◌≤◌, false, length, IfOk, OnOk, IsTrue};
+ghost use Rattle.std.specs.Prelude.{◌≡◌, false, IfOk, OnOk};
 ghost use Rattle.enq_base.specs.declared.owner.Owner.TheVariants.{Upd};
 ghost use Rattle.lock_entry.specs.Pairs.{IsPair};
 
@@ -7,8 +7,12 @@ use enq_base::{BackupBad, Items, Name, Owner, Pattern, UnitKey, read_name};
 use enq_server::{EnqServer, OpenFault, ServerFault};
 use lock_entry::{AskFault, Asked, Asker, Entry, Mode, Request, UnitLocks};
 use lock_table::ListTable;
+use replica_link::MemLink;
 use std::alloc::Global;
 use std::test::*;
+
+/// The lock table's server over devices in memory.
+pub type Server = EnqServer<ListTable, MemDisk, MemLink>;
 
 const UNIT: UnitKey = UnitKey {
     start: 1,
@@ -22,9 +26,9 @@ const OTHER: UnitKey = UnitKey {
     luw: 1,
 };
 
-const F1: &[u8] = b"1000000000001";
+pub const F1: &[u8] = b"1000000000001";
 
-const F2: &[u8] = b"1000000000002";
+pub const F2: &[u8] = b"1000000000002";
 
 fn asker(session: u32) -> Asker
     ensures pair { IsPair result }
@@ -77,18 +81,30 @@ fn locks_of(alloc: Global, unit: &UnitKey, locks: &[Entry]) -> Result<UnitLocks,
     })
 }
 
-fn disk_of(alloc: Global, bytes: &[u8]) -> Result<MemDisk, Fail> {
+pub fn disk_of(alloc: Global, bytes: &[u8]) -> Result<MemDisk, Fail> {
     Ok(MemDisk::new(alloc, bytes.to_vec(alloc)?, Vec::new(alloc))?)
 }
 
-fn opened(
-    alloc: Global,
-    disk: MemDisk,
-    units: &[UnitLocks],
-) -> Result<EnqServer<ListTable, MemDisk>, Fail>
+/// A link whose calls with these numbers fail.
+pub fn link_of(alloc: Global, fails: &[u64]) -> Result<MemLink, Fail> {
+    Ok(MemLink::new(alloc, fails.to_vec(alloc)?)?)
+}
+
+fn opened(alloc: Global, disk: MemDisk, units: &[UnitLocks]) -> Result<Server, Fail>
     ensures { IfOk result (λ s. s.file.failed ≡ false) }
 {
-    match EnqServer::open(alloc, disk, 100, units) {
+    opened_over(alloc, disk, link_of(alloc, &[])?, units)
+}
+
+pub fn opened_over(
+    alloc: Global,
+    disk: MemDisk,
+    link: MemLink,
+    units: &[UnitLocks],
+) -> Result<Server, Fail>
+    ensures { IfOk result (λ s. s.file.failed ≡ false) }
+{
+    match EnqServer::open(alloc, disk, link, 100, units) {
         Ok(server) => Ok(server),
         Err(_) => Err(Fail::from("not opened")),
     }
@@ -96,17 +112,17 @@ fn opened(
 
 /// Why a server isn't opened.
 fn refused(alloc: Global, disk: MemDisk, units: &[UnitLocks]) -> Result<OpenFault, Fail> {
-    let opened: Result<EnqServer<ListTable, MemDisk>, _> = EnqServer::open(alloc, disk, 100, units);
+    let opened: Result<Server, _> = EnqServer::open(alloc, disk, link_of(alloc, &[])?, 100, units);
     match opened {
         Ok(_) => Err(Fail::from("opened")),
-        Err((fault, _)) => Ok(fault),
+        Err((fault, _, _)) => Ok(fault),
     }
 }
 
 /// The session's update owner asks for a lock.
 fn ask(
     alloc: Global,
-    server: &mut EnqServer<ListTable, MemDisk>,
+    server: &mut Server,
     session: u32,
     asked: &Asked,
 ) -> Result<Result<(), ServerFault>, Fail>
@@ -121,12 +137,7 @@ fn ask(
 }
 
 /// Whether the session's update owner is granted a lock.
-fn is_granted(
-    alloc: Global,
-    server: &mut EnqServer<ListTable, MemDisk>,
-    session: u32,
-    asked: &Asked,
-) -> Result<bool, Fail>
+fn is_granted(alloc: Global, server: &mut Server, session: u32, asked: &Asked) -> Result<bool, Fail>
     ensures { OnOk result (server.new.file ≡ server.old.file) }
 {
     match ask(alloc, server, session, asked)? {
@@ -137,7 +148,7 @@ fn is_granted(
 }
 
 /// A server whose table has an E lock of unit 1 of session 1, which stands in the file too.
-fn handed(alloc: Global) -> Result<EnqServer<ListTable, MemDisk>, Fail>
+fn handed(alloc: Global) -> Result<Server, Fail>
     ensures { IfOk result (λ s. s.file.failed ≡ false) }
 {
     let mut server = opened(alloc, disk_of(alloc, b"")?, &[])?;
@@ -158,7 +169,7 @@ fn locks_that_were_handed_over_outlive_the_table(rt: HostRuntime) -> Result<(), 
     let server = handed(alloc)?;
     assert_eq!(rt; server.list(alloc)?.as_slice(), [lock].as_slice());
     let known = locks_of(alloc, &UNIT, &[lock])?;
-    let mut server = opened(alloc, server.into_disk(), &[known])?;
+    let mut server = opened(alloc, server.kill().into_parts().0, &[known])?;
     assert_eq!(rt; server.len(), 1);
     assert_eq!(rt; server.at(1), Some(lock));
     assert_eq!(rt; server.at(0), None);
@@ -179,7 +190,7 @@ fn the_list_of_a_unit_that_ended_is_freed(rt: HostRuntime) -> Result<(), Fail> {
     assert_eq!(rt; server.len(), 0);
     let known = locks_of(alloc, &UNIT, &[lock_of(&UNIT, F1, Mode::E)?])?;
     assert_eq!(rt;
-        refused(alloc, server.into_disk(), &[known])?,
+        refused(alloc, server.kill().into_parts().0, &[known])?,
         OpenFault::Bad(BackupBad::Missing { unit: UNIT, at: 1 })
     );
     Ok(())
@@ -188,11 +199,11 @@ fn the_list_of_a_unit_that_ended_is_freed(rt: HostRuntime) -> Result<(), Fail> {
 #[test]
 fn the_list_of_a_unit_that_is_not_open_is_freed(rt: HostRuntime) -> Result<(), Fail> {
     let alloc = rt.alloc();
-    let server = opened(alloc, handed(alloc)?.into_disk(), &[])?;
+    let server = opened(alloc, handed(alloc)?.kill().into_parts().0, &[])?;
     assert_eq!(rt; server.len(), 0);
     let known = locks_of(alloc, &UNIT, &[lock_of(&UNIT, F1, Mode::E)?])?;
     assert_eq!(rt;
-        refused(alloc, server.into_disk(), &[known])?,
+        refused(alloc, server.kill().into_parts().0, &[known])?,
         OpenFault::Bad(BackupBad::Missing { unit: UNIT, at: 1 })
     );
     Ok(())
@@ -203,20 +214,20 @@ fn a_list_that_is_longer_or_differs_is_told_by_its_place(rt: HostRuntime) -> Res
     let alloc = rt.alloc();
     let none = locks_of(alloc, &UNIT, &[])?;
     assert_eq!(rt;
-        refused(alloc, handed(alloc)?.into_disk(), &[none])?,
+        refused(alloc, handed(alloc)?.kill().into_parts().0, &[none])?,
         OpenFault::Bad(BackupBad::Missing { unit: UNIT, at: 1 })
     );
     let first = lock_of(&UNIT, F1, Mode::E)?;
     let more = locks_of(alloc, &UNIT, &[first, lock_of(&UNIT, F2, Mode::E)?])?;
     assert_eq!(rt;
-        refused(alloc, handed(alloc)?.into_disk(), &[more])?,
+        refused(alloc, handed(alloc)?.kill().into_parts().0, &[more])?,
         OpenFault::Bad(BackupBad::Missing { unit: UNIT, at: 2 })
     );
     Ok(())
 }
 
 /// A server in which an E lock of unit 1 of session 1 was granted again.
-fn returned(alloc: Global) -> Result<EnqServer<ListTable, MemDisk>, Fail> {
+fn returned(alloc: Global) -> Result<Server, Fail> {
     let mut server = opened(alloc, disk_of(alloc, b"")?, &[])?;
     let lock = lock_of(&UNIT, F1, Mode::E)?;
     let answer: Result<(), ServerFault> = server.readmit(alloc, &asker(1), &UNIT, &[lock]);
@@ -233,7 +244,7 @@ fn locks_that_return_stand_in_the_file_again(rt: HostRuntime) -> Result<(), Fail
     let server = returned(alloc)?;
     assert_eq!(rt; server.at(1), Some(lock));
     let known = locks_of(alloc, &UNIT, &[lock_of(&UNIT, F1, Mode::E)?])?;
-    let server = opened(alloc, server.into_disk(), &[known])?;
+    let server = opened(alloc, server.kill().into_parts().0, &[known])?;
     assert_eq!(rt; server.at(1), Some(lock));
     Ok(())
 }
@@ -250,11 +261,12 @@ fn a_file_that_stands_for_nothing_is_told(rt: HostRuntime) -> Result<(), Fail> {
 
 /// What the update owner of the first session does.
 #[derive(Clone, Copy)]
-enum Act {
+pub enum Act {
     Ask(&'static [u8], Mode),
     Convert(&'static [u8]),
     Free(&'static [u8], Mode),
     FreeAll,
+    Flag,
 }
 
 /// Acts, and the modes of the locks that stand then.
@@ -266,15 +278,16 @@ const ACTS: [(Act, &[Mode]); 5] = [
     (Act::FreeAll, &[]),
 ];
 
-fn convert(
-    alloc: Global,
-    server: &mut EnqServer<ListTable, MemDisk>,
-    asked: &Asked,
-) -> Result<(), ServerFault> {
+fn convert(alloc: Global, server: &mut Server, asked: &Asked) -> Result<(), ServerFault>
+    ensures { server.new.file ≡ server.old.file }
+{
     server.convert(alloc, &asker(1), &[*asked])
 }
 
-fn make(alloc: Global, server: &mut EnqServer<ListTable, MemDisk>, act: Act) -> Result<bool, Fail> {
+/// Does the act, and tells whether it was granted.
+pub fn make(alloc: Global, server: &mut Server, act: Act) -> Result<bool, Fail>
+    ensures { OnOk result (server.new.file ≡ server.old.file) }
+{
     match act {
         Act::Ask(argument, mode) => is_granted(alloc, server, 1, &asked(argument, mode)?),
         Act::Convert(argument) => { Ok(convert(alloc, server, &asked(argument, Mode::O)?).is_ok()) }
@@ -286,10 +299,14 @@ fn make(alloc: Global, server: &mut EnqServer<ListTable, MemDisk>, act: Act) -> 
             server.free_owner(&Owner::Upd(UNIT));
             Ok(true)
         }
+        Act::Flag => {
+            server.flag(&UNIT);
+            Ok(true)
+        }
     }
 }
 
-fn modes(alloc: Global, server: &EnqServer<ListTable, MemDisk>) -> Result<Vec<Mode>, Fail> {
+fn modes(alloc: Global, server: &Server) -> Result<Vec<Mode>, Fail> {
     let mut modes = Vec::new(alloc);
     for lock in server.list(alloc)?.as_slice() {
         modes.push(lock.mode)?;

@@ -6,17 +6,25 @@ use Rattle.enq_base.specs.declared.refusal.Refusal.TheVariants as refusal
 use Rattle.lock_collector.specs.declared.collector.CollectFault.{CollectFault}
 use Rattle.lock_collector.specs.declared.collector.CollectFault.TheVariants.{Full, NoMemory}
 use Rattle.lock_entry.specs.declared.entry.Request.{Request}
+use Rattle.dialogue_session.specs.Variables.{with_text}
+use Rattle.dialogue_session.specs.declared.variables.Variable.{Variable}
 
--- a session's effects, for the V1 part and for the V2 part of its unit, and the container of its requests
+-- a session's variables, its effects for the V1 part and for the V2 part of its unit, and the container of its requests
 pub record Private : Type 0 where
   pub session : List ℕ
+  pub variables : List Variable
   pub v1 : List Effect
   pub v2 : List Effect
   pub container : List Request
 
+-- what a session's side is seen as: what it keeps, and for how many more variables there is room
+pub record DialogueView : Type 0 where
+  pub side : Private
+  pub room : ℕ
+
 -- of a session that has just logged on
 abbrev pub fresh : List ℕ → Private
-fresh session = record { session = session; v1 = []; v2 = []; container = [] }
+fresh session = record { session = session; variables = []; v1 = []; v2 = []; container = [] }
 
 abbrev pub effect_count : Private → ℕ
 effect_count p = length p.v1 + length p.v2
@@ -29,6 +37,10 @@ with_effect part effect p =
 -- more requests in the container
 abbrev pub with_requests : List Request → Private → Private
 with_requests requests p = record p { container = p.container ++ requests }
+
+-- the text stands for the name of a variable
+abbrev pub with_variable : List ℕ → List ℕ → Private → Private
+with_variable name text p = record p { variables = with_text name text p.variables }
 
 abbrev pub without_effects : Private → Private
 without_effects p = record p { v1 = []; v2 = [] }

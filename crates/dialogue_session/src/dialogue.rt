@@ -1,6 +1,10 @@
-ghost use Rattle.std.specs.Prelude.{◌≡◌, ◌⊎◌, ◌≤◌, ◌<◌, ◌+◌, ◌↔◌, [], ◌∷◌, ◌++◌, length, IfOk, IfErr, OnOk, OnErr, IsErrOf};
-ghost use Rattle.dialogue_session.specs.Private.{effect_count, fresh, refused, with_effect, with_requests, without_effects, without_requests};
+ghost use Rattle.std.specs.Prelude.{◌≡◌, ◌⊎◌, ◌≤◌, ◌<◌, ◌+◌, ◌↔◌, [], ◌∷◌, ◌++◌, length, Ok, IfOk, IfErr, OnOk, OnErr, IsErrOf};
+ghost use Rattle.dialogue_session.specs.Filling.{IsRefusedAs, filled};
+ghost use Rattle.dialogue_session.specs.Private.{effect_count, fresh, refused, with_effect, with_requests, with_variable};
+ghost use Rattle.dialogue_session.specs.Private.{without_effects, without_requests};
 
+use crate::filling::{Resolved, resolve};
+use crate::variables::Variables;
 use enq_base::{Effect, Items, Name, NoMemory, Parts, Refusal};
 use lock_collector::{CollectFault, Collector};
 use lock_entry::Request;
@@ -9,11 +13,12 @@ use std::marker::Model;
 
 const EFFECTS_LIMIT: usize = 200;
 
-/// The private side of a session: at most 200 effects (Updates in the SAP System, update function modules of a unit of
-/// work), and a container of at most 64 lock requests (The SAP Lock Concept, lock container).
+/// The private side of a session: its variables, at most 200 effects (Updates in the SAP System, update function modules
+/// of a unit of work), and a container of at most 64 lock requests (The SAP Lock Concept, lock container).
 #[derive(Drop)]
 pub struct Dialogue {
     session: Name,
+    variables: Variables,
     v1: Vec<Effect>,
     v2: Vec<Effect>,
     collector: Collector,
@@ -21,11 +26,20 @@ pub struct Dialogue {
 
 impl Model for Dialogue {
     ghost use Rattle.std.specs.Prelude.{◌≤◌, ◌+◌, length};
-    ghost use Rattle.dialogue_session.specs.Private.{Private};
+    ghost use Rattle.dialogue_session.specs.Private.{DialogueView};
 
-    ghost Value = { Private };
+    ghost Value = { DialogueView };
 
-    ghost view = { λ d. record { session = d.session; v1 = d.v1.items; v2 = d.v2.items; container = d.collector } };
+    ghost view = { λ d. record {
+      side = record {
+        session = d.session;
+        variables = d.variables.items;
+        v1 = d.v1.items;
+        v2 = d.v2.items;
+        container = d.collector;
+      };
+      room = d.variables.room;
+    } };
 
     ghost invariant = { λ d. length d.v1.items + length d.v2.items ≤ 200 };
 }
@@ -33,10 +47,11 @@ impl Model for Dialogue {
 impl Dialogue {
     /// The private side of a session that has just logged on. It takes no memory yet.
     pub fn new(alloc: Global, session: Name) -> Dialogue
-        ensures { result ≡ fresh session }
+        ensures { result.side ≡ fresh session }
     {
         Dialogue {
             session,
+            variables: Variables::new(alloc),
             v1: Vec::new(alloc),
             v2: Vec::new(alloc),
             collector: Collector::new(alloc),
@@ -45,17 +60,44 @@ impl Dialogue {
 
     /// The session whose side it is.
     pub fn session(&self) -> Name
-        ensures { result ≡ self.now.session }
+        ensures { result ≡ self.now.side.session }
     {
         self.session
+    }
+
+    /// Takes the memory for one variable more.
+    pub fn make_room(&mut self) -> Result<(), NoMemory>
+        ensures side { self.new.side ≡ self.old.side }
+        ensures room { OnOk result (1 ≤ self.new.room) }
+    {
+        self.variables.make_room()
+    }
+
+    /// Lets a text stand for the name of a variable. There is room for it, so that it can't fail. The cost is a walk over
+    /// the variables.
+    pub fn set_variable(&mut self, name: Name, text: &[u8])
+        requires room { 1 ≤ self.old.room }
+        requires text { length text.now ≤ 512 }
+        ensures { self.new.side ≡ with_variable name text.now self.old.side }
+    {
+        self.variables.set(name, text);
+    }
+
+    /// A part of a line with texts in place of the names of variables. The cost is one look at each byte, and a walk over
+    /// the variables for each name.
+    pub fn resolve<'a>(&self, alloc: Global, part: &'a [u8]) -> Result<Resolved<'a>, Refusal>
+        ensures filled { IfOk result (λ text. filled self.now.side.variables part.now ≡ Ok text) }
+        ensures refused { IfErr result (IsRefusedAs (filled self.now.side.variables part.now)) }
+    {
+        resolve(alloc, &self.variables, part)
     }
 
     /// Registers an effect for a part of the session's unit.
     pub fn effect(&mut self, part: u8, effect: Effect) -> Result<(), Refusal>
         requires { (part ≡ 1) ⊎ (part ≡ 2) }
-        ensures registered { OnOk result (self.new ≡ with_effect part effect self.old) }
+        ensures registered { OnOk result (self.new.side ≡ with_effect part effect self.old.side) }
         ensures unchanged { OnErr result (self.new ≡ self.old) }
-        ensures full { (200 ≤ effect_count self.old) ↔ IsErrOf result Refusal.UnitTooLarge }
+        ensures full { (200 ≤ effect_count self.old.side) ↔ IsErrOf result Refusal.UnitTooLarge }
         ensures refused { IfErr result (λ r. (r ≡ Refusal.UnitTooLarge) ⊎ (r ≡ Refusal.NoMemory)) }
     {
         if self.v1.len() + self.v2.len() >= EFFECTS_LIMIT {
@@ -70,9 +112,9 @@ impl Dialogue {
 
     /// Collects lock requests, all or none.
     pub fn collect(&mut self, requests: &[Request]) -> Result<(), Refusal>
-        ensures collected { OnOk result (self.new ≡ with_requests requests.now self.old) }
+        ensures collected { OnOk result (self.new.side ≡ with_requests requests.now self.old.side) }
         ensures unchanged { OnErr result (self.new ≡ self.old) }
-        ensures full { (64 < length self.old.container + length requests.now) ↔ IsErrOf result Refusal.ContainerFull }
+        ensures full { (64 < length self.old.side.container + length requests.now) ↔ IsErrOf result Refusal.ContainerFull }
         ensures refused { IfErr result (λ r. (r ≡ Refusal.ContainerFull) ⊎ (r ≡ Refusal.NoMemory)) }
     {
         refused(self.collector.add(requests))
@@ -80,21 +122,21 @@ impl Dialogue {
 
     /// The requests that were collected, in order.
     pub fn requests(&self) -> &[Request]
-        ensures { result.now ≡ self.now.container }
+        ensures { result.now ≡ self.now.side.container }
     {
         self.collector.requests()
     }
 
     /// Empties the container. It takes no memory.
     pub fn reset(&mut self)
-        ensures { self.new ≡ without_requests self.old }
+        ensures { self.new.side ≡ without_requests self.old.side }
     {
         self.collector.reset();
     }
 
     /// The effects that were registered, copied.
     pub fn parts(&self, alloc: Global) -> Result<Parts, NoMemory>
-        ensures { IfOk result (λ parts. parts ≡ record { v1 = self.now.v1; v2 = self.now.v2 }) }
+        ensures { IfOk result (λ parts. parts ≡ record { v1 = self.now.side.v1; v2 = self.now.side.v2 }) }
     {
         let v1 = copies(alloc, self.v1.as_slice())?;
         let v2 = copies(alloc, self.v2.as_slice())?;
@@ -106,7 +148,7 @@ impl Dialogue {
 
     /// Drops the effects, and keeps the container. It takes no memory.
     pub fn drop_effects(&mut self)
-        ensures { self.new ≡ without_effects self.old }
+        ensures { self.new.side ≡ without_effects self.old.side }
     {
         self.v1.clear();
         self.v2.clear();
@@ -114,7 +156,7 @@ impl Dialogue {
 
     /// Drops the effects and empties the container. It takes no memory.
     pub fn clear(&mut self)
-        ensures { self.new ≡ without_requests (without_effects self.old) }
+        ensures { self.new.side ≡ without_requests (without_effects self.old.side) }
     {
         self.drop_effects();
         self.reset();

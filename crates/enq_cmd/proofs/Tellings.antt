@@ -1,11 +1,12 @@
 -- The history of a run leads to the state that it ends in.
 use Rattle.std.proofs.Common.{inl, inr, is_some, IsTrue, IfSome, ◌≡◌, ℕ, ◌+◌, Bool, true, List, [], ◌∷◌, fold, refl, sym, ap, ◌∙◌, subst, arith, lit<}
-use Rattle.std.specs.Prelude.{Option, Some, None, unwrap_or}
+use Rattle.std.specs.Prelude.{Option, Some, None}
 use Rattle.hall.specs.declared.command.Command.{Command}
 use Rattle.hall.specs.declared.command.PastEntry.{PastEntry}
 use Rattle.hall.specs.declared.command.Reply.TheVariants as reply
-use Rattle.hall.specs.History.{DeviceOutcome, Well, IsAllowed, step}
-use Rattle.hall.specs.Recall.{AreModelAnswers, StaysSound, state_after}
+use Rattle.hall.specs.Devices.{DeviceOutcome, IsAllowed}
+use Rattle.hall.specs.History.{step}
+use Rattle.hall.specs.Recall.{AreModelAnswers, Made, StaysSound, calls_of, state_after}
 use Rattle.hall.specs.Standing.{LocksReturn, LocksStand}
 use Rattle.hall.specs.State.{State}
 use Rattle.hall.proofs.Beginning.{first_sound}
@@ -16,7 +17,7 @@ use Rattle.script_runner.specs.declared.runner.Why.TheVariants.{Done, BadWords, 
 use Rattle.lock_objects.specs.Objects.{Object}
 use Rattle.script_lang.specs.Memory.{holds_lists}
 use Rattle.script_lang.specs.declared.script_line.ScriptLine.{ScriptLine}
-use Rattle.script_runner.specs.Lines.{Meaning, Calls, Declines, Changes, line_in, meaning, settled}
+use Rattle.script_runner.specs.Lines.{Meaning, Silent, Shows, Calls, Declines, Changes, line_in, meaning, settled}
 use Rattle.script_runner.specs.Replay.{RunsScript, Seen}
 use Rattle.script_runner.specs.Run.{AreAllowed, CallMayHave, Called, LineMayHave, LineOutcome, MayHave, NoRoom, Progress, Turn, after_turn, begun, does, line_does, next, run, said}
 use Rattle.script_runner.proofs.TurnLemmas.{answered-world}
@@ -34,21 +35,22 @@ use Rattle.update_records.specs.Ledger.{Ledger}
 use Rattle.hall.specs.Leaving.{StandForPending, StandForState}
 
 told_does : (first : State) (w : World) (n : ℕ) (l : ScriptLine) (d : DeviceOutcome) (m : Meaning) → ((c : Command) → m ≡ Calls c → IsAllowed d w.hall c) → IsTold first w.hall → IsTold first (does w n l d m).world.hall
+told_does first w n l d Silent allowed h = h
+told_does first w n l d (Shows m) allowed h = h
 told_does first w n l d (Calls c) allowed h =
     let s = step d w.hall n c in
     subst (λ (x : World). IsTold first x.hall) (sym (answered-world (world w.objects s.state (settled l s.reply w.sides)) n s.reply)) (told_step first w.hall d n c h (allowed c refl))
 told_does first w n l d (Declines r) allowed h = subst (λ (x : World). IsTold first x.hall) (sym (answered-world w n (reply.Refused r))) h
 told_does first w n l d (Changes sides) allowed h = h
 
-may_have : (w : World) (lists : Bool) (l : ScriptLine) (call : Option DeviceOutcome) → MayHave w lists (Some l) (Called call) → (c : Command) → meaning w l ≡ Calls c → IsAllowed (unwrap_or call Well) w.hall c
-may_have w lists l (Some d) h c e = subst (λ m. CallMayHave w d m) e h
-may_have w lists l None h c e = tt
+may_have : (w : World) (lists : Bool) (l : ScriptLine) (d : DeviceOutcome) → MayHave w lists (Some l) (Called d) → (c : Command) → meaning w l ≡ Calls c → IsAllowed d w.hall c
+may_have w lists l d h c e = subst (λ m. CallMayHave w d m) e h
 
 told_said : (first : State) (w : World) (n : ℕ) (lists : Bool) (known : Option ScriptLine) (o : LineOutcome) → MayHave w lists known o → IsTold first w.hall → IsTold first (said w n known o).world.hall
 told_said first w n lists known NoRoom allowed h = h
-told_said first w n lists None (Called call) allowed h = h
-told_said first w n lists (Some l) (Called call) allowed h =
-    told_does first w n l (unwrap_or call Well) (meaning w l) (may_have w lists l call allowed) h
+told_said first w n lists None (Called d) allowed h = h
+told_said first w n lists (Some l) (Called d) allowed h =
+    told_does first w n l d (meaning w l) (may_have w lists l d allowed) h
 
 told_line : (first : State) (w : World) (n : ℕ) (bytes : List ℕ) (o : LineOutcome) → LineMayHave w bytes o → IsTold first w.hall → IsTold first (line_does w n bytes o).world.hall
 told_line first w n bytes o allowed h = told_said first w n (holds_lists bytes) (line_in bytes) o allowed h
@@ -60,9 +62,6 @@ told_turn first p t (Some why) allowed h = h
 told_turns : (first : State) (p : Progress) (turns : List Turn) → AreAllowed p turns → IsTold first p.world.hall → IsTold first (fold next p turns).world.hall
 told_turns first p [] allowed h = h
 told_turns first p (t ∷ ts) allowed h = told_turns first (next p t) ts allowed.1 (told_turn first p t p.stop allowed.0 h)
-
-pub stays_sound_from_first : (t : Bool) (l : Ledger) (past : List PastEntry) → IsRaised IsSound true l → StaysSound (first_state t l) past
-stays_sound_from_first t l past begun = stays_sound (first_state t l) past (first_sound 1000 1048576 t l (lit< tt) begun)
 
 -- the state in which a run from the first one ends is that to which its history leads
 told_after : (t : Bool) (l : Ledger) (after : State) (old new : Seen) (why : Why) → RunsScript built_in (first_state t l) after old new why → IsTold (first_state t l) after
@@ -84,32 +83,21 @@ runs_first : (t : Bool) (l : Ledger) (before after : State) (objects : List Obje
 runs_first t l before after objects old new past why h =
     subst (λ s. RunsScript built_in s after old new why) h.first (subst (λ os. RunsScript os before after old new why) h.known h.runs)
 
-pub replay_leads : (t : Bool) (l : Ledger) (before after : State) (objects : List Object) (old new : Seen) (past : List PastEntry) (why : Why) → HasRun t l before after objects old new past why → after ≡ state_after (first_state t l) past
-replay_leads t l before after objects old new past why h =
-    (told_after t l after old new why (runs_first t l before after objects old new past why h)).state ∙ ap (state_after (first_state t l)) (sym h.history)
+-- the calls of a run, each with what the devices did in it
+told_by : (t : Bool) (l : Ledger) (before after : State) (objects : List Object) (old new : Seen) (past : List PastEntry) (why : Why) → HasRun t l before after objects old new past why → IsTold (first_state t l) after
+told_by t l before after objects old new past why h = told_after t l after old new why (runs_first t l before after objects old new past why h)
 
-ran : (t : Bool) (l : Ledger) (before after : State) (objects : List Object) (old new : Seen) (past : List PastEntry) (why : Why) → HasRun t l before after objects old new past why → Ran t l old new past why
-ran t l before after objects old new past why h =
+ran : (t : Bool) (l : Ledger) (before after : State) (objects : List Object) (old new : Seen) (past : List PastEntry) (why : Why) → HasRun t l before after objects old new past why → (told : IsTold (first_state t l) after) → Ran t l old new told.made why
+ran t l before after objects old new past why h told =
     record {
       after = after;
-      history = h.history;
-      leads = replay_leads t l before after objects old new past why h;
+      history = told.calls;
+      leads = told.state;
       runs = runs_first t l before after objects old new past why h;
       complete = λ bytes left script calm.
           subst (λ s. IsComplete (first_world built_in s) after bytes old.written new.written why) h.first
           (subst (λ os. IsComplete (first_world os before) after bytes old.written new.written why) h.known (h.complete bytes left script calm));
     }
-
-told_ran : (t : Bool) (l : Ledger) (before after : State) (objects : List Object) (old new : Seen) (past : List PastEntry) (why : Why) → HasRun t l before after objects old new past why → AreModelAnswers (first_state t l) past
-told_ran t l before after objects old new past why h =
-    subst (λ es. AreModelAnswers (first_state t l) es) (sym h.history)
-    (told-answers (first_state t l) after (told_after t l after old new why (runs_first t l before after objects old new past why h)))
-
-pub locks_stand_from_first : (t : Bool) (l : Ledger) (past : List PastEntry) → IsRaised IsSound true l → AreModelAnswers (first_state t l) past → LocksStand (first_state t l) past
-locks_stand_from_first t l past begun h = locks_stand 1000 1048576 t l past (lit< tt) (omega arith) begun h
-
-pub locks_return_from_first : (t : Bool) (l : Ledger) (past : List PastEntry) → IsRaised IsSound true l → AreModelAnswers (first_state t l) past → LocksReturn (first_state t l) past
-locks_return_from_first t l past begun h = locks_return 1000 1048576 t l past (lit< tt) (omega arith) begun h
 
 -- a run that is complete from a server that is up is done, or memory was wanting
 complete_ends : (may_be : Rows → Type 0) (t : Bool) (l : Ledger) (objects : List Object) (before after : State) (bytes : List ℕ) (old new : Option (List ℕ)) (why : Why) → before ≡ first_state t l → IsComplete (first_world objects before) after bytes old new why → EndsComplete may_be why
@@ -159,20 +147,25 @@ pub served_as : (t : Bool) (l : Ledger) (may_be may_leave : Rows → Type 0) (be
     → (IsTrue t → (rows : Rows) → may_leave rows → StandForState rows after)
     → IsServed t may_be may_leave old new past why
 served_as t l may_be may_leave before after objects old new past why good found h left =
-    let answers = told_ran t l before after objects old new past why h in
-    let left_after : IsTrue t → (rows : Rows) → may_leave rows → SurvivesStop rows (state_after (first_state t l) past) =
-    λ told rows may. subst (SurvivesStop rows) (replay_leads t l before after objects old new past why h) (survives rows after (left told rows may)) in
+    let first = first_state t l in
+    let told = told_by t l before after objects old new past why h in
+    let made : List Made = told.made in
+    let answers = told-answers first after told in
+    let left_after : IsTrue t → (rows : Rows) → may_leave rows → SurvivesStop rows (state_after first made) =
+    λ tells rows may. subst (SurvivesStop rows) told.state (survives rows after (left tells rows may)) in
     record {
       stored = l;
       good = good;
       found = found;
-      run = ran t l before after objects old new past why h;
+      made = made;
+      calls = h.history ∙ told.calls;
+      run = ran t l before after objects old new past why h told;
       history = answers;
-      sound = stays_sound_from_first t l past good;
-      stand = locks_stand_from_first t l past good answers;
-      back = locks_return_from_first t l past good answers;
-      left = λ told rows may. left_after told rows may;
-      next = λ told. follows_on may_leave (state_after (first_state t l) past) (left_after told);
+      sound = stays_sound first made (first_sound 1000 1048576 t l (lit< tt) good);
+      stand = locks_stand 1000 1048576 t l made (lit< tt) (omega arith) good answers;
+      back = locks_return 1000 1048576 t l made (lit< tt) (omega arith) good answers;
+      left = λ tells rows may. left_after tells rows may;
+      next = λ tells. follows_on may_leave (state_after first made) (left_after tells);
     }
 
 -- the same of what was seen, under other names

@@ -1,6 +1,8 @@
 -- Where two lists differ first, and units whose lists are looked at in order.
-use Rattle.std.proofs.Common.{◌≡◌, ◌⊎◌, inl, inr, ℕ, zero, suc, ◌+◌, ◌<◌, ◌≤◌, Bool, true, false, List, [], ◌∷◌, ◌++◌, Some, length, take, drop, get_or, if◌then◌else◌, refl, sym, ap, subst, ◌∙◌, arith}
+use Rattle.std.proofs.Common.{◌≡◌, ◌⊎◌, inl, inr, ℕ, zero, suc, ◌+◌, ◌-◌, ◌<◌, ◌≤◌, Bool, true, false, ◌||◌, List, [], ◌∷◌, ◌++◌, Option, Some, length, take, drop, get_or, if◌then◌else◌, refl, sym, ap, subst, ◌∙◌, arith}
 use Rattle.std.specs.List.{All, slice_get}
+use Rattle.std.specs.Option.{option_map_or}
+use Rattle.std.proofs.lemmas.Bool.{cases_Bool}
 use Rattle.std.proofs.lemmas.List.{append-nil, take_more, take-append-drop, take_all}
 use Rattle.std.proofs.lemmas.List.Concat.{flat_map-append}
 use Rattle.std.proofs.lemmas.List.Elements.{All-push}
@@ -10,8 +12,10 @@ use Rattle.enq_base.specs.Owners.{same_unit}
 use Rattle.enq_base.specs.declared.owner.UnitKey.{UnitKey}
 use Rattle.lock_entry.specs.declared.entry.Entry.{Entry}
 use Rattle.lock_entry.specs.declared.entry.UnitLocks.{UnitLocks}
+use Rattle.backup_file.specs.Lists.{is_known}
 use Rattle.backup_file.specs.declared.handed.Handed.{Handed}
-use Rattle.enq_server.specs.Recovery.{Agrees, IsFirstDifference, IsMissing, entries_of, joined}
+use Rattle.backup_file.specs.declared.ids.UnitId.{UnitId}
+use Rattle.enq_server.specs.Recovery.{Agrees, AreKnown, IsFirstDifference, IsMissing, entries_at, entries_of, is_one_of, joined}
 
 pub same_more : (xs ys : List Entry) (n : ℕ) (x y : Entry) → n < length xs → n < length ys → x ≡ get_or xs n x → y ≡ get_or ys n y → x ≡ y → take n xs ≡ take n ys → take (n + 1) xs ≡ take (n + 1) ys
 same_more xs ys n x y low high at_x at_y one same =
@@ -43,25 +47,60 @@ joined_more units i u low is =
     ∙ flat_map-append (λ (x : UnitLocks). x.entries) (take i units) (u ∷ [])
     ∙ ap (λ es. joined (take i units) ++ es) (append-nil u.entries)
 
-chosen : (b : Bool) (xs ys : List Entry) → b ≡ false → (if b then xs else ys) ≡ ys
-chosen true xs ys h = cc
-chosen false xs ys h = refl
+chosen : (b : Bool) (p q : Option ℕ) → b ≡ false → (if b then p else q) ≡ q
+chosen true p q h = cc
+chosen false p q h = refl
 
-found : (b : Bool) (xs ys : List Entry) → b ≡ true → (if b then xs else ys) ≡ xs
-found true xs ys h = refl
-found false xs ys h = cc
+found : (b : Bool) (p q : Option ℕ) → b ≡ true → (if b then p else q) ≡ p
+found true p q h = refl
+found false p q h = cc
 
-pub entries_later : (l : List Handed) (i : ℕ) (h : Handed) (unit : UnitKey) → i < length l → h ≡ get_or l i h → same_unit h.unit unit ≡ false → entries_of (drop i l) unit ≡ entries_of (drop (i + 1) l) unit
-entries_later l i h unit low is other =
-    let later : suc i ≡ i + 1 = omega arith in
-    ap (λ (xs : List Handed). entries_of xs unit) (drop-cons l i h low ∙ ap (λ x. x ∷ drop (suc i) l) (sym is))
-    ∙ chosen (same_unit h.unit unit) h.entries (entries_of (drop (suc i) l) unit) other
-    ∙ ap (λ n. entries_of (drop n l) unit) later
+chosen_entries : (b : Bool) (xs ys : List Entry) → b ≡ false → (if b then xs else ys) ≡ ys
+chosen_entries true xs ys h = cc
+chosen_entries false xs ys h = refl
 
-pub entries_here : (l : List Handed) (i : ℕ) (h : Handed) (unit : UnitKey) → i < length l → h ≡ get_or l i h → same_unit h.unit unit ≡ true → entries_of (drop i l) unit ≡ h.entries
-entries_here l i h unit low is own =
-    ap (λ (xs : List Handed). entries_of xs unit) (drop-cons l i h low ∙ ap (λ x. x ∷ drop (suc i) l) (sym is))
-    ∙ found (same_unit h.unit unit) h.entries (entries_of (drop (suc i) l) unit) own
+found_entries : (b : Bool) (xs ys : List Entry) → b ≡ true → (if b then xs else ys) ≡ xs
+found_entries true xs ys h = refl
+found_entries false xs ys h = cc
+
+-- the list before the last ones is noted
+pub places_more : (l : List Handed) (left : ℕ) (h : Handed) (u : UnitKey) (old : Option ℕ) → 0 < left → left ≤ length l → h ≡ get_or l (left - 1) h
+    → entries_at l old ≡ entries_of (drop left l) u
+    → entries_at l (if same_unit h.unit u then Some (left - 1) else old) ≡ entries_of (drop (left - 1) l) u
+places_more l left h u old some within is before =
+    let low : left - 1 < length l = omega arith in
+    let next : suc (left - 1) ≡ left = omega arith in
+    let rest : drop (left - 1) l ≡ h ∷ drop left l = drop-cons l (left - 1) h low ∙ (λ i. sym is i ∷ drop (next i) l) in
+    elim (cases_Bool (same_unit h.unit u)) [
+      | inl own ↦
+          ap (entries_at l) (found (same_unit h.unit u) (Some (left - 1)) old own)
+          ∙ ap (λ o. option_map_or (λ (x : Handed). x.entries) o []) (slice_get_read l (length l) (left - 1) h refl low is)
+          ∙ sym (found_entries (same_unit h.unit u) h.entries (entries_of (drop left l) u) own)
+          ∙ ap (λ xs. entries_of xs u) (sym rest)
+      | inr apart ↦
+          ap (entries_at l) (chosen (same_unit h.unit u) (Some (left - 1)) old apart)
+          ∙ before
+          ∙ sym (chosen_entries (same_unit h.unit u) h.entries (entries_of (drop left l) u) apart)
+          ∙ ap (λ xs. entries_of xs u) (sym rest)
+    ]
+
+-- a unit more is known
+pub known_more : (ids new : List UnitId) (units : List UnitLocks) (i : ℕ) (one : UnitLocks) → i < length units → one ≡ get_or units i one → AreKnown ids (take i units)
+    → ((u : UnitKey) → is_known u new ≡ (same_unit one.unit u || is_known u ids)) → AreKnown new (take (i + 1) units)
+known_more ids new units i one low is are more = λ u.
+    more u
+    ∙ ap (λ b. same_unit one.unit u || b) (are u)
+    ∙ sym (one_of_push (take i units) one u)
+    ∙ ap (λ us. is_one_of us u) (ap (λ x. take i units ++ x ∷ []) is ∙ sym (take_more units i one low))
+  where
+    swapped : (a b c : Bool) → (a || (b || c)) ≡ (b || (a || c))
+    swapped true true c = refl
+    swapped true false c = refl
+    swapped false b c = refl
+
+    one_of_push : (us : List UnitLocks) (x : UnitLocks) (u : UnitKey) → is_one_of (us ++ x ∷ []) u ≡ (same_unit x.unit u || is_one_of us u)
+    one_of_push [] x u = refl
+    one_of_push (y ∷ us) x u = ap (λ b. same_unit y.unit u || b) (one_of_push us x u) ∙ swapped (same_unit y.unit u) (same_unit x.unit u) (is_one_of us u)
 
 pub agree_more : (l : List Handed) (units : List UnitLocks) (i : ℕ) (u : UnitLocks) → i < length units → u ≡ get_or units i u → Agrees l u → All (Agrees l) (take i units) → All (Agrees l) (take (i + 1) units)
 agree_more l units i u low is one all =

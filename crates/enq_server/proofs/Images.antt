@@ -1,21 +1,56 @@
--- What a crash leaves of the lists of some units.
-use Rattle.std.proofs.Common.{◌≡◌, ℕ, List, refl, ap, ◌∙◌}
+-- What a crash leaves of the lists in a file that is opened.
+use Rattle.std.proofs.Common.{◌≡◌, ℕ, List, [], sym, subst}
 use Rattle.bk_disk.specs.Disk.{Follows}
-use Rattle.gate_log.proofs.Logs.{stands_once}
+use Rattle.gate_log.proofs.Logs.{stands_once, stands_unbroken}
 use Rattle.lock_entry.specs.declared.entry.UnitLocks.{UnitLocks}
 use Rattle.backup_file.specs.File.{Keeps, Stands, grammar}
+use Rattle.backup_file.specs.Opening as file
 use Rattle.backup_file.specs.Reading.{record_at}
+use Rattle.backup_file.specs.declared.fault.BackFault.{BackFault}
+use Rattle.backup_file.specs.declared.fault.BackFault.TheVariants as back
 use Rattle.backup_file.specs.declared.handed.Handed.{Handed}
 use Rattle.backup_file.proofs.Records.{record_reader}
-use Rattle.enq_server.specs.Recovery.{KeepsLists, lists_among}
+use Rattle.enq_server.specs.Faults.{CountsFault, IsRecoveryFault, Leaves, opening_fault}
+use Rattle.enq_server.specs.Recovery.{FreesOthers, StandsLess}
+use Rattle.enq_server.specs.declared.fault.OpenFault.{OpenFault}
+use Rattle.enq_server.specs.declared.fault.OpenFault.TheVariants as opening
+use Rattle.enq_server.proofs.Others.{left_none}
+
+less : (units : List UnitLocks) (old new : List ℕ) → Keeps old new → FreesOthers units old new
+less units old new h = record {
+  lists = λ l stands. record { gone = []; stands = subst (Stands new) (sym (left_none units l)) (h.states l stands) };
+  bytes = h.bytes;
+}
 
 -- where all that was stood for still is
-pub all_kept : (units : List UnitLocks) (old new : List ℕ → Type 0) → Follows Keeps old new → Follows (KeepsLists units) old new
-all_kept units old new h = λ c may. let at = h c may in (at.0, at.1, λ l stands. (l, at.2.states l stands, refl))
+pub opening_leaves : (units : List UnitLocks) (fault : BackFault) (old new : List ℕ → Type 0) → Follows Keeps old new → Follows (Leaves units (opening_fault fault)) old new
+opening_leaves units back.Failed old new h = λ c may. let at = h c may in (at.0, at.1, less units at.0 c at.2)
+opening_leaves units (back.Bad at) old new h = h
+opening_leaves units back.NoMemory old new h = h
 
--- where the bytes that were read stood for lists of which those of the units are left
-pub some_kept : (units : List UnitLocks) (bytes : List ℕ) (found : List Handed) (old new : List ℕ → Type 0) → Stands bytes found → old bytes
-    → ((c : List ℕ) → new c → (m : List Handed) × Stands c m × (lists_among units m ≡ lists_among units found)) → Follows (KeepsLists units) old new
-some_kept units bytes found old new stood there h = λ c may.
-    let at = h c may in
-    (bytes, there, λ l stands. (at.0, at.1, at.2 ∙ ap (lists_among units) (stands_once grammar record_at record_reader bytes found l stood stands)))
+pub recovery_leaves : (l : List Handed) (units : List UnitLocks) (fault : OpenFault) (old new : List ℕ → Type 0) → IsRecoveryFault l units fault → Follows Keeps old new → Follows (Leaves units fault) old new
+recovery_leaves l units opening.Failed old new is h = absurd is
+recovery_leaves l units (opening.Bad why) old new is h = h
+recovery_leaves l units opening.NoMemory old new is h = h
+
+pub opening_counts : (fault : BackFault) (before now : ℕ) → file.CountsFault fault before now → CountsFault (opening_fault fault) before now
+opening_counts back.Failed before now h = h
+opening_counts (back.Bad at) before now h = h
+opening_counts back.NoMemory before now h = h
+
+pub recovery_counts : (l : List Handed) (units : List UnitLocks) (fault : OpenFault) (before now : ℕ) → IsRecoveryFault l units fault → now ≡ before → CountsFault fault before now
+recovery_counts l units opening.Failed before now is h = absurd is
+recovery_counts l units (opening.Bad why) before now is h = h
+recovery_counts l units opening.NoMemory before now is h = h
+
+-- where the bytes that were read stood for lists, of which some of other units are gone
+pub some_left : (units : List UnitLocks) (bytes : List ℕ) (found : List Handed) (old new : List ℕ → Type 0) → Stands bytes found → old bytes
+    → ((c : List ℕ) → new c → StandsLess units found c) → Follows (FreesOthers units) old new
+some_left units bytes found old new stood there h = λ c may. (
+  bytes,
+  there,
+  record {
+    lists = λ l stands. subst (λ m. StandsLess units m c) (stands_once grammar record_at record_reader bytes found l stood stands) (h c may);
+    bytes = λ at broken. absurd (stands_unbroken grammar record_at record_reader bytes found at stood broken);
+  },
+)

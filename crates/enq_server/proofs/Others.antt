@@ -1,33 +1,23 @@
 -- The lists that stand in a file while others are freed, one by one.
-use Rattle.std.proofs.Common.{◌≡◌, ◌⊎◌, inl, inr, ℕ, ◌+◌, ◌<◌, Bool, true, false, not, ◌||◌, ◌&&◌, cond, List, [], ◌∷◌, ◌++◌, length, take, get_or, refl, sym, ap, ◌∙◌}
+use Rattle.std.proofs.Common.{◌≡◌, ◌⊎◌, inl, inr, ℕ, ◌+◌, ◌<◌, Bool, true, false, not, ◌||◌, ◌&&◌, cond, List, [], ◌∷◌, ◌++◌, map, length, take, get_or, refl, sym, ap, subst, ◌∙◌}
 use Rattle.std.specs.List.{filter, AllByRecursion}
 use Rattle.std.proofs.lemmas.List.{take_more}
 use Rattle.enq_base.specs.Owners.{same_unit}
 use Rattle.lock_entry.specs.declared.entry.UnitLocks.{UnitLocks}
 use Rattle.enq_base.specs.declared.owner.UnitKey.{UnitKey}
 use Rattle.backup_file.specs.File.{Stands}
-use Rattle.backup_file.specs.Lists.{has_unit, is_among, units_of, without}
+use Rattle.backup_file.specs.Lists.{has_unit, without}
 use Rattle.backup_file.specs.declared.handed.Handed.{Handed}
-use Rattle.backup_file.proofs.Units.{units-push}
-use Rattle.enq_base.specs.declared.owner.Owner.TheVariants.{Upd}
-use Rattle.lock_entry.proofs.Naming.{same_owner-refl, same_owner-same, same_owner-sym}
-use Rattle.enq_server.specs.Recovery.{is_one_of, lists_among}
+use Rattle.backup_file.proofs.Units.{flipped, itself, same_key}
+use Rattle.enq_server.specs.Recovery.{StandsLess, is_among, is_one_of, left, lists_among, stays}
 
--- a list stays where its unit is one of these, or not among those that were looked at
-abbrev pub stays : List UnitLocks → List UnitKey → Handed → Bool
-stays units gone h = is_one_of units h.unit || not (is_among h.unit gone)
+-- the units of these lists
+abbrev pub units_of : List Handed → List UnitKey
+units_of l = map (λ (h : Handed). h.unit) l
 
-abbrev pub left : List UnitLocks → List UnitKey → List Handed → List Handed
-left units gone l = filter (stays units gone) l
-
-same_key : (u v : UnitKey) → same_unit u v ≡ true → u ≡ v
-same_key u v h = let e = same_owner-same (Upd u) (Upd v) h in cc
-
-flipped : (u v : UnitKey) → same_unit u v ≡ same_unit v u
-flipped u v = same_owner-sym (Upd u) (Upd v)
-
-itself : (u : UnitKey) → same_unit u u ≡ true
-itself u = same_owner-refl (Upd u)
+units-push : (l : List Handed) (h : Handed) → units_of (l ++ h ∷ []) ≡ units_of l ++ h.unit ∷ []
+units-push [] h = refl
+units-push (g ∷ l) h = ap (λ (us : List UnitKey). g.unit ∷ us) (units-push l h)
 
 filter_alike : {X : Type 0} (p q : X → Bool) (xs : List X) → ((x : X) → p x ≡ q x) → filter p xs ≡ filter q xs
 filter_alike p q [] same = refl
@@ -149,9 +139,9 @@ pub taken_units : (l : List Handed) (i : ℕ) (h : Handed) → i < length l → 
 taken_units l i h low is =
     ap units_of (take_more l i h low ∙ ap (λ x. take i l ++ x ∷ []) (sym is)) ∙ units-push (take i l) h
 
--- whichever side of a free a crash leaves, the lists of these units are there
+-- whichever side of a free a crash leaves, only lists of other units are gone
 pub still : (units : List UnitLocks) (gone : List UnitKey) (l : List Handed) (u : UnitKey) (bytes : List ℕ) → is_one_of units u ≡ false → Stands bytes (left units gone l) ⊎ Stands bytes (without u (left units gone l))
-    → (m : List Handed) × Stands bytes m × (lists_among units m ≡ lists_among units l)
-still units gone l u bytes other (inl stands) = (left units gone l, stands, left_keeps units gone l)
+    → StandsLess units l bytes
+still units gone l u bytes other (inl stands) = record { gone = gone; stands = stands }
 still units gone l u bytes other (inr stands) =
-    (without u (left units gone l), stands, ap (lists_among units) (left_freed units gone l u other) ∙ left_keeps units (gone ++ u ∷ []) l)
+    record { gone = gone ++ u ∷ []; stands = subst (Stands bytes) (left_freed units gone l u other) stands }

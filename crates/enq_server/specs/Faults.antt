@@ -8,11 +8,11 @@ use Rattle.lock_entry.specs.declared.entry.Entry.{Entry}
 use Rattle.lock_entry.specs.declared.entry.UnitLocks.{UnitLocks}
 use Rattle.lock_entry.specs.declared.fault.AskFault.{AskFault}
 use Rattle.lock_entry.specs.declared.fault.AskFault.TheVariants as ask
-use Rattle.backup_file.specs.File.{IsBad, Stands}
+use Rattle.backup_file.specs.File.{IsBad, Keeps, Stands}
 use Rattle.backup_file.specs.declared.fault.BackFault.{BackFault}
 use Rattle.backup_file.specs.declared.fault.BackFault.TheVariants as back
 use Rattle.backup_file.specs.declared.handed.Handed.{Handed}
-use Rattle.enq_server.specs.Recovery.{Agrees, IsMissing, joined}
+use Rattle.enq_server.specs.Recovery.{Agrees, FreesOthers, IsMissing, joined}
 use Rattle.enq_server.specs.declared.fault.OpenFault.{OpenFault}
 use Rattle.enq_server.specs.declared.fault.OpenFault.TheVariants as opening
 use Rattle.enq_server.specs.declared.fault.ServerFault.{ServerFault}
@@ -54,10 +54,17 @@ OnBytes (opening.Bad (bad.Missing unit at)) P = Unit {0}
 OnBytes (opening.Bad (bad.Clash first second)) P = Unit {0}
 OnBytes opening.NoMemory P = Unit {0}
 
--- the count has not fallen, and where the disk failed it rose
-pub record HasOpenCause (before now : ℕ) (fault : OpenFault) : Type 0 where
-  pub later : before ≤ now
-  pub failed : fault ≡ opening.Failed → Rose before now
+-- what old stands for new stands for; only where the disk failed, lists of other units may be gone
+abbrev pub Leaves : List UnitLocks → OpenFault → List ℕ → List ℕ → Type 0
+Leaves units opening.Failed old new = FreesOthers units old new
+Leaves units (opening.Bad bad) old new = Keeps old new
+Leaves units opening.NoMemory old new = Keeps old new
+
+-- where the disk failed the count rose, and with any other fault it stands still
+abbrev pub CountsFault : OpenFault → ℕ → ℕ → Type 0
+CountsFault opening.Failed before now = (before ≤ now) × Rose before now
+CountsFault (opening.Bad bad) before now = now ≡ before
+CountsFault opening.NoMemory before now = now ≡ before
 
 -- how the table's refusal is told
 abbrev pub refusal : AskFault → ServerFault

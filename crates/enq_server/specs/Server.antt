@@ -18,11 +18,13 @@ use Rattle.backup_file.specs.Handing.{handed_of}
 use Rattle.backup_file.specs.Lists.{after}
 use Rattle.backup_file.specs.declared.handed.Handed.{Handed}
 use Rattle.backup_file.specs.declared.handed.Record.TheVariants.{Hand}
+use Rattle.enq_server.specs.Following.{Following}
 use Rattle.enq_server.specs.Recovery.{Agrees, joined, lists_among}
 
-pub record Server (D : Type 0) : Type 0 where
+pub record Server (D L : Type 0) : Type 0 where
   pub table : Table
   pub file : BackupView D
+  pub copy : Following L
 
 abbrev pub larger : ℕ → ℕ → ℕ
 larger a b = if nat_le a b then b else a
@@ -30,6 +32,15 @@ larger a b = if nat_le a b then b else a
 -- the table of the units' entries: where they are more than the limit, it is their number
 abbrev pub recovered : ℕ → List UnitLocks → Table
 recovered limit units = record { entries = joined units; limit = larger limit (length (joined units)) }
+
+-- the table of a replica's list
+abbrev pub replicated : ℕ → List Entry → Table
+replicated limit entries = record { entries = entries; limit = larger limit (length entries) }
+
+-- what is left of a server whose table is gone
+pub record Wrecked (D L : Type 0) : Type 0 where
+  pub file : BackupView D
+  pub copy : Following L
 
 -- the bytes stood for lists with which the units agree, and the file is ready with those of these units alone
 pub record IsRecovered {D : Type 0} (reads : D → List ℕ) (may_leave : D → List ℕ → Type 0) (bytes : List ℕ) (units : List UnitLocks) (file : BackupView D) : Type 0 where

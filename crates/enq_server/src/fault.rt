@@ -28,6 +28,18 @@ pub enum ServerFault {
     NoMemory,
 }
 
+/// Why no table is taken over from a replica.
+#[derive(Clone, Copy, Debug, PartialEq, Eq)]
+pub enum OverFault {
+    /// No replica follows.
+    NotAttached,
+    /// The link failed.
+    Link,
+    /// Two entries of the replica's list can't stand together.
+    Clash { first: u32, second: u32 },
+    NoMemory,
+}
+
 impl From<BackFault> for OpenFault {
     ghost from_gives = { λ f e. e ≡ opening_fault f };
 

@@ -1,39 +1,22 @@
 ghost use Rattle.std.specs.Prelude.{◌≡◌, ◌↔◌, ℕ, List, false, None, IsTrue, IfOk, IfErr, IfSome, OnOk};
 ghost use Rattle.std.specs.List.{All};
-ghost use Rattle.enq_base.specs.Owners.{same_unit};
 ghost use Rattle.enq_base.specs.Causes.{HasCause};
 ghost use Rattle.lock_entry.specs.Table.{IsTable};
 ghost use Rattle.backup_file.specs.Backup.{IsReady};
-ghost use Rattle.backup_file.specs.File.{Stands};
 ghost use Rattle.backup_file.specs.declared.handed.Handed.{Handed};
+ghost use Rattle.lock_entry.specs.declared.entry.UnitLocks.{UnitLocks};
 ghost use Rattle.enq_server.specs.Faults.{IsRecoveryFault};
-ghost use Rattle.enq_server.specs.Recovery.{Agrees, IsFirstDifference, IsMissing, entries_of, is_one_of, joined, lists_among};
+ghost use Rattle.enq_server.specs.Recovery.{Agrees, AreKnown, ArePlaces, IsFirstDifference, IsMissing, StandsLess, joined, lists_among};
 ghost use Rattle.enq_server.specs.Server.{larger, recovered};
 
 use crate::fault::OpenFault;
-use backup_file::{Backup, Handed};
+use crate::places::{entries_of, is_known, known_units, places_of};
+use backup_file::{Backup, Handed, UnitId};
 use bk_disk::Disk;
 use enq_base::{BackupBad, Failed, NoMemory, UnitKey};
 use lock_entry::{Entry, LoadFault, LockStore, UnitLocks};
 use std::alloc::Global;
-
-fn is_unit(a: &UnitKey, b: &UnitKey) -> bool
-    ensures { result ≡ same_unit a.now b.now }
-{
-    a.is(b)
-}
-
-/// The entries of the unit's list, none where no list of it stands.
-fn entries_of<'a>(lists: &'a [Handed], unit: &UnitKey) -> &'a [Entry]
-    ensures { result.now ≡ entries_of lists.now unit.now }
-{
-    for handed in lists {
-        if is_unit(&handed.unit, unit) {
-            return handed.entries.as_slice();
-        }
-    }
-    &[]
-}
+use std::collections::{HashMap, HashSet};
 
 /// Whether two entries are one.
 fn is_same(a: &Entry, b: &Entry) -> bool
@@ -62,12 +45,17 @@ fn first_difference(known: &[Entry], listed: &[Entry]) -> Option<usize>
 }
 
 /// The first unit whose list differs from its entries, and the first place, counted from 1, where it does.
-fn first_missing(lists: &[Handed], units: &[UnitLocks]) -> Option<(UnitKey, usize)>
+fn first_missing(
+    lists: &[Handed],
+    places: &HashMap<UnitId, usize>,
+    units: &[UnitLocks],
+) -> Option<(UnitKey, usize)>
+    requires { ArePlaces places.now lists.now lists.now }
     ensures agree { result ≡ None → All (Agrees lists.now) units.now }
     ensures missing { IfSome result (λ m. IsMissing lists.now units.now m.0 m.1) }
 {
     for known in units {
-        let listed = entries_of(lists, &known.unit);
+        let listed = entries_of(lists, places, &known.unit);
         if let Some(at) = first_difference(known.entries.as_slice(), listed) {
             return Some((known.unit, at));
         }
@@ -86,31 +74,51 @@ fn joined(alloc: Global, units: &[UnitLocks]) -> Result<Vec<Entry>, NoMemory>
     Ok(entries)
 }
 
-fn larger(limit: u32, count: u32) -> u32
+/// The larger of the two.
+pub fn larger(limit: u32, count: u32) -> u32
     ensures { result ≡ larger limit count }
 {
     if limit <= count { count } else { limit }
 }
 
-/// The table of the units' entries, where the lists agree with them. More entries than 32 bits count are told as want
-/// of memory.
+/// The table of the units' entries, where the lists agree with them, and these units. More entries than 32 bits count
+/// are told as want of memory.
 pub fn recover<T: LockStore>(
     alloc: Global,
     limit: u32,
     lists: &[Handed],
     units: &[UnitLocks],
-) -> Result<T, OpenFault>
-    ensures table { IfOk result (λ table. T.table table ≡ recovered limit units.now) }
-    ensures good { IfOk result (λ table. IsTable (T.table table)) }
+) -> Result<(T, HashSet<UnitId>), OpenFault>
+    ensures table { IfOk result (λ found. T.table found.0 ≡ recovered limit units.now) }
+    ensures good { IfOk result (λ found. IsTable (T.table found.0)) }
+    ensures known { IfOk result (λ found. AreKnown found.1.keys units.now) }
     ensures agree { OnOk result (All (Agrees lists.now) units.now) }
     ensures fault { IfErr result (IsRecoveryFault lists.now units.now) }
 {
-    if let Some((unit, place)) = first_missing(lists, units) {
+    let Ok(places) = places_of(alloc, lists) else {
+        return Err(OpenFault::NoMemory);
+    };
+    if let Some((unit, place)) = first_missing(lists, &places, units) {
         let Ok(at) = u32::try_from(place) else {
             return Err(OpenFault::NoMemory);
         };
         return Err(OpenFault::Bad(BackupBad::Missing { unit, at }));
     }
+    let Ok(known) = known_units(alloc, units) else {
+        return Err(OpenFault::NoMemory);
+    };
+    match load(alloc, limit, units) {
+        Ok(table) => Ok((table, known)),
+        Err(fault) => Err(fault),
+    }
+}
+
+/// The table of the units' entries.
+fn load<T: LockStore>(alloc: Global, limit: u32, units: &[UnitLocks]) -> Result<T, OpenFault>
+    ensures table { IfOk result (λ table. T.table table ≡ recovered limit units.now) }
+    ensures good { IfOk result (λ table. IsTable (T.table table)) }
+    ensures fault { (l : List Handed) → All (Agrees l) units.now → IfErr result (IsRecoveryFault l units.now) }
+{
     let Ok(entries) = joined(alloc, units) else {
         return Err(OpenFault::NoMemory);
     };
@@ -126,30 +134,24 @@ pub fn recover<T: LockStore>(
     }
 }
 
-/// Whether the unit is among these.
-fn holds(units: &[UnitLocks], unit: &UnitKey) -> bool
-    ensures { result ≡ is_one_of units.now unit.now }
-{
-    units.iter().any(|known| is_unit(&known.unit, unit))
-}
-
 /// Frees each list in the file whose unit isn't among these.
 pub fn free_others<D: Disk>(
     backup: &mut Backup<D>,
     lists: &[Handed],
-    units: &[UnitLocks],
+    known: &HashSet<UnitId>,
 ) -> Result<(), Failed>
     requires usable { backup.old.failed ≡ false }
     ensures usable { OnOk result (backup.new.failed ≡ false) }
-    ensures freed { IsTrue D.tells → IsReady D.reads D.may_leave backup.old lists.now
-        → OnOk result (IsReady D.reads D.may_leave backup.new (lists_among units.now lists.now)) }
-    ensures images { IsTrue D.tells → IsReady D.reads D.may_leave backup.old lists.now
-        → (c : List ℕ) → D.may_leave backup.new.disk c
-        → (m : List Handed) × Stands c m × (lists_among units.now m ≡ lists_among units.now lists.now) }
+    ensures freed { IsTrue D.tells → (units : List UnitLocks) → AreKnown known.now.keys units
+        → IsReady D.reads D.may_leave backup.old lists.now
+        → OnOk result (IsReady D.reads D.may_leave backup.new (lists_among units lists.now)) }
+    ensures images { IsTrue D.tells → (units : List UnitLocks) → AreKnown known.now.keys units
+        → IsReady D.reads D.may_leave backup.old lists.now
+        → (c : List ℕ) → D.may_leave backup.new.disk c → StandsLess units lists.now c }
     ensures cause { HasCause (D.faults backup.old.disk) (D.faults backup.new.disk) result }
 {
     for handed in lists {
-        if !holds(units, &handed.unit) && backup.stands(&handed.unit) {
+        if !is_known(known, &handed.unit) && backup.stands(&handed.unit) {
             backup.free(&handed.unit)?;
         }
     }

@@ -1,6 +1,6 @@
-ghost use Rattle.std.specs.Prelude.{◌≡◌, ◌⊎◌, ◌≤◌, ℕ, List, false, true, length, IsTrue, IfOk, IfErr, OnOk, OnErr, Ok, IsErrOf, MatchResult, not};
+ghost use Rattle.std.specs.Prelude.{◌≡◌, ◌⊎◌, ◌≤◌, ℕ, List, false, true, length, not, IsTrue, IfOk, IfErr, IfSome, OnOk, OnErr, Ok, IsErrOf, MatchResult};
 ghost use Rattle.std.specs.List.{filter};
-ghost use Rattle.enq_base.specs.Causes.{HasCause};
+ghost use Rattle.enq_base.specs.Causes.{HasCause, Rose};
 ghost use Rattle.enq_base.specs.declared.owner.Owner.TheVariants.{Upd};
 ghost use Rattle.mode_rules.specs.Modes.{same_mode};
 ghost use Rattle.mode_rules.specs.declared.Mode.TheVariants.{O};
@@ -8,57 +8,68 @@ ghost use Rattle.bk_disk.specs.Disk.{Follows};
 ghost use Rattle.lock_entry.specs.Converting.{converted};
 ghost use Rattle.lock_entry.specs.Freeing.{freed, freed_owner, handed_over};
 ghost use Rattle.lock_entry.specs.Granting as granting;
-ghost use Rattle.lock_entry.specs.Names.{named};
+ghost use Rattle.lock_entry.specs.Names.{is_of, named};
+ghost use Rattle.enq_server.specs.Following.{KeepsOn};
 ghost use Rattle.lock_entry.specs.Pairs.{IsPair};
 ghost use Rattle.lock_entry.specs.Sound.{ReadmitsOnly};
 ghost use Rattle.lock_entry.specs.Table.{IsTable, entry_at, with_entries};
-ghost use Rattle.backup_file.specs.Backup.{HasWriteCause, IsReady};
+ghost use Rattle.backup_file.specs.Backup.{HasWriteCause, IsReady, IsSame};
 ghost use Rattle.backup_file.specs.File.{Stands};
 ghost use Rattle.backup_file.specs.Handing.{IsHandable};
 ghost use Rattle.backup_file.specs.Lists as lists;
 ghost use Rattle.backup_file.specs.declared.handed.Handed.{Handed};
-ghost use Rattle.enq_server.specs.Faults.{HasCallCause, HasOpenCause, IsOpenFault, IsReadmission, IsRefusal, OnBytes};
+ghost use Rattle.enq_server.specs.Faults.{CountsFault, HasCallCause, IsOpenFault, IsReadmission, IsRefusal, Leaves, OnBytes};
 ghost use Rattle.enq_server.specs.declared.fault.ServerFault.TheVariants as server;
-ghost use Rattle.enq_server.specs.Recovery.{KeepsLists};
+ghost use Rattle.enq_server.specs.Recovery.{FreesOthers};
 ghost use Rattle.enq_server.specs.Server.{IsConverted, IsRecovered, lasting, recovered, with_list};
 
 use crate::fault::{OpenFault, ServerFault};
+use crate::follower::Follower;
 use crate::recovery::{free_others, recover};
+use crate::shipping::{ship_drops, ship_freed, ship_granted, ship_owner, ship_puts, ship_turns};
+use crate::wreck::Wreck;
 use backup_file::{Backup, WriteFault};
 use bk_disk::Disk;
 use enq_base::{Failed, Name, NoMemory, Owner, UnitKey};
 use lock_entry::{Asked, Asker, Entry, LockStore, Mode, Request, UnitLocks};
+use replica_link::{Link, LinkFault, TableOp};
 use std::alloc::Global;
 use std::marker::Model;
 
-/// A lock table, and the backup file of the locks that were handed to the update (Standalone Enqueue Server).
+/// A lock table, the backup file of the locks that were handed to the update, and a replica that follows the table
+/// once it is attached (Standalone Enqueue Server). Calls without an allocator take memory for what is sent to the
+/// replica at most: where there is none they do all else.
 #[derive(Drop)]
-pub struct EnqServer<T: LockStore, D: Disk> {
+pub struct EnqServer<T: LockStore, D: Disk, L: Link> {
     table: T,
     backup: Backup<D>,
+    follower: Follower<L>,
 }
 
-impl<T: LockStore, D: Disk> Model for EnqServer<T, D> {
+impl<T: LockStore, D: Disk, L: Link> Model for EnqServer<T, D, L> {
     ghost use Rattle.enq_server.specs.Server.{Server};
 
-    ghost Value = { Server D };
+    ghost Value = { Server D L };
 
-    ghost view = { λ s. record { table = T.table s.table; file = s.backup } };
+    ghost view = { λ s. record { table = T.table s.table; file = s.backup; copy = s.follower } };
 
     ghost use Rattle.lock_entry.specs.Table.{IsTable};
+    ghost use Rattle.enq_server.specs.Following.{IsAt};
 
-    ghost invariant = { λ s. IsTable (T.table s.table) };
+    ghost invariant = { λ s. IsTable (T.table s.table) × IsAt L.applied s.follower (T.table s.table).entries };
 }
 
-impl<T: LockStore, D: Disk> EnqServer<T, D> {
+impl<T: LockStore, D: Disk, L: Link> EnqServer<T, D, L> {
     /// Opens the file of a disk, with whose lists the entries of the units must agree: these are the table, with the
-    /// larger of `limit` and their number as its limit. Lists of other units are freed. An error gives the disk back.
+    /// larger of `limit` and their number as its limit. Lists of other units are freed. No replica is attached. An
+    /// error gives disk and link back.
     pub fn open(
         alloc: Global,
         disk: D,
+        link: L,
         limit: u32,
         units: &[UnitLocks],
-    ) -> Result<EnqServer<T, D>, (OpenFault, D)>
+    ) -> Result<EnqServer<T, D, L>, (OpenFault, D, L)>
         ensures table { IfOk result (λ s. s.table ≡ recovered limit units.now) }
         ensures good { IfOk result (λ s. IsTable s.table) }
         ensures usable { IfOk result (λ s. s.file.failed ≡ false) }
@@ -67,24 +78,31 @@ impl<T: LockStore, D: Disk> EnqServer<T, D> {
         ensures fault { IsTrue D.tells → IfErr result (λ e. IsOpenFault (D.reads disk) units.now e.0) }
         // A file that stands for nothing stays.
         ensures bad { IsTrue D.tells → IfErr result (λ e. OnBytes e.0 (D.reads e.1 ≡ D.reads disk)) }
-        // What a crash leaves has the lists of these units as they were.
+        // What a crash leaves has the lists as they were, less none, some or all of those of other units. Where the
+        // answer is a fault, but for that of the disk, all are there.
         ensures images { IsTrue D.tells → MatchResult result
-            (λ s. Follows (KeepsLists units.now) (D.may_leave disk) (D.may_leave s.file.disk))
-            (λ e. Follows (KeepsLists units.now) (D.may_leave disk) (D.may_leave e.1)) }
+            (λ s. Follows (FreesOthers units.now) (D.may_leave disk) (D.may_leave s.file.disk))
+            (λ e. Follows (Leaves units.now e.0) (D.may_leave disk) (D.may_leave e.1)) }
+        ensures detached { IfOk result (λ s. s.copy.attached ≡ false) }
+        ensures link { MatchResult result (λ s. s.copy.link ≡ link) (λ e. e.2 ≡ link) }
         ensures quiet { IfOk result (λ s. D.faults s.file.disk ≡ D.faults disk) }
-        ensures cause { IfErr result (λ e. HasOpenCause (D.faults disk) (D.faults e.1) e.0) }
+        ensures cause { IfErr result (λ e. CountsFault e.0 (D.faults disk) (D.faults e.1)) }
     {
         let (mut backup, lists) = match Backup::open(alloc, disk) {
             Ok(opened) => opened,
-            Err((fault, disk)) => return Err((OpenFault::from(fault), disk)),
+            Err((fault, disk)) => return Err((OpenFault::from(fault), disk, link)),
         };
-        let table = match recover(alloc, limit, lists.as_slice(), units) {
-            Ok(table) => table,
-            Err(fault) => return Err((fault, backup.into_disk())),
+        let (table, known) = match recover(alloc, limit, lists.as_slice(), units) {
+            Ok(found) => found,
+            Err(fault) => return Err((fault, backup.into_disk(), link)),
         };
-        match free_others(&mut backup, lists.as_slice(), units) {
-            Ok(()) => Ok(EnqServer { table, backup }),
-            Err(Failed) => Err((OpenFault::Failed, backup.into_disk())),
+        match free_others(&mut backup, lists.as_slice(), &known) {
+            Ok(()) => Ok(EnqServer {
+                table,
+                backup,
+                follower: Follower::new(alloc, link),
+            }),
+            Err(Failed) => Err((OpenFault::Failed, backup.into_disk(), link)),
         }
     }
 
@@ -100,28 +118,36 @@ impl<T: LockStore, D: Disk> EnqServer<T, D> {
         ensures granted { OnOk result (granting.asked self.old.table asker.now user.now requests.now ≡ Ok self.new.table.entries) }
         ensures refused { IfErr result (IsRefusal (granting.asked self.old.table asker.now user.now requests.now)) }
         ensures unchanged { OnErr result (self.new.table ≡ self.old.table) }
+        ensures unshipped { OnErr result (self.new.copy ≡ self.old.copy) }
         ensures limit { self.new.table.limit ≡ self.old.table.limit }
         ensures good { IsTable self.new.table }
         ensures file { self.new.file ≡ self.old.file }
+        ensures copy { KeepsOn L.faults L.refusals self.old.copy self.new.copy }
     {
-        Ok(self.table.ask(alloc, asker, user, requests)?)
+        self.table.ask(alloc, asker, user, requests)?;
+        ship_granted(&mut self.follower, &self.table, asker, requests);
+        Ok(())
     }
 
-    /// Takes one from the entry of this name, which goes at 0. It takes no memory.
+    /// Takes one from the entry of this name, which goes at 0.
     pub fn free_one(&mut self, owner: &Owner, asked: &Asked)
         ensures after { self.new.table ≡ with_entries self.old.table (freed self.old.table.entries (named owner.now asked.now)) }
         ensures good { IsTable self.new.table }
         ensures file { self.new.file ≡ self.old.file }
+        ensures copy { KeepsOn L.faults L.refusals self.old.copy self.new.copy }
     {
+        ship_freed(&mut self.follower, &self.table, owner, asked);
         self.table.free_one(owner, asked);
     }
 
-    /// Removes the owner's entries. It takes no memory.
+    /// Removes the owner's entries.
     pub fn free_owner(&mut self, owner: &Owner)
         ensures after { self.new.table ≡ with_entries self.old.table (freed_owner self.old.table.entries owner.now) }
         ensures good { IsTable self.new.table }
         ensures file { self.new.file ≡ self.old.file }
+        ensures copy { KeepsOn L.faults L.refusals self.old.copy self.new.copy }
     {
+        ship_owner(&mut self.follower, &self.table, owner);
         self.table.free_owner(owner);
     }
 
@@ -137,17 +163,21 @@ impl<T: LockStore, D: Disk> EnqServer<T, D> {
         ensures converted { OnOk result (IsConverted self.old.table.entries asker.now asked.now self.new.table.entries) }
         ensures refused { IfErr result (IsRefusal (converted self.old.table.entries asker.now asked.now)) }
         ensures unchanged { OnErr result (self.new.table ≡ self.old.table) }
+        ensures unshipped { OnErr result (self.new.copy ≡ self.old.copy) }
         ensures limit { self.new.table.limit ≡ self.old.table.limit }
         ensures good { IsTable self.new.table }
         ensures file { self.new.file ≡ self.old.file }
+        ensures copy { KeepsOn L.faults L.refusals self.old.copy self.new.copy }
     {
-        self.table.convert(alloc, asker, asked)?;
+        let removed = self.table.convert(alloc, asker, asked)?;
+        ship_turns(&mut self.follower, asker, asked);
+        ship_drops(&mut self.follower, removed.as_slice());
         Ok(())
     }
 
     /// Writes the list of the unit's S, E and X entries into the file, and tells how many there are. Where there are
     /// none nothing is written. The table is as before: `flag` is the rest of the handover. It takes its memory before
-    /// any write. After `Failed` only `len`, `at` and `into_disk` are allowed.
+    /// any write. After `Failed` only `len`, `at` and `kill` are allowed.
     pub fn save(&mut self, alloc: Global, unit: &UnitKey) -> Result<u32, WriteFault>
         requires usable { self.old.file.failed ≡ false }
         ensures count { IfOk result (λ n. n ≡ length (lasting unit.now self.old.table.entries)) }
@@ -159,8 +189,9 @@ impl<T: LockStore, D: Disk> EnqServer<T, D> {
             → Stands c l ⊎ Stands c (with_list unit.now (lasting unit.now self.old.table.entries) l) }
         ensures usable { OnOk result (self.new.file.failed ≡ false) }
         ensures failed { IsErrOf result WriteFault.Failed → self.new.file.failed ≡ true }
-        ensures no_memory { IsErrOf result WriteFault.NoMemory → self.new.file ≡ self.old.file }
+        ensures no_memory { IsErrOf result WriteFault.NoMemory → IsSame self.old.file self.new.file }
         ensures cause { HasWriteCause (D.faults self.old.file.disk) (D.faults self.new.file.disk) result }
+        ensures copy { self.new.copy ≡ self.old.copy }
     {
         let entries = lasting(alloc, &self.table, unit)?;
         let Ok(count) = u32::try_from(entries.len()) else {
@@ -194,18 +225,19 @@ impl<T: LockStore, D: Disk> EnqServer<T, D> {
     }
 
     /// Flags the unit's S, E and X entries as handed and removes its O entries: the rest of a handover, behind `save`.
-    /// It takes no memory.
     pub fn flag(&mut self, unit: &UnitKey)
         ensures after { self.new.table ≡ with_entries self.old.table (handed_over self.old.table.entries unit.now) }
         ensures good { IsTable self.new.table }
         ensures file { self.new.file ≡ self.old.file }
+        ensures copy { KeepsOn L.faults L.refusals self.old.copy self.new.copy }
     {
+        self.follower.ship(&TableOp::Handed(*unit));
         self.table.hand(unit);
     }
 
     /// Grants the entries as they are, in place of those of the asker's update owner, all or none, and writes them as
     /// the list of its unit. Where there are none nothing is written. It takes its memory before it grants. After
-    /// `Failed` the entries are granted, and only `len`, `at` and `into_disk` are allowed.
+    /// `Failed` the entries are granted, and only `len`, `at` and `kill` are allowed.
     pub fn readmit(
         &mut self,
         alloc: Global,
@@ -228,26 +260,30 @@ impl<T: LockStore, D: Disk> EnqServer<T, D> {
             → (c : List ℕ) → D.may_leave self.new.file.disk c
             → Stands c l ⊎ Stands c (with_list unit.now entries.now l) }
         ensures usable { OnOk result (self.new.file.failed ≡ false) }
-        ensures untouched { IfErr result (λ f. f ≡ server.Failed ⊎ (self.new.file ≡ self.old.file)) }
+        ensures untouched { IfErr result (λ f. f ≡ server.Failed ⊎ IsSame self.old.file self.new.file) }
+        ensures unshipped { IfErr result (λ f. f ≡ server.Failed ⊎ (self.new.copy ≡ self.old.copy)) }
         ensures failed { IsErrOf result server.Failed → self.new.file.failed ≡ true }
         ensures cause { HasCallCause (D.faults self.old.file.disk) (D.faults self.new.file.disk) result }
+        ensures copy { KeepsOn L.faults L.refusals self.old.copy self.new.copy }
     {
+        let own = self.table.entries_of(alloc, &asker.update)?;
         if entries.is_empty() {
-            self.table.readmit(alloc, asker, entries)?;
+            self.grant_again(alloc, asker, entries, own.as_slice())?;
             return Ok(());
         }
         let ready = self.backup.ready_hand(alloc, unit, entries)?;
-        self.table.readmit(alloc, asker, entries)?;
+        self.grant_again(alloc, asker, entries, own.as_slice())?;
         self.backup.write_hand(ready)?;
         Ok(())
     }
 
-    /// Frees the unit's list in the file, where it stands, and then removes the entries of its update owner. It takes
-    /// no memory. After `Failed` only `len`, `at` and `into_disk` are allowed.
+    /// Frees the unit's list in the file, where it stands, and then removes the entries of its update owner. After
+    /// `Failed` only `len`, `at` and `kill` are allowed.
     pub fn end_unit(&mut self, unit: &UnitKey) -> Result<(), Failed>
         requires usable { self.old.file.failed ≡ false }
         ensures table { OnOk result (self.new.table ≡ with_entries self.old.table (freed_owner self.old.table.entries (Upd unit.now))) }
         ensures kept { OnErr result (self.new.table ≡ self.old.table) }
+        ensures unshipped { OnErr result (self.new.copy ≡ self.old.copy) }
         ensures freed { IsTrue D.tells → (l : List Handed) → IsReady D.reads D.may_leave self.old.file l
             → OnOk result (IsReady D.reads D.may_leave self.new.file (lists.without unit.now l)) }
         ensures images { IsTrue D.tells → (l : List Handed) → IsReady D.reads D.may_leave self.old.file l
@@ -255,21 +291,99 @@ impl<T: LockStore, D: Disk> EnqServer<T, D> {
         ensures usable { OnOk result (self.new.file.failed ≡ false) }
         ensures failed { OnErr result (self.new.file.failed ≡ true) }
         ensures cause { HasCause (D.faults self.old.file.disk) (D.faults self.new.file.disk) result }
+        ensures copy { KeepsOn L.faults L.refusals self.old.copy self.new.copy }
     {
         if self.backup.stands(unit) {
             self.backup.free(unit)?;
         }
+        ship_owner(&mut self.follower, &self.table, &Owner::Upd(*unit));
         self.table.free_owner(&Owner::Upd(*unit));
         Ok(())
     }
 
-    /// The disk. It takes no memory.
-    pub fn into_disk(self) -> D
-        ensures { result ≡ self.file.disk }
+    /// Grants the entries in place of those of the update owner, which are these, and ships that.
+    fn grant_again(
+        &mut self,
+        alloc: Global,
+        asker: &Asker,
+        entries: &[Entry],
+        own: &[Entry],
+    ) -> Result<(), ServerFault>
+        requires pair { IsPair asker.now }
+        requires entries { ReadmitsOnly asker.now entries.now }
+        requires own { own.now ≡ filter (is_of asker.now.update) self.old.table.entries }
+        ensures granted { OnOk result (granting.readmitted self.old.table asker.now entries.now ≡ Ok self.new.table.entries) }
+        ensures refused { IfErr result (IsRefusal (granting.readmitted self.old.table asker.now entries.now)) }
+        ensures unchanged { OnErr result (self.new.table ≡ self.old.table) }
+        ensures unshipped { OnErr result (self.new.copy ≡ self.old.copy) }
+        ensures limit { self.new.table.limit ≡ self.old.table.limit }
+        ensures good { IsTable self.new.table }
+        ensures file { self.new.file ≡ self.old.file }
+        ensures copy { KeepsOn L.faults L.refusals self.old.copy self.new.copy }
     {
-        let EnqServer { table, backup } = self;
+        self.table.readmit(alloc, asker, entries)?;
+        ship_drops(&mut self.follower, own);
+        ship_puts(&mut self.follower, entries);
+        Ok(())
+    }
+
+    /// Sends the replica a snapshot of the table, which it follows from then on. After an error it doesn't.
+    pub fn attach(&mut self, alloc: Global) -> Result<(), LinkFault>
+        ensures attached { OnOk result (self.new.copy.attached ≡ true) }
+        ensures detached { OnErr result (self.new.copy.attached ≡ false) }
+        ensures faults_later { L.faults self.old.copy.link ≤ L.faults self.new.copy.link }
+        ensures refusals_later { L.refusals self.old.copy.link ≤ L.refusals self.new.copy.link }
+        ensures failed { IsErrOf result LinkFault.Failed → Rose (L.faults self.old.copy.link) (L.faults self.new.copy.link) }
+        ensures table { self.new.table ≡ self.old.table }
+        ensures file { self.new.file ≡ self.old.file }
+    {
+        match self.table.list(alloc) {
+            Ok(entries) => self.follower.attach(entries.as_slice()),
+            Err(NoMemory) => {
+                self.follower.detach();
+                Err(LinkFault::NoMemory)
+            }
+        }
+    }
+
+    /// Whether a replica follows the table. It takes no memory.
+    pub fn attached(&self) -> bool
+        ensures flag { result ≡ self.now.copy.attached }
+        ensures given { IsTrue result → IfSome (L.applied self.now.copy.link) (λ _. L.gives self.now.copy.link ≡ self.now.table.entries) }
+    {
+        self.follower.attached()
+    }
+
+    /// Takes the table away. It takes no memory.
+    pub fn kill(self) -> Wreck<D, L>
+        ensures file { result.file ≡ self.file }
+        ensures copy { result.copy ≡ self.copy }
+        // What a replica that follows gives is the table.
+        ensures given { self.copy.attached ≡ true
+            → IfSome (L.applied result.copy.link) (λ _. L.gives result.copy.link ≡ self.table.entries) }
+    {
+        let EnqServer {
+            table,
+            backup,
+            follower,
+        } = self;
         drop(table);
-        backup.into_disk()
+        Wreck::new(backup, follower)
+    }
+
+    /// A table, a file and a replica that doesn't follow.
+    pub(crate) fn made(table: T, backup: Backup<D>, follower: Follower<L>) -> EnqServer<T, D, L>
+        requires table { IsTable (T.table table) }
+        requires detached { follower.attached ≡ false }
+        ensures table { result.table ≡ T.table table }
+        ensures file { result.file ≡ backup }
+        ensures copy { result.copy ≡ follower }
+    {
+        EnqServer {
+            table,
+            backup,
+            follower,
+        }
     }
 }
 

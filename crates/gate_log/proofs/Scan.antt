@@ -1,5 +1,5 @@
 -- Reading a log record by record.
-use Rattle.std.proofs.Common.{◌≡◌, ℕ, suc, ◌+◌, ◌-◌, ◌<◌, List, [], ◌∷◌, ◌++◌, length, take, drop, Option, Some, None, refl, sym, ap, subst, ◌∙◌, append_assoc, arith, inr, length-append, take-append-drop}
+use Rattle.std.proofs.Common.{◌≡◌, ℕ, suc, ◌-◌, ◌<◌, List, [], ◌∷◌, ◌++◌, length, take, drop, Option, Some, None, refl, sym, ap, subst, ◌∙◌, append_assoc, arith, inr, length-append, take-append-drop}
 use Rattle.gate_log.specs.Gates.{IsShut}
 use Rattle.gate_log.specs.Grammars.{Grammar, IsReader, IsBytes}
 use Rattle.gate_log.specs.Logs.{opened, IsLong, EndsBadly, IsBad, IsReadUpTo}

@@ -26,7 +26,7 @@ use Rattle.update_records.specs.Ledger.{IsMarkUnder, Ledger, StandFor, recorded}
 use Rattle.update_records.specs.Marks.{draws_alone, has_no_v2, is_rec, status_of}
 use Rattle.update_records.specs.declared.records.Mark.{Mark}
 use Rattle.update_records.specs.declared.records.Unit.{Unit as UnitOfWork}
-use Rattle.hall.specs.Kept.{AreOrders, HasFew, HasGoodLocks, HasItsUser, HasSoundLocks, IsKept, IsKnown, IsOwned, IsSteady, IsUnheard, OfLock, OfStored, is_firm}
+use Rattle.hall.specs.Kept.{AreOrders, HasFew, HasGoodLocks, HasItsUser, HasSoundLocks, IsKept, IsKnown, IsSteady, IsUnheard, OfLock, OfStored, is_firm}
 use Rattle.hall.specs.Leaving.{StandForPending}
 use Rattle.hall.specs.State.{opened, state_of}
 use Rattle.hall.specs.declared.command.PastEntry.{PastEntry}
@@ -193,6 +193,7 @@ first_steady limit mark_limit told ledger limited first = record {
   started = first_started ledger first;
   limited = limited;
   server = tt;
+  whole = tt;
   settled = refl;
   fresh = record { numbered = tt; ahead = tt; later = λ session luw from. first_unheard ledger first session luw };
   places = idle 256;
@@ -209,32 +210,20 @@ first_steady limit mark_limit told ledger limited first = record {
 pub first_few : (limit mark_limit : ℕ) (told : Bool) (ledger : Ledger) → HasFew 0 (opened limit mark_limit told ledger)
 first_few limit mark_limit told ledger = record { sessions = omega arith; units = tt }
 
-first_here : (told : Bool) (table : Table) (mark_limit : ℕ) (ledger : Ledger) → mark_limit ≤ 1048576 → IsFirst ledger → IsTable table → table.entries ≡ [] → IsKept (state_of told condition.Up [] 1 (replicate 256 None) table mark_limit ledger None [])
-first_here told table mark_limit ledger limited first good free =
-    let few = first_few table.limit mark_limit told ledger in
-    let steady = first_steady table.limit mark_limit told ledger limited first in
+first_here : (told : Bool) (max_locks mark_limit : ℕ) (ledger : Ledger) → mark_limit ≤ 1048576 → IsFirst ledger → IsTable (record { entries = []; limit = max_locks }) → IsKept (opened max_locks mark_limit told ledger)
+first_here told max_locks mark_limit ledger limited first good =
     record {
       within = omega arith;
-      few = record { sessions = few.sessions; units = few.units };
-      steady = record {
-        started = steady.started;
-        limited = steady.limited;
-        server = steady.server;
-        settled = steady.settled;
-        fresh = record { numbered = steady.fresh.numbered; ahead = steady.fresh.ahead; later = steady.fresh.later };
-        places = steady.places;
-        orders = steady.orders;
-        owned = subst (IsOwned ledger 1 []) (sym free) steady.owned;
-      };
+      few = first_few max_locks mark_limit told ledger;
+      steady = first_steady max_locks mark_limit told ledger limited first;
       sound = record { table = good; stored = first_stored ledger first };
     }
 
-pub first_kept : (told : Bool) (table : Table) (mark_limit : ℕ) (ledger : Ledger) (sessions : List Session) (orders : List (Option UnitKey)) (past : List PastEntry) → mark_limit ≤ 1048576 → IsFirst ledger → IsTable table → table.entries ≡ [] → sessions ≡ [] → orders ≡ replicate 256 None → past ≡ []
-    → IsKept (state_of told condition.Up sessions 1 orders table mark_limit ledger None past)
-first_kept told table mark_limit ledger sessions orders past limited first good free none idle new =
-    subst (λ xs. IsKept (state_of told condition.Up xs 1 orders table mark_limit ledger None past)) (sym none)
-    (subst (λ xs. IsKept (state_of told condition.Up [] 1 xs table mark_limit ledger None past)) (sym idle)
-    (subst (λ xs. IsKept (state_of told condition.Up [] 1 (replicate 256 None) table mark_limit ledger None xs)) (sym new) (first_here told table mark_limit ledger limited first good free)))
+pub first_kept : (told : Bool) (table : Table) (max_locks mark_limit : ℕ) (ledger : Ledger) (sessions : List Session) (orders : List (Option UnitKey)) (past : List PastEntry) → mark_limit ≤ 1048576 → IsFirst ledger → IsTable table → table ≡ record { entries = []; limit = max_locks } → sessions ≡ [] → orders ≡ replicate 256 None → past ≡ []
+    → IsKept (state_of told condition.Up sessions 1 orders table max_locks mark_limit ledger None past)
+first_kept told table max_locks mark_limit ledger sessions orders past limited first good free none idle new =
+    subst IsKept (λ i. state_of told condition.Up (sym none i) 1 (sym idle i) (sym free i) max_locks mark_limit ledger None (sym new i))
+    (first_here told max_locks mark_limit ledger limited first (subst IsTable free good))
 
 pub first_leaves : (held : Option Rows) (may_leave : Rows → Type 0) (ledger : Ledger) → IfSome held (λ _. (left : Rows) → may_leave left → StandFor left ledger)
     → IfSome held (λ _. (left : Rows) → may_leave left → StandFor left ledger ⊎ StandForPending left None)

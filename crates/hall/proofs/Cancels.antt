@@ -12,44 +12,39 @@ use Rattle.update_records.specs.Ledger.{Ledger}
 use Rattle.update_records.specs.Marks.{may_follow, status_of}
 use Rattle.update_records.specs.declared.records.MarkKind.TheVariants.{Gone}
 use Rattle.hall.specs.declared.command.Reply.TheVariants as reply
-use Rattle.hall.specs.History.{Well, is_unrecorded, shown}
 use Rattle.hall.specs.Orders.{is_claimed, is_for, worker_of}
 use Rattle.hall.specs.State.{State}
 use Rattle.hall.specs.Step.{Verdict, Refuses, Leaves, cancel, cancelled, cancelling, if_room, if_status, if_unclaimed, may_cancel, to_cancel}
+use Rattle.hall.proofs.Plain.{IsPlain}
 
 -- ---- refused
-
--- a refusal that shows no failure of a device, and that is noted
-pub record IsPlainRefusal (r : Refusal) : Type 0 where
-  pub well : shown (reply.Refused r) ≡ Well
-  pub noted : is_unrecorded (reply.Refused r) ≡ false
 
 -- a refusal is plain, if there is one
 abbrev pub RefusesPlainly : Result Status Refusal → Type 0
 RefusesPlainly (Ok status) = Unit {0}
-RefusesPlainly (Err r) = IsPlainRefusal r
+RefusesPlainly (Err r) = IsPlain r
 
 pub room-plain : (limit : ℕ) (status : Status) (full : Bool) → RefusesPlainly (if full then Err (refusal.StoreFull limit) else Ok status)
-room-plain limit status true = record { well = refl; noted = refl }
+room-plain limit status true = refl
 room-plain limit status false = tt
 
 free-plain : (o : Option ℕ) (next : Result Status Refusal) → RefusesPlainly next → RefusesPlainly (if_unclaimed o next)
 free-plain None next h = h
-free-plain (Some worker) next h = record { well = refl; noted = refl }
+free-plain (Some worker) next h = refl
 
 pub status-plain : (unit : UnitKey) (status : Status) (b : Bool) (next : Result Status Refusal) → RefusesPlainly next → RefusesPlainly (if b then next else Err (refusal.WrongStatus unit status))
 status-plain unit status true next h = h
-status-plain unit status false next h = record { well = refl; noted = refl }
+status-plain unit status false next h = refl
 
 to_cancel-plain : (ledger : Ledger) (orders : List (Option UnitKey)) (limit : ℕ) (unit : UnitKey) → RefusesPlainly (to_cancel ledger orders limit unit)
 to_cancel-plain ledger orders limit unit =
     elim (status_of ledger.units ledger.marks unit) as (λ o. RefusesPlainly (elim o [ None ↦ Err refusal.UnknownUnit | Some status ↦ if_status may_cancel unit status (if_unclaimed (worker_of orders unit) (if_room ledger limit status)) ])) [
-      | None ↦ record { well = refl; noted = refl }
+      | None ↦ refl
       | Some status ↦
           status-plain unit status (may_cancel status) _ (free-plain (worker_of orders unit) _ (room-plain limit status (nat_le limit (length ledger.marks))))
     ]
 
-pub refused_plainly : (ledger : Ledger) (orders : List (Option UnitKey)) (limit : ℕ) (unit : UnitKey) (r : Refusal) → to_cancel ledger orders limit unit ≡ Err r → IsPlainRefusal r
+pub refused_plainly : (ledger : Ledger) (orders : List (Option UnitKey)) (limit : ℕ) (unit : UnitKey) (r : Refusal) → to_cancel ledger orders limit unit ≡ Err r → IsPlain r
 refused_plainly ledger orders limit unit r e = subst RefusesPlainly e (to_cancel-plain ledger orders limit unit)
 
 -- ---- cancelled
@@ -109,7 +104,7 @@ may_follow_gone Cancelled h = absurd (cc)
 -- ---- both
 
 -- what holds where the call is refused, and where the unit is cancelled
-pub by_cancel : (P : Verdict → Type 0) (s : State) (unit : UnitKey) → ((r : Refusal) → IsPlainRefusal r → P (Refuses r)) → ((status : Status) → CanBeCancelled s.stored s.orders s.mark_limit unit status → P (Leaves (cancelled s unit status) (reply.Unit unit))) → P (cancel s unit)
+pub by_cancel : (P : Verdict → Type 0) (s : State) (unit : UnitKey) → ((r : Refusal) → IsPlain r → P (Refuses r)) → ((status : Status) → CanBeCancelled s.stored s.orders s.mark_limit unit status → P (Leaves (cancelled s unit status) (reply.Unit unit))) → P (cancel s unit)
 by_cancel P s unit refuse cancels =
     elim (to_cancel s.stored s.orders s.mark_limit unit) as (λ o. to_cancel s.stored s.orders s.mark_limit unit ≡ o → P (cancelling s unit o)) [
       | Ok status ↦ λ e. cancels status (can_be s.stored s.orders s.mark_limit unit status e)

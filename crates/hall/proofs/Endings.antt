@@ -1,6 +1,6 @@
 -- A call, apart from its place in the history and with it.
-use Rattle.std.proofs.Common.{◌≡◌, ℕ, Bool, true, false, List, [], ◌∷◌, ◌++◌, length, refl, sym, ap, ◌∙◌, subst}
-use Rattle.std.specs.Prelude.{if◌then◌else◌, Option, Some, None, is_some}
+use Rattle.std.proofs.Common.{◌≡◌, inl, inr, ℕ, Bool, true, false, List, [], length, refl, sym, ap, ◌∙◌, subst}
+use Rattle.std.specs.Prelude.{if◌then◌else◌, IsTrue, Option, Some, None, is_some}
 use Rattle.std.specs.Option.{option_map}
 use Rattle.enq_base.specs.declared.condition.Condition.{Condition}
 use Rattle.enq_base.specs.declared.condition.Condition.TheVariants.{Up}
@@ -13,32 +13,32 @@ use Rattle.enq_base.specs.declared.condition.Condition.TheVariants as condition
 use Rattle.enq_base.specs.declared.refusal.Refusal.{Refusal}
 use Rattle.enq_base.specs.declared.refusal.Refusal.TheVariants as refusal
 use Rattle.keeper_api.specs.Rows.{Rows}
-use Rattle.hall.specs.Acts.{IsAct, IsWritten, OnFailure, written_condition, written_pending, written_reply}
-use Rattle.hall.specs.Coming.{outcome_in}
-use Rattle.hall.specs.History.{IsAllowed, IsStep, Served, Well, is_unrecorded, judged, noted, past_entry, served, shown, writes}
+use Rattle.hall.specs.Acts.{Admits, IsAct, IsWritten, OnFailure, written_condition, written_pending, written_reply}
+use Rattle.hall.specs.Calls.{Call, LogsOn, OfSession, OfWorker, OfAdmin, SessionCall, LogsOff, Asks, Frees, FreesAll, Converts, Reads, Commits, RollsBack, Takes, Posts, Drops, call_of, session_touches_store, touches_store}
+use Rattle.hall.specs.Devices.{all_well, session_uses_store, uses_store}
+use Rattle.hall.specs.History.{IsGiven, Served, is_unrecorded, judged}
 use Rattle.hall.specs.Kept.{HasServer, IsKept}
 use Rattle.hall.specs.Leaving.{HasStoreCause}
-use Rattle.hall.specs.Serving.{DoesStore, IsCall, IsDue, MayWrite, touches_store, with_calls}
-use Rattle.hall.specs.State.{State, state_of}
-use Rattle.hall.specs.Step.{closed, is_full, verdict}
+use Rattle.hall.specs.Serving.{DoesStore, IsDue, MayWrite, Serves, with_calls}
+use Rattle.hall.specs.State.{State, View, state_of}
+use Rattle.hall.specs.Step.{barred, found_in, is_full}
 use Rattle.hall.specs.declared.command.Command.{Command}
-use Rattle.hall.specs.declared.command.Command.TheVariants as command
 use Rattle.hall.specs.declared.command.PastEntry.{PastEntry}
 use Rattle.hall.specs.declared.command.Reply.{Reply}
 use Rattle.hall.specs.declared.command.Reply.TheVariants as reply
 use Rattle.hall.specs.declared.command.Session.{Session}
 use Rattle.hall.specs.declared.units.Written.{Written}
 use Rattle.hall.specs.declared.units.Written.TheVariants.{Answered, Failed}
-use Rattle.hall.proofs.Calls.{verdict-closed}
+use Rattle.hall.proofs.Calls.{barred_verdict}
 use Rattle.hall.proofs.Ends.{ends_as, written_act, written_state}
-use Rattle.hall.proofs.Fair.{verdict-fair}
 use Rattle.hall.proofs.Few.{full_or}
-use Rattle.hall.proofs.Leaves.{closed_quiet, same_keeps, untouched_keeps}
-use Rattle.hall.proofs.Steps.{shut_by_history}
+use Rattle.hall.proofs.Frames.{in_doubt, shut_by_history}
+use Rattle.hall.proofs.Leaves.{barred_quiet, same_keeps, untouched_keeps}
+use Rattle.hall.proofs.Replies.{fault_uses_store, unnoted_same}
 
 -- the fields of a hall
-abbrev pub state_with : Bool → Condition → List Session → ℕ → List (Option UnitKey) → Table → ℕ → Ledger → Option InFlight → List PastEntry → State
-state_with told k sessions n orders table m ledger p past = state_of told k sessions n orders table m ledger (option_map (landed ledger) p) past
+abbrev pub state_with : Bool → Condition → List Session → ℕ → List (Option UnitKey) → Table → ℕ → ℕ → Ledger → Option InFlight → List PastEntry → State
+state_with told k sessions n orders table x m ledger p past = state_of told k sessions n orders table x m ledger (option_map (landed ledger) p) past
 
 some_is : {X : Type 0} (a b : X) → Some a ≡ Some b → a ≡ b
 some_is a b e = cc
@@ -52,128 +52,148 @@ rewritten s sessions orders table ledger = record s { sessions = sessions; order
 
 -- ---- a call apart from its place in the history
 
-call_of : (s : State) (c : Command) (after new : State) (r said : Reply) → IsAct s c after r → new ≡ after → said ≡ r → IsCall s c new said
-call_of s c after new r said act is same =
-    subst (λ x. IsCall s c x said) (sym is) (subst (λ x. IsCall s c after x) (sym same) (record { same = act.same; allowed = act.allowed }))
+acts_as : (s : State) (c : Command) (after new : State) (r said : Reply) → IsAct s c after r → new ≡ after → said ≡ r → IsAct s c new said
+acts_as s c after new r said act is same = subst (λ x. IsAct s c x said) (sym is) (subst (IsAct s c after) (sym same) act)
 
-up_in : (full : Bool) (k : Condition) → HasServer k → (if full then Some refusal.LogFull else elim k [ condition.Up ↦ None | condition.NoServer ↦ None | condition.Doubt n ↦ Some (refusal.Down n) ]) ≡ None → k ≡ Up
+up_in : (full : Bool) (k : Condition) → HasServer k → (if full then Some refusal.LogFull else in_doubt k) ≡ None → k ≡ Up
 up_in true k server e = cc
 up_in false condition.Up server e = refl
 up_in false condition.NoServer server e = absurd server
 up_in false (condition.Doubt n) server e = cc
 
 -- what nothing bars finds the server up
+pub due_of : (s : State) (past : List PastEntry) → IsKept (with_calls s past) → barred (with_calls s past) ≡ None → IsDue s past
+due_of s past kept free = record {
+  kept = kept;
+  admits = record { served = free; up = up_in (is_full (with_calls s past)) s.condition kept.steady.server free; whole = kept.steady.whole };
+}
+
 pub due_up : (s : State) (past : List PastEntry) → IsDue s past → s.condition ≡ Up
-due_up s past due = up_in (is_full (with_calls s past)) s.condition due.kept.steady.server due.served
+due_up s past due = due.admits.up
 
 same_past : (s after : State) (w : Written) → after.past ≡ s.past → record (written_state s after w) { past = s.past } ≡ written_state s after w
 same_past s after (Answered r) h = λ i. record after { past = sym h i }
 same_past s after (Failed change) h = refl
 
--- a call that writes the store, where it fails too
-pub written_call : (told told' : Bool) (k k' : Condition) (ss ss' : List Session) (n : ℕ) (os os' : List (Option UnitKey)) (t t' : Table) (m : ℕ) (l l' : Ledger) (p p' : Option InFlight) (past : List PastEntry) (w : Written) (c : Command) (said : Reply)
-    → IsDue (state_with told k ss n os t m l p []) past
+-- a call that uses the store, where it fails too
+pub written_call : (told told' : Bool) (k k' : Condition) (ss ss' : List Session) (n : ℕ) (os os' : List (Option UnitKey)) (t t' : Table) (x m : ℕ) (l l' : Ledger) (p p' : Option InFlight) (past : List PastEntry) (w : Written) (c : Command) (said : Reply)
+    → IsDue (state_with told k ss n os t x m l p []) past
     → told' ≡ told → k' ≡ written_condition k (length past) w → p' ≡ written_pending p w → said ≡ written_reply w
     → t'.limit ≡ t.limit → OnFailure w (ss' ≡ ss) → OnFailure w (os' ≡ os) → OnFailure w (l' ≡ l)
-    → (closed (state_with told Up ss n os t m l p past) ≡ None → IsWritten (state_with told Up ss n os t m l p past) c (rewritten (state_with told Up ss n os t m l p past) ss' os' t' l') w)
-    → IsCall (state_with told k ss n os t m l p past) c (state_with told' k' ss' n os' t' m l' p' past) said
-written_call told told' k k' ss ss' n os os' t t' m l l' p p' past w c said due tells condition pending reply limit x y z written =
-    let before : Condition → State = λ q. state_with told q ss n os t m l p past in
+    → (option_map (landed l) p ≡ None → Admits (state_with told Up ss n os t x m l p past) → IsWritten (state_with told Up ss n os t x m l p past) c (rewritten (state_with told Up ss n os t x m l p past) ss' os' t' l') w)
+    → IsAct (state_with told k ss n os t x m l p past) c (state_with told' k' ss' n os' t' x m l' p' past) said
+written_call told told' k k' ss ss' n os os' t t' x m l l' p p' past w c said due tells condition pending reply limit a b d written =
+    let before : Condition → State = λ q. state_with told q ss n os t x m l p past in
     let s : State = before Up in
-    let up : k ≡ Up = due_up (state_with told k ss n os t m l p []) past due in
-    let room : closed s ≡ None = subst (λ q. closed (before q) ≡ None) up due.served in
+    let up : k ≡ Up = due_up (state_with told k ss n os t x m l p []) past due in
+    let room : Admits s = subst (λ q. Admits (before q)) up due.admits in
     let held : IsKept s = subst (λ q. IsKept (before q)) up due.kept in
     let after : State = written_state s (rewritten s ss' os' t' l') w in
-    let act : IsAct s c after (written_reply w) = written_act s c (rewritten s ss' os' t' l') w (written room) in
+    let act : IsAct s c after (written_reply w) = written_act s c (rewritten s ss' os' t' l') w (written held.steady.settled room) in
     let condition' : k' ≡ written_condition Up (length past) w = condition ∙ ap (λ q. written_condition q (length past) w) up in
-    let is : state_with told' k' ss' n os' t' m l' p' past ≡ after =
-    (λ i. state_with told' (condition' i) ss' n os' t' m l' (pending i) past)
-    ∙ ends_as told told' ss ss' n os os' t t' m l l' p past past w tells held.steady.settled limit x y z
+    let is : state_with told' k' ss' n os' t' x m l' p' past ≡ after =
+    (λ i. state_with told' (condition' i) ss' n os' t' x m l' (pending i) past)
+    ∙ ends_as told told' ss ss' n os os' t t' x m l l' p past past w tells held.steady.settled limit a b d
     ∙ same_past s (rewritten s ss' os' t' l') w refl in
-    subst (λ q. IsCall (before q) c (state_with told' k' ss' n os' t' m l' p' past) said) (sym up)
-    (call_of s c after (state_with told' k' ss' n os' t' m l' p' past) (written_reply w) said act is reply)
+    subst (λ q. IsAct (before q) c (state_with told' k' ss' n os' t' x m l' p' past) said) (sym up)
+    (acts_as s c after (state_with told' k' ss' n os' t' x m l' p' past) (written_reply w) said act is reply)
 
 -- ---- a call that is barred
 
-shut_well : (full : Bool) (k : Condition) (r : Refusal) → (if full then Some refusal.LogFull else elim k [ condition.Up ↦ None | condition.NoServer ↦ None | condition.Doubt n ↦ Some (refusal.Down n) ]) ≡ Some r → shown (reply.Refused r) ≡ Well
-shut_well true k r e = subst (λ q. shown (reply.Refused q) ≡ Well) (some_is refusal.LogFull r e) refl
-shut_well false condition.Up r e = cc
-shut_well false condition.NoServer r e = cc
-shut_well false (condition.Doubt n) r e = subst (λ q. shown (reply.Refused q) ≡ Well) (some_is (refusal.Down n) r e) refl
-
-pub barred_call : (s : State) (c : Command) (r : Refusal) → closed s ≡ Some r → IsCall s c s (reply.Refused r)
-barred_call s c r shut =
-    let well : shown (reply.Refused r) ≡ Well = shut_well (is_full s) s.condition r shut in
-    record {
-      same = ap (λ o. served o s c) well ∙ ap (judged s) (verdict-closed (outcome_in s.stored) s c r shut);
-      allowed = subst (λ o. IsAllowed o s c) (sym well) tt;
-    }
+pub barred_call : (s : State) (c : Command) (r : Refusal) → barred s ≡ Some r → IsAct s c s (reply.Refused r)
+barred_call s c r shut = record {
+  outcome = all_well;
+  allowed = record { reading = tt; event = tt };
+  same = ap (judged s) (barred_verdict (found_in s) s (call_of c) r shut);
+}
 
 -- a call that is barred, but not by a full history, finds room in it
-pub barred_room : (s : State) (r : Refusal) → closed s ≡ Some r → is_unrecorded (reply.Refused r) ≡ false → is_full s ≡ false
+pub barred_room : (s : State) (r : Refusal) → barred s ≡ Some r → is_unrecorded (reply.Refused r) ≡ false → is_full s ≡ false
 barred_room s r shut noted =
     full_or (is_full s ≡ false) (is_full s)
     (λ full. let is : r ≡ refusal.LogFull = some_is r refusal.LogFull (sym shut ∙ shut_by_history s full) in
     absurd (true_not_false (ap (λ q. is_unrecorded (reply.Refused q)) (sym is) ∙ noted)))
     (λ e. e)
 
-pub barred_store : {K : Type 0} (held : K → Option Rows) (may_leave : K → Rows → Type 0) (faults : K → ℕ) (keeper : K) (s : State) (r : Refusal) → closed s ≡ Some r → MayWrite held may_leave faults keeper keeper (reply.Refused r)
+pub barred_store : {K : Type 0} (held : K → Option Rows) (may_leave : K → Rows → Type 0) (faults : K → ℕ) (keeper : K) (s : State) (r : Refusal) → barred s ≡ Some r → MayWrite held may_leave faults keeper keeper (reply.Refused r)
 barred_store held may_leave faults keeper s r shut =
-    record { told = refl; cause = closed_quiet s r (faults keeper) (faults keeper) refl shut; kept = untouched_keeps held may_leave keeper r }
+    record { told = refl; cause = barred_quiet s r (faults keeper) (faults keeper) refl shut; kept = untouched_keeps held may_leave keeper r }
 
 -- ---- what a call does to the store
 
-writes_touches : (c : Command) → touches_store c ≡ false → writes c ≡ false
-writes_touches (command.Commit session parts) e = cc
-writes_touches (command.Do1 worker) e = cc
-writes_touches (command.Do2 worker) e = cc
-writes_touches (command.Cancel unit) e = cc
-writes_touches (command.Resubmit unit) e = cc
-writes_touches _ e = refl
+session_touches : (call : SessionCall) → IsTrue (session_uses_store call) → session_touches_store call ≡ true
+session_touches (Reads table key) uses = refl
+session_touches (Commits parts) uses = refl
+session_touches LogsOff uses = cc
+session_touches (Asks rs) uses = cc
+session_touches (Frees rs) uses = cc
+session_touches FreesAll uses = cc
+session_touches (Converts wanted) uses = cc
+session_touches RollsBack uses = cc
 
--- a call that writes nothing is not answered that the store failed
-quiet_counts : (s : State) (c : Command) (r : Reply) (f g : ℕ) → writes c ≡ false → IsAllowed (shown r) s c → g ≡ f → HasStoreCause f g r
-quiet_counts s c (reply.Refused refusal.StoreFault) f g off allowed e = absurd (let wrong : false ≡ true = sym off ∙ allowed.1 in cc)
-quiet_counts s c _ f g off allowed e = e
+-- a call that uses the store is one that touches it
+uses_touches : (call : Call) → IsTrue (uses_store call) → touches_store call ≡ true
+uses_touches (LogsOn name user) uses = cc
+uses_touches (OfSession name call) uses = session_touches call uses
+uses_touches (OfWorker worker (Takes part)) uses = cc
+uses_touches (OfWorker worker (Posts part)) uses = refl
+uses_touches (OfWorker worker Drops) uses = cc
+uses_touches (OfAdmin call) uses = refl
 
-store_by : {K : Type 0} (held : K → Option Rows) (may_leave : K → Rows → Type 0) (faults : K → ℕ) (old new : K) (s : State) (c : Command) (r : Reply) (b : Bool) → touches_store c ≡ b → IsAllowed (shown r) s c → DoesStore held may_leave faults b old new r → MayWrite held may_leave faults old new r
-store_by held may_leave faults old new s c r true e allowed h = h
-store_by held may_leave faults old new s c r false e allowed h =
+untouched : (b : Bool) → b ≡ true → b ≡ false → ⊥
+untouched true e f = cc
+untouched false e f = cc
+
+-- a call that doesn't touch the store is not answered that it failed
+quiet_counts : (s : State) (c : Command) (after : State) (r : Reply) (f g : ℕ) → touches_store (call_of c) ≡ false → IsAct s c after r → g ≡ f → HasStoreCause f g r
+quiet_counts s c after (reply.Refused refusal.StoreFault) f g off act e =
+    absurd (untouched _ (uses_touches (call_of c) (fault_uses_store s c after act)) off)
+quiet_counts s c after _ f g off act e = e
+
+store_by : {K : Type 0} (held : K → Option Rows) (may_leave : K → Rows → Type 0) (faults : K → ℕ) (old new : K) (s : State) (c : Command) (after : State) (r : Reply) (b : Bool) → touches_store (call_of c) ≡ b → IsAct s c after r → DoesStore held may_leave faults b old new r → MayWrite held may_leave faults old new r
+store_by held may_leave faults old new s c after r true e act h = h
+store_by held may_leave faults old new s c after r false e act h =
     record {
       told = ap (λ k. is_some (held k)) h;
-      cause = quiet_counts s c r (faults old) (faults new) (writes_touches c e) allowed (ap faults h);
+      cause = quiet_counts s c after r (faults old) (faults new) e act (ap faults h);
       kept = same_keeps held may_leave old new r h;
     }
 
 -- what any call may do to it
-pub any_store : {K : Type 0} (held : K → Option Rows) (may_leave : K → Rows → Type 0) (faults : K → ℕ) (old new : K) (s : State) (c : Command) (r : Reply) → IsAllowed (shown r) s c → DoesStore held may_leave faults (touches_store c) old new r → MayWrite held may_leave faults old new r
-any_store held may_leave faults old new s c r allowed h = store_by held may_leave faults old new s c r (touches_store c) refl allowed h
+pub any_store : {K : Type 0} (held : K → Option Rows) (may_leave : K → Rows → Type 0) (faults : K → ℕ) (old new : K) (s : State) (c : Command) (after : State) (r : Reply) → IsAct s c after r → DoesStore held may_leave faults (touches_store (call_of c)) old new r → MayWrite held may_leave faults old new r
+any_store held may_leave faults old new s c after r act h = store_by held may_leave faults old new s c after r (touches_store (call_of c)) refl act h
 
-pub same_keeper : {K : Type 0} (held : K → Option Rows) (may_leave : K → Rows → Type 0) (faults : K → ℕ) (old new : K) (c : Command) (r : Reply) → DoesStore held may_leave faults (touches_store c) old new r → touches_store c ≡ false → new ≡ old
+pub same_keeper : {K : Type 0} (held : K → Option Rows) (may_leave : K → Rows → Type 0) (faults : K → ℕ) (old new : K) (c : Command) (r : Reply) → DoesStore held may_leave faults (touches_store (call_of c)) old new r → touches_store (call_of c) ≡ false → new ≡ old
 same_keeper held may_leave faults old new c r h e = subst (λ b. DoesStore held may_leave faults b old new r) e h
+
+-- a call that doesn't touch the store, of a server that is up
+pub serves_beside : {K : Type 0} (held : K → Option Rows) (may_leave : K → Rows → Type 0) (faults : K → ℕ) (before after : Condition → View K) (k : Condition) (was : View K) (past : List PastEntry) (c : Command) (r said : Reply)
+    → before k ≡ was → (before k).state.condition ≡ k → (after k).keeper ≡ (before k).keeper → IsDue was.state past → touches_store (call_of c) ≡ false → said ≡ r
+    → (Admits (with_calls (before Up).state past) → IsAct (with_calls (before Up).state past) c (with_calls (after Up).state past) r)
+    → Serves held may_leave faults was (after k) past c said
+serves_beside held may_leave faults before after k was past c r said is own kept due off same act =
+    let here : IsDue (before k).state past = subst (λ (v : View _). IsDue v.state past) (sym is) due in
+    let up : k ≡ Up = sym own ∙ here.admits.up in
+    let room : Admits (with_calls (before Up).state past) = subst (λ q. Admits (with_calls (before q).state past)) up here.admits in
+    subst (λ v. Serves held may_leave faults v (after k) past c said) is (record {
+      call = subst (λ q. IsAct (with_calls (before q).state past) c (with_calls (after q).state past) said) (sym up) (subst (IsAct (with_calls (before Up).state past) c (with_calls (after Up).state past)) (sym same) (act room));
+      store = subst (λ b. DoesStore held may_leave faults b (before k).keeper (after k).keeper said) (sym off) kept;
+    })
 
 -- ---- its place in the history
 
-unrecorded_well : (r : Reply) → is_unrecorded r ≡ true → shown r ≡ Well
-unrecorded_well (reply.Posted unit) e = cc
-unrecorded_well (reply.Bad unit index reason) e = cc
-unrecorded_well (reply.Closed unit) e = cc
-unrecorded_well (reply.Bad2 unit index reason) e = cc
-unrecorded_well (reply.Refused refusal.NoMemory) e = cc
-unrecorded_well (reply.Refused refusal.StoreFault) e = cc
-unrecorded_well _ e = refl
-
 -- a call that isn't recorded changes nothing
-pub unrecorded_same : (s : State) (c : Command) (after : State) (r : Reply) → IsCall s c after r → is_unrecorded r ≡ true → after ≡ s
-unrecorded_same s c after r call e =
-    let is : judged s (verdict (outcome_in s.stored) s c) ≡ record { state = after; reply = r } = sym (ap (λ o. served o s c) (unrecorded_well r e)) ∙ call.same in
-    ap (λ (x : Served). x.state) (sym is) ∙ (verdict-fair (outcome_in s.stored) s c).quiet (ap (λ (x : Served). is_unrecorded x.reply) is ∙ e)
+pub unrecorded_same : (s : State) (c : Command) (after : State) (r : Reply) → IsAct s c after r → is_unrecorded r ≡ true → after ≡ s
+unrecorded_same s c after r act e =
+    ap (λ (x : Served). x.state) (sym act.same) ∙ unnoted_same act.outcome s c (ap (λ (x : Served). is_unrecorded x.reply) act.same ∙ e)
 
-pub unrecorded_step : (s : State) (line : ℕ) (c : Command) (after : State) (r : Reply) → IsCall s c after r → is_unrecorded r ≡ true → IsStep s after line c r
-unrecorded_step s line c after r call e =
-    let whole : Served = record { state = after; reply = r } in
-    let entry : Served = record { state = record after { past = after.past ++ past_entry line c whole ∷ [] }; reply = r } in
-    record { same = sym (ap (noted line c) call.same ∙ ap (λ b. if b then whole else entry) e); allowed = call.allowed }
+-- an answer that is given as want of memory leaves the counts and the keeper as the text did
+pub given_store : {K : Type 0} (held : K → Option Rows) (may_leave : K → Rows → Type 0) (faults : K → ℕ) (old new : K) (made given : Reply) → IsGiven made given → MayWrite held may_leave faults old new made → MayWrite held may_leave faults old new given
+given_store held may_leave faults old new made given (inl same) h = subst (MayWrite held may_leave faults old new) (sym same) h
+given_store held may_leave faults old new (reply.Row text) given (inr (row, is)) h =
+    subst (MayWrite held may_leave faults old new) (sym is) (record { told = h.told; cause = h.cause; kept = h.kept })
+given_store held may_leave faults old new _ given (inr (row, is)) h = absurd (cc)
 
-pub act_of : (s : State) (c : Command) (after : State) (r : Reply) → IsCall s c after r → is_unrecorded r ≡ false → IsAct s c after r
-act_of s c after r call e = record { same = call.same; allowed = call.allowed; noted = e }
+pub given_noted : (made given : Reply) → IsGiven made given → is_unrecorded made ≡ false → is_unrecorded given ≡ false
+given_noted made given (inl same) noted = ap is_unrecorded same ∙ noted
+given_noted made given (inr (row, is)) noted = ap is_unrecorded is

@@ -1,5 +1,5 @@
 -- The state behind a call that writes the store, answered or in doubt.
-use Rattle.std.proofs.Common.{◌≡◌, ◌⊎◌, inl, inr, ℕ, Bool, true, false, List, length, refl, sym, ap, ◌∙◌, subst, arith}
+use Rattle.std.proofs.Common.{◌≡◌, ◌⊎◌, inl, inr, ℕ, Bool, false, List, length, refl, sym, ap, ◌∙◌, subst, arith}
 use Rattle.std.specs.Prelude.{nat_eq, Option, Some, None}
 use Rattle.std.proofs.lemmas.Bool.Decides.{nat_tests}
 use Rattle.std.specs.Option.{option_map}
@@ -9,18 +9,12 @@ use Rattle.lock_entry.specs.Table.{Table}
 use Rattle.hall.specs.Flights.{landed}
 use Rattle.hall.specs.declared.units.InFlight.{InFlight}
 use Rattle.update_records.specs.Ledger.{Ledger}
-use Rattle.hall.specs.Acts.{IsAct, IsWritten, OnFailure, post_of, take_of, written_condition, written_pending, written_reply}
-use Rattle.enq_base.specs.declared.refusal.Refusal.TheVariants as refusal
-use Rattle.hall.proofs.Calls.{verdict-room}
-use Rattle.posting.specs.Steps.{waiting_for}
-use Rattle.posting.specs.declared.prepared.Outcome.{Outcome}
+use Rattle.hall.specs.Acts.{Admits, IsAct, IsWritten, OnFailure, post_of, take_of, written_condition, written_pending, written_reply}
+use Rattle.hall.specs.Calls.{OfWorker, Posts, Takes, call_of}
+use Rattle.hall.proofs.Calls.{tells}
 use Rattle.hall.specs.declared.command.Reply.{Reply}
-use Rattle.hall.specs.declared.command.Reply.TheVariants as reply
-use Rattle.hall.specs.Serving.{IsCall, touches_store}
-use Rattle.hall.specs.Coming.{outcome_in}
-use Rattle.hall.specs.Orders.{first_unclaimed, order_of}
-use Rattle.hall.specs.Step.{Refuses, closed, own_verdict, take, taking, verdict}
-use Rattle.hall.specs.History.{IsAllowed, Served, Well, doubted, judged, served, shown}
+use Rattle.hall.specs.Step.{found_in, own_verdict, take}
+use Rattle.hall.specs.History.{doubted, judged}
 use Rattle.hall.specs.State.{State, state_of}
 use Rattle.hall.specs.declared.command.Command.{Command}
 use Rattle.hall.specs.declared.command.PastEntry.{PastEntry}
@@ -30,31 +24,26 @@ use Rattle.hall.specs.declared.units.Written.TheVariants.{Answered, Failed}
 
 abbrev pub written_state : State → State → Written → State
 written_state s after (Answered r) = after
-written_state s after (Failed step) = doubted s (landed s.stored step)
+written_state s after (Failed change) = doubted s (option_map (landed s.stored) change)
 
 pub written_act : (s : State) (c : Command) (after : State) (w : Written) → IsWritten s c after w → IsAct s c (written_state s after w) (written_reply w)
 written_act s c after (Answered r) h = h
-written_act s c after (Failed step) h = h
+written_act s c after (Failed change) h = h
 
 none_before : (p : Option InFlight) (l : Ledger) → option_map (landed l) p ≡ None → p ≡ None
 none_before None l h = refl
 none_before (Some step) l h = cc
 
 -- what the fields are behind it
-pub ends_as : (told told' : Bool) (ss ss' : List Session) (n : ℕ) (os os' : List (Option UnitKey)) (t t' : Table) (m : ℕ) (l l' : Ledger) (p : Option InFlight) (past past' : List PastEntry) (w : Written)
+pub ends_as : (told told' : Bool) (ss ss' : List Session) (n : ℕ) (os os' : List (Option UnitKey)) (t t' : Table) (k m : ℕ) (l l' : Ledger) (p : Option InFlight) (past past' : List PastEntry) (w : Written)
     → told' ≡ told → option_map (landed l) p ≡ None → t'.limit ≡ t.limit → OnFailure w (ss' ≡ ss) → OnFailure w (os' ≡ os) → OnFailure w (l' ≡ l)
-    → state_of told' (written_condition Up (length past) w) ss' n os' t' m l' (option_map (landed l') (written_pending p w)) past'
-    ≡ record (written_state (state_of told Up ss n os t m l (option_map (landed l) p) past) (record (state_of told Up ss n os t m l (option_map (landed l) p) past) { sessions = ss'; orders = os'; locks = t'.entries; stored = l' }) w) { past = past' }
-ends_as told told' ss ss' n os os' t t' m l l' p past past' (Answered r) tells none limit a b c =
+    → state_of told' (written_condition Up (length past) w) ss' n os' t' k m l' (option_map (landed l') (written_pending p w)) past'
+    ≡ record (written_state (state_of told Up ss n os t k m l (option_map (landed l) p) past) (record (state_of told Up ss n os t k m l (option_map (landed l) p) past) { sessions = ss'; orders = os'; locks = t'.entries; stored = l' }) w) { past = past' }
+ends_as told told' ss ss' n os os' t t' k m l l' p past past' (Answered r) tells none limit a b c =
     let same : option_map (landed l') p ≡ option_map (landed l) p = ap (option_map (landed l')) (none_before p l none) ∙ sym none in
-    λ i. record (state_of (tells i) Up ss' n os' t' m l' (same i) past') { limit = limit i }
-ends_as told told' ss ss' n os os' t t' m l l' p past past' (Failed step) tells none limit a b c =
-    λ i. record (doubted (state_of (tells i) Up (a i) n (b i) t m (c i) None past) (landed (c i) step)) { limit = limit i; past = past' }
-
-taken-well : (s : State) (worker : ℕ) (o found : Option UnitKey) → shown (judged s (elim o [ Some unit ↦ Refuses (refusal.WorkerBusy unit) | None ↦ taking s worker found ])).reply ≡ Well
-taken-well s worker None None = refl
-taken-well s worker None (Some unit) = refl
-taken-well s worker (Some unit) found = refl
+    λ i. record (state_of (tells i) Up ss' n os' t' k m l' (same i) past') { limit = limit i }
+ends_as told told' ss ss' n os os' t t' k m l l' p past past' (Failed change) tells none limit a b c =
+    λ i. record (doubted (state_of (tells i) Up (a i) n (b i) t k m (c i) None past) (option_map (landed (c i)) change)) { limit = limit i; past = past' }
 
 -- one of the two parts of a unit
 abbrev pub IsPart : ℕ → Type 0
@@ -65,26 +54,15 @@ pub is_second : (part : ℕ) → (part ≡ 1 → ⊥) → nat_eq part 1 ≡ fals
 is_second part h = grind (arith, nat_tests)
 
 -- of the calls for both parts
-pub touches_take : (part worker : ℕ) → IsPart part → touches_store (take_of part worker) ≡ false
-touches_take part worker (inl e) = subst (λ p. touches_store (take_of p worker) ≡ false) (sym e) refl
-touches_take part worker (inr e) = subst (λ p. touches_store (take_of p worker) ≡ false) (sym e) refl
+pub takes_part : (part worker : ℕ) → IsPart part → call_of (take_of part worker) ≡ OfWorker worker (Takes part)
+takes_part part worker (inl e) = subst (λ p. call_of (take_of p worker) ≡ OfWorker worker (Takes p)) (sym e) refl
+takes_part part worker (inr e) = subst (λ p. call_of (take_of p worker) ≡ OfWorker worker (Takes p)) (sym e) refl
 
-pub touches_post : (part worker : ℕ) → IsPart part → touches_store (post_of part worker) ≡ true
-touches_post part worker (inl e) = subst (λ p. touches_store (post_of p worker) ≡ true) (sym e) refl
-touches_post part worker (inr e) = subst (λ p. touches_store (post_of p worker) ≡ true) (sym e) refl
-
-own_take : (part : ℕ) (come : ℕ → UnitKey → Outcome) (s : State) (worker : ℕ) → IsPart part → own_verdict come s (take_of part worker) ≡ take part s worker
-own_take part come s worker (inl e) = subst (λ p. own_verdict come s (take_of p worker) ≡ take p s worker) (sym e) refl
-own_take part come s worker (inr e) = subst (λ p. own_verdict come s (take_of p worker) ≡ take p s worker) (sym e) refl
-
-take_verdict : (part : ℕ) (s : State) (worker : ℕ) → IsPart part → closed s ≡ None → verdict (outcome_in s.stored) s (take_of part worker) ≡ take part s worker
-take_verdict part s worker is room =
-    verdict-room (outcome_in s.stored) s (take_of part worker) room ∙ own_take part (outcome_in s.stored) s worker is
+pub posts_part : (part worker : ℕ) → IsPart part → call_of (post_of part worker) ≡ OfWorker worker (Posts part)
+posts_part part worker (inl e) = subst (λ p. call_of (post_of p worker) ≡ OfWorker worker (Posts p)) (sym e) refl
+posts_part part worker (inr e) = subst (λ p. call_of (post_of p worker) ≡ OfWorker worker (Posts p)) (sym e) refl
 
 -- an order that is answered as its command says
-pub taken_call : (part : ℕ) (s : State) (worker : ℕ) (after : State) (r : Reply) → IsPart part → closed s ≡ None → judged s (take part s worker) ≡ record { state = after; reply = r } → IsCall s (take_of part worker) after r
+pub taken_call : (part : ℕ) (s : State) (worker : ℕ) (after : State) (r : Reply) → IsPart part → Admits s → judged s (take part s worker) ≡ record { state = after; reply = r } → IsAct s (take_of part worker) after r
 taken_call part s worker after r is room h =
-    let c = take_of part worker in
-    let e : judged s (verdict (outcome_in s.stored) s c) ≡ record { state = after; reply = r } = ap (judged s) (take_verdict part s worker is room) ∙ h in
-    let well : shown r ≡ Well = ap (λ (x : Served). shown x.reply) (sym h) ∙ taken-well s worker (order_of s.orders worker) (first_unclaimed s.orders (waiting_for part s.stored)) in
-    record { same = ap (λ o. served o s c) well ∙ e; allowed = subst (λ o. IsAllowed o s c) (sym well) tt }
+    tells s (take_of part worker) (take part s worker) after r room (ap (own_verdict (found_in s) s) (takes_part part worker is)) h

@@ -1,16 +1,14 @@
 -- What each call keeps.
 use Rattle.std.proofs.Common.{◌≡◌, ℕ, ◌+◌, ◌≤◌, ◌<◌, Bool, true, false, List, [], ◌∷◌, ◌++◌, length, fold, set, refl, sym, ap, ◌∙◌, subst, arith, cond}
-use Rattle.std.specs.Prelude.{if◌then◌else◌, nat_eq, nat_le, not, Option, Some, None, Result, Ok, Err}
+use Rattle.std.specs.Prelude.{if◌then◌else◌, nat_eq, nat_le, not, Option, Some, None, Result, Ok}
 use Rattle.std.specs.List.{AllByRecursion, filter, find}
 use Rattle.std.proofs.lemmas.List.{length-append, length-set}
 use Rattle.std.proofs.lemmas.Bool.{or_from}
 use Rattle.std.proofs.lemmas.Bool.Decides.{nat_tests}
-use Rattle.enq_base.specs.declared.condition.Condition.TheVariants as condition
 use Rattle.enq_base.specs.Owners.{same_unit}
 use Rattle.enq_base.specs.declared.owner.Owner.{Owner}
 use Rattle.enq_base.specs.declared.owner.Owner.TheVariants.{Upd}
 use Rattle.enq_base.specs.declared.owner.UnitKey.{UnitKey}
-use Rattle.enq_base.specs.declared.refusal.Refusal.{Refusal}
 use Rattle.enq_base.specs.declared.refusal.Refusal.TheVariants as refusal
 use Rattle.enq_base.specs.declared.unit.Parts.{Parts}
 use Rattle.enq_base.specs.declared.unit.Status.{Status}
@@ -30,31 +28,28 @@ use Rattle.update_records.specs.Ledger.{Ledger}
 use Rattle.update_records.specs.declared.records.MarkKind.{MarkKind}
 use Rattle.update_records.specs.declared.records.MarkKind.TheVariants.{Again1, Again2, Gone}
 use Rattle.posting.specs.Steps.{waiting_for}
-use Rattle.posting.specs.declared.prepared.Outcome.{Outcome}
-use Rattle.hall.specs.Coming.{outcome_in}
 use Rattle.hall.specs.declared.command.Command.{Command}
-use Rattle.hall.specs.declared.command.Command.TheVariants as command
 use Rattle.hall.specs.declared.command.PastEntry.{PastEntry}
 use Rattle.hall.specs.declared.command.Reply.{Reply}
-use Rattle.hall.specs.declared.command.Reply.TheVariants as reply
 use Rattle.hall.specs.declared.command.Session.{Session}
 use Rattle.hall.specs.Acts.{IsAct}
-use Rattle.hall.specs.History.{DeviceOutcome, Well, Wanting, StoreFails, Comes, doubted, failed, judged, noted, past_entry, served, shown}
-use Rattle.hall.specs.Kept.{AreOrders, HasFew, HasGoodLocks, HasItsUser, HasSoundLocks, IsKept, IsKnown, IsOwned, IsSteady, IsWaiting, IsYoung, MayHold, OfLock, OfStored, may_hold}
+use Rattle.hall.specs.Devices.{DeviceOutcome}
+use Rattle.hall.specs.History.{doubted, judged, served, with_entry}
+use Rattle.hall.specs.Kept.{AreOrders, HasFew, HasGoodLocks, HasItsUser, HasSoundLocks, IsKept, IsKnown, IsOwned, IsSteady, IsWaiting, IsYoung, MayHold, NoneLost, OfLock, OfStored, may_hold}
 use Rattle.hall.specs.Orders.{first_unclaimed, is_claimed, order_for, order_of, without_order}
-use Rattle.hall.specs.Sessions.{is_called, owners_of, pair_of, session_at, unit_key, with_next_unit, with_session, without_session}
+use Rattle.hall.specs.Sessions.{begun, is_called, owners_of, pair_of, session_at, unit_key, with_fresh_unit, with_next_unit, with_session, without_session}
 use Rattle.hall.specs.State.{State}
-use Rattle.hall.specs.Step.{Verdict, Refuses, Leaves, call_of, cancelled, closed, committed, converting, entered, granting, is_full, locks_behind, locks_without, marked, own_verdict, posting, reopened, reposted, resubmit, session_call, taking, unit_of, unless_closed, verdict, with_room}
-use Rattle.hall.proofs.Calls.{by_room}
-use Rattle.hall.proofs.Cancels.{CanBeCancelled, by_cancel, unclaimed}
+use Rattle.hall.specs.Step.{Found, barred, cancelled, committed, entered, is_full, locks_behind, locks_without, marked, reopened, reposted, taken, unit_of}
+use Rattle.hall.proofs.ByCall.{OfEach, by_call, by_event}
+use Rattle.hall.proofs.Cancels.{CanBeCancelled, unclaimed}
 use Rattle.hall.proofs.Claims.{found_all, held_for, orders_marked, orders_posted, orders_recorded, orders_with, orders_without}
-use Rattle.hall.proofs.Fresh.{found_name, fresh_committed, fresh_entered, fresh_left, fresh_marked, fresh_next, number_below, open_unheard}
 use Rattle.hall.proofs.Fair.{over_table, served-sound}
+use Rattle.hall.proofs.Frames.{served-past, shut_by_history}
+use Rattle.hall.proofs.Fresh.{found_name, fresh_committed, fresh_entered, fresh_left, fresh_marked, fresh_next, number_below, open_unheard}
 use Rattle.hall.proofs.Heard.{all_waiting, apart_from_waiting, status_in}
 use Rattle.hall.proofs.LockLists.{Allows, asked_allows, converted_allows}
 use Rattle.hall.proofs.Owned.{owned_back, owned_beside, owned_by_none, owned_entered, owned_freed, owned_left, owned_locks, owned_next, owned_recorded}
-use Rattle.hall.proofs.Resubmissions.{by_resubmit, readmitted_is, table_in}
-use Rattle.hall.proofs.Steps.{served-past}
+use Rattle.hall.proofs.Resubmissions.{readmitted_is, table_in}
 use Rattle.hall.proofs.Users.{every_conversion, every_freed, every_freed_owner, every_granted, every_handed, every_of, known_dialogue, known_update, one_number, only_dialogue, only_update}
 
 young_more : (n m : ℕ) (xs : List Session) → n ≤ m → AllByRecursion (IsYoung n) xs → AllByRecursion (IsYoung m) xs
@@ -70,22 +65,36 @@ young_filter n p [] k = tt
 young_filter n p (x ∷ xs) k =
     elim (p x) as (λ b. AllByRecursion (IsYoung n) (cond b (x ∷ filter p xs) (filter p xs))) [ true ↦ (k.0, young_filter n p xs k.1) | false ↦ young_filter n p xs k.1 ]
 
-young_next : (n : ℕ) (name : List ℕ) (xs : List Session) → AllByRecursion (IsYoung n) xs → AllByRecursion (IsYoung (n + 1)) (with_session name with_next_unit xs)
-young_next n name [] k = tt
-young_next n name (x ∷ xs) k =
-    elim (is_called name x) as (λ b. AllByRecursion (IsYoung (n + 1)) (cond b (with_next_unit x ∷ xs) (x ∷ with_session name with_next_unit xs))) [
-      | true ↦ (omega (arith, k.0), young_more n (n + 1) xs (omega arith) k.1)
-      | false ↦ (omega (arith, k.0), young_next n name xs k.1)
+-- a change that opens the next unit
+young_next : (change : Session → Session) → ((x : Session) → (change x).luw ≡ x.luw + 1) → (n : ℕ) (name : List ℕ) (xs : List Session) → AllByRecursion (IsYoung n) xs → AllByRecursion (IsYoung (n + 1)) (with_session name change xs)
+young_next change opens n name [] k = tt
+young_next change opens n name (x ∷ xs) k =
+    elim (is_called name x) as (λ b. AllByRecursion (IsYoung (n + 1)) (cond b (change x ∷ xs) (x ∷ with_session name change xs))) [
+      | true ↦ (subst (λ m. m ≤ n + 1) (sym (opens x)) (omega (arith, k.0)), young_more n (n + 1) xs (omega arith) k.1)
+      | false ↦ (omega (arith, k.0), young_next change opens n name xs k.1)
+    ]
+
+-- no session lost a lock
+whole_push : (xs : List Session) (y : Session) → NoneLost xs → y.lost ≡ false → NoneLost (xs ++ y ∷ [])
+whole_push [] y k h = (h, tt)
+whole_push (x ∷ xs) y k h = (k.0, whole_push xs y k.1 h)
+
+whole_filter : (p : Session → Bool) (xs : List Session) → NoneLost xs → NoneLost (filter p xs)
+whole_filter p [] k = tt
+whole_filter p (x ∷ xs) k = elim (p x) as (λ b. NoneLost (cond b (x ∷ filter p xs) (filter p xs))) [ true ↦ (k.0, whole_filter p xs k.1) | false ↦ whole_filter p xs k.1 ]
+
+whole_with : (change : Session → Session) → ((x : Session) → x.lost ≡ false → (change x).lost ≡ false) → (name : List ℕ) (xs : List Session) → NoneLost xs → NoneLost (with_session name change xs)
+whole_with change keeps name [] k = tt
+whole_with change keeps name (x ∷ xs) k =
+    elim (is_called name x) as (λ b. NoneLost (cond b (change x ∷ xs) (x ∷ with_session name change xs))) [
+      | true ↦ (keeps x k.0, k.1)
+      | false ↦ (k.0, whole_with change keeps name xs k.1)
     ]
 
 -- what is kept, but for the length of the history
 pub record Holds (n : ℕ) (s : State) : Type 0 where
   pub few : HasFew n s
   pub steady : IsSteady s
-
--- one call more
-abbrev IsModest : ℕ → State → Verdict → Type 0
-IsModest n s v = Holds n s → Holds (n + 1) (judged s v).state
 
 few_more : (n : ℕ) (s : State) → HasFew n s → HasFew (n + 1) s
 few_more n s h = record { sessions = omega (arith, h.sessions); units = young_more (n + 1) (n + 1 + 1) s.sessions (omega arith) h.units }
@@ -112,6 +121,7 @@ holds_locks n s locks own h =
         started = steady.started;
         limited = steady.limited;
         server = steady.server;
+        whole = steady.whole;
         settled = steady.settled;
         fresh = record { numbered = steady.fresh.numbered; ahead = steady.fresh.ahead; later = steady.fresh.later };
         places = steady.places;
@@ -119,14 +129,6 @@ holds_locks n s locks own h =
         owned = own;
       };
     }
-
-granting-holds : (n : ℕ) (s : State) (r : Result (List Entry) AskFault) → Allows (AreOwned s) r → IsModest n s (granting s r)
-granting-holds n s (Ok locks) own h = holds_locks n s locks own h
-granting-holds n s (Err f) own h = holds_more n s h
-
-converting-holds : (n : ℕ) (s : State) (r : Result Conversion AskFault) → Allows (λ (c : Conversion). AreOwned s c.entries) r → IsModest n s (converting s r)
-converting-holds n s (Ok c) own h = holds_locks n s c.entries own h
-converting-holds n s (Err f) own h = holds_more n s h
 
 left-holds : (n : ℕ) (s : State) (name : List ℕ) (locks : List Entry) → AreOwned s locks → Holds n s → Holds (n + 1) (record s { sessions = without_session name s.sessions; locks = locks })
 left-holds n s name locks own h =
@@ -140,6 +142,7 @@ left-holds n s name locks own h =
         started = steady.started;
         limited = steady.limited;
         server = steady.server;
+        whole = whole_filter p s.sessions steady.whole;
         settled = steady.settled;
         fresh = record { numbered = fresh.numbered; ahead = fresh.ahead; later = fresh.later };
         places = steady.places;
@@ -148,17 +151,27 @@ left-holds n s name locks own h =
       };
     }
 
-rolled-holds : (n : ℕ) (s : State) (name : List ℕ) (locks : List Entry) → AreOwned s locks → Holds n s → Holds (n + 1) (record s { sessions = with_session name with_next_unit s.sessions; locks = locks })
-rolled-holds n s name locks own h =
+-- where no session lost a lock, a rollback opens the next unit as a commit does
+fresh_is_next : (name : List ℕ) (xs : List Session) → NoneLost xs → with_session name with_fresh_unit xs ≡ with_session name with_next_unit xs
+fresh_is_next name [] k = refl
+fresh_is_next name (x ∷ xs) k =
+    elim (is_called name x) as (λ b. cond b (with_fresh_unit x ∷ xs) (x ∷ with_session name with_fresh_unit xs) ≡ cond b (with_next_unit x ∷ xs) (x ∷ with_session name with_next_unit xs)) [
+      | true ↦ λ i. record (with_next_unit x) { lost = sym k.0 i } ∷ xs
+      | false ↦ ap (λ ys. x ∷ ys) (fresh_is_next name xs k.1)
+    ]
+
+next-holds : (n : ℕ) (s : State) (name : List ℕ) (locks : List Entry) → AreOwned s locks → Holds n s → Holds (n + 1) (record s { sessions = with_session name with_next_unit s.sessions; locks = locks })
+next-holds n s name locks own h =
     let few = few_more n s h.few in
     let steady = h.steady in
     let fresh = fresh_next s name steady.fresh in
     record {
-      few = record { sessions = few.sessions; units = young_next (n + 1) name s.sessions h.few.units };
+      few = record { sessions = few.sessions; units = young_next with_next_unit (λ x. refl) (n + 1) name s.sessions h.few.units };
       steady = record {
         started = steady.started;
         limited = steady.limited;
         server = steady.server;
+        whole = whole_with with_next_unit (λ x k. k) name s.sessions steady.whole;
         settled = steady.settled;
         fresh = record { numbered = fresh.numbered; ahead = fresh.ahead; later = fresh.later };
         places = steady.places;
@@ -166,6 +179,10 @@ rolled-holds n s name locks own h =
         owned = owned_next s.stored s.next_session name s.sessions locks own;
       };
     }
+
+rolled-holds : (n : ℕ) (s : State) (name : List ℕ) (locks : List Entry) → AreOwned s locks → Holds n s → Holds (n + 1) (record s { sessions = with_session name with_fresh_unit s.sessions; locks = locks })
+rolled-holds n s name locks own h =
+    subst (λ xs. Holds (n + 1) (record s { sessions = xs; locks = locks })) (sym (fresh_is_next name s.sessions h.steady.whole)) (next-holds n s name locks own h)
 
 -- the session that commits is the one of that name
 commit-holds : (n : ℕ) (s : State) (name : List ℕ) (x : Session) (parts : Parts) → find (is_called name) s.sessions ≡ Some x → name ≡ x.name → Holds n s → Holds (n + 1) (committed s x parts)
@@ -183,11 +200,12 @@ commit-holds n s name x parts found same h =
     (owned_by s (handed_over s.locks key) (λ Q k. every_handed Q s.locks key k) steady) in
     let fresh = fresh_committed s unit x.name x found' refl steady.fresh in
     record {
-      few = record { sessions = few.sessions; units = young_next (n + 1) x.name s.sessions h.few.units };
+      few = record { sessions = few.sessions; units = young_next with_next_unit (λ x. refl) (n + 1) x.name s.sessions h.few.units };
       steady = record {
         started = steady.started;
         limited = steady.limited;
         server = steady.server;
+        whole = whole_with with_next_unit (λ x k. k) x.name s.sessions steady.whole;
         settled = steady.settled;
         fresh = record { numbered = fresh.numbered; ahead = fresh.ahead; later = fresh.later };
         places = steady.places;
@@ -196,21 +214,15 @@ commit-holds n s name x parts found same h =
       };
     }
 
-committing-holds : (n : ℕ) (s : State) (name : List ℕ) (x : Session) (parts : Parts) (large none : Bool) → find (is_called name) s.sessions ≡ Some x → name ≡ x.name → IsModest n s (if large then Refuses refusal.UnitTooLarge else (if none then Leaves s reply.Done else with_room s (Leaves (committed s x parts) (reply.Unit (unit_key s.stored.start x)))))
-committing-holds n s name x parts true none found same h = holds_more n s h
-committing-holds n s name x parts false true found same h = holds_more n s h
-committing-holds n s name x parts false false found same h =
-    by_room (λ v. Holds (n + 1) (judged s v).state) s (Leaves (committed s x parts) (reply.Unit (unit_key s.stored.start x))) (holds_more n s h) (commit-holds n s name x parts found same h)
-
 -- ---- the locks of a session's calls
 
-ask-owned : (s : State) (name : List ℕ) (x : Session) (rs : List Request) → find (is_called name) s.sessions ≡ Some x → IsSteady s → Allows (AreOwned s) (asked (record { entries = s.locks; limit = s.limit }) (pair_of s.stored.start x) x.user rs)
-ask-owned s name x rs found steady =
+granted-owned : (s : State) (name : List ℕ) (x : Session) (rs : List Request) → find (is_called name) s.sessions ≡ Some x → IsSteady s → Allows (AreOwned s) (asked (table_in s) (pair_of s.stored.start x) x.user rs)
+granted-owned s name x rs found steady =
     let pair = pair_of s.stored.start x in
     let below = number_below s.next_session name x s.sessions found steady.fresh.numbered in
     let start = s.stored.start in
     let own = steady.owned in
-    asked_allows (AreOwned s) (record { entries = s.locks; limit = s.limit }) pair x.user rs (record {
+    asked_allows (AreOwned s) (table_in s) pair x.user rs (record {
       known = every_granted (λ owner user. IsKnown start s.next_session owner) s.locks x.user pair rs (known_dialogue start s.next_session x below) (known_update start s.next_session x below) own.known;
       users = every_granted (HasItsUser start s.sessions) s.locks x.user pair rs
           (one_number start s.next_session name x pair.dialogue s.sessions (only_dialogue start x) found steady.fresh.numbered)
@@ -220,11 +232,15 @@ ask-owned s name x rs found steady =
       stored_users = own.stored_users;
     })
 
-convert-owned : (s : State) (x : Session) (asked : List Asked) → IsSteady s → Allows (λ (c : Conversion). AreOwned s c.entries) (converted s.locks (pair_of s.stored.start x) asked)
-convert-owned s x asked steady =
+-- what holds of what a rule allows holds of what it gives
+pub allowed : {X : Type 0} (Q : X → Type 0) (r : Result X AskFault) (x : X) → Allows Q r → r ≡ Ok x → Q x
+allowed Q r x h e = subst (Allows Q) e h
+
+converted-owned : (s : State) (x : Session) (wanted : List Asked) → IsSteady s → Allows (λ (c : Conversion). AreOwned s c.entries) (converted s.locks (pair_of s.stored.start x) wanted)
+converted-owned s x wanted steady =
     let pair = pair_of s.stored.start x in
-    converted_allows (λ (c : Conversion). AreOwned s c.entries) s.locks pair asked
-    (owned_by s (conversion s.locks pair asked).entries (λ Q k. every_conversion Q s.locks pair asked k) steady)
+    converted_allows (λ (c : Conversion). AreOwned s c.entries) s.locks pair wanted
+    (owned_by s (conversion s.locks pair wanted).entries (λ Q k. every_conversion Q s.locks pair wanted k) steady)
 
 both-owned : (s : State) (x : Session) → IsSteady s → AreOwned s (freed_owner (freed_owner s.locks (pair_of s.stored.start x).dialogue) (pair_of s.stored.start x).update)
 both-owned s x steady =
@@ -232,39 +248,14 @@ both-owned s x steady =
     owned_by s (freed_owner (freed_owner s.locks pair.dialogue) pair.update)
     (λ Q k. every_freed_owner Q (freed_owner s.locks pair.dialogue) pair.update (every_freed_owner Q s.locks pair.dialogue k)) steady
 
-session-holds : (n : ℕ) (s : State) (name : List ℕ) (x : Session) (c : Command) → find (is_called name) s.sessions ≡ Some x → name ≡ x.name → IsModest n s (session_call s x c)
-session-holds n s name x (command.Logon session user) found same h = holds_more n s h
-session-holds n s name x (command.Logoff session) found same h = left-holds n s x.name _ (both-owned s x h.steady) h
-session-holds n s name x (command.Ask session requests) found same h = granting-holds n s _ (ask-owned s name x requests found h.steady) h
-session-holds n s name x (command.Free session requests) found same h =
-    let names = halves (pair_of s.stored.start x) requests in
-    holds_locks n s _ (owned_by s (fold freed s.locks names) (λ Q k. every_freed Q s.locks names k) h.steady) h
-session-holds n s name x (command.FreeAll session) found same h = holds_locks n s _ (both-owned s x h.steady) h
-session-holds n s name x (command.Convert session asked) found same h = converting-holds n s _ (convert-owned s x asked h.steady) h
-session-holds n s name x (command.Rollback session) found same h =
-    let update = (pair_of s.stored.start x).update in
-    rolled-holds n s x.name _ (owned_by s (freed_owner s.locks update) (λ Q k. every_freed_owner Q s.locks update k) h.steady) h
-session-holds n s name x (command.Commit session parts) found same h = committing-holds n s name x parts _ _ found same h
-session-holds n s name x (command.Take1 worker) found same h = holds_more n s h
-session-holds n s name x (command.Do1 worker) found same h = holds_more n s h
-session-holds n s name x (command.Take2 worker) found same h = holds_more n s h
-session-holds n s name x (command.Do2 worker) found same h = holds_more n s h
-session-holds n s name x (command.DropOrder worker) found same h = holds_more n s h
-session-holds n s name x (command.Cancel unit) found same h = holds_more n s h
-session-holds n s name x (command.Resubmit unit) found same h = holds_more n s h
-
-call-holds : (n : ℕ) (s : State) (name : List ℕ) (c : Command) → IsModest n s (call_of s name c)
-call-holds n s name c =
-    elim (session_at s.sessions name) as (λ o. session_at s.sessions name ≡ o → IsModest n s (elim o [ None ↦ Refuses refusal.UnknownSession | Some x ↦ session_call s x c ])) [
-      | None ↦ λ e. holds_more n s
-      | Some x ↦ λ e. session-holds n s name x c e (sym (bytes_eq-same _ _ (found_name name s.sessions x e)))
-    ] refl
+named : (s : State) (name : List ℕ) (x : Session) → session_at s.sessions name ≡ Some x → name ≡ x.name
+named s name x at = sym (bytes_eq-same _ _ (found_name name s.sessions x at))
 
 entered-holds : (n : ℕ) (s : State) (name user : List ℕ) → Holds n s → Holds (n + 1) (entered s name user)
 entered-holds n s name user h =
     let few = few_more n s h.few in
     let steady = h.steady in
-    let y : Session = record { name = name; user = user; number = s.next_session; luw = 1 } in
+    let y : Session = begun name user s.next_session in
     let fresh = fresh_entered s y refl steady.fresh in
     record {
       few = record { sessions = omega (arith, h.few.sessions); units = young_push (n + 1 + 1) s.sessions y few.units (omega arith) };
@@ -272,6 +263,7 @@ entered-holds n s name user h =
         started = steady.started;
         limited = steady.limited;
         server = steady.server;
+        whole = whole_push s.sessions y steady.whole refl;
         settled = steady.settled;
         fresh = record { numbered = fresh.numbered; ahead = fresh.ahead; later = fresh.later };
         places = steady.places;
@@ -279,11 +271,6 @@ entered-holds n s name user h =
         owned = owned_entered s.stored s.sessions y s.locks steady.owned;
       };
     }
-
-logon-holds : (n : ℕ) (s : State) (name user : List ℕ) (known full : Bool) → IsModest n s (if known then Refuses refusal.SessionExists else (if full then Refuses refusal.SessionsFull else Leaves (entered s name user) reply.Done))
-logon-holds n s name user true full h = holds_more n s h
-logon-holds n s name user false true h = holds_more n s h
-logon-holds n s name user false false h = entered-holds n s name user h
 
 -- ---- orders
 
@@ -296,25 +283,21 @@ not_yes : (b : Bool) → not b ≡ true → b ≡ false
 not_yes true h = cc
 not_yes false h = refl
 
-taking-holds : (n part : ℕ) (s : State) (worker : ℕ) (o : Option UnitKey) → first_unclaimed s.orders (waiting_for part s.stored) ≡ o → IsModest n s (taking s worker o)
-taking-holds n part s worker None e h = holds_more n s h
-taking-holds n part s worker (Some unit) e h =
+taken-holds : (n part : ℕ) (s : State) (worker : ℕ) (unit : UnitKey) → first_unclaimed s.orders (waiting_for part s.stored) ≡ Some unit → Holds n s → Holds (n + 1) (taken s worker unit)
+taken-holds n part s worker unit e h =
     let steady = h.steady in
     let found = found_all (IsWaiting s.stored) (λ key. not (is_claimed s.orders key)) (waiting_for part s.stored) unit e (all_waiting part s.stored) in
     holds_orders n s worker (Some unit) (record {
       started = steady.started;
       limited = steady.limited;
       server = steady.server;
+      whole = steady.whole;
       settled = steady.settled;
       fresh = record { numbered = steady.fresh.numbered; ahead = steady.fresh.ahead; later = steady.fresh.later };
       places = length-set s.orders worker (Some unit) ∙ steady.places;
       orders = orders_with s.stored s.orders worker unit steady.orders found.0 (not_yes (is_claimed s.orders unit) found.1);
       owned = steady.owned;
     }) h
-
-take-holds : (n part : ℕ) (s : State) (worker : ℕ) (o : Option UnitKey) → IsModest n s (elim o [ Some unit ↦ Refuses (refusal.WorkerBusy unit) | None ↦ taking s worker (first_unclaimed s.orders (waiting_for part s.stored)) ])
-take-holds n part s worker None h = taking-holds n part s worker _ refl h
-take-holds n part s worker (Some unit) h = holds_more n s h
 
 dropped-holds : (n : ℕ) (s : State) (worker : ℕ) → Holds n s → Holds (n + 1) (record s { orders = without_order s.orders worker })
 dropped-holds n s worker h =
@@ -323,6 +306,7 @@ dropped-holds n s worker h =
       started = steady.started;
       limited = steady.limited;
       server = steady.server;
+      whole = steady.whole;
       settled = steady.settled;
       fresh = record { numbered = steady.fresh.numbered; ahead = steady.fresh.ahead; later = steady.fresh.later };
       places = length-set s.orders worker None ∙ steady.places;
@@ -350,6 +334,7 @@ marked-holds n part s worker unit kind e h =
         started = steady.started;
         limited = steady.limited;
         server = steady.server;
+        whole = steady.whole;
         settled = steady.settled;
         fresh = record { numbered = fresh.numbered; ahead = fresh.ahead; later = fresh.later };
         places = length-set s.orders worker None ∙ steady.places;
@@ -357,16 +342,6 @@ marked-holds n part s worker unit kind e h =
         owned = behind_marked s part unit kind held.1 steady.owned;
       };
     }
-
-post-holds : (n part : ℕ) (come : ℕ → UnitKey → Outcome) (s : State) (worker : ℕ) (o : Option UnitKey) → order_for part s.stored s.orders worker ≡ o → IsModest n s (elim o [ None ↦ Refuses refusal.NoOrder | Some unit ↦ with_room s (posting part s worker unit (come part unit)) ])
-post-holds n part come s worker None e h = holds_more n s h
-post-holds n part come s worker (Some unit) e h =
-    by_room (λ v. Holds (n + 1) (judged s v).state) s (posting part s worker unit (come part unit)) (holds_more n s h)
-    (marked-holds n part s worker unit (kind_for part (come part unit)) e h)
-
-drop-holds : (n : ℕ) (s : State) (worker : ℕ) (o : Option UnitKey) → IsModest n s (elim o [ None ↦ Refuses refusal.NoOrder | Some unit ↦ Leaves (record s { orders = without_order s.orders worker }) (reply.Unit unit) ])
-drop-holds n s worker None h = holds_more n s h
-drop-holds n s worker (Some unit) h = dropped-holds n s worker h
 
 -- ---- cancelling
 
@@ -389,6 +364,7 @@ cancelled-holds n s unit status can h =
         started = steady.started;
         limited = steady.limited;
         server = steady.server;
+        whole = steady.whole;
         settled = steady.settled;
         fresh = record { numbered = fresh.numbered; ahead = fresh.ahead; later = fresh.later };
         places = steady.places;
@@ -419,6 +395,7 @@ reopened-holds n s unit es here own h =
         started = steady.started;
         limited = steady.limited;
         server = steady.server;
+        whole = steady.whole;
         settled = steady.settled;
         fresh = record { numbered = fresh.numbered; ahead = fresh.ahead; later = fresh.later };
         places = steady.places;
@@ -438,6 +415,7 @@ reposted-holds n s unit here h =
         started = steady.started;
         limited = steady.limited;
         server = steady.server;
+        whole = steady.whole;
         settled = steady.settled;
         fresh = record { numbered = fresh.numbered; ahead = fresh.ahead; later = fresh.later };
         places = steady.places;
@@ -452,41 +430,34 @@ back-owned s unit es good stand own =
     subst (IsOwned (with_mark s.stored unit Again1) s.next_session s.sessions) (sym (readmitted_is (table_in s) (owners_of unit) (entries_of s.stored.units unit) es stand))
     (owned_back s.stored s.next_session s.sessions s.locks unit good own)
 
-resubmit-holds : (n : ℕ) (s : State) (unit : UnitKey) → AllByRecursion HasGoodLocks s.stored.units → IsModest n s (resubmit s unit)
-resubmit-holds n s unit good =
-    by_resubmit (IsModest n s) s unit (λ r plain h. holds_more n s h)
-    (λ es here stand h. reopened-holds n s unit es here (back-owned s unit es good stand h.steady.owned) h)
-    (λ here h. reposted-holds n s unit here h)
-
 -- ---- all calls
 
-own-holds : (n : ℕ) (come : ℕ → UnitKey → Outcome) (s : State) (c : Command) → HasSoundLocks s → IsModest n s (own_verdict come s c)
-own-holds n come s (command.Logon session user) sound = logon-holds n s session user _ _
-own-holds n come s (command.Logoff session) sound = call-holds n s session (command.Logoff session)
-own-holds n come s (command.Ask session requests) sound = call-holds n s session (command.Ask session requests)
-own-holds n come s (command.Free session requests) sound = call-holds n s session (command.Free session requests)
-own-holds n come s (command.FreeAll session) sound = call-holds n s session (command.FreeAll session)
-own-holds n come s (command.Convert session asked) sound = call-holds n s session (command.Convert session asked)
-own-holds n come s (command.Rollback session) sound = call-holds n s session (command.Rollback session)
-own-holds n come s (command.Commit session parts) sound = call-holds n s session (command.Commit session parts)
-own-holds n come s (command.Take1 worker) sound = take-holds n 1 s worker (order_of s.orders worker)
-own-holds n come s (command.Do1 worker) sound = post-holds n 1 come s worker (order_for 1 s.stored s.orders worker) refl
-own-holds n come s (command.Take2 worker) sound = take-holds n 2 s worker (order_of s.orders worker)
-own-holds n come s (command.Do2 worker) sound = post-holds n 2 come s worker (order_for 2 s.stored s.orders worker) refl
-own-holds n come s (command.DropOrder worker) sound = drop-holds n s worker (order_of s.orders worker)
-own-holds n come s (command.Cancel unit) sound =
-    by_cancel (IsModest n s) s unit (λ r plain h. holds_more n s h) (λ status can h. cancelled-holds n s unit status can h)
-own-holds n come s (command.Resubmit unit) sound = resubmit-holds n s unit sound.stored
+each-holds : (n : ℕ) (found : Found) (s : State) → HasSoundLocks s → Holds n s → OfEach (λ call v. Holds (n + 1) (judged s v).state) found s
+each-holds n found s sound h = record {
+  refuses = λ call r plain. holds_more n s h;
+  enters = λ name user free. entered-holds n s name user h;
+  logs_off = λ name x at. left-holds n s x.name _ (both-owned s x h.steady) h;
+  grants = λ name x rs locks at e. holds_locks n s locks (allowed (AreOwned s) _ locks (granted-owned s name x rs at h.steady) e) h;
+  lowers = λ name x rs at.
+      let names = halves (pair_of s.stored.start x) rs in
+      holds_locks n s _ (owned_by s (fold freed s.locks names) (λ Q k. every_freed Q s.locks names k) h.steady) h;
+  frees = λ name x at. holds_locks n s _ (both-owned s x h.steady) h;
+  converts = λ name x wanted c at e. holds_locks n s c.entries (allowed (λ (c : Conversion). AreOwned s c.entries) _ c (converted-owned s x wanted h.steady) e) h;
+  reads = λ name x table key at. holds_more n s h;
+  commits_nothing = λ name x parts at. holds_more n s h;
+  commits = λ name x parts at. commit-holds n s name x parts at (named s name x at) h;
+  rolls_back = λ name x at.
+      let update = (pair_of s.stored.start x).update in
+      rolled-holds n s x.name _ (owned_by s (freed_owner s.locks update) (λ Q k. every_freed_owner Q s.locks update k) h.steady) h;
+  takes = λ worker part unit free e. taken-holds n part s worker unit e h;
+  posts = λ worker part unit e. marked-holds n part s worker unit (kind_for part (found.part part unit)) e h;
+  drops = λ worker unit e. dropped-holds n s worker h;
+  cancels = λ unit status can. cancelled-holds n s unit status can h;
+  reopens = λ unit es here stand. reopened-holds n s unit es here (back-owned s unit es sound.stored stand h.steady.owned) h;
+  reposts = λ unit here. reposted-holds n s unit here h;
+}
 
-unless-holds : (n : ℕ) (s : State) (o : Option Refusal) (v : Verdict) → IsModest n s v → IsModest n s (unless_closed o v)
-unless-holds n s None v h = h
-unless-holds n s (Some r) v h = holds_more n s
-
-verdict-holds : (n : ℕ) (come : ℕ → UnitKey → Outcome) (s : State) (c : Command) → HasSoundLocks s → IsModest n s (verdict come s c)
-unfolding verdict
-verdict-holds n come s c sound = unless-holds n s (closed s) (own_verdict come s c) (own-holds n come s c sound)
-
-doubted-holds : (n : ℕ) (s : State) (pending : Ledger) → Holds n s → Holds (n + 1) (doubted s pending)
+doubted-holds : (n : ℕ) (s : State) (pending : Option Ledger) → Holds n s → Holds (n + 1) (doubted s pending)
 doubted-holds n s pending h =
     let few = few_more n s h.few in
     let steady = h.steady in
@@ -496,6 +467,7 @@ doubted-holds n s pending h =
         started = steady.started;
         limited = steady.limited;
         server = tt;
+        whole = steady.whole;
         settled = tt;
         fresh = record { numbered = steady.fresh.numbered; ahead = steady.fresh.ahead; later = steady.fresh.later };
         places = steady.places;
@@ -504,15 +476,11 @@ doubted-holds n s pending h =
       };
     }
 
-failed-holds : (n : ℕ) (s : State) (v : Verdict) → Holds n s → Holds (n + 1) (failed s v).state
-failed-holds n s (Refuses r) h = holds_more n s h
-failed-holds n s (Leaves after r) h = doubted-holds n s after.stored h
-
 pub served-holds : (n : ℕ) (o : DeviceOutcome) (s : State) (c : Command) → HasSoundLocks s → Holds n s → Holds (n + 1) (served o s c).state
-served-holds n Well s c sound h = verdict-holds n (outcome_in s.stored) s c sound h
-served-holds n Wanting s c sound h = holds_more n s h
-served-holds n (Comes o) s c sound h = verdict-holds n (λ part unit. o) s c sound h
-served-holds n StoreFails s c sound h = failed-holds n s (verdict (outcome_in s.stored) s c) h
+served-holds n o s c sound h =
+    by_event (λ r. Holds (n + 1) r.state) o s c
+    (λ found. by_call (λ call v. Holds (n + 1) (judged s v).state) found s (each-holds n found s sound h) _) (holds_more n s h)
+    (λ pending. doubted-holds n s pending h)
 
 below_limit : (n : ℕ) → nat_le 262144 n ≡ false → n + 1 ≤ 262144
 below_limit n h = grind (arith, nat_tests)
@@ -528,11 +496,11 @@ full_or P true f g = f refl
 full_or P false f g = g refl
 
 -- a call is served only where the history has room
-pub has_room : (s : State) → closed s ≡ None → is_full s ≡ false
+pub has_room : (s : State) → barred s ≡ None → is_full s ≡ false
 has_room s room =
     full_or _ (is_full s)
     (λ full.
-    let shut : closed s ≡ Some refusal.LogFull = ap (λ b. if b then Some refusal.LogFull else elim s.condition [ condition.Up ↦ None | condition.NoServer ↦ None | condition.Doubt k ↦ Some (refusal.Down k) ]) full in
+    let shut : barred s ≡ Some refusal.LogFull = shut_by_history s full in
     cc)
     (λ e. e)
 
@@ -546,6 +514,7 @@ with_past n s past h =
         started = steady.started;
         limited = steady.limited;
         server = steady.server;
+        whole = steady.whole;
         settled = steady.settled;
         fresh = record { numbered = steady.fresh.numbered; ahead = steady.fresh.ahead; later = steady.fresh.later };
         places = steady.places;
@@ -555,17 +524,18 @@ with_past n s past h =
     }
 
 -- a call with room for it in the history
-pub kept_call : (s : State) (line : ℕ) (c : Command) (after : State) (r : Reply) → IsKept s → is_full s ≡ false → IsAct s c after r → IsKept (record after { past = after.past ++ past_entry line c (record { state = after; reply = r }) ∷ [] })
+pub kept_call : (s : State) (line : ℕ) (c : Command) (after : State) (r : Reply) → IsKept s → is_full s ≡ false → IsAct s c after r → IsKept (with_entry line c (record { state = after; reply = r }))
 kept_call s line c after r kept room act =
     let before : Holds (length s.past) s = record { few = kept.few; steady = kept.steady } in
-    let holds : Holds (length s.past + 1) after = subst (λ x. Holds (length s.past + 1) x.state) act.same (served-holds (length s.past) (shown r) s c kept.sound before) in
-    let sound : HasSoundLocks after = subst (λ x. HasSoundLocks x.state) act.same (served-sound (shown r) s c kept.sound) in
-    let past : after.past ≡ s.past = ap (λ x. x.state.past) (sym act.same) ∙ served-past (shown r) s c in
-    let longer : length (after.past ++ past_entry line c (record { state = after; reply = r }) ∷ []) ≡ length s.past + 1 = length-append after.past (past_entry line c (record { state = after; reply = r }) ∷ []) ∙ ap (λ p. length p + 1) past in
-    let whole = with_past (length s.past + 1) after (after.past ++ past_entry line c (record { state = after; reply = r }) ∷ []) holds in
+    let holds : Holds (length s.past + 1) after = subst (λ x. Holds (length s.past + 1) x.state) act.same (served-holds (length s.past) act.outcome s c kept.sound before) in
+    let sound : HasSoundLocks after = subst (λ x. HasSoundLocks x.state) act.same (served-sound act.outcome s c kept.sound) in
+    let past : after.past ≡ s.past = ap (λ x. x.state.past) (sym act.same) ∙ served-past act.outcome s c in
+    let t : State = with_entry line c (record { state = after; reply = r }) in
+    let longer : length t.past ≡ length s.past + 1 = length-append after.past _ ∙ ap (λ es. length es + 1) past in
+    let whole = with_past (length s.past + 1) after t.past holds in
     record {
       within = subst (λ n. n ≤ 262144) (sym longer) (below_limit (length s.past) room);
-      few = subst (λ n. HasFew n (record after { past = after.past ++ past_entry line c (record { state = after; reply = r }) ∷ [] })) (sym longer) whole.few;
+      few = subst (λ n. HasFew n t) (sym longer) whole.few;
       steady = whole.steady;
       sound = over_table sound.stored sound.table;
     }

@@ -21,10 +21,10 @@ use Rattle.hall.specs.Acts.{OnAnswer, OnFailure, written_condition, written_pend
 use Rattle.hall.specs.Kept.{WhileUp}
 use Rattle.hall.specs.Leaving.{HasStoreCause, KeepsStore, LeavesWritten, StandForLanded, StandForPending, StandForWritten}
 use Rattle.hall.specs.State.{State}
-use Rattle.hall.specs.Step.{closed, is_full, posted_reply}
+use Rattle.hall.specs.Step.{barred, is_full, posted_reply}
 use Rattle.hall.specs.declared.command.Reply.{Reply}
 use Rattle.hall.specs.declared.command.Reply.TheVariants as reply
-use Rattle.hall.proofs.Cancels.{IsPlainRefusal}
+use Rattle.hall.proofs.Plain.{IsPlain}
 use Rattle.hall.specs.declared.units.Written.{Written}
 use Rattle.hall.specs.declared.units.Written.TheVariants.{Answered, Failed}
 
@@ -40,8 +40,8 @@ shut_quiet false condition.NoServer r n m h e = cc
 shut_quiet false (condition.Doubt call) r n m h e = subst (λ x. HasStoreCause n m (reply.Refused x)) (same_of (refusal.Down call) r e) h
 
 -- a call that isn't served leaves the count of faults
-pub closed_quiet : (s : State) (r : Refusal) (n m : ℕ) → m ≡ n → closed s ≡ Some r → HasStoreCause n m (reply.Refused r)
-closed_quiet s r n m h shut = shut_quiet (is_full s) s.condition r n m h shut
+pub barred_quiet : (s : State) (r : Refusal) (n m : ℕ) → m ≡ n → barred s ≡ Some r → HasStoreCause n m (reply.Refused r)
+barred_quiet s r n m h shut = shut_quiet (is_full s) s.condition r n m h shut
 
 -- ---- a call that writes the store
 
@@ -62,7 +62,7 @@ told_too (Some rows) (Some other) P e h = h
 
 lands : (before : Option Rows) (may_leave : Rows → Type 0) (old : Ledger) (said : Step) (change : InFlight) → IfSome before (λ _. after_step old said ≡ landed old change)
     → IfSome before (λ _. (left : Rows) → may_leave left → StandForEither left old said)
-    → IfSome before (λ _. (left : Rows) → may_leave left → StandForLanded left old change)
+    → IfSome before (λ _. (left : Rows) → may_leave left → StandForLanded left old (Some change))
 lands None may_leave old said change is h = tt
 lands (Some rows) may_leave old said change is h = λ left may. subst (λ l. StandFor left old ⊎ StandFor left l) is (h left may)
 
@@ -73,20 +73,20 @@ where_told (Some rows) P h = h
 -- a write that failed
 pub failed_leaves : (held before : Option Rows) (may_leave : Rows → Type 0) (ledger old : Ledger) (said : Step) (change : InFlight) → is_some held ≡ is_some before → ledger ≡ old → IfSome before (λ _. after_step old said ≡ landed old change)
     → IfSome before (λ _. (left : Rows) → may_leave left → StandForEither left old said)
-    → IfSome held (λ _. (left : Rows) → may_leave left → StandForLanded left ledger change)
+    → IfSome held (λ _. (left : Rows) → may_leave left → StandForLanded left ledger (Some change))
 failed_leaves held before may_leave ledger old said change told kept is h =
-    told_too held before ((left : Rows) → may_leave left → StandForLanded left ledger change) told
-    (subst (λ l. IfSome before (λ _. (left : Rows) → may_leave left → StandForLanded left l change)) (sym kept) (lands before may_leave old said change is h))
+    told_too held before ((left : Rows) → may_leave left → StandForLanded left ledger (Some change)) told
+    (subst (λ l. IfSome before (λ _. (left : Rows) → may_leave left → StandForLanded left l (Some change))) (sym kept) (lands before may_leave old said change is h))
 
-before_change : (before : Option Rows) (may_leave was : Rows → Type 0) (ledger old : Ledger) (change : InFlight) → ledger ≡ old → IsWithin may_leave was
+before_change : (before : Option Rows) (may_leave was : Rows → Type 0) (ledger old : Ledger) (change : Option InFlight) → ledger ≡ old → IsWithin may_leave was
     → IfSome before (λ _. (left : Rows) → was left → StandFor left old)
     → IfSome before (λ _. (left : Rows) → may_leave left → StandForLanded left ledger change)
 before_change None may_leave was ledger old change kept within h = tt
 before_change (Some rows) may_leave was ledger old change kept within h =
     λ left may. inl (subst (StandFor left) (sym kept) (h left (within left may)))
 
--- a read that failed before the write
-pub unread_leaves : (held before : Option Rows) (may_leave was : Rows → Type 0) (ledger old : Ledger) (change : InFlight) → is_some held ≡ is_some before → ledger ≡ old → IsWithin may_leave was
+-- a read that failed, before the write or without one
+pub unread_leaves : (held before : Option Rows) (may_leave was : Rows → Type 0) (ledger old : Ledger) (change : Option InFlight) → is_some held ≡ is_some before → ledger ≡ old → IsWithin may_leave was
     → IfSome before (λ _. (left : Rows) → was left → StandFor left old)
     → IfSome held (λ _. (left : Rows) → may_leave left → StandForLanded left ledger change)
 unread_leaves held before may_leave was ledger old change told kept within h =
@@ -99,8 +99,8 @@ posted_quiet part unit (outcome.Refused index reason) n m h =
     elim (nat_eq part 1) as (λ b. HasStoreCause n m (if b then reply.Bad unit index reason else reply.Bad2 unit index reason)) [ true ↦ h | false ↦ h ]
 
 -- a refusal that shows no failure leaves the count of faults
-pub plain_quiet : (r : Refusal) (n m : ℕ) → m ≡ n → IsPlainRefusal r → HasStoreCause n m (reply.Refused r)
-plain_quiet refusal.StoreFault n m h plain = let well = plain.well in absurd (cc)
+pub plain_quiet : (r : Refusal) (n m : ℕ) → m ≡ n → IsPlain r → HasStoreCause n m (reply.Refused r)
+plain_quiet refusal.StoreFault n m h plain = absurd (cc)
 plain_quiet _ n m h plain = h
 
 -- a refusal before anything was written
@@ -113,6 +113,7 @@ untouched_keeps held may_leave k r = refused_keeps held may_leave k k r refl (λ
 
 pub same_keeps : {K : Type 0} (held : K → Option Rows) (may_leave : K → Rows → Type 0) (old new : K) (r : Reply) → new ≡ old → KeepsStore held may_leave old new r
 same_keeps held may_leave old new (reply.Refused r) is = subst (λ k. KeepsStore held may_leave old k (reply.Refused r)) (sym is) (untouched_keeps held may_leave old r)
+same_keeps held may_leave old new (reply.Row text) is = subst (λ k. KeepsStore held may_leave old k (reply.Row text)) (sym is) (refl, λ rows may. may)
 same_keeps held may_leave old new _ is = tt
 
 -- a part that was tried isn't refused by the call

@@ -1,32 +1,23 @@
 -- Who is logged on: a call leaves the sessions logged on, but for the one that it logs off.
-use Rattle.std.proofs.Common.{◌≡◌, inl, inr, ℕ, Bool, true, false, true≢false, cond, List, [], ◌∷◌, ◌++◌, refl, sym, ap, ◌∙◌}
-use Rattle.std.specs.Prelude.{if◌then◌else◌, IsTrue, Option, Some, None, is_some, Result, Ok, Err}
+use Rattle.std.proofs.Common.{◌≡◌, inl, inr, ℕ, Bool, true, false, true≢false, cond, List, [], ◌∷◌, ◌++◌, refl, sym, ap, ◌∙◌, subst}
+use Rattle.std.specs.Prelude.{IsTrue, Some, is_some}
 use Rattle.std.specs.Cmp.Lexicographic.{bytes_decides}
 use Rattle.std.specs.Str.{bytes_eq}
 use Rattle.std.proofs.lemmas.Bool.{cases_Bool}
-use Rattle.enq_base.specs.declared.owner.UnitKey.{UnitKey}
-use Rattle.enq_base.specs.declared.refusal.Refusal.{Refusal}
-use Rattle.enq_base.specs.declared.refusal.Refusal.TheVariants as refusal
-use Rattle.enq_base.specs.declared.unit.Parts.{Parts}
-use Rattle.lock_entry.specs.Converting.{Conversion}
-use Rattle.lock_entry.specs.declared.entry.Entry.{Entry}
-use Rattle.lock_entry.specs.declared.fault.AskFault.{AskFault}
-use Rattle.posting.specs.declared.prepared.Outcome.{Outcome}
-use Rattle.hall.specs.Coming.{outcome_in}
-use Rattle.hall.proofs.Calls.{by_room}
-use Rattle.hall.proofs.Cancels.{by_cancel}
-use Rattle.hall.proofs.Resubmissions.{by_resubmit}
+use Rattle.hall.proofs.ByCall.{OfEach, by_call, by_event}
+use Rattle.hall.proofs.Frames.{by_noting}
 use Rattle.hall.proofs.Fresh.{found_name}
 use Rattle.hall.specs.declared.command.Command.{Command}
 use Rattle.hall.specs.declared.command.Command.TheVariants as command
 use Rattle.hall.specs.declared.command.Reply.{Reply}
 use Rattle.hall.specs.declared.command.Reply.TheVariants as reply
 use Rattle.hall.specs.declared.command.Session.{Session}
-use Rattle.hall.specs.History.{DeviceOutcome, IsStep, Well, Wanting, StoreFails, Comes, Served, failed, is_unrecorded, judged, past_entry, served, step}
-use Rattle.hall.specs.Orders.{order_for, order_of, without_order}
-use Rattle.hall.specs.Sessions.{is_called, session_at, unit_key, with_next_unit, with_session, without_session}
+use Rattle.hall.specs.Calls.{Call, LogsOn, OfSession, OfWorker, OfAdmin, LogsOff, call_of}
+use Rattle.hall.specs.Devices.{DeviceOutcome}
+use Rattle.hall.specs.History.{IsStep, Served, judged, served, step}
+use Rattle.hall.specs.Sessions.{begun, is_called, session_at, with_fresh_unit, with_next_unit, with_session, without_session}
 use Rattle.hall.specs.State.{State}
-use Rattle.hall.specs.Step.{Verdict, Refuses, Leaves, call_of, closed, committed, converting, entered, granting, own_verdict, posting, session_call, taking, unless_closed, verdict, with_room}
+use Rattle.hall.specs.Step.{Found, Leaves, logged_off}
 
 abbrev pub IsLoggedOn : List Session → List ℕ → Type 0
 IsLoggedOn sessions name = IsTrue (is_some (session_at sessions name))
@@ -72,177 +63,116 @@ logged_without name (x ∷ xs) n other h =
           ] h)
     ]
 
-logged_with : (name : List ℕ) (xs : List Session) (n : List ℕ) → IsLoggedOn xs n → IsLoggedOn (with_session name with_next_unit xs) n
-logged_with name [] n h = h
-logged_with name (x ∷ xs) n h =
-    elim (is_called name x) as (λ b. IsLoggedOn (cond b (with_next_unit x ∷ xs) (x ∷ with_session name with_next_unit xs)) n) [
+-- a change that leaves the names
+logged_with : (change : Session → Session) → ((m : List ℕ) (x : Session) → is_called m (change x) ≡ is_called m x) → (name : List ℕ) (xs : List Session) (n : List ℕ) → IsLoggedOn xs n → IsLoggedOn (with_session name change xs) n
+logged_with change own name [] n h = h
+logged_with change own name (x ∷ xs) n h =
+    elim (is_called name x) as (λ b. IsLoggedOn (cond b (change x ∷ xs) (x ∷ with_session name change xs)) n) [
       | true ↦
-          elim (is_called n x) as (λ b. IsTrue (is_some (cond b (Some x) (session_at xs n))) → IsTrue (is_some (cond b (Some (with_next_unit x)) (session_at xs n)))) [
+          subst (λ b. IsTrue (is_some (cond b (Some (change x)) (session_at xs n)))) (sym (own n x))
+          (elim (is_called n x) as (λ b. IsTrue (is_some (cond b (Some x) (session_at xs n))) → IsTrue (is_some (cond b (Some (change x)) (session_at xs n)))) [
             | true ↦ λ k. refl
             | false ↦ λ k. k
-          ] h
+          ] h)
       | false ↦
-          elim (is_called n x) as (λ b. IsTrue (is_some (cond b (Some x) (session_at xs n))) → IsTrue (is_some (cond b (Some x) (session_at (with_session name with_next_unit xs) n)))) [
+          elim (is_called n x) as (λ b. IsTrue (is_some (cond b (Some x) (session_at xs n))) → IsTrue (is_some (cond b (Some x) (session_at (with_session name change xs) n)))) [
             | true ↦ λ k. refl
-            | false ↦ λ k. logged_with name xs n k
+            | false ↦ λ k. logged_with change own name xs n k
           ] h
     ]
 
 -- ---- a call
 
 -- whether the call logs this session off
-abbrev pub logs_off_name : Command → Reply → List ℕ → Bool
-logs_off_name (command.Logoff session) reply.Done n = bytes_eq n session
+abbrev pub logs_off_name : Call → Reply → List ℕ → Bool
+logs_off_name (OfSession name LogsOff) reply.Done n = bytes_eq n name
 logs_off_name _ _ n = false
 
-abbrev pub KeepsSessions : State → Command → Served → Type 0
-KeepsSessions s c r = (n : List ℕ) → logs_off_name c r.reply n ≡ false → IsLoggedOn s.sessions n → IsLoggedOn r.state.sessions n
+abbrev pub KeepsSessions : State → Call → Served → Type 0
+KeepsSessions s call r = (n : List ℕ) → logs_off_name call r.reply n ≡ false → IsLoggedOn s.sessions n → IsLoggedOn r.state.sessions n
 
-granting-keeps : (s : State) (c : Command) (r : Result (List Entry) AskFault) → KeepsSessions s c (judged s (granting s r))
-granting-keeps s c (Ok locks) n off h = h
-granting-keeps s c (Err f) n off h = h
-
-converting-keeps : (s : State) (c : Command) (r : Result Conversion AskFault) → KeepsSessions s c (judged s (converting s r))
-converting-keeps s c (Ok done) n off h = h
-converting-keeps s c (Err f) n off h = h
-
-commit-keeps : (s : State) (c : Command) (x : Session) (parts : Parts) (large none : Bool) → KeepsSessions s c (judged s (if large then Refuses refusal.UnitTooLarge else (if none then Leaves s reply.Done else with_room s (Leaves (committed s x parts) (reply.Unit (unit_key s.stored.start x))))))
-commit-keeps s c x parts true none = λ n off h. h
-commit-keeps s c x parts false true = λ n off h. h
-commit-keeps s c x parts false false =
-    by_room (λ v. KeepsSessions s c (judged s v)) s (Leaves (committed s x parts) (reply.Unit (unit_key s.stored.start x))) (λ n off h. h) (λ n off h. logged_with x.name s.sessions n h)
-
-call-keeps : (s : State) (name : List ℕ) (c : Command) → ((x : Session) → session_at s.sessions name ≡ Some x → KeepsSessions s c (judged s (session_call s x c))) → KeepsSessions s c (judged s (call_of s name c))
-call-keeps s name c each =
-    elim (session_at s.sessions name) as (λ o. session_at s.sessions name ≡ o → KeepsSessions s c (judged s (elim o [ None ↦ Refuses refusal.UnknownSession | Some x ↦ session_call s x c ]))) [
-      | None ↦ λ e n off h. h
-      | Some x ↦ λ e. each x e
-    ] refl
-
-logon-keeps : (s : State) (name user : List ℕ) (known full : Bool) → KeepsSessions s (command.Logon name user) (judged s (if known then Refuses refusal.SessionExists else (if full then Refuses refusal.SessionsFull else Leaves (entered s name user) reply.Done)))
-logon-keeps s name user true full n off h = h
-logon-keeps s name user false true n off h = h
-logon-keeps s name user false false n off h = logged_push s.sessions _ n h
-
-logoff-keeps : (s : State) (name : List ℕ) (x : Session) → session_at s.sessions name ≡ Some x → KeepsSessions s (command.Logoff name) (judged s (session_call s x (command.Logoff name)))
-logoff-keeps s name x found n off h =
+left_keeps : (s : State) (name : List ℕ) (x : Session) → session_at s.sessions name ≡ Some x → KeepsSessions s (OfSession name LogsOff) (judged s (Leaves (logged_off s x) reply.Done))
+left_keeps s name x found n off h =
     let own : x.name ≡ name = (bytes_decides x.name name).0 (found_name name s.sessions x found) in
     logged_without x.name s.sessions n (ap (bytes_eq n) own ∙ off) h
 
-order-keeps : (s : State) (c : Command) (o : Option UnitKey) (act : UnitKey → Verdict) → ((unit : UnitKey) → KeepsSessions s c (judged s (act unit))) → KeepsSessions s c (judged s (elim o [ None ↦ Refuses refusal.NoOrder | Some unit ↦ act unit ]))
-order-keeps s c None act each = λ n off h. h
-order-keeps s c (Some unit) act each = each unit
+keeps : (found : Found) (s : State) → OfEach (λ call v. KeepsSessions s call (judged s v)) found s
+keeps found s = record {
+  refuses = λ call r plain n off h. h;
+  enters = λ name user free n off h. logged_push s.sessions _ n h;
+  logs_off = λ name x at. left_keeps s name x at;
+  grants = λ name x rs locks at e n off h. h;
+  lowers = λ name x rs at n off h. h;
+  frees = λ name x at n off h. h;
+  converts = λ name x wanted c at e n off h. h;
+  reads = λ name x table key at n off h. h;
+  commits_nothing = λ name x parts at n off h. h;
+  commits = λ name x parts at n off h. logged_with with_next_unit (λ m y. refl) x.name s.sessions n h;
+  rolls_back = λ name x at n off h. logged_with with_fresh_unit (λ m y. refl) x.name s.sessions n h;
+  takes = λ worker part unit free e n off h. h;
+  posts = λ worker part unit e n off h. h;
+  drops = λ worker unit e n off h. h;
+  cancels = λ unit status can n off h. h;
+  reopens = λ unit es here stand n off h. h;
+  reposts = λ unit here n off h. h;
+}
 
-taking-keeps : (s : State) (c : Command) (worker : ℕ) (o : Option UnitKey) → KeepsSessions s c (judged s (taking s worker o))
-taking-keeps s c worker None n off h = h
-taking-keeps s c worker (Some unit) n off h = h
-
-take-keeps : (s : State) (c : Command) (worker : ℕ) (o found : Option UnitKey) → KeepsSessions s c (judged s (elim o [ Some unit ↦ Refuses (refusal.WorkerBusy unit) | None ↦ taking s worker found ]))
-take-keeps s c worker None found = taking-keeps s c worker found
-take-keeps s c worker (Some unit) found = λ n off h. h
-
-own-keeps : (come : ℕ → UnitKey → Outcome) (s : State) (c : Command) → KeepsSessions s c (judged s (own_verdict come s c))
-own-keeps come s (command.Logon session user) = logon-keeps s session user _ _
-own-keeps come s (command.Logoff session) = call-keeps s session (command.Logoff session) (logoff-keeps s session)
-own-keeps come s (command.Ask session requests) = call-keeps s session (command.Ask session requests) (λ x e. granting-keeps s (command.Ask session requests) _)
-own-keeps come s (command.Free session requests) = call-keeps s session (command.Free session requests) (λ x e n off h. h)
-own-keeps come s (command.FreeAll session) = call-keeps s session (command.FreeAll session) (λ x e n off h. h)
-own-keeps come s (command.Convert session asked) = call-keeps s session (command.Convert session asked) (λ x e. converting-keeps s (command.Convert session asked) _)
-own-keeps come s (command.Rollback session) = call-keeps s session (command.Rollback session) (λ x e n off h. logged_with x.name s.sessions n h)
-own-keeps come s (command.Commit session parts) = call-keeps s session (command.Commit session parts) (λ x e. commit-keeps s (command.Commit session parts) x parts _ _)
-own-keeps come s (command.Take1 worker) = take-keeps s (command.Take1 worker) worker _ _
-own-keeps come s (command.Do1 worker) =
-    order-keeps s (command.Do1 worker) (order_for 1 s.stored s.orders worker) (λ unit. with_room s (posting 1 s worker unit (come 1 unit)))
-    (λ unit. by_room (λ v. KeepsSessions s (command.Do1 worker) (judged s v)) s (posting 1 s worker unit (come 1 unit)) (λ n off h. h) (λ n off h. h))
-own-keeps come s (command.Take2 worker) = take-keeps s (command.Take2 worker) worker _ _
-own-keeps come s (command.Do2 worker) =
-    order-keeps s (command.Do2 worker) (order_for 2 s.stored s.orders worker) (λ unit. with_room s (posting 2 s worker unit (come 2 unit)))
-    (λ unit. by_room (λ v. KeepsSessions s (command.Do2 worker) (judged s v)) s (posting 2 s worker unit (come 2 unit)) (λ n off h. h) (λ n off h. h))
-own-keeps come s (command.DropOrder worker) =
-    order-keeps s (command.DropOrder worker) (order_of s.orders worker) (λ unit. Leaves (record s { orders = without_order s.orders worker }) (reply.Unit unit)) (λ unit n off h. h)
-own-keeps come s (command.Cancel unit) =
-    by_cancel (λ v. KeepsSessions s (command.Cancel unit) (judged s v)) s unit (λ r plain n off h. h) (λ status can n off h. h)
-own-keeps come s (command.Resubmit unit) =
-    by_resubmit (λ v. KeepsSessions s (command.Resubmit unit) (judged s v)) s unit (λ r plain n off h. h) (λ es here stand n off h. h) (λ here n off h. h)
-
-unless-keeps : (s : State) (c : Command) (o : Option Refusal) (v : Verdict) → KeepsSessions s c (judged s v) → KeepsSessions s c (judged s (unless_closed o v))
-unless-keeps s c None v each = each
-unless-keeps s c (Some r) v each = λ n off h. h
-
-verdict-keeps : (come : ℕ → UnitKey → Outcome) (s : State) (c : Command) → KeepsSessions s c (judged s (verdict come s c))
-unfolding verdict
-verdict-keeps come s c = unless-keeps s c (closed s) (own_verdict come s c) (own-keeps come s c)
-
-failed-keeps : (s : State) (c : Command) (v : Verdict) → KeepsSessions s c (failed s v)
-failed-keeps s c (Refuses r) n off h = h
-failed-keeps s c (Leaves after r) n off h = h
-
-served-keeps : (d : DeviceOutcome) (s : State) (c : Command) → KeepsSessions s c (served d s c)
-served-keeps Well s c = verdict-keeps (outcome_in s.stored) s c
-served-keeps Wanting s c = λ n off h. h
-served-keeps StoreFails s c = failed-keeps s c (verdict (outcome_in s.stored) s c)
-served-keeps (Comes o) s c = verdict-keeps (λ part unit. o) s c
-
--- a call is noted, and nothing else changes
-noted-keeps : (s : State) (c : Command) (line : ℕ) (r : Served) (b : Bool) → KeepsSessions s c r → KeepsSessions s c (if b then r else record r { state = record r.state { past = r.state.past ++ past_entry line c r ∷ [] } })
-noted-keeps s c line r true each = each
-noted-keeps s c line r false each = each
-
-pub step_keeps : (d : DeviceOutcome) (s : State) (line : ℕ) (c : Command) → KeepsSessions s c (step d s line c)
-step_keeps d s line c = noted-keeps s c line (served d s c) (is_unrecorded (served d s c).reply) (served-keeps d s c)
+pub step_keeps : (o : DeviceOutcome) (s : State) (line : ℕ) (c : Command) → KeepsSessions s (call_of c) (step o s line c)
+step_keeps o s line c =
+    let h = by_event (KeepsSessions s (call_of c)) o s c (λ found. by_call (λ call v. KeepsSessions s call (judged s v)) found s (keeps found s) _) (λ n off k. k) (λ pending n off k. k) in
+    by_noting (KeepsSessions s (call_of c)) line c (served o s c) h h
 
 -- ---- a logon
 
--- where the logon is done, the session is logged on
-abbrev pub EntersSession : List ℕ → Reply → List Session → Type 0
-EntersSession name reply.Done sessions = IsLoggedOn sessions name
-EntersSession name _ sessions = Unit {0}
+-- where the logon is done, the session is logged on, and wasn't before
+pub record Enters (name : List ℕ) (before after : List Session) : Type 0 where
+  pub free : is_some (session_at before name) ≡ false
+  pub entered : IsLoggedOn after name
 
-abbrev logon_served : State → List ℕ → List ℕ → Option Refusal → Bool → Bool → Served
-logon_served s name user o known full =
-    judged s (unless_closed o (if known then Refuses refusal.SessionExists else (if full then Refuses refusal.SessionsFull else Leaves (entered s name user) reply.Done)))
+abbrev pub OnLogon : Call → (List ℕ → Type 0) → Type 0
+OnLogon (LogsOn name user) P = P name
+OnLogon call P = Unit {0}
 
-logon-enters : (s : State) (name user : List ℕ) (o : Option Refusal) (known full : Bool) → EntersSession name (logon_served s name user o known full).reply (logon_served s name user o known full).state.sessions
-logon-enters s name user (Some r) known full = tt
-logon-enters s name user None true full = tt
-logon-enters s name user None false true = tt
-logon-enters s name user None false false = logged_last s.sessions (record { name = name; user = user; number = s.next_session; luw = 1 })
+abbrev pub OnDone : Reply → Type 0 → Type 0
+OnDone reply.Done P = P
+OnDone _ P = Unit {0}
 
-failed-enters : (s : State) (name : List ℕ) (v : Verdict) → EntersSession name (failed s v).reply (failed s v).state.sessions
-failed-enters s name (Refuses r) = tt
-failed-enters s name (Leaves after r) = tt
+abbrev pub MayEnter : State → Call → Served → Type 0
+MayEnter s call r = OnLogon call (λ name. OnDone r.reply (Enters name s.sessions r.state.sessions))
 
-served-enters : (d : DeviceOutcome) (s : State) (name user : List ℕ) → EntersSession name (served d s (command.Logon name user)).reply (served d s (command.Logon name user)).state.sessions
-unfolding verdict
-served-enters Well s name user = logon-enters s name user (closed s) _ _
-served-enters Wanting s name user = tt
-served-enters StoreFails s name user = failed-enters s name (verdict (outcome_in s.stored) s (command.Logon name user))
-served-enters (Comes o) s name user = logon-enters s name user (closed s) _ _
+nothing : (call : Call) (P : List ℕ → Type 0) → ((name : List ℕ) → P name) → OnLogon call P
+nothing (LogsOn name user) P h = h name
+nothing (OfSession name call) P h = tt
+nothing (OfWorker worker call) P h = tt
+nothing (OfAdmin call) P h = tt
 
-abbrev noting : ℕ → Command → Served → Bool → Served
-noting line c r b = if b then r else record r { state = record r.state { past = r.state.past ++ past_entry line c r ∷ [] } }
+enters : (found : Found) (s : State) → OfEach (λ call v. MayEnter s call (judged s v)) found s
+enters found s = record {
+  refuses = λ call r plain. nothing call _ (λ name. tt);
+  enters = λ name user free. record { free = free; entered = logged_last s.sessions (begun name user s.next_session) };
+  logs_off = λ name x at. tt;
+  grants = λ name x rs locks at e. tt;
+  lowers = λ name x rs at. tt;
+  frees = λ name x at. tt;
+  converts = λ name x wanted c at e. tt;
+  reads = λ name x table key at. tt;
+  commits_nothing = λ name x parts at. tt;
+  commits = λ name x parts at. tt;
+  rolls_back = λ name x at. tt;
+  takes = λ worker part unit free e. tt;
+  posts = λ worker part unit e. tt;
+  drops = λ worker unit e. tt;
+  cancels = λ unit status can. tt;
+  reopens = λ unit es here stand. tt;
+  reposts = λ unit here. tt;
+}
 
-noted-enters : (name : List ℕ) (line : ℕ) (c : Command) (r : Served) (b : Bool) → EntersSession name r.reply r.state.sessions → EntersSession name (noting line c r b).reply (noting line c r b).state.sessions
-noted-enters name line c r true h = h
-noted-enters name line c r false h = h
+pub step_enters : (o : DeviceOutcome) (s : State) (line : ℕ) (name user : List ℕ) → MayEnter s (LogsOn name user) (step o s line (command.Logon name user))
+step_enters o s line name user =
+    let c = command.Logon name user in
+    let k = by_event (MayEnter s (call_of c)) o s c (λ found. by_call (λ call v. MayEnter s call (judged s v)) found s (enters found s) (call_of c)) tt (λ pending. tt) in
+    by_noting (MayEnter s (call_of c)) line c (served o s c) k k
 
-pub logon_enters : (d : DeviceOutcome) (s : State) (line : ℕ) (name user : List ℕ) → EntersSession name (step d s line (command.Logon name user)).reply (step d s line (command.Logon name user)).state.sessions
-logon_enters d s line name user =
-    noted-enters name line (command.Logon name user) (served d s (command.Logon name user)) (is_unrecorded (served d s (command.Logon name user)).reply) (served-enters d s name user)
-
--- where the logon is done, the session was not logged on before
-done-was-free : (s : State) (name user : List ℕ) (o : Option Refusal) (known full : Bool) → reply.Done ≡ (logon_served s name user o known full).reply → known ≡ false
-done-was-free s name user (Some r) known full h = absurd (cc)
-done-was-free s name user None true full h = absurd (cc)
-done-was-free s name user None false full h = refl
-
-noted-reply : (line : ℕ) (c : Command) (r : Served) (b : Bool) → (noting line c r b).reply ≡ r.reply
-noted-reply line c r true = refl
-noted-reply line c r false = refl
-
-pub logon_was_free : (old new : State) (line : ℕ) (name user : List ℕ) → IsStep old new line (command.Logon name user) reply.Done → is_some (session_at old.sessions name) ≡ false
-unfolding verdict
-logon_was_free old new line name user h =
-    let r = served Well old (command.Logon name user) in
-    let done = ap (λ (x : Served). x.reply) h.same ∙ noted-reply line (command.Logon name user) r (is_unrecorded r.reply) in
-    done-was-free old name user (closed old) _ _ done
+pub logon_enters : (old new : State) (line : ℕ) (name user : List ℕ) → IsStep old new line (command.Logon name user) reply.Done → Enters name old.sessions new.sessions
+logon_enters old new line name user h =
+    subst (λ (r : Served). OnDone r.reply (Enters name old.sessions r.state.sessions)) (sym h.same) (step_enters h.outcome old line name user)

@@ -1,5 +1,5 @@
 -- Values that are found by a name of their own: what a map of them does is said of the list of its values.
-use Rattle.std.proofs.Common.{◌≡◌, ◌⊎◌, inl, inr, ℕ, Bool, true, false, true≢false, cond, not, List, [], ◌∷◌, ◌++◌, length, take, filter, Some, None, refl, sym, ap, ◌∙◌, subst}
+use Rattle.std.proofs.Common.{◌≡◌, ◌⊎◌, inl, inr, ℕ, Bool, true, false, true≢false, cond, not, List, [], ◌∷◌, ◌++◌, length, take, filter, Some, None, Result, Ok, Err, IsOk, OnOk, refl, sym, ap, ◌∙◌, subst}
 use Rattle.std.specs.Cmp.Lexicographic.{bytes_decides}
 use Rattle.std.specs.List.{find}
 use Rattle.std.specs.Map.{lookup, remove_entry, set_value, values_of}
@@ -165,3 +165,8 @@ module _ {V S : Type 0} (name : V → List ℕ) (m : IndexMap (List ℕ) V S) (v
 
   pub are_named_added : AreNamed name m.entries → AreNamed name (insert_entry name_eq m.entries (name v) v)
   are_named_added h = subst (AreNamed name) (sym (insert_entry-new name_eq m (name v) v free)) (all_append (λ e. e.0 ≡ name e.1) m.entries ((name v, v) ∷ []) h (refl, tt))
+
+-- a call that succeeds, and what it then does
+pub where_done : {X E P : Type 0} (r : Result X E) → IsOk r → OnOk r P → P
+where_done (Ok x) ok h = h
+where_done (Err e) ok h = absurd (cc)

@@ -23,18 +23,19 @@ use Rattle.hall.specs.declared.command.Reply.TheVariants as reply
 use Rattle.hall.specs.Sessions.{owners_of}
 use Rattle.hall.specs.State.{State}
 use Rattle.hall.specs.Step.{Verdict, Refuses, Leaves, ask_refusal, if_room, if_status, may_resubmit, reopened, reopening, reposted, resubmit, resubmitting, to_resubmit, trying_again}
-use Rattle.hall.proofs.Cancels.{IsPlainRefusal, RefusesPlainly, of_allowed, of_room, room-plain, status-plain, no_unit}
+use Rattle.hall.proofs.Plain.{IsOfRule, IsPlain}
+use Rattle.hall.proofs.Cancels.{RefusesPlainly, of_allowed, of_room, room-plain, status-plain, no_unit}
 
 -- ---- refused
 
 to_resubmit-plain : (ledger : Ledger) (limit : ℕ) (unit : UnitKey) → RefusesPlainly (to_resubmit ledger limit unit)
 to_resubmit-plain ledger limit unit =
     elim (status_of ledger.units ledger.marks unit) as (λ o. RefusesPlainly (elim o [ None ↦ Err refusal.UnknownUnit | Some status ↦ if_status may_resubmit unit status (if_room ledger limit status) ])) [
-      | None ↦ record { well = refl; noted = refl }
+      | None ↦ refl
       | Some status ↦ status-plain unit status (may_resubmit status) _ (room-plain limit status (nat_le limit (length ledger.marks)))
     ]
 
-pub resubmit_refused_plainly : (ledger : Ledger) (limit : ℕ) (unit : UnitKey) (r : Refusal) → to_resubmit ledger limit unit ≡ Err r → IsPlainRefusal r
+pub resubmit_refused_plainly : (ledger : Ledger) (limit : ℕ) (unit : UnitKey) (r : Refusal) → to_resubmit ledger limit unit ≡ Err r → IsPlain r
 resubmit_refused_plainly ledger limit unit r e = subst RefusesPlainly e (to_resubmit-plain ledger limit unit)
 
 -- ---- tried again
@@ -95,19 +96,15 @@ never_cancelled h = cc
 
 -- ---- the locks that are to stand again
 
-abbrev RefusesLocks : Result (List Entry) AskFault → Type 0
-RefusesLocks (Ok es) = Unit {0}
-RefusesLocks (Err f) = IsPlainRefusal (ask_refusal f)
-
-barred-plain : (o : Option Entry) (r : Result (List Entry) AskFault) → RefusesLocks r → RefusesLocks (unless_barred o r)
+barred-plain : (o : Option Entry) (r : Result (List Entry) AskFault) → IsOfRule r → IsOfRule (unless_barred o r)
 barred-plain None r h = h
-barred-plain (Some e) r h = record { well = refl; noted = refl }
+barred-plain (Some e) r h = refl
 
-full-plain : (b : Bool) (used limit : ℕ) (r : Result (List Entry) AskFault) → RefusesLocks r → RefusesLocks (cond b (Err (fault.Full used limit)) r)
-full-plain true used limit r h = record { well = refl; noted = refl }
+full-plain : (b : Bool) (used limit : ℕ) (r : Result (List Entry) AskFault) → IsOfRule r → IsOfRule (cond b (Err (fault.Full used limit)) r)
+full-plain true used limit r h = refl
 full-plain false used limit r h = h
 
-readmitted-plain : (t : Table) (asker : Asker) (given : List Entry) → RefusesLocks (readmitted t asker given)
+readmitted-plain : (t : Table) (asker : Asker) (given : List Entry) → IsOfRule (readmitted t asker given)
 unfolding readmitted
 readmitted-plain t asker given =
     barred-plain (first_bar t.entries asker (map asked_of given)) _ (full-plain (is_full t (length (newcomers t.entries given))) (length t.entries) t.limit _ tt)
@@ -136,12 +133,12 @@ readmitted_is t asker given es e =
 abbrev pub table_in : State → Table
 table_in s = record { entries = s.locks; limit = s.limit }
 
-by_locks : (P : Verdict → Type 0) (s : State) (unit : UnitKey) (r : Result (List Entry) AskFault) → RefusesLocks r → ((refused : Refusal) → IsPlainRefusal refused → P (Refuses refused)) → ((es : List Entry) → r ≡ Ok es → P (Leaves (reopened s unit es) (reply.Unit unit))) → P (reopening s unit r)
+by_locks : (P : Verdict → Type 0) (s : State) (unit : UnitKey) (r : Result (List Entry) AskFault) → IsOfRule r → ((refused : Refusal) → IsPlain refused → P (Refuses refused)) → ((es : List Entry) → r ≡ Ok es → P (Leaves (reopened s unit es) (reply.Unit unit))) → P (reopening s unit r)
 by_locks P s unit (Ok es) plain refuse stand = stand es refl
 by_locks P s unit (Err f) plain refuse stand = refuse (ask_refusal f) plain
 
 -- what holds where the call is refused, where the V1 part waits again, and where the V2 part does
-pub by_resubmit : (P : Verdict → Type 0) (s : State) (unit : UnitKey) → ((r : Refusal) → IsPlainRefusal r → P (Refuses r))
+pub by_resubmit : (P : Verdict → Type 0) (s : State) (unit : UnitKey) → ((r : Refusal) → IsPlain r → P (Refuses r))
     → ((es : List Entry) → status_of s.stored.units s.stored.marks unit ≡ Some Bad → readmitted (table_in s) (owners_of unit) (entries_of s.stored.units unit) ≡ Ok es → P (Leaves (reopened s unit es) (reply.Unit unit)))
     → (status_of s.stored.units s.stored.marks unit ≡ Some Bad2 → P (Leaves (reposted s unit) (reply.Unit unit)))
     → P (resubmit s unit)

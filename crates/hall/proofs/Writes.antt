@@ -1,6 +1,6 @@
 -- Commits, orders and posts come to what their commands' verdicts say.
-use Rattle.std.proofs.Common.{◌≡◌, ℕ, zero, suc, ◌+◌, ◌-◌, ◌≤◌, ◌<◌, inl, inr, Bool, true, false, cond, not, List, [], ◌∷◌, length, drop, set, refl, sym, ap, ◌∙◌, subst, arith}
-use Rattle.std.specs.Prelude.{Option, Some, None, Result, Ok, Err, IsTrue, IfSome, is_ok, is_some, nat_eq, nat_le, nat_lt, slice_get, if◌then◌else◌}
+use Rattle.std.proofs.Common.{◌≡◌, ℕ, zero, suc, ◌+◌, ◌-◌, ◌≤◌, ◌<◌, Bool, true, false, cond, not, List, [], ◌∷◌, length, drop, set, refl, sym, ap, ◌∙◌, subst, arith}
+use Rattle.std.specs.Prelude.{Option, Some, None, Result, Ok, Err, IfSome, is_ok, is_some, nat_eq, nat_le, nat_lt, slice_get, if◌then◌else◌}
 use Rattle.std.specs.FinMap.{get}
 use Rattle.std.specs.List.{AllByRecursion, find}
 use Rattle.std.proofs.lemmas.Bool.Decides.{nat_tests}
@@ -29,7 +29,6 @@ use Rattle.posting.specs.Steps.{IsNewUnit, IsOutcome, after_step, at_place, wait
 use Rattle.posting.specs.declared.prepared.Step.{Step}
 use Rattle.posting.specs.declared.prepared.Step.TheVariants.{Note}
 use Rattle.posting.specs.declared.prepared.Outcome.{Outcome}
-use Rattle.posting.specs.declared.prepared.Outcome.TheVariants as outcome
 use Rattle.update_records.specs.Business.{tables_of}
 use Rattle.update_records.specs.Grammar.{HasDigits}
 use Rattle.update_records.specs.Growing.{with_mark, with_unit}
@@ -42,40 +41,21 @@ use Rattle.hall.specs.declared.command.Reply.{Reply}
 use Rattle.hall.specs.declared.command.Reply.TheVariants as reply
 use Rattle.hall.specs.declared.command.Session.{Session}
 use Rattle.hall.specs.declared.units.InFlight.TheVariants as flight
-use Rattle.hall.specs.Acts.{IsAct, post_of}
+use Rattle.hall.specs.Acts.{Admits, IsAct, post_of}
+use Rattle.hall.specs.Calls.{OfAdmin, OfSession, OfWorker, Cancels, Resubmits, Commits, Posts, Reads, call_of, only_reads}
+use Rattle.hall.specs.Devices.{AllWell, Comes, IsTold, MayRead, Shows, StoreFails, found_by, may_want, only, uses_store}
 use Rattle.hall.specs.Coming.{MayComeTo, outcome_in, outcome_of}
 use Rattle.hall.specs.Flights.{landed}
-use Rattle.hall.specs.History.{Well, Comes, IsAllowed, MayPost, PostMayCome, Served, doubted, failed, is_unrecorded, judged, leaves, may_want, served, shown, writes}
+use Rattle.hall.specs.History.{Served, doubted, judged, pending_after, refused}
 use Rattle.hall.specs.Kept.{HasItsUser, IsAhead, OfLock}
 use Rattle.hall.specs.Orders.{first_unclaimed, is_claimed, order_for, order_of}
 use Rattle.hall.specs.Sessions.{is_called, owners_of, session_at, unit_key, with_next_unit, with_session}
 use Rattle.hall.specs.State.{State}
-use Rattle.hall.specs.Step.{Verdict, Refuses, Leaves, ask_refusal, cancel, cancelled, cancelling, closed, commit, committed, effects_in, locks_behind, locks_without, marked, own_verdict, post, posted_reply, posting, reopened, reopening, reposted, resubmit, resubmitting, take, taking, to_cancel, to_resubmit, unit_of, with_room}
-use Rattle.hall.proofs.Calls.{at_state, calling, found_at, is_wanting, refuses, verdict-room}
-use Rattle.hall.proofs.Cancels.{refused_plainly}
-use Rattle.hall.proofs.Ends.{IsPart}
-use Rattle.hall.proofs.Fair.{posted-noted}
-use Rattle.hall.proofs.Fresh.{found_in}
+use Rattle.hall.specs.Step.{Found, Verdict, Refuses, Leaves, ask_refusal, called, cancel, cancelled, cancelling, commit, committed, effects_in, found_in, leaves, locks_behind, locks_without, marked, own_verdict, posted_reply, posting, reopened, reopening, reposted, resubmit, resubmitting, row_in, take, taking, to_cancel, to_resubmit, unavailable, unit_of, with_room}
+use Rattle.hall.proofs.Calls.{admitted, at_state, fails, found_at, free_admin, free_worker, free_session, is_done, is_wanting, leaves_as, refuses}
+use Rattle.hall.proofs.Ends.{IsPart, posts_part}
+use Rattle.hall.proofs.Fresh.{found_in as found_all_in}
 use Rattle.hall.proofs.HandedLocks.{all_held, handed_table}
-use Rattle.hall.proofs.Resubmissions.{resubmit_refused_plainly}
-
--- a call that leaves a state
-pub tells : (s : State) (c : Command) (after : State) (r : Reply) → closed s ≡ None → own_verdict (outcome_in s.stored) s c ≡ Leaves after r → shown r ≡ Well → is_unrecorded r ≡ false → IsAct s c after r
-tells s c after r room e well noted =
-    record {
-      same = ap (λ o. served o s c) well ∙ ap (judged s) (verdict-room (outcome_in s.stored) s c room ∙ e);
-      allowed = subst (λ o. IsAllowed o s c) (sym well) tt;
-      noted = noted;
-    }
-
--- a call in which the store fails
-pub fails : (s : State) (c : Command) (after : State) (r : Reply) → closed s ≡ None → own_verdict (outcome_in s.stored) s c ≡ Leaves after r → IsTrue (writes c) → IsAct s c (doubted s after.stored) (reply.Refused refusal.StoreFault)
-fails s c after r room e w =
-    record {
-      same = ap (failed s) (verdict-room (outcome_in s.stored) s c room ∙ e);
-      allowed = (ap leaves (verdict-room (outcome_in s.stored) s c room ∙ e), w);
-      noted = refl;
-    }
 
 -- ---- orders
 
@@ -130,18 +110,18 @@ none_left orders units k from end = sym (find_past (λ u. not (is_claimed orders
 ordered : (s : State) (orders : List (Option UnitKey)) (worker : ℕ) (o : Option UnitKey) → s.orders ≡ orders → order_of orders worker ≡ o → order_of s.orders worker ≡ o
 ordered s orders worker o e f = ap (λ xs. order_of xs worker) e ∙ f
 
-pub drops_none : (s : State) (orders : List (Option UnitKey)) (worker : ℕ) → s.orders ≡ orders → closed s ≡ None → order_of orders worker ≡ None → IsAct s (command.DropOrder worker) (record s { orders = orders }) (reply.Refused refusal.NoOrder)
+pub drops_none : (s : State) (orders : List (Option UnitKey)) (worker : ℕ) → s.orders ≡ orders → Admits s → order_of orders worker ≡ None → IsAct s (command.DropOrder worker) (record s { orders = orders }) (reply.Refused refusal.NoOrder)
 drops_none s orders worker e room none =
     at_state _ _ s _ _ (λ i. record s { orders = e i })
     (refuses s (command.DropOrder worker) refusal.NoOrder room
-    (ap (λ o. elim o [ None ↦ Refuses refusal.NoOrder | Some unit ↦ Leaves (record s { orders = set s.orders worker None }) (reply.Unit unit) ]) (ordered s orders worker None e none)) refl refl)
+    (ap (λ o. elim o [ None ↦ Refuses refusal.NoOrder | Some unit ↦ Leaves (record s { orders = set s.orders worker None }) (reply.Unit unit) ]) (ordered s orders worker None e none)))
 
-pub drops : (s : State) (orders after : List (Option UnitKey)) (worker : ℕ) (unit : UnitKey) → s.orders ≡ orders → closed s ≡ None → order_of orders worker ≡ Some unit → after ≡ set orders worker None → IsAct s (command.DropOrder worker) (record s { orders = after }) (reply.Unit unit)
+pub drops : (s : State) (orders after : List (Option UnitKey)) (worker : ℕ) (unit : UnitKey) → s.orders ≡ orders → Admits s → order_of orders worker ≡ Some unit → after ≡ set orders worker None → IsAct s (command.DropOrder worker) (record s { orders = after }) (reply.Unit unit)
 drops s orders after worker unit e room found is =
     let e' : set s.orders worker None ≡ after = ap (λ xs. set xs worker None) e ∙ sym is in
     at_state _ _ _ _ _ (λ i. record s { orders = e' i })
-    (tells s (command.DropOrder worker) (record s { orders = set s.orders worker None }) (reply.Unit unit) room
-    (ap (λ o. elim o [ None ↦ Refuses refusal.NoOrder | Some u ↦ Leaves (record s { orders = set s.orders worker None }) (reply.Unit u) ]) (ordered s orders worker (Some unit) e found)) refl refl)
+    (leaves_as s (command.DropOrder worker) (record s { orders = set s.orders worker None }) (reply.Unit unit) room
+    (ap (λ o. elim o [ None ↦ Refuses refusal.NoOrder | Some u ↦ Leaves (record s { orders = set s.orders worker None }) (reply.Unit u) ]) (ordered s orders worker (Some unit) e found)))
 
 abbrev served_as : State → Reply → Served
 served_as s r = record { state = s; reply = r }
@@ -194,67 +174,41 @@ overflows s v h = ap (λ b. if b then Refuses (refusal.StoreFull s.mark_limit) e
 abbrev pub Posting : ℕ → State → ℕ → (ℕ → UnitKey → Outcome) → Option UnitKey → Verdict
 Posting part s worker come o = elim o [ None ↦ Refuses refusal.NoOrder | Some unit ↦ with_room s (posting part s worker unit (come part unit)) ]
 
--- the call posts this part for this worker
-pub record Posts (part worker : ℕ) (c : Command) : Type 0 where
-  pub own : (come : ℕ → UnitKey → Outcome) (s : State) → own_verdict come s c ≡ post part come s worker
-  pub may : (o : Outcome) (s : State) → MayPost part o s worker → PostMayCome o s c
-  pub came : (o : Outcome) (s : State) → PostMayCome o s c → MayPost part o s worker
-  pub stores : IsTrue (writes c)
-  pub wants : (s : State) → IsTrue (is_some (order_for part s.stored s.orders worker)) → IsTrue (may_want s c)
-
-pub posts_first : (worker : ℕ) → Posts 1 worker (command.Do1 worker)
-posts_first worker = record { own = λ come s. refl; may = λ o s h. h; came = λ o s h. h; stores = refl; wants = λ s h. h }
-
-pub posts_second : (worker : ℕ) → Posts 2 worker (command.Do2 worker)
-posts_second worker = record { own = λ come s. refl; may = λ o s h. h; came = λ o s h. h; stores = refl; wants = λ s h. h }
-
-pub posts_part : (part worker : ℕ) → IsPart part → Posts part worker (post_of part worker)
-posts_part part worker (inl e) = subst (λ p. Posts p worker (post_of p worker)) (sym e) (posts_first worker)
-posts_part part worker (inr e) = subst (λ p. Posts p worker (post_of p worker)) (sym e) (posts_second worker)
-
 held : (part : ℕ) (s : State) (ledger : Ledger) (orders : List (Option UnitKey)) (worker : ℕ) (o : Option UnitKey) → s.stored ≡ ledger → s.orders ≡ orders → order_for part ledger orders worker ≡ o → order_for part s.stored s.orders worker ≡ o
 held part s ledger orders worker o g e f = (λ i. order_for part (g i) (e i) worker) ∙ f
 
-pub own_post : (part : ℕ) (c : Command) (come : ℕ → UnitKey → Outcome) (s : State) (worker : ℕ) (o : Option UnitKey) → Posts part worker c → order_for part s.stored s.orders worker ≡ o → own_verdict come s c ≡ Posting part s worker come o
-own_post part c come s worker o posts found = posts.own come s ∙ ap (Posting part s worker come) found
+pub own_post : (part : ℕ) (c : Command) (found : Found) (s : State) (worker : ℕ) (o : Option UnitKey) → call_of c ≡ OfWorker worker (Posts part) → order_for part s.stored s.orders worker ≡ o → own_verdict found s (call_of c) ≡ Posting part s worker found.part o
+own_post part c found s worker o posts at = ap (own_verdict found s) posts ∙ ap (Posting part s worker found.part) at
 
-pub posts_none : (part : ℕ) (s : State) (orders : List (Option UnitKey)) (entries : List Entry) (ledger : Ledger) (worker : ℕ) → IsPart part → s.orders ≡ orders → s.locks ≡ entries → s.stored ≡ ledger → closed s ≡ None → order_for part ledger orders worker ≡ None → IsAct s (post_of part worker) (record s { orders = orders; locks = entries; stored = ledger }) (reply.Refused refusal.NoOrder)
+pub posts_none : (part : ℕ) (s : State) (orders : List (Option UnitKey)) (entries : List Entry) (ledger : Ledger) (worker : ℕ) → IsPart part → s.orders ≡ orders → s.locks ≡ entries → s.stored ≡ ledger → Admits s → order_for part ledger orders worker ≡ None → IsAct s (post_of part worker) (record s { orders = orders; locks = entries; stored = ledger }) (reply.Refused refusal.NoOrder)
 posts_none part s orders entries ledger worker is e f g room none =
     let c = post_of part worker in
     at_state _ _ s _ _ (λ i. record s { orders = e i; locks = f i; stored = g i })
     (refuses s c refusal.NoOrder room
-    (own_post part c (outcome_in s.stored) s worker None (posts_part part worker is) (held part s ledger orders worker None g e none)) refl refl)
+    (own_post part c (found_in s) s worker None (posts_part part worker is) (held part s ledger orders worker None g e none)))
 
--- a store that has no room for the mark
-pub full_post : (part : ℕ) (c : Command) (come : ℕ → UnitKey → Outcome) (s : State) (worker : ℕ) (unit : UnitKey) → Posts part worker c → order_for part s.stored s.orders worker ≡ Some unit → is_store_full s ≡ true → own_verdict come s c ≡ Refuses (refusal.StoreFull s.mark_limit)
-full_post part c come s worker unit posts found full = own_post part c come s worker (Some unit) posts found ∙ overflows s _ full
-
-pub posts_full : (part : ℕ) (s : State) (orders : List (Option UnitKey)) (entries : List Entry) (ledger : Ledger) (limit worker : ℕ) (unit : UnitKey) → IsPart part → s.orders ≡ orders → s.locks ≡ entries → s.stored ≡ ledger → s.mark_limit ≡ limit → closed s ≡ None → order_for part ledger orders worker ≡ Some unit → nat_le limit (length ledger.marks) ≡ true → IsAct s (post_of part worker) (record s { orders = orders; locks = entries; stored = ledger }) (reply.Refused (refusal.StoreFull limit))
+pub posts_full : (part : ℕ) (s : State) (orders : List (Option UnitKey)) (entries : List Entry) (ledger : Ledger) (limit worker : ℕ) (unit : UnitKey) → IsPart part → s.orders ≡ orders → s.locks ≡ entries → s.stored ≡ ledger → s.mark_limit ≡ limit → Admits s → order_for part ledger orders worker ≡ Some unit → nat_le limit (length ledger.marks) ≡ true → IsAct s (post_of part worker) (record s { orders = orders; locks = entries; stored = ledger }) (reply.Refused (refusal.StoreFull limit))
 posts_full part s orders entries ledger limit worker unit is e f g m room found full =
     let c = post_of part worker in
     subst (λ n. IsAct s c (record s { orders = orders; locks = entries; stored = ledger }) (reply.Refused (refusal.StoreFull n))) m
     (at_state _ _ s _ _ (λ i. record s { orders = e i; locks = f i; stored = g i })
     (refuses s c (refusal.StoreFull s.mark_limit) room
-    (full_post part c (outcome_in s.stored) s worker unit (posts_part part worker is) (held part s ledger orders worker (Some unit) g e found) (full_as s limit ledger true m g full)) refl refl))
-
-posted-shows : (part : ℕ) (unit : UnitKey) (o : Outcome) → shown (posted_reply part unit o) ≡ Comes o
-posted-shows part unit outcome.Done =
-    elim (nat_eq part 1) as (λ b. shown (if b then reply.Posted unit else reply.Closed unit) ≡ Comes outcome.Done) [ true ↦ refl | false ↦ refl ]
-posted-shows part unit (outcome.Refused index reason) =
-    elim (nat_eq part 1) as (λ b. shown (if b then reply.Bad unit index reason else reply.Bad2 unit index reason) ≡ Comes (outcome.Refused index reason)) [ true ↦ refl | false ↦ refl ]
+    (own_post part c (found_in s) s worker (Some unit) (posts_part part worker is) (held part s ledger orders worker (Some unit) g e found) ∙ overflows s _ (full_as s limit ledger true m g full))))
 
 -- a part that comes to this
-pub comes : (part : ℕ) (c : Command) (s : State) (worker : ℕ) (unit : UnitKey) (o : Outcome) → Posts part worker c → closed s ≡ None → order_for part s.stored s.orders worker ≡ Some unit → is_store_full s ≡ false → MayComeTo s.told s.stored part unit o → IsAct s c (marked part s worker unit (kind_for part o)) (posted_reply part unit o)
-comes part c s worker unit o posts room found space may =
+pub comes : (part : ℕ) (c : Command) (s : State) (worker : ℕ) (unit : UnitKey) (o : Outcome) → call_of c ≡ OfWorker worker (Posts part) → Admits s → order_for part s.stored s.orders worker ≡ Some unit → is_store_full s ≡ false → MayComeTo s.told s.stored part unit o → IsAct s c (marked part s worker unit (kind_for part o)) (posted_reply part unit o)
+comes part c s worker unit o posts room at space may =
+    let found = found_by (Comes o) s in
     record {
-      same =
-          ap (λ d. served d s c) (posted-shows part unit o)
-          ∙ ap (judged s) (verdict-room (λ p u. o) s c room ∙ own_post part c (λ p u. o) s worker (Some unit) posts found ∙ fits s _ space);
-      allowed = subst (λ d. IsAllowed d s c) (sym (posted-shows part unit o)) (posts.may o s (subst (λ x. IfSome x (λ u. MayComeTo s.told s.stored part u o)) (sym found) may));
-      noted = posted-noted part unit o;
+      outcome = record { event = AllWell; reading = Comes o };
+      allowed = record {
+        reading = subst (MayRead (Comes o) s) (sym posts) (subst (λ x. IfSome x (λ u. MayComeTo s.told s.stored part u o)) (sym at) may);
+        event = tt;
+      };
+      same = ap (judged s) (admitted found s (call_of c) room ∙ own_post part c found s worker (Some unit) posts at ∙ fits s _ space);
     }
 
-pub posts : (part : ℕ) (s : State) (told : Bool) (orders after : List (Option UnitKey)) (entries left : List Entry) (ledger new : Ledger) (limit worker : ℕ) (unit : UnitKey) (o : Outcome) → IsPart part → s.told ≡ told → s.orders ≡ orders → s.locks ≡ entries → s.stored ≡ ledger → s.mark_limit ≡ limit → closed s ≡ None → order_for part ledger orders worker ≡ Some unit → nat_le limit (length ledger.marks) ≡ false → MayComeTo told ledger part unit o → after ≡ set orders worker None → left ≡ locks_behind part entries unit → new ≡ with_mark ledger unit (kind_for part o) → IsAct s (post_of part worker) (record s { orders = after; locks = left; stored = new }) (posted_reply part unit o)
+pub posts : (part : ℕ) (s : State) (told : Bool) (orders after : List (Option UnitKey)) (entries left : List Entry) (ledger new : Ledger) (limit worker : ℕ) (unit : UnitKey) (o : Outcome) → IsPart part → s.told ≡ told → s.orders ≡ orders → s.locks ≡ entries → s.stored ≡ ledger → s.mark_limit ≡ limit → Admits s → order_for part ledger orders worker ≡ Some unit → nat_le limit (length ledger.marks) ≡ false → MayComeTo told ledger part unit o → after ≡ set orders worker None → left ≡ locks_behind part entries unit → new ≡ with_mark ledger unit (kind_for part o) → IsAct s (post_of part worker) (record s { orders = after; locks = left; stored = new }) (posted_reply part unit o)
 posts part s told orders after entries left ledger new limit worker unit o is t e f g m room found space may a b c =
     let e' : set s.orders worker None ≡ after = ap (λ xs. set xs worker None) e ∙ sym a in
     let f' : locks_behind part s.locks unit ≡ left = ap (λ xs. locks_behind part xs unit) f ∙ sym b in
@@ -304,20 +258,21 @@ pub landed_where_told : (part : ℕ) (told : Option Rows) (ledger old : Ledger) 
 landed_where_told part None ledger old said unit o same is h = tt
 landed_where_told part (Some rows) ledger old said unit o same is h = landed_post part ledger old said unit o same is (outcome_is _ o h)
 
-pub posts_in_doubt : (part : ℕ) (s : State) (orders : List (Option UnitKey)) (ledger : Ledger) (limit worker : ℕ) (unit : UnitKey) → IsPart part → s.orders ≡ orders → s.stored ≡ ledger → s.mark_limit ≡ limit → closed s ≡ None → order_for part ledger orders worker ≡ Some unit → nat_le limit (length ledger.marks) ≡ false → IsAct s (post_of part worker) (doubted s (landed s.stored (flight.Post unit part))) (reply.Refused refusal.StoreFault)
+pub posts_in_doubt : (part : ℕ) (s : State) (orders : List (Option UnitKey)) (ledger : Ledger) (limit worker : ℕ) (unit : UnitKey) → IsPart part → s.orders ≡ orders → s.stored ≡ ledger → s.mark_limit ≡ limit → Admits s → order_for part ledger orders worker ≡ Some unit → nat_le limit (length ledger.marks) ≡ false → IsAct s (post_of part worker) (doubted s (Some (landed s.stored (flight.Post unit part)))) (reply.Refused refusal.StoreFault)
 posts_in_doubt part s orders ledger limit worker unit is e g m room found space =
     let c = post_of part worker in
     let o = outcome_in s.stored part unit in
     let by = posts_part part worker is in
     fails s c (marked part s worker unit (kind_for part o)) (posted_reply part unit o) room
-    (own_post part c (outcome_in s.stored) s worker (Some unit) by (held part s ledger orders worker (Some unit) g e found) ∙ fits s _ (full_as s limit ledger false m g space)) by.stores
+    (own_post part c (found_in s) s worker (Some unit) by (held part s ledger orders worker (Some unit) g e found) ∙ fits s _ (full_as s limit ledger false m g space))
+    (ap uses_store by) (ap only_reads by)
 
-pub posts_wanting : (part : ℕ) (s : State) (orders : List (Option UnitKey)) (entries : List Entry) (ledger new : Ledger) (worker : ℕ) (unit : UnitKey) → IsPart part → s.orders ≡ orders → s.locks ≡ entries → s.stored ≡ ledger → new ≡ ledger → closed s ≡ None → order_for part ledger orders worker ≡ Some unit → IsAct s (post_of part worker) (record s { orders = orders; locks = entries; stored = new }) (reply.Refused refusal.NoMemory)
+pub posts_wanting : (part : ℕ) (s : State) (orders : List (Option UnitKey)) (entries : List Entry) (ledger new : Ledger) (worker : ℕ) (unit : UnitKey) → IsPart part → s.orders ≡ orders → s.locks ≡ entries → s.stored ≡ ledger → new ≡ ledger → Admits s → order_for part ledger orders worker ≡ Some unit → IsAct s (post_of part worker) (record s { orders = orders; locks = entries; stored = new }) (reply.Refused refusal.NoMemory)
 posts_wanting part s orders entries ledger new worker unit is e f g kept room found =
     let g' : s.stored ≡ new = g ∙ sym kept in
     let by = posts_part part worker is in
     at_state _ _ s _ _ (λ i. record s { orders = e i; locks = f i; stored = g' i })
-    (is_wanting s (post_of part worker) room (by.wants s (ap is_some (held part s ledger orders worker (Some unit) g e found))))
+    (is_wanting s (post_of part worker) (ap (unavailable s) by ∙ free_worker s worker (Posts part) room) (ap (may_want s _) by ∙ ap is_some (held part s ledger orders worker (Some unit) g e found)))
 
 -- ---- cancelling
 
@@ -325,56 +280,54 @@ own_cancel : (s : State) (orders : List (Option UnitKey)) (ledger : Ledger) (lim
 own_cancel s orders ledger limit unit r e g m h =
     (λ i. cancelling s unit (to_cancel (g i) (e i) (m i) unit)) ∙ ap (cancelling s unit) h
 
-pub cancels_not : (s : State) (orders : List (Option UnitKey)) (entries : List Entry) (ledger : Ledger) (limit : ℕ) (unit : UnitKey) (r : Refusal) → s.orders ≡ orders → s.locks ≡ entries → s.stored ≡ ledger → s.mark_limit ≡ limit → closed s ≡ None → to_cancel ledger orders limit unit ≡ Err r → IsAct s (command.Cancel unit) (record s { locks = entries; stored = ledger }) (reply.Refused r)
+pub cancels_not : (s : State) (orders : List (Option UnitKey)) (entries : List Entry) (ledger : Ledger) (limit : ℕ) (unit : UnitKey) (r : Refusal) → s.orders ≡ orders → s.locks ≡ entries → s.stored ≡ ledger → s.mark_limit ≡ limit → Admits s → to_cancel ledger orders limit unit ≡ Err r → IsAct s (command.Cancel unit) (record s { locks = entries; stored = ledger }) (reply.Refused r)
 cancels_not s orders entries ledger limit unit r e f g m room h =
-    let plain = refused_plainly ledger orders limit unit r h in
     at_state _ _ s _ _ (λ i. record s { locks = f i; stored = g i })
-    (refuses s (command.Cancel unit) r room (own_cancel s orders ledger limit unit (Err r) e g m h) plain.well plain.noted)
+    (refuses s (command.Cancel unit) r room (own_cancel s orders ledger limit unit (Err r) e g m h))
 
-pub cancels_wanting : (s : State) (orders : List (Option UnitKey)) (entries : List Entry) (ledger new : Ledger) (limit : ℕ) (unit : UnitKey) (status : Status) → s.orders ≡ orders → s.locks ≡ entries → s.stored ≡ ledger → s.mark_limit ≡ limit → closed s ≡ None → to_cancel ledger orders limit unit ≡ Ok status → new ≡ ledger → IsAct s (command.Cancel unit) (record s { locks = entries; stored = new }) (reply.Refused refusal.NoMemory)
+pub cancels_wanting : (s : State) (orders : List (Option UnitKey)) (entries : List Entry) (ledger new : Ledger) (limit : ℕ) (unit : UnitKey) (status : Status) → s.orders ≡ orders → s.locks ≡ entries → s.stored ≡ ledger → s.mark_limit ≡ limit → Admits s → to_cancel ledger orders limit unit ≡ Ok status → new ≡ ledger → IsAct s (command.Cancel unit) (record s { locks = entries; stored = new }) (reply.Refused refusal.NoMemory)
 cancels_wanting s orders entries ledger new limit unit status e f g m room h kept =
     let g' : s.stored ≡ new = g ∙ sym kept in
     at_state _ _ s _ _ (λ i. record s { locks = f i; stored = g' i })
-    (is_wanting s (command.Cancel unit) room
-    (ap leaves (verdict-room (outcome_in s.stored) s (command.Cancel unit) room ∙ own_cancel s orders ledger limit unit (Ok status) e g m h)))
+    (is_wanting s (command.Cancel unit) (free_admin s (Cancels unit) room)
+    (ap leaves (admitted (found_in s) s (OfAdmin (Cancels unit)) room ∙ own_cancel s orders ledger limit unit (Ok status) e g m h)))
 
-pub cancels : (s : State) (orders : List (Option UnitKey)) (entries left : List Entry) (ledger new : Ledger) (limit : ℕ) (unit : UnitKey) (status : Status) → s.orders ≡ orders → s.locks ≡ entries → s.stored ≡ ledger → s.mark_limit ≡ limit → closed s ≡ None → to_cancel ledger orders limit unit ≡ Ok status → left ≡ locks_without status entries unit → new ≡ with_mark ledger unit Gone → IsAct s (command.Cancel unit) (record s { locks = left; stored = new }) (reply.Unit unit)
+pub cancels : (s : State) (orders : List (Option UnitKey)) (entries left : List Entry) (ledger new : Ledger) (limit : ℕ) (unit : UnitKey) (status : Status) → s.orders ≡ orders → s.locks ≡ entries → s.stored ≡ ledger → s.mark_limit ≡ limit → Admits s → to_cancel ledger orders limit unit ≡ Ok status → left ≡ locks_without status entries unit → new ≡ with_mark ledger unit Gone → IsAct s (command.Cancel unit) (record s { locks = left; stored = new }) (reply.Unit unit)
 cancels s orders entries left ledger new limit unit status e f g m room h a b =
     let f' : locks_without status s.locks unit ≡ left = ap (λ xs. locks_without status xs unit) f ∙ sym a in
     let g' : with_mark s.stored unit Gone ≡ new = ap (λ l. with_mark l unit Gone) g ∙ sym b in
     at_state _ _ (cancelled s unit status) _ _ (λ i. record s { locks = f' i; stored = g' i })
-    (tells s (command.Cancel unit) (cancelled s unit status) (reply.Unit unit) room (own_cancel s orders ledger limit unit (Ok status) e g m h) refl refl)
+    (leaves_as s (command.Cancel unit) (cancelled s unit status) (reply.Unit unit) room (own_cancel s orders ledger limit unit (Ok status) e g m h))
 
-pub cancels_in_doubt : (s : State) (orders : List (Option UnitKey)) (ledger : Ledger) (limit : ℕ) (unit : UnitKey) (status : Status) → s.orders ≡ orders → s.stored ≡ ledger → s.mark_limit ≡ limit → closed s ≡ None → to_cancel ledger orders limit unit ≡ Ok status → IsAct s (command.Cancel unit) (doubted s (landed s.stored (flight.Cancel unit))) (reply.Refused refusal.StoreFault)
+pub cancels_in_doubt : (s : State) (orders : List (Option UnitKey)) (ledger : Ledger) (limit : ℕ) (unit : UnitKey) (status : Status) → s.orders ≡ orders → s.stored ≡ ledger → s.mark_limit ≡ limit → Admits s → to_cancel ledger orders limit unit ≡ Ok status → IsAct s (command.Cancel unit) (doubted s (Some (landed s.stored (flight.Cancel unit)))) (reply.Refused refusal.StoreFault)
 cancels_in_doubt s orders ledger limit unit status e g m room h =
-    fails s (command.Cancel unit) (cancelled s unit status) (reply.Unit unit) room (own_cancel s orders ledger limit unit (Ok status) e g m h) refl
+    fails s (command.Cancel unit) (cancelled s unit status) (reply.Unit unit) room (own_cancel s orders ledger limit unit (Ok status) e g m h) refl refl
 
 -- ---- trying again
 
 own_resubmit : (s : State) (ledger : Ledger) (limit : ℕ) (unit : UnitKey) (r : Result Status Refusal) → s.stored ≡ ledger → s.mark_limit ≡ limit → to_resubmit ledger limit unit ≡ r → resubmit s unit ≡ resubmitting s unit r
 own_resubmit s ledger limit unit r g m h = (λ i. resubmitting s unit (to_resubmit (g i) (m i) unit)) ∙ ap (resubmitting s unit) h
 
-pub resubmits_not : (s : State) (entries : List Entry) (ledger : Ledger) (limit : ℕ) (unit : UnitKey) (r : Refusal) → s.locks ≡ entries → s.stored ≡ ledger → s.mark_limit ≡ limit → closed s ≡ None → to_resubmit ledger limit unit ≡ Err r → IsAct s (command.Resubmit unit) (record s { locks = entries; stored = ledger }) (reply.Refused r)
+pub resubmits_not : (s : State) (entries : List Entry) (ledger : Ledger) (limit : ℕ) (unit : UnitKey) (r : Refusal) → s.locks ≡ entries → s.stored ≡ ledger → s.mark_limit ≡ limit → Admits s → to_resubmit ledger limit unit ≡ Err r → IsAct s (command.Resubmit unit) (record s { locks = entries; stored = ledger }) (reply.Refused r)
 resubmits_not s entries ledger limit unit r f g m room h =
-    let plain = resubmit_refused_plainly ledger limit unit r h in
     at_state _ _ s _ _ (λ i. record s { locks = f i; stored = g i })
-    (refuses s (command.Resubmit unit) r room (own_resubmit s ledger limit unit (Err r) g m h) plain.well plain.noted)
+    (refuses s (command.Resubmit unit) r room (own_resubmit s ledger limit unit (Err r) g m h))
 
-pub resubmits_wanting : (s : State) (entries : List Entry) (ledger new : Ledger) (limit : ℕ) (unit : UnitKey) (status : Status) → s.locks ≡ entries → s.stored ≡ ledger → s.mark_limit ≡ limit → closed s ≡ None → to_resubmit ledger limit unit ≡ Ok status → new ≡ ledger → IsAct s (command.Resubmit unit) (record s { locks = entries; stored = new }) (reply.Refused refusal.NoMemory)
+pub resubmits_wanting : (s : State) (entries : List Entry) (ledger new : Ledger) (limit : ℕ) (unit : UnitKey) (status : Status) → s.locks ≡ entries → s.stored ≡ ledger → s.mark_limit ≡ limit → Admits s → to_resubmit ledger limit unit ≡ Ok status → new ≡ ledger → IsAct s (command.Resubmit unit) (record s { locks = entries; stored = new }) (reply.Refused refusal.NoMemory)
 resubmits_wanting s entries ledger new limit unit status f g m room h kept =
     let g' : s.stored ≡ new = g ∙ sym kept in
     at_state _ _ s _ _ (λ i. record s { locks = f i; stored = g' i })
-    (is_wanting s (command.Resubmit unit) room (ap is_ok ((λ i. to_resubmit (g i) (m i) unit) ∙ h)))
+    (is_wanting s (command.Resubmit unit) (free_admin s (Resubmits unit) room) (ap is_ok ((λ i. to_resubmit (g i) (m i) unit) ∙ h)))
 
-pub reposts : (s : State) (entries : List Entry) (ledger new : Ledger) (limit : ℕ) (unit : UnitKey) → s.locks ≡ entries → s.stored ≡ ledger → s.mark_limit ≡ limit → closed s ≡ None → to_resubmit ledger limit unit ≡ Ok Bad2 → new ≡ with_mark ledger unit Again2 → IsAct s (command.Resubmit unit) (record s { locks = entries; stored = new }) (reply.Unit unit)
+pub reposts : (s : State) (entries : List Entry) (ledger new : Ledger) (limit : ℕ) (unit : UnitKey) → s.locks ≡ entries → s.stored ≡ ledger → s.mark_limit ≡ limit → Admits s → to_resubmit ledger limit unit ≡ Ok Bad2 → new ≡ with_mark ledger unit Again2 → IsAct s (command.Resubmit unit) (record s { locks = entries; stored = new }) (reply.Unit unit)
 reposts s entries ledger new limit unit f g m room h b =
     let g' : with_mark s.stored unit Again2 ≡ new = ap (λ l. with_mark l unit Again2) g ∙ sym b in
     at_state _ _ (reposted s unit) _ _ (λ i. record s { locks = f i; stored = g' i })
-    (tells s (command.Resubmit unit) (reposted s unit) (reply.Unit unit) room (own_resubmit s ledger limit unit (Ok Bad2) g m h) refl refl)
+    (leaves_as s (command.Resubmit unit) (reposted s unit) (reply.Unit unit) room (own_resubmit s ledger limit unit (Ok Bad2) g m h))
 
-pub reposts_in_doubt : (s : State) (ledger : Ledger) (limit : ℕ) (unit : UnitKey) → s.stored ≡ ledger → s.mark_limit ≡ limit → closed s ≡ None → to_resubmit ledger limit unit ≡ Ok Bad2 → IsAct s (command.Resubmit unit) (doubted s (landed s.stored (flight.Again unit 2))) (reply.Refused refusal.StoreFault)
+pub reposts_in_doubt : (s : State) (ledger : Ledger) (limit : ℕ) (unit : UnitKey) → s.stored ≡ ledger → s.mark_limit ≡ limit → Admits s → to_resubmit ledger limit unit ≡ Ok Bad2 → IsAct s (command.Resubmit unit) (doubted s (Some (landed s.stored (flight.Again unit 2)))) (reply.Refused refusal.StoreFault)
 reposts_in_doubt s ledger limit unit g m room h =
-    fails s (command.Resubmit unit) (reposted s unit) (reply.Unit unit) room (own_resubmit s ledger limit unit (Ok Bad2) g m h) refl
+    fails s (command.Resubmit unit) (reposted s unit) (reply.Unit unit) room (own_resubmit s ledger limit unit (Ok Bad2) g m h) refl refl
 
 own_reopen : (s : State) (t : Table) (ledger : Ledger) (limit : ℕ) (unit : UnitKey) (answer : Result (List Entry) AskFault) → s.locks ≡ t.entries → s.limit ≡ t.limit → s.stored ≡ ledger → s.mark_limit ≡ limit → to_resubmit ledger limit unit ≡ Ok Bad → readmitted t (owners_of unit) (entries_of ledger.units unit) ≡ answer → resubmit s unit ≡ reopening s unit answer
 own_reopen s t ledger limit unit answer f l g m h e =
@@ -382,45 +335,90 @@ own_reopen s t ledger limit unit answer f l g m h e =
     ∙ (λ i. reopening s unit (readmitted (record { entries = f i; limit = l i }) (owners_of unit) (entries_of (g i).units unit)))
     ∙ ap (reopening s unit) e
 
-pub reopens : (s : State) (t : Table) (ledger new : Ledger) (limit : ℕ) (unit : UnitKey) (left : List Entry) → s.locks ≡ t.entries → s.limit ≡ t.limit → s.stored ≡ ledger → s.mark_limit ≡ limit → closed s ≡ None → to_resubmit ledger limit unit ≡ Ok Bad → readmitted t (owners_of unit) (entries_of ledger.units unit) ≡ Ok left → new ≡ with_mark ledger unit Again1 → IsAct s (command.Resubmit unit) (record s { locks = left; stored = new }) (reply.Unit unit)
+pub reopens : (s : State) (t : Table) (ledger new : Ledger) (limit : ℕ) (unit : UnitKey) (left : List Entry) → s.locks ≡ t.entries → s.limit ≡ t.limit → s.stored ≡ ledger → s.mark_limit ≡ limit → Admits s → to_resubmit ledger limit unit ≡ Ok Bad → readmitted t (owners_of unit) (entries_of ledger.units unit) ≡ Ok left → new ≡ with_mark ledger unit Again1 → IsAct s (command.Resubmit unit) (record s { locks = left; stored = new }) (reply.Unit unit)
 reopens s t ledger new limit unit left f l g m room h stand b =
     let g' : with_mark s.stored unit Again1 ≡ new = ap (λ x. with_mark x unit Again1) g ∙ sym b in
     at_state _ _ (reopened s unit left) _ _ (λ i. record s { locks = left; stored = g' i })
-    (tells s (command.Resubmit unit) (reopened s unit left) (reply.Unit unit) room (own_reopen s t ledger limit unit (Ok left) f l g m h stand) refl refl)
+    (leaves_as s (command.Resubmit unit) (reopened s unit left) (reply.Unit unit) room (own_reopen s t ledger limit unit (Ok left) f l g m h stand))
 
-pub reopens_in_doubt : (s : State) (t : Table) (ledger : Ledger) (limit : ℕ) (unit : UnitKey) (left : List Entry) → s.locks ≡ t.entries → s.limit ≡ t.limit → s.stored ≡ ledger → s.mark_limit ≡ limit → closed s ≡ None → to_resubmit ledger limit unit ≡ Ok Bad → readmitted t (owners_of unit) (entries_of ledger.units unit) ≡ Ok left → IsAct s (command.Resubmit unit) (doubted s (landed s.stored (flight.Again unit 1))) (reply.Refused refusal.StoreFault)
+pub reopens_in_doubt : (s : State) (t : Table) (ledger : Ledger) (limit : ℕ) (unit : UnitKey) (left : List Entry) → s.locks ≡ t.entries → s.limit ≡ t.limit → s.stored ≡ ledger → s.mark_limit ≡ limit → Admits s → to_resubmit ledger limit unit ≡ Ok Bad → readmitted t (owners_of unit) (entries_of ledger.units unit) ≡ Ok left → IsAct s (command.Resubmit unit) (doubted s (Some (landed s.stored (flight.Again unit 1)))) (reply.Refused refusal.StoreFault)
 reopens_in_doubt s t ledger limit unit left f l g m room h stand =
-    fails s (command.Resubmit unit) (reopened s unit left) (reply.Unit unit) room (own_reopen s t ledger limit unit (Ok left) f l g m h stand) refl
+    fails s (command.Resubmit unit) (reopened s unit left) (reply.Unit unit) room (own_reopen s t ledger limit unit (Ok left) f l g m h stand) refl refl
 
-not_reopened : (s : State) (t : Table) (ledger : Ledger) (limit : ℕ) (unit : UnitKey) (f : AskFault) → s.locks ≡ t.entries → s.limit ≡ t.limit → s.stored ≡ ledger → s.mark_limit ≡ limit → closed s ≡ None → to_resubmit ledger limit unit ≡ Ok Bad → IsFaultOf (readmitted t (owners_of unit) (entries_of ledger.units unit)) f → IsAct s (command.Resubmit unit) s (reply.Refused (ask_refusal f))
+not_reopened : (s : State) (t : Table) (ledger : Ledger) (limit : ℕ) (unit : UnitKey) (f : AskFault) → s.locks ≡ t.entries → s.limit ≡ t.limit → s.stored ≡ ledger → s.mark_limit ≡ limit → Admits s → to_resubmit ledger limit unit ≡ Ok Bad → IsFaultOf (readmitted t (owners_of unit) (entries_of ledger.units unit)) f → IsAct s (command.Resubmit unit) s (reply.Refused (ask_refusal f))
 not_reopened s t ledger limit unit (fault.Foreign e) locks l g m room h why =
-    refuses s (command.Resubmit unit) _ room (own_reopen s t ledger limit unit _ locks l g m h why) refl refl
+    refuses s (command.Resubmit unit) _ room (own_reopen s t ledger limit unit _ locks l g m h why)
 not_reopened s t ledger limit unit (fault.Full used most) locks l g m room h why =
-    refuses s (command.Resubmit unit) _ room (own_reopen s t ledger limit unit _ locks l g m h why) refl refl
+    refuses s (command.Resubmit unit) _ room (own_reopen s t ledger limit unit _ locks l g m h why)
 not_reopened s t ledger limit unit fault.Count locks l g m room h why =
-    refuses s (command.Resubmit unit) _ room (own_reopen s t ledger limit unit _ locks l g m h why) refl refl
+    refuses s (command.Resubmit unit) _ room (own_reopen s t ledger limit unit _ locks l g m h why)
 not_reopened s t ledger limit unit fault.Lost locks l g m room h why =
-    refuses s (command.Resubmit unit) _ room (own_reopen s t ledger limit unit _ locks l g m h why) refl refl
+    refuses s (command.Resubmit unit) _ room (own_reopen s t ledger limit unit _ locks l g m h why)
 not_reopened s t ledger limit unit fault.NoMemory locks l g m room h why =
-    is_wanting s (command.Resubmit unit) room (ap is_ok ((λ i. to_resubmit (g i) (m i) unit) ∙ h))
+    is_wanting s (command.Resubmit unit) (free_admin s (Resubmits unit) room) (ap is_ok ((λ i. to_resubmit (g i) (m i) unit) ∙ h))
 
-pub reopens_in_vain : (s : State) (t : Table) (ledger new : Ledger) (limit : ℕ) (unit : UnitKey) (f : AskFault) (r : Refusal) (after : List Entry) → s.locks ≡ t.entries → s.limit ≡ t.limit → s.stored ≡ ledger → s.mark_limit ≡ limit → closed s ≡ None → to_resubmit ledger limit unit ≡ Ok Bad → IsFaultOf (readmitted t (owners_of unit) (entries_of ledger.units unit)) f → after ≡ t.entries → new ≡ ledger → r ≡ ask_refusal f → IsAct s (command.Resubmit unit) (record s { locks = after; stored = new }) (reply.Refused r)
+pub reopens_in_vain : (s : State) (t : Table) (ledger new : Ledger) (limit : ℕ) (unit : UnitKey) (f : AskFault) (r : Refusal) (after : List Entry) → s.locks ≡ t.entries → s.limit ≡ t.limit → s.stored ≡ ledger → s.mark_limit ≡ limit → Admits s → to_resubmit ledger limit unit ≡ Ok Bad → IsFaultOf (readmitted t (owners_of unit) (entries_of ledger.units unit)) f → after ≡ t.entries → new ≡ ledger → r ≡ ask_refusal f → IsAct s (command.Resubmit unit) (record s { locks = after; stored = new }) (reply.Refused r)
 reopens_in_vain s t ledger new limit unit f r after locks l g m room h why same kept is =
     let f' : s.locks ≡ after = locks ∙ sym same in
     let g' : s.stored ≡ new = g ∙ sym kept in
     subst (λ a. IsAct s (command.Resubmit unit) (record s { locks = after; stored = new }) (reply.Refused a)) (sym is)
     (at_state _ _ s _ _ (λ i. record s { locks = f' i; stored = g' i }) (not_reopened s t ledger limit unit f locks l g m room h why))
 
+-- ---- rows
+
+own_read : (found : Found) (s : State) (sessions : List Session) (name table key : List ℕ) (x : Session) → s.sessions ≡ sessions → session_at sessions name ≡ Some x → own_verdict found s (OfSession name (Reads table key)) ≡ Leaves s (reply.Row (found.row table key))
+own_read found s sessions name table key x e at = ap (called found s (Reads table key)) (found_at s sessions name (Some x) e at)
+
+pub reads_unknown : (s : State) (sessions : List Session) (ledger : Ledger) (name table key : List ℕ) (r : Refusal) → s.sessions ≡ sessions → s.stored ≡ ledger → Admits s → session_at sessions name ≡ None → r ≡ refusal.UnknownSession → IsAct s (command.Read name table key) (record s { stored = ledger }) (reply.Refused r)
+reads_unknown s sessions ledger name table key r e g room none is =
+    subst (λ x. IsAct s (command.Read name table key) (record s { stored = ledger }) (reply.Refused x)) (sym is)
+    (at_state _ _ s _ _ (λ i. record s { stored = g i })
+    (refuses s (command.Read name table key) refusal.UnknownSession room (ap (called (found_in s) s (Reads table key)) (found_at s sessions name None e none))))
+
+abbrev TellsText : Bool → Ledger → List ℕ → List ℕ → Option (List ℕ) → Type 0
+TellsText told ledger table key text = IsTold told (text ≡ row_in ledger table key)
+
+told_text : (told : Bool) (rows : Option Rows) (ledger : Ledger) (table key : List ℕ) (text : Option (List ℕ)) → told ≡ is_some rows → IfSome rows (λ _. text ≡ row_in ledger table key) → TellsText told ledger table key text
+told_text told None ledger table key text t known = subst (λ b. TellsText b ledger table key text) (sym t) tt
+told_text told (Some rows) ledger table key text t known = subst (λ b. TellsText b ledger table key text) (sym t) known
+
+pub reads : (s : State) (rows : Option Rows) (sessions : List Session) (ledger new : Ledger) (name table key : List ℕ) (x : Session) (text : Option (List ℕ)) → s.sessions ≡ sessions → s.told ≡ is_some rows → s.stored ≡ ledger → Admits s → session_at sessions name ≡ Some x → IfSome rows (λ _. text ≡ row_in ledger table key) → new ≡ ledger → IsAct s (command.Read name table key) (record s { stored = new }) (reply.Row text)
+reads s rows sessions ledger new name table key x text e t g room at known kept =
+    let g' : s.stored ≡ new = g ∙ sym kept in
+    let found = found_by (Shows text) s in
+    at_state _ _ s _ _ (λ i. record s { stored = g' i })
+    (record {
+      outcome = record { event = AllWell; reading = Shows text };
+      allowed = record { reading = subst (λ l. TellsText s.told l table key text) (sym g) (told_text s.told rows ledger table key text t known); event = tt };
+      same = ap (judged s) (admitted found s (OfSession name (Reads table key)) room ∙ own_read found s sessions name table key x e at);
+    })
+
+pub reads_wanting : (s : State) (sessions : List Session) (ledger new : Ledger) (name table key : List ℕ) (x : Session) → s.sessions ≡ sessions → s.stored ≡ ledger → Admits s → session_at sessions name ≡ Some x → new ≡ ledger → IsAct s (command.Read name table key) (record s { stored = new }) (reply.Refused refusal.NoMemory)
+reads_wanting s sessions ledger new name table key x e g room at kept =
+    let g' : s.stored ≡ new = g ∙ sym kept in
+    at_state _ _ s _ _ (λ i. record s { stored = g' i })
+    (is_wanting s (command.Read name table key) (free_session s name (Reads table key) x room (found_at s sessions name (Some x) e at)) refl)
+
+-- a read that failed leaves no change in flight
+pub reads_in_doubt : (s : State) (sessions : List Session) (name table key : List ℕ) (x : Session) → s.sessions ≡ sessions → s.pending ≡ None → Admits s → session_at sessions name ≡ Some x → IsAct s (command.Read name table key) (doubted s None) (reply.Refused refusal.StoreFault)
+reads_in_doubt s sessions name table key x e none room at =
+    let v = admitted (found_in s) s (OfSession name (Reads table key)) room ∙ own_read (found_in s) s sessions name table key x e at in
+    record {
+      outcome = only StoreFails;
+      allowed = record { reading = tt; event = (ap leaves v, refl) };
+      same = ap (λ w. refused (doubted s (pending_after s (OfSession name (Reads table key)) w)) refusal.StoreFault) v ∙ ap (λ p. refused (doubted s p) refusal.StoreFault) none;
+    }
+
 -- ---- commits
 
-own_commit : (s : State) (sessions : List Session) (name : List ℕ) (x : Session) (parts : Parts) → s.sessions ≡ sessions → session_at sessions name ≡ Some x → own_verdict (outcome_in s.stored) s (command.Commit name parts) ≡ commit s x parts
-own_commit s sessions name x parts e found = ap (calling s (command.Commit name parts)) (found_at s sessions name (Some x) e found)
+own_commit : (s : State) (sessions : List Session) (name : List ℕ) (x : Session) (parts : Parts) → s.sessions ≡ sessions → session_at sessions name ≡ Some x → own_verdict (found_in s) s (OfSession name (Commits parts)) ≡ commit s x parts
+own_commit s sessions name x parts e found = ap (called (found_in s) s (Commits parts)) (found_at s sessions name (Some x) e found)
 
-pub commits_unknown : (s : State) (sessions : List Session) (entries : List Entry) (ledger : Ledger) (name : List ℕ) (parts : Parts) (r : Refusal) → s.sessions ≡ sessions → s.locks ≡ entries → s.stored ≡ ledger → closed s ≡ None → session_at sessions name ≡ None → r ≡ refusal.UnknownSession → IsAct s (command.Commit name parts) (record s { sessions = sessions; locks = entries; stored = ledger }) (reply.Refused r)
+pub commits_unknown : (s : State) (sessions : List Session) (entries : List Entry) (ledger : Ledger) (name : List ℕ) (parts : Parts) (r : Refusal) → s.sessions ≡ sessions → s.locks ≡ entries → s.stored ≡ ledger → Admits s → session_at sessions name ≡ None → r ≡ refusal.UnknownSession → IsAct s (command.Commit name parts) (record s { sessions = sessions; locks = entries; stored = ledger }) (reply.Refused r)
 commits_unknown s sessions entries ledger name parts r e f g room none is =
     subst (λ x. IsAct s (command.Commit name parts) (record s { sessions = sessions; locks = entries; stored = ledger }) (reply.Refused x)) (sym is)
     (at_state _ _ s _ _ (λ i. record s { sessions = e i; locks = f i; stored = g i })
-    (refuses s (command.Commit name parts) refusal.UnknownSession room (ap (calling s (command.Commit name parts)) (found_at s sessions name None e none)) refl refl))
+    (refuses s (command.Commit name parts) refusal.UnknownSession room (ap (called (found_in s) s (Commits parts)) (found_at s sessions name None e none))))
 
 abbrev committing : State → Session → Parts → Bool → Bool → Verdict
 committing s x parts large none = if large then Refuses refusal.UnitTooLarge else (if none then Leaves s reply.Done else with_room s (Leaves (committed s x parts) (reply.Unit (unit_key s.stored.start x))))
@@ -437,32 +435,38 @@ not_over n h = grind (arith, nat_tests)
 is_some_effect : (n : ℕ) → 1 ≤ n → nat_eq n 0 ≡ false
 is_some_effect n h = grind (arith, nat_tests)
 
-pub is_written : (n : ℕ) → 1 ≤ n → nat_le 1 n ≡ true
+pub is_written : (n : ℕ) → 1 ≤ n → nat_lt 0 n ≡ true
 is_written n h = grind (arith, nat_tests)
 
-pub commits_too_much : (s : State) (sessions : List Session) (entries : List Entry) (ledger : Ledger) (name : List ℕ) (x : Session) (parts : Parts) → s.sessions ≡ sessions → s.locks ≡ entries → s.stored ≡ ledger → closed s ≡ None → session_at sessions name ≡ Some x → 200 < effects_in parts → IsAct s (command.Commit name parts) (record s { sessions = sessions; locks = entries; stored = ledger }) (reply.Refused refusal.UnitTooLarge)
+pub commits_too_much : (s : State) (sessions : List Session) (entries : List Entry) (ledger : Ledger) (name : List ℕ) (x : Session) (parts : Parts) → s.sessions ≡ sessions → s.locks ≡ entries → s.stored ≡ ledger → Admits s → session_at sessions name ≡ Some x → 200 < effects_in parts → IsAct s (command.Commit name parts) (record s { sessions = sessions; locks = entries; stored = ledger }) (reply.Refused refusal.UnitTooLarge)
 commits_too_much s sessions entries ledger name x parts e f g room found large =
     at_state _ _ s _ _ (λ i. record s { sessions = e i; locks = f i; stored = g i })
-    (refuses s (command.Commit name parts) refusal.UnitTooLarge room (own_commit s sessions name x parts e found ∙ tested s x parts true _ (over _ large) refl) refl refl)
+    (refuses s (command.Commit name parts) refusal.UnitTooLarge room (own_commit s sessions name x parts e found ∙ tested s x parts true _ (over _ large) refl))
 
-pub commits_nothing : (s : State) (sessions : List Session) (entries : List Entry) (ledger : Ledger) (name : List ℕ) (x : Session) (parts : Parts) → s.sessions ≡ sessions → s.locks ≡ entries → s.stored ≡ ledger → closed s ≡ None → session_at sessions name ≡ Some x → effects_in parts ≡ 0 → IsAct s (command.Commit name parts) (record s { sessions = sessions; locks = entries; stored = ledger }) reply.Done
+pub commits_nothing : (s : State) (sessions : List Session) (entries : List Entry) (ledger : Ledger) (name : List ℕ) (x : Session) (parts : Parts) → s.sessions ≡ sessions → s.locks ≡ entries → s.stored ≡ ledger → Admits s → session_at sessions name ≡ Some x → effects_in parts ≡ 0 → IsAct s (command.Commit name parts) (record s { sessions = sessions; locks = entries; stored = ledger }) reply.Done
 commits_nothing s sessions entries ledger name x parts e f g room found none =
     at_state _ _ s _ _ (λ i. record s { sessions = e i; locks = f i; stored = g i })
-    (tells s (command.Commit name parts) s reply.Done room
-    (own_commit s sessions name x parts e found ∙ tested s x parts false true (ap (nat_lt 200) none) (ap (λ n. nat_eq n 0) none)) refl refl)
+    (is_done s (command.Commit name parts) s room
+    (own_commit s sessions name x parts e found ∙ tested s x parts false true (ap (nat_lt 200) none) (ap (λ n. nat_eq n 0) none)))
 
-pub commits_full : (s : State) (sessions : List Session) (entries : List Entry) (ledger : Ledger) (limit : ℕ) (name : List ℕ) (x : Session) (parts : Parts) → s.sessions ≡ sessions → s.locks ≡ entries → s.stored ≡ ledger → s.mark_limit ≡ limit → closed s ≡ None → session_at sessions name ≡ Some x → 1 ≤ effects_in parts → effects_in parts ≤ 200 → nat_le limit (length ledger.marks) ≡ true → IsAct s (command.Commit name parts) (record s { sessions = sessions; locks = entries; stored = ledger }) (reply.Refused (refusal.StoreFull limit))
+pub commits_wanting : (s : State) (sessions : List Session) (entries : List Entry) (ledger new : Ledger) (name : List ℕ) (x : Session) (parts : Parts) → s.sessions ≡ sessions → s.locks ≡ entries → s.stored ≡ ledger → Admits s → session_at sessions name ≡ Some x → new ≡ ledger → IsAct s (command.Commit name parts) (record s { sessions = sessions; locks = entries; stored = new }) (reply.Refused refusal.NoMemory)
+commits_wanting s sessions entries ledger new name x parts e f g room found kept =
+    let g' : s.stored ≡ new = g ∙ sym kept in
+    at_state _ _ s _ _ (λ i. record s { sessions = e i; locks = f i; stored = g' i })
+    (is_wanting s (command.Commit name parts) (free_session s name (Commits parts) x room (found_at s sessions name (Some x) e found)) refl)
+
+pub commits_full : (s : State) (sessions : List Session) (entries : List Entry) (ledger : Ledger) (limit : ℕ) (name : List ℕ) (x : Session) (parts : Parts) → s.sessions ≡ sessions → s.locks ≡ entries → s.stored ≡ ledger → s.mark_limit ≡ limit → Admits s → session_at sessions name ≡ Some x → 1 ≤ effects_in parts → effects_in parts ≤ 200 → nat_le limit (length ledger.marks) ≡ true → IsAct s (command.Commit name parts) (record s { sessions = sessions; locks = entries; stored = ledger }) (reply.Refused (refusal.StoreFull limit))
 commits_full s sessions entries ledger limit name x parts e f g m room found some few full =
     subst (λ n. IsAct s (command.Commit name parts) (record s { sessions = sessions; locks = entries; stored = ledger }) (reply.Refused (refusal.StoreFull n))) m
     (at_state _ _ s _ _ (λ i. record s { sessions = e i; locks = f i; stored = g i })
     (refuses s (command.Commit name parts) (refusal.StoreFull s.mark_limit) room
-    (own_commit s sessions name x parts e found ∙ tested s x parts false false (not_over _ few) (is_some_effect _ some) ∙ overflows s _ (full_as s limit ledger true m g full)) refl refl))
+    (own_commit s sessions name x parts e found ∙ tested s x parts false false (not_over _ few) (is_some_effect _ some) ∙ overflows s _ (full_as s limit ledger true m g full))))
 
-leaves_unit : (s : State) (sessions : List Session) (name : List ℕ) (x : Session) (parts : Parts) → s.sessions ≡ sessions → session_at sessions name ≡ Some x → 1 ≤ effects_in parts → effects_in parts ≤ 200 → is_store_full s ≡ false → own_verdict (outcome_in s.stored) s (command.Commit name parts) ≡ Leaves (committed s x parts) (reply.Unit (unit_key s.stored.start x))
+leaves_unit : (s : State) (sessions : List Session) (name : List ℕ) (x : Session) (parts : Parts) → s.sessions ≡ sessions → session_at sessions name ≡ Some x → 1 ≤ effects_in parts → effects_in parts ≤ 200 → is_store_full s ≡ false → own_verdict (found_in s) s (OfSession name (Commits parts)) ≡ Leaves (committed s x parts) (reply.Unit (unit_key s.stored.start x))
 leaves_unit s sessions name x parts e found some few space =
     own_commit s sessions name x parts e found ∙ tested s x parts false false (not_over _ few) (is_some_effect _ some) ∙ fits s _ space
 
-pub commits : (s : State) (sessions after : List Session) (entries left : List Entry) (ledger new : Ledger) (limit : ℕ) (name : List ℕ) (x : Session) (parts : Parts) (key : UnitKey) → s.sessions ≡ sessions → s.locks ≡ entries → s.stored ≡ ledger → s.mark_limit ≡ limit → closed s ≡ None → session_at sessions name ≡ Some x → 1 ≤ effects_in parts → effects_in parts ≤ 200 → nat_le limit (length ledger.marks) ≡ false → key ≡ unit_key ledger.start x → after ≡ with_session x.name with_next_unit sessions → left ≡ handed_over entries key → new ≡ with_unit ledger (unit_of ledger.start entries x parts) → IsAct s (command.Commit name parts) (record s { sessions = after; locks = left; stored = new }) (reply.Unit key)
+pub commits : (s : State) (sessions after : List Session) (entries left : List Entry) (ledger new : Ledger) (limit : ℕ) (name : List ℕ) (x : Session) (parts : Parts) (key : UnitKey) → s.sessions ≡ sessions → s.locks ≡ entries → s.stored ≡ ledger → s.mark_limit ≡ limit → Admits s → session_at sessions name ≡ Some x → 1 ≤ effects_in parts → effects_in parts ≤ 200 → nat_le limit (length ledger.marks) ≡ false → key ≡ unit_key ledger.start x → after ≡ with_session x.name with_next_unit sessions → left ≡ handed_over entries key → new ≡ with_unit ledger (unit_of ledger.start entries x parts) → IsAct s (command.Commit name parts) (record s { sessions = after; locks = left; stored = new }) (reply.Unit key)
 commits s sessions after entries left ledger new limit name x parts key e f g m room found some few space k a b c =
     let k' : unit_key s.stored.start x ≡ key = ap (λ (l : Ledger). unit_key l.start x) g ∙ sym k in
     let e' : with_session x.name with_next_unit s.sessions ≡ after = ap (with_session x.name with_next_unit) e ∙ sym a in
@@ -470,20 +474,20 @@ commits s sessions after entries left ledger new limit name x parts key e f g m 
     let g' : with_unit s.stored (unit_of s.stored.start s.locks x parts) ≡ new = (λ i. with_unit (g i) (unit_of (g i).start (f i) x parts)) ∙ sym c in
     subst (λ u. IsAct s (command.Commit name parts) (record s { sessions = after; locks = left; stored = new }) (reply.Unit u)) k'
     (at_state _ _ (committed s x parts) _ _ (λ i. record s { sessions = e' i; locks = f' i; stored = g' i })
-    (tells s (command.Commit name parts) (committed s x parts) _ room (leaves_unit s sessions name x parts e found some few (full_as s limit ledger false m g space)) refl refl))
+    (leaves_as s (command.Commit name parts) (committed s x parts) _ room (leaves_unit s sessions name x parts e found some few (full_as s limit ledger false m g space))))
 
-pub commits_in_doubt : (s : State) (sessions : List Session) (entries : List Entry) (ledger : Ledger) (limit : ℕ) (name : List ℕ) (x : Session) (parts : Parts) (unit : UnitOfWork) → s.sessions ≡ sessions → s.locks ≡ entries → s.stored ≡ ledger → s.mark_limit ≡ limit → closed s ≡ None → session_at sessions name ≡ Some x → 1 ≤ effects_in parts → effects_in parts ≤ 200 → nat_le limit (length ledger.marks) ≡ false → unit ≡ unit_of ledger.start entries x parts → IsAct s (command.Commit name parts) (doubted s (with_unit s.stored unit)) (reply.Refused refusal.StoreFault)
+pub commits_in_doubt : (s : State) (sessions : List Session) (entries : List Entry) (ledger : Ledger) (limit : ℕ) (name : List ℕ) (x : Session) (parts : Parts) (unit : UnitOfWork) → s.sessions ≡ sessions → s.locks ≡ entries → s.stored ≡ ledger → s.mark_limit ≡ limit → Admits s → session_at sessions name ≡ Some x → 1 ≤ effects_in parts → effects_in parts ≤ 200 → nat_le limit (length ledger.marks) ≡ false → unit ≡ unit_of ledger.start entries x parts → IsAct s (command.Commit name parts) (doubted s (Some (with_unit s.stored unit))) (reply.Refused refusal.StoreFault)
 commits_in_doubt s sessions entries ledger limit name x parts unit e f g m room found some few space is =
     let same : unit_of s.stored.start s.locks x parts ≡ unit = (λ i. unit_of (g i).start (f i) x parts) ∙ sym is in
-    subst (λ u. IsAct s (command.Commit name parts) (doubted s (with_unit s.stored u)) (reply.Refused refusal.StoreFault)) same
-    (fails s (command.Commit name parts) (committed s x parts) _ room (leaves_unit s sessions name x parts e found some few (full_as s limit ledger false m g space)) (is_written _ some))
+    subst (λ u. IsAct s (command.Commit name parts) (doubted s (Some (with_unit s.stored u))) (reply.Refused refusal.StoreFault)) same
+    (fails s (command.Commit name parts) (committed s x parts) _ room (leaves_unit s sessions name x parts e found some few (full_as s limit ledger false m g space)) (is_written _ some) refl)
 
 -- the unit of a session that is logged on may be recorded
 pub may_record : (ledger : Ledger) (sessions : List Session) (name : List ℕ) (x : Session) (parts : Parts) (start : ℕ) (t : Table) (unit : UnitOfWork) → start ≡ ledger.start → unit ≡ unit_of start t.entries x parts → session_at sessions name ≡ Some x → AllByRecursion (IsAhead ledger) sessions → AllByRecursion (OfLock (HasItsUser ledger.start sessions)) t.entries → IsTable t → 1 ≤ ledger.start → 1 ≤ effects_in parts → effects_in parts ≤ 200 → IsNewUnit ledger unit
 may_record ledger sessions name x parts start t unit same is found ahead users good started some few =
     let held = handed_table t ledger.start x good in
     subst (IsNewUnit ledger) (sym (is ∙ ap (λ n. unit_of n t.entries x parts) same)) (record {
-      fresh = found_in (IsAhead ledger) (is_called name) sessions x found ahead x.luw (omega arith);
+      fresh = found_all_in (IsAhead ledger) (is_called name) sessions x found ahead x.luw (omega arith);
       first = started;
       last = omega arith;
       some = some;

@@ -1,5 +1,6 @@
 -- A call apart from its place in the history.
-use Rattle.std.specs.Prelude.{◌≡◌, ℕ, ◌+◌, false, nat_eq, Option, Some, None, if◌then◌else◌}
+use Rattle.std.specs.Prelude.{◌≡◌, ℕ, ◌+◌, nat_eq, Option, None, if◌then◌else◌}
+use Rattle.std.specs.Option.{option_map}
 use Rattle.enq_base.specs.declared.condition.Condition.{Condition}
 use Rattle.enq_base.specs.declared.condition.Condition.TheVariants as condition
 use Rattle.hall.specs.declared.units.InFlight.{InFlight}
@@ -10,15 +11,24 @@ use Rattle.hall.specs.declared.command.Reply.{Reply}
 use Rattle.hall.specs.declared.command.Reply.TheVariants as reply
 use Rattle.hall.specs.declared.units.Written.{Written}
 use Rattle.hall.specs.declared.units.Written.TheVariants.{Answered, Failed}
+use Rattle.hall.specs.Devices.{DeviceOutcome, IsAllowed}
 use Rattle.hall.specs.Flights.{landed}
-use Rattle.hall.specs.History.{IsAllowed, doubted, is_unrecorded, served, shown}
+use Rattle.hall.specs.History.{doubted, served}
+use Rattle.hall.specs.Kept.{NoneLost}
 use Rattle.hall.specs.State.{State}
+use Rattle.hall.specs.Step.{barred}
 
--- the call leaves this state, and is answered so
+-- the call leaves this state, and is answered so; it isn't in the history yet
 pub record IsAct (s : State) (c : Command) (after : State) (r : Reply) : Type 0 where
-  pub same : served (shown r) s c ≡ record { state = after; reply = r }
-  pub allowed : IsAllowed (shown r) s c
-  pub noted : is_unrecorded r ≡ false
+  pub outcome : DeviceOutcome
+  pub allowed : IsAllowed outcome s c
+  pub same : served outcome s c ≡ record { state = after; reply = r }
+
+-- nothing bars calls, but of a session that isn't logged on
+pub record Admits (s : State) : Type 0 where
+  pub served : barred s ≡ None
+  pub up : s.condition ≡ condition.Up
+  pub whole : NoneLost s.sessions
 
 -- the call by which a worker takes an order for a part
 abbrev pub take_of : ℕ → ℕ → Command
@@ -28,10 +38,11 @@ take_of part worker = if nat_eq part 1 then command.Take1 worker else command.Ta
 abbrev pub post_of : ℕ → ℕ → Command
 post_of part worker = if nat_eq part 1 then command.Do1 worker else command.Do2 worker
 
--- a call that writes the store leaves this state, or where the store fails a server in doubt
+-- a call that uses the store leaves this state, or where the store fails a server in doubt
 abbrev pub IsWritten : State → Command → State → Written → Type 0
 IsWritten s c after (Answered r) = IsAct s c after r
-IsWritten s c after (Failed change) = IsAct s c (doubted s (landed s.stored change)) (reply.Refused refusal.StoreFault)
+IsWritten s c after (Failed change) =
+    IsAct s c (doubted s (option_map (landed s.stored) change)) (reply.Refused refusal.StoreFault)
 
 -- where the store fails
 abbrev pub OnFailure : Written → Type 0 → Type 0
@@ -42,7 +53,7 @@ abbrev pub OnAnswer : Written → Type 0 → Type 0
 OnAnswer (Answered r) P = P
 OnAnswer (Failed change) P = Unit {0}
 
--- what a call that writes the store is answered, and what it leaves of the condition and of the change in flight
+-- what a call that uses the store is answered, and what it leaves of the condition and of the change in flight
 abbrev pub written_reply : Written → Reply
 written_reply (Answered r) = r
 written_reply (Failed change) = reply.Refused refusal.StoreFault
@@ -53,4 +64,4 @@ written_condition before calls (Failed change) = condition.Doubt (calls + 1)
 
 abbrev pub written_pending : Option InFlight → Written → Option InFlight
 written_pending before (Answered r) = before
-written_pending before (Failed change) = Some change
+written_pending before (Failed change) = change

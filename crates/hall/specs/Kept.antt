@@ -38,6 +38,10 @@ AreNumbered next [] = Unit {0}
 AreNumbered next (x ∷ xs) =
     (x.number < next) × AllByRecursion (λ (y : Session). x.number < y.number) xs × AreNumbered next xs
 
+-- no session lost a lock with a lock server
+abbrev pub NoneLost : List Session → Type 0
+NoneLost sessions = AllByRecursion (λ (x : Session). x.lost ≡ false) sessions
+
 -- nothing is recorded of a unit of this start
 abbrev pub IsUnheard : Ledger → ℕ → ℕ → Type 0
 IsUnheard ledger session luw =
@@ -138,6 +142,7 @@ pub record IsSteady (s : State) : Type 0 where
   pub started : 1 ≤ s.stored.start
   pub limited : s.mark_limit ≤ 1048576
   pub server : HasServer s.condition
+  pub whole : NoneLost s.sessions
   -- nothing is pending while the server is up
   pub settled : WhileUp s.condition (s.pending ≡ None)
   pub fresh : HasFreshKeys s

@@ -1,5 +1,6 @@
 -- What a stop may leave in the store, and when the store fails.
-use Rattle.std.specs.Prelude.{ℕ, ◌≡◌, ◌⊎◌, ◌≤◌, Option, Some, None, IfSome}
+use Rattle.std.specs.Prelude.{ℕ, ◌≡◌, ◌⊎◌, ◌≤◌, Bool, true, false, Option, Some, None, IfSome}
+use Rattle.std.specs.Option.{option_map}
 use Rattle.enq_base.specs.Causes.{Rose}
 use Rattle.enq_base.specs.declared.refusal.Refusal.TheVariants as refusal
 use Rattle.keeper_api.specs.Keeping.{IsWithin}
@@ -29,8 +30,8 @@ LeavesState held may_leave view =
     IfSome (held view.keeper) (λ _. (left : Rows) → may_leave view.keeper left → StandForState left view.state)
 
 -- rows stand for the ledger, without the change in flight or with it
-abbrev pub StandForLanded : Rows → Ledger → InFlight → Type 0
-StandForLanded rows ledger change = StandFor rows ledger ⊎ StandFor rows (landed ledger change)
+abbrev pub StandForLanded : Rows → Ledger → Option InFlight → Type 0
+StandForLanded rows ledger change = StandFor rows ledger ⊎ StandForPending rows (option_map (landed ledger) change)
 
 -- rows stand for the ledger, or where the store failed for the ledger without the change in flight or with it
 abbrev pub StandForWritten : Rows → Ledger → Written → Type 0
@@ -44,13 +45,20 @@ LeavesWritten held may_leave shelf written =
     IfSome (held shelf.keeper)
     (λ _. (left : Rows) → may_leave shelf.keeper left → StandForWritten left shelf.ledger written)
 
+-- the store's count of faults has risen where the store failed, and else it stands still
+abbrev pub HasCounted : Bool → ℕ → ℕ → Type 0
+HasCounted true before now = (before ≤ now) × Rose before now
+HasCounted false before now = now ≡ before
+
 -- the store's fault is answered only where the count of faults has risen, and with any other answer it stands still
 abbrev pub HasStoreCause : ℕ → ℕ → Reply → Type 0
 HasStoreCause before now (reply.Refused refusal.StoreFault) = (before ≤ now) × Rose before now
 HasStoreCause before now _ = now ≡ before
 
--- a call that is refused, but for a failure of the store, leaves what the keeper holds and what a stop may leave of it
+-- a call that is refused, but for a failure of the store, leaves what the keeper holds and what a stop may leave of it, and
+-- so does one that tells a row
 abbrev pub KeepsStore : {K : Type 0} → (K → Option Rows) → (K → Rows → Type 0) → K → K → Reply → Type 0
 KeepsStore held may_leave old new (reply.Refused refusal.StoreFault) = Unit {0}
 KeepsStore held may_leave old new (reply.Refused _) = (held new ≡ held old) × IsWithin (may_leave new) (may_leave old)
+KeepsStore held may_leave old new (reply.Row text) = (held new ≡ held old) × IsWithin (may_leave new) (may_leave old)
 KeepsStore held may_leave old new _ = Unit {0}

@@ -1,15 +1,14 @@
 -- A call that the server serves, apart from its place in the history.
-use Rattle.std.specs.Prelude.{◌≡◌, ℕ, Bool, true, false, List, Option, None, is_some}
+use Rattle.std.specs.Prelude.{◌≡◌, ℕ, Bool, true, false, List, Option, is_some}
 use Rattle.keeper_api.specs.Rows.{Rows}
 use Rattle.hall.specs.declared.command.Command.{Command}
-use Rattle.hall.specs.declared.command.Command.TheVariants as command
 use Rattle.hall.specs.declared.command.PastEntry.{PastEntry}
 use Rattle.hall.specs.declared.command.Reply.{Reply}
-use Rattle.hall.specs.History.{IsAllowed, served, shown}
+use Rattle.hall.specs.Acts.{Admits, IsAct}
+use Rattle.hall.specs.Calls.{call_of, touches_store}
 use Rattle.hall.specs.Kept.{IsKept}
 use Rattle.hall.specs.Leaving.{HasStoreCause, KeepsStore}
 use Rattle.hall.specs.State.{State, View}
-use Rattle.hall.specs.Step.{closed}
 
 -- the state with these calls as its history
 abbrev pub with_calls : State → List PastEntry → State
@@ -18,21 +17,7 @@ with_calls s past = record s { past = past }
 -- the state is in order, and nothing bars the call
 pub record IsDue (s : State) (past : List PastEntry) : Type 0 where
   pub kept : IsKept (with_calls s past)
-  pub served : closed (with_calls s past) ≡ None
-
--- the call leaves this state, and is answered so; it isn't in the history yet
-pub record IsCall (s : State) (c : Command) (after : State) (r : Reply) : Type 0 where
-  pub same : served (shown r) s c ≡ record { state = after; reply = r }
-  pub allowed : IsAllowed (shown r) s c
-
--- the calls that read the store, and write it where they aren't refused
-abbrev pub touches_store : Command → Bool
-touches_store (command.Commit session parts) = true
-touches_store (command.Do1 worker) = true
-touches_store (command.Do2 worker) = true
-touches_store (command.Cancel unit) = true
-touches_store (command.Resubmit unit) = true
-touches_store command = false
+  pub admits : Admits (with_calls s past)
 
 -- what a call may do to the store
 pub record MayWrite {K : Type 0} (held : K → Option Rows) (may_leave : K → Rows → Type 0) (faults : K → ℕ) (old new : K) (r : Reply) : Type 0 where
@@ -47,5 +32,5 @@ DoesStore held may_leave faults false old new r = new ≡ old
 
 -- what a call does to the state, and what to the store
 pub record Serves {K : Type 0} (held : K → Option Rows) (may_leave : K → Rows → Type 0) (faults : K → ℕ) (old new : View K) (past : List PastEntry) (c : Command) (r : Reply) : Type 0 where
-  pub call : IsCall (with_calls old.state past) c (with_calls new.state past) r
-  pub store : DoesStore held may_leave faults (touches_store c) old.keeper new.keeper r
+  pub call : IsAct (with_calls old.state past) c (with_calls new.state past) r
+  pub store : DoesStore held may_leave faults (touches_store (call_of c)) old.keeper new.keeper r

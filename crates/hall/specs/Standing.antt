@@ -10,21 +10,20 @@ use Rattle.lock_entry.specs.declared.entry.Entry.{Entry}
 use Rattle.mode_rules.specs.declared.Mode.TheVariants.{O}
 use Rattle.posting.specs.Posts.{entries_of}
 use Rattle.posting.specs.Steps.{IsOpenUnit}
-use Rattle.hall.specs.declared.command.Command.{Command}
-use Rattle.hall.specs.declared.command.Command.TheVariants as command
 use Rattle.hall.specs.declared.command.PastEntry.{PastEntry}
 use Rattle.hall.specs.declared.command.Reply.{Reply}
 use Rattle.hall.specs.declared.command.Reply.TheVariants as reply
-use Rattle.hall.specs.Recall.{state_after}
+use Rattle.hall.specs.Calls.{Call, OfSession, OfAdmin, Cancels, Commits, Resubmits, call_of}
+use Rattle.hall.specs.Recall.{Made, state_after}
 use Rattle.hall.specs.State.{State}
 
-abbrev pub is_commit : Command → Bool
-is_commit (command.Commit session parts) = true
+abbrev pub is_commit : Call → Bool
+is_commit (OfSession session (Commits parts)) = true
 is_commit _ = false
 
 -- the call is the commit that recorded this unit
 pub record IsCommitOf (unit : UnitKey) (call : PastEntry) : Type 0 where
-  pub commits : IsTrue (is_commit call.command)
+  pub commits : IsTrue (is_commit (call_of call.command))
   pub answered : call.reply ≡ reply.Unit unit
 
 -- the server is up, and the unit waits for its V1 part
@@ -33,30 +32,32 @@ pub record StillWaits (unit : UnitKey) (s : State) : Type 0 where
   pub waits : IsOpenUnit s.stored unit
 
 -- the call is to cancel this unit
-abbrev pub cancels : UnitKey → Command → Bool
-cancels unit (command.Cancel other) = same_unit other unit
+abbrev pub cancels : UnitKey → Call → Bool
+cancels unit (OfAdmin (Cancels other)) = same_unit other unit
 cancels unit _ = false
 
-abbrev pub is_resubmission_of : UnitKey → Command → Bool
-is_resubmission_of unit (command.Resubmit other) = same_unit other unit
+abbrev pub is_resubmission_of : UnitKey → Call → Bool
+is_resubmission_of unit (OfAdmin (Resubmits other)) = same_unit other unit
 is_resubmission_of unit _ = false
 
 -- by this call a refused part of the unit is tried again
 pub record IsResubmissionOf (unit : UnitKey) (call : PastEntry) : Type 0 where
-  pub resubmits : is_resubmission_of unit call.command ≡ true
+  pub resubmits : is_resubmission_of unit (call_of call.command) ≡ true
   pub answered : call.reply ≡ reply.Unit unit
 
 -- with this call and its answer the unit waits no more: its V1 part was posted or refused, it was cancelled, or the
 -- store failed
-abbrev pub ends_wait : UnitKey → Command → Reply → Bool
+abbrev pub ends_wait : UnitKey → Call → Reply → Bool
 ends_wait unit c (reply.Posted other) = same_unit other unit
 ends_wait unit c (reply.Bad other index reason) = same_unit other unit
 ends_wait unit c (reply.Unit other) = cancels unit c
 ends_wait unit c (reply.Refused refusal.StoreFault) = true
 ends_wait unit c _ = false
 
-abbrev pub NoneEndsWait : UnitKey → List PastEntry → Type 0
-NoneEndsWait unit calls = list_any (λ (call : PastEntry). ends_wait unit call.command call.reply) calls ≡ false
+-- none of these calls does
+abbrev pub NoneEndsWait : UnitKey → List Made → Type 0
+NoneEndsWait unit made =
+    list_any (λ (m : Made). ends_wait unit (call_of m.call.command) m.call.reply) made ≡ false
 
 -- ---- locks of a unit
 
@@ -111,10 +112,10 @@ pub record CallKeepsLocks (s : State) (call : PastEntry) (t : State) : Type 0 wh
 -- ---- through a history
 
 -- each call keeps what was handed over, and each commit hands over
-abbrev pub CallsKeepLocks : State → List PastEntry → Type 0
-CallsKeepLocks first calls =
-    (earlier later : List PastEntry) (call : PastEntry) → calls ≡ earlier ++ call ∷ later
-    → CallKeepsLocks (state_after first earlier) call (state_after first (earlier ++ call ∷ []))
+abbrev pub CallsKeepLocks : State → List Made → Type 0
+CallsKeepLocks first made =
+    (earlier later : List Made) (m : Made) → made ≡ earlier ++ m ∷ later
+    → CallKeepsLocks (state_after first earlier) m.call (state_after first (earlier ++ m ∷ []))
 
 -- from the state before its commit on, the unit waits with the locks that it had
 pub record WaitsLocked (unit : UnitKey) (before now : State) : Type 0 where
@@ -122,11 +123,11 @@ pub record WaitsLocked (unit : UnitKey) (before now : State) : Type 0 where
   pub locks : FirmAreHanded unit before now
 
 -- a committed unit waits for its V1 part, and its locks stand, until a call ends that
-abbrev pub LocksStand : State → List PastEntry → Type 0
-LocksStand first calls =
-    (earlier between later : List PastEntry) (call : PastEntry) (unit : UnitKey)
-    → calls ≡ earlier ++ call ∷ (between ++ later) → IsCommitOf unit call → NoneEndsWait unit between
-    → WaitsLocked unit (state_after first earlier) (state_after first (earlier ++ call ∷ between))
+abbrev pub LocksStand : State → List Made → Type 0
+LocksStand first made =
+    (earlier between later : List Made) (m : Made) (unit : UnitKey)
+    → made ≡ earlier ++ m ∷ (between ++ later) → IsCommitOf unit m.call → NoneEndsWait unit between
+    → WaitsLocked unit (state_after first earlier) (state_after first (earlier ++ m ∷ between))
 
 -- the unit waits, and the locks stand that were stored with it when its V1 part was tried again
 pub record ReturnsLocked (unit : UnitKey) (begun now : State) : Type 0 where
@@ -134,9 +135,9 @@ pub record ReturnsLocked (unit : UnitKey) (begun now : State) : Type 0 where
   pub locks : (e : Entry) → Contains (entries_of begun.stored.units unit) e → Contains now.locks e
 
 -- where a unit waits for its V1 part again its stored locks stand, until a call ends that
-abbrev pub LocksReturn : State → List PastEntry → Type 0
-LocksReturn first calls =
-    (earlier between later : List PastEntry) (call : PastEntry) (unit : UnitKey)
-    → calls ≡ earlier ++ call ∷ (between ++ later) → IsResubmissionOf unit call → NoneEndsWait unit between
-    → StillWaits unit (state_after first (earlier ++ call ∷ []))
-    → ReturnsLocked unit (state_after first (earlier ++ call ∷ [])) (state_after first (earlier ++ call ∷ between))
+abbrev pub LocksReturn : State → List Made → Type 0
+LocksReturn first made =
+    (earlier between later : List Made) (m : Made) (unit : UnitKey)
+    → made ≡ earlier ++ m ∷ (between ++ later) → IsResubmissionOf unit m.call → NoneEndsWait unit between
+    → StillWaits unit (state_after first (earlier ++ m ∷ []))
+    → ReturnsLocked unit (state_after first (earlier ++ m ∷ [])) (state_after first (earlier ++ m ∷ between))

@@ -1,9 +1,11 @@
-ghost use Rattle.std.specs.Prelude.{◌≡◌};
-ghost use Rattle.hall.specs.History.{who_of};
+ghost use Rattle.std.specs.Prelude.{◌≡◌, true, IfOk, OnErr};
+ghost use Rattle.hall.specs.Calls.{who_of};
+ghost use Rattle.hall.specs.History.{is_row};
 ghost use Rattle.hall.specs.Step.{answer_of};
 
-use enq_base::{Condition, Items, Name, Parts, Reason, Refusal, UnitKey};
+use enq_base::{Condition, Items, Key, Name, NoMemory, Num, Parts, Reason, Refusal, Text, UnitKey};
 use lock_entry::{Asked, Request};
+use std::alloc::Global;
 
 /// Who makes a call.
 #[derive(Clone, Copy, Debug, PartialEq, Eq)]
@@ -15,7 +17,7 @@ pub enum Who {
 }
 
 /// A session that is logged on.
-#[derive(Clone, Copy, Debug, PartialEq, Eq)]
+#[derive(Drop)]
 pub struct Session {
     pub name: Name,
     pub user: Name,
@@ -23,6 +25,10 @@ pub struct Session {
     pub number: u32,
     /// The number of the open unit of work, from 1.
     pub luw: u32,
+    /// The numbers that the open unit has drawn, in order. There are none yet.
+    pub draws: Items<Num>,
+    /// Whether the session lost a lock with a lock server, and has to roll back first. None has yet.
+    pub lost: bool,
 }
 
 /// One call of the hall.
@@ -52,6 +58,12 @@ pub enum Command {
     },
     Rollback {
         session: Name,
+    },
+    /// Asks for the text of a business row.
+    Read {
+        session: Name,
+        table: Name,
+        key: Key,
     },
     Commit {
         session: Name,
@@ -93,6 +105,7 @@ impl Command {
             | Command::FreeAll { session }
             | Command::Convert { session, .. }
             | Command::Rollback { session }
+            | Command::Read { session, .. }
             | Command::Commit { session, .. } => Who::Session(*session),
             Command::Take1 { worker }
             | Command::Do1 { worker }
@@ -105,7 +118,7 @@ impl Command {
 }
 
 /// What a call is answered.
-#[derive(Clone, Copy, Debug, PartialEq, Eq)]
+#[derive(Debug, Drop)]
 pub enum Reply {
     Done,
     /// The unit was recorded or cancelled, or a part of it is tried again, or a worker has an order for it.
@@ -126,6 +139,8 @@ pub enum Reply {
         index: u32,
         reason: Reason,
     },
+    /// The text of a row, where it is there.
+    Row(Option<Text>),
     Refused(Refusal),
 }
 
@@ -158,5 +173,39 @@ impl Reply {
             Ok(()) => Reply::Done,
             Err(refusal) => Reply::Refused(refusal),
         }
+    }
+
+    /// An equal reply. Only a row's text takes memory.
+    pub fn copy(&self, alloc: Global) -> Result<Reply, NoMemory>
+        ensures same { IfOk result (λ copy. copy ≡ self.now) }
+        ensures wanting { OnErr result (is_row self.now ≡ true) }
+    {
+        Ok(match self {
+            Reply::Done => Reply::Done,
+            Reply::Unit(unit) => Reply::Unit(*unit),
+            Reply::Posted(unit) => Reply::Posted(*unit),
+            Reply::Bad {
+                unit,
+                index,
+                reason,
+            } => Reply::Bad {
+                unit: *unit,
+                index: *index,
+                reason: *reason,
+            },
+            Reply::Closed(unit) => Reply::Closed(*unit),
+            Reply::Bad2 {
+                unit,
+                index,
+                reason,
+            } => Reply::Bad2 {
+                unit: *unit,
+                index: *index,
+                reason: *reason,
+            },
+            Reply::Row(None) => Reply::Row(None),
+            Reply::Row(Some(text)) => Reply::Row(Some(text.copy(alloc)?)),
+            Reply::Refused(refusal) => Reply::Refused(*refusal),
+        })
     }
 }

@@ -1,10 +1,10 @@
 ghost use Rattle.std.specs.Prelude.{◌≡◌, ◌⊎◌, ◌<◌, None, IfSome, length};
 ghost use Rattle.hall.specs.declared.command.Command.TheVariants as command;
-ghost use Rattle.hall.specs.Acts.{IsAct};
+ghost use Rattle.hall.specs.Acts.{Admits, IsAct};
 ghost use Rattle.hall.specs.History.{judged};
 ghost use Rattle.hall.specs.Orders as claims;
 ghost use Rattle.hall.specs.State.{State};
-ghost use Rattle.hall.specs.Step.{closed, take};
+ghost use Rattle.hall.specs.Step.{take};
 ghost use Rattle.posting.specs.Steps.{waiting_for};
 
 use crate::command::Reply;
@@ -133,7 +133,7 @@ pub(crate) fn take<K: Keeper>(
 /// Takes a worker's order back.
 pub(crate) fn drop_order(orders: &mut Vec<Option<UnitKey>>, worker: u8) -> Reply
     requires { length orders.old.items ≡ 256 }
-    ensures act { (s : State) → s.orders ≡ orders.old.items → closed s ≡ None
+    ensures act { (s : State) → s.orders ≡ orders.old.items → Admits s
         → IsAct s (command.DropOrder worker) (record s { orders = orders.new.items }) result }
 {
     let Some(unit) = order_of(orders.as_slice(), worker) else {

@@ -1,12 +1,14 @@
 ghost use Rattle.std.specs.Prelude.{◌≡◌, ◌⊎◌, [], false, length, replicate, None, IfOk, is_some};
 ghost use Rattle.hall.specs.declared.command.Command.TheVariants as command;
-ghost use Rattle.hall.specs.Acts.{post_of, take_of, written_condition, written_pending, written_reply};
+ghost use Rattle.hall.specs.Acts.{IsAct, post_of, take_of, written_condition, written_pending, written_reply};
 ghost use Rattle.hall.specs.Kept.{IsKept};
 ghost use Rattle.hall.specs.Leaving.{LeavesState};
-ghost use Rattle.hall.specs.Serving.{IsCall, IsDue, MayWrite, Serves, touches_store, with_calls};
+ghost use Rattle.hall.specs.Calls.{call_of, touches_store};
+ghost use Rattle.hall.specs.Serving.{IsDue, MayWrite, Serves, with_calls};
 ghost use Rattle.hall.specs.State.{opened};
 ghost use Rattle.hall.specs.History.{after_of, is_unrecorded};
-ghost use Rattle.hall.specs.Step.{closed, is_full};
+ghost use Rattle.hall.specs.Step.{barred, is_full};
+ghost use Rattle.hall.specs.Views.{marks_shown, numbers_shown, units_shown};
 ghost use Rattle.posting.specs.Shelf.{IsUsable};
 
 use crate::command::{After, Command, PastEntry, Reply};
@@ -14,13 +16,14 @@ use crate::locks::{ask, convert, free, free_all, log_off, roll_back};
 use crate::opening::HISTORY_LIMIT;
 use crate::orders::{drop_order, take};
 use crate::sessions::{Sessions, log_on};
-use crate::units::{InFlight, Written, cancel, commit, post, resubmit};
-use enq_base::{Condition, Name, NoMemory, Parts, Refusal, UnitKey};
+use crate::units::{InFlight, Written, cancel, commit, post, read, resubmit};
+use enq_base::{Condition, Key, Name, NoMemory, Parts, Refusal, UnitKey};
 use keeper_api::Keeper;
 use lock_entry::{Asked, Entry, LockStore, Request};
 use posting::Books;
 use std::alloc::Global;
 use std::marker::Model;
+use update_records::UnitView;
 
 /// All that calls change, but for the history. It is seen as a state without a history, and the keeper.
 #[derive(Drop)]
@@ -30,6 +33,7 @@ pub(crate) struct Server<T: LockStore, K: Keeper> {
     pub(crate) next_session: u32,
     pub(crate) orders: Vec<Option<UnitKey>>,
     pub(crate) locks: T,
+    pub(crate) max_locks: u32,
     pub(crate) max_marks: u32,
     pub(crate) books: Books<K>,
     pub(crate) pending: Option<InFlight>,
@@ -53,13 +57,13 @@ impl<T: LockStore, K: Keeper> Model for Server<T, K> {
     ghost use Rattle.hall.specs.Flights.{landed};
 
     ghost view = { λ h. record {
-      state = state_of (is_some (K.held h.books.keeper)) h.condition h.sessions h.next_session h.orders.items (T.table h.locks) h.max_marks h.books.ledger
+      state = state_of (is_some (K.held h.books.keeper)) h.condition h.sessions h.next_session h.orders.items (T.table h.locks) h.max_locks h.max_marks h.books.ledger
           (option_map (landed h.books.ledger) h.pending) [];
       keeper = h.books.keeper;
     } };
 
     ghost invariant = { λ h.
-        let s = state_of (is_some (K.held h.books.keeper)) h.condition h.sessions h.next_session h.orders.items (T.table h.locks) h.max_marks h.books.ledger
+        let s = state_of (is_some (K.held h.books.keeper)) h.condition h.sessions h.next_session h.orders.items (T.table h.locks) h.max_locks h.max_marks h.books.ledger
         (option_map (landed h.books.ledger) h.pending) [] in
         WhileUp h.condition (IsUsable K.held K.is_open h.books)
         × LeavesState K.held K.may_leave (record { state = s; keeper = h.books.keeper }) };
@@ -71,13 +75,14 @@ impl<T: LockStore, K: Keeper> Server<T, K> {
         alloc: Global,
         locks: T,
         orders: Vec<Option<UnitKey>>,
+        max_locks: u32,
         max_marks: u32,
         books: Books<K>,
     ) -> Server<T, K>
         requires usable { IsUsable K.held K.is_open books }
-        requires locks { (T.table locks).entries ≡ [] }
+        requires locks { T.table locks ≡ record { entries = []; limit = max_locks } }
         requires orders { orders.items ≡ replicate 256 None }
-        ensures state { result.state ≡ opened (T.table locks).limit max_marks (is_some (K.held books.keeper)) books.ledger }
+        ensures state { result.state ≡ opened max_locks max_marks (is_some (K.held books.keeper)) books.ledger }
         ensures keeper { result.keeper ≡ books.keeper }
         ensures left { LeavesState K.held K.may_leave result }
     {
@@ -87,6 +92,7 @@ impl<T: LockStore, K: Keeper> Server<T, K> {
             next_session: 1,
             orders,
             locks,
+            max_locks,
             max_marks,
             books,
             pending: None,
@@ -122,6 +128,43 @@ impl<T: LockStore, K: Keeper> Server<T, K> {
         }
     }
 
+    /// How many locks may stand at once.
+    pub(crate) fn max_locks(&self) -> u32
+        ensures { result ≡ self.now.state.max_locks }
+    {
+        self.max_locks
+    }
+
+    /// What is told of each recorded unit: nothing where the server is in doubt.
+    pub(crate) fn units(&self, alloc: Global) -> Result<Vec<UnitView>, NoMemory>
+        ensures { IfOk result (λ units. units.items ≡ units_shown self.now.state) }
+    {
+        match self.condition {
+            Condition::Up | Condition::NoServer => self.books.views(alloc),
+            Condition::Doubt(_) => Ok(Vec::new(alloc)),
+        }
+    }
+
+    /// How many marks there are: none where the server is in doubt.
+    pub(crate) fn marks(&self) -> u32
+        ensures { result ≡ marks_shown self.now.state }
+    {
+        match self.condition {
+            Condition::Up | Condition::NoServer => self.books.marks(),
+            Condition::Doubt(_) => 0,
+        }
+    }
+
+    /// How many numbers were committed: none where the server is in doubt.
+    pub(crate) fn numbers(&self) -> u64
+        ensures { result ≡ numbers_shown self.now.state }
+    {
+        match self.condition {
+            Condition::Up | Condition::NoServer => self.books.numbers(),
+            Condition::Doubt(_) => 0,
+        }
+    }
+
     /// The keeper, as the last call left it.
     pub(crate) fn into_keeper(self) -> K
         ensures { result ≡ self.keeper }
@@ -137,8 +180,8 @@ impl<T: LockStore, K: Keeper> Server<T, K> {
     }
 
     /// Why no call is served now.
-    fn closed(&self, past: &Vec<PastEntry>) -> Option<Refusal>
-        ensures { result ≡ closed (with_calls self.now.state past.now.items) }
+    fn barred(&self, past: &Vec<PastEntry>) -> Option<Refusal>
+        ensures { result ≡ barred (with_calls self.now.state past.now.items) }
     {
         if past.len() >= HISTORY_LIMIT {
             return Some(Refusal::LogFull);
@@ -153,12 +196,12 @@ impl<T: LockStore, K: Keeper> Server<T, K> {
     /// Serves a call behind those of the past. It isn't put into the history.
     pub(crate) fn serve(&mut self, alloc: Global, past: &Vec<PastEntry>, command: &Command) -> Reply
         requires { IsKept (with_calls self.old.state past.now.items) }
-        ensures call { IsCall (with_calls self.old.state past.now.items) command.now (with_calls self.new.state past.now.items) result }
+        ensures call { IsAct (with_calls self.old.state past.now.items) command.now (with_calls self.new.state past.now.items) result }
         ensures store { MayWrite K.held K.may_leave K.faults self.old.keeper self.new.keeper result }
-        ensures keeper { touches_store command.now ≡ false → self.new.keeper ≡ self.old.keeper }
+        ensures keeper { touches_store (call_of command.now) ≡ false → self.new.keeper ≡ self.old.keeper }
         ensures room { is_unrecorded result ≡ false → is_full (with_calls self.old.state past.now.items) ≡ false }
     {
-        match self.closed(past) {
+        match self.barred(past) {
             Some(refusal) => Reply::Refused(refusal),
             None => self.act(alloc, past, command),
         }
@@ -170,7 +213,7 @@ impl<T: LockStore, K: Keeper> Server<T, K> {
         ensures { Serves K.held K.may_leave K.faults self.old self.new past.now.items command.now result }
     {
         match command {
-            Command::Logon { session, user } => self.log_on(past, *session, *user),
+            Command::Logon { session, user } => self.log_on(alloc, past, *session, *user),
             Command::Logoff { session } => self.log_off(past, session),
             Command::Ask { session, requests } => {
                 self.ask(alloc, past, session, requests.as_slice())
@@ -180,7 +223,12 @@ impl<T: LockStore, K: Keeper> Server<T, K> {
             Command::Convert { session, asked } => {
                 self.convert(alloc, past, session, asked.as_slice())
             }
-            Command::Rollback { session } => self.roll_back(past, session),
+            Command::Rollback { session } => self.roll_back(alloc, past, session),
+            Command::Read {
+                session,
+                table,
+                key,
+            } => self.read(alloc, past, session, table, key),
             Command::Commit { session, parts } => self.commit(alloc, past, session, parts),
             Command::Take1 { worker } => self.take(past, *worker, 1),
             Command::Do1 { worker } => self.post(alloc, past, *worker, 1),
@@ -192,11 +240,17 @@ impl<T: LockStore, K: Keeper> Server<T, K> {
         }
     }
 
-    fn log_on(&mut self, past: &Vec<PastEntry>, session: Name, user: Name) -> Reply
+    fn log_on(&mut self, alloc: Global, past: &Vec<PastEntry>, session: Name, user: Name) -> Reply
         requires { IsDue self.old.state past.now.items }
         ensures { Serves K.held K.may_leave K.faults self.old self.new past.now.items (command.Logon session user) result }
     {
-        Reply::of(log_on(&mut self.sessions, &mut self.next_session, session, user))
+        Reply::of(log_on(
+            alloc,
+            &mut self.sessions,
+            &mut self.next_session,
+            session,
+            user,
+        ))
     }
 
     fn log_off(&mut self, past: &Vec<PastEntry>, session: &Name) -> Reply
@@ -265,12 +319,28 @@ impl<T: LockStore, K: Keeper> Server<T, K> {
         ))
     }
 
-    fn roll_back(&mut self, past: &Vec<PastEntry>, session: &Name) -> Reply
+    fn roll_back(&mut self, alloc: Global, past: &Vec<PastEntry>, session: &Name) -> Reply
         requires { IsDue self.old.state past.now.items }
         ensures { Serves K.held K.may_leave K.faults self.old self.new past.now.items (command.Rollback session.now) result }
     {
         let start = self.books.start();
-        Reply::of(roll_back(start, &mut self.sessions, &mut self.locks, session))
+        Reply::of(roll_back(alloc, start, &mut self.sessions, &mut self.locks, session))
+    }
+
+    /// Reads a business row.
+    fn read(
+        &mut self,
+        alloc: Global,
+        past: &Vec<PastEntry>,
+        session: &Name,
+        table: &Name,
+        key: &Key,
+    ) -> Reply
+        requires { IsDue self.old.state past.now.items }
+        ensures { Serves K.held K.may_leave K.faults self.old self.new past.now.items (command.Read session.now table.now key.now) result }
+    {
+        let written = read(alloc, &self.sessions, &mut self.books, session, table, key);
+        ended(&mut self.condition, &mut self.pending, past, written)
     }
 
     fn commit(
@@ -359,7 +429,7 @@ impl<T: LockStore, K: Keeper> Server<T, K> {
     }
 }
 
-/// What a call that writes the store is answered. Where the store fails the server is in doubt since this call.
+/// What a call that uses the store is answered. Where the store fails the server is in doubt since this call.
 fn ended(
     condition: &mut Condition,
     pending: &mut Option<InFlight>,
@@ -374,7 +444,7 @@ fn ended(
         Written::Answered(reply) => reply,
         Written::Failed(change) => {
             *condition = Condition::Doubt(past.len() as u64 + 1);
-            *pending = Some(change);
+            *pending = change;
             Reply::Refused(Refusal::StoreFault)
         }
     }

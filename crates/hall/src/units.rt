@@ -1,13 +1,12 @@
 ghost use Rattle.std.specs.Prelude.{◌≡◌, ◌⊎◌, ◌≤◌, ◌<◌, None, Ok, IfOk, IfSome, IsTrue, is_some, length, nat_le};
 ghost use Rattle.std.specs.List.{AllByRecursion};
 ghost use Rattle.hall.specs.declared.command.Command.TheVariants as command;
-ghost use Rattle.hall.specs.Acts.{IsWritten, OnAnswer, OnFailure, post_of, written_reply};
+ghost use Rattle.hall.specs.Acts.{Admits, IsWritten, OnAnswer, OnFailure, post_of, written_reply};
 ghost use Rattle.hall.specs.Kept.{HasGoodLocks, HasItsUser, IsAhead, IsYoung, OfLock};
 ghost use Rattle.hall.specs.Leaving.{HasStoreCause, KeepsStore, LeavesWritten};
 ghost use Rattle.hall.specs.Sessions.{owners_of};
 ghost use Rattle.hall.specs.State.{State};
 ghost use Rattle.hall.specs.Step as step;
-ghost use Rattle.hall.specs.Step.{closed};
 ghost use Rattle.keeper_api.specs.Keeping.{HasFaultCause, IsWithin, UnlessFailed};
 ghost use Rattle.module_effects.specs.Effects.{applied};
 ghost use Rattle.lock_entry.specs.Table.{IsTable, with_entries};
@@ -22,7 +21,7 @@ use crate::command::{Reply, Session};
 use crate::locks::refusal_of;
 use crate::orders::{order_for, worker_of};
 use crate::sessions::{Sessions, session_of, unit_key};
-use enq_base::{Items, Name, NoMemory, Owner, Parts, Refusal, Status, UnitKey};
+use enq_base::{Items, Key, Name, NoMemory, Owner, Parts, Refusal, Status, UnitKey};
 use keeper_api::{KeepFault, Keeper};
 use lock_entry::{Asker, Entry, LockStore, hand_over};
 use posting::{Books, Outcome, Prepared};
@@ -31,12 +30,12 @@ use update_records::{MarkKind, Unit};
 
 const EFFECTS_LIMIT: usize = 200;
 
-/// How a call ends that writes the store.
+/// How a call ends that uses the store.
 #[derive(Drop)]
 pub(crate) enum Written {
     Answered(Reply),
-    /// The store failed with this change in flight, which it may have taken or not.
-    Failed(InFlight),
+    /// The store failed with this change in flight, if there is one, which it may have taken or not.
+    Failed(Option<InFlight>),
 }
 
 /// A change of the store.
@@ -68,7 +67,7 @@ pub(crate) fn post<T: LockStore, K: Keeper>(
     requires places { length orders.old.items ≡ 256 }
     requires part { (part ≡ 1) ⊎ (part ≡ 2) }
     ensures act { (s : State) → s.told ≡ is_some (K.held books.old.keeper) → s.orders ≡ orders.old.items → s.locks ≡ (T.table locks.old).entries
-        → s.stored ≡ books.old.ledger → s.mark_limit ≡ max_marks → closed s ≡ None
+        → s.stored ≡ books.old.ledger → s.mark_limit ≡ max_marks → Admits s
         → IsWritten s (post_of part worker)
         (record s { orders = orders.new.items; locks = (T.table locks.new).entries; stored = books.new.ledger })
         result }
@@ -90,7 +89,7 @@ pub(crate) fn post<T: LockStore, K: Keeper>(
     let (prepared, outcome) = match prepare(alloc, books, &unit, part) {
         Ok(ready) => ready,
         Err(KeepFault::NoMemory) => return Written::Answered(Reply::Refused(Refusal::NoMemory)),
-        Err(KeepFault::Failed) => return Written::Failed(InFlight::Post { unit, part }),
+        Err(KeepFault::Failed) => return Written::Failed(Some(InFlight::Post { unit, part })),
     };
     match books.write(prepared) {
         Ok(()) => {
@@ -98,7 +97,7 @@ pub(crate) fn post<T: LockStore, K: Keeper>(
             free_behind(locks, unit, part);
             Written::Answered(posted(unit, part, outcome))
         }
-        Err(_) => Written::Failed(InFlight::Post { unit, part }),
+        Err(_) => Written::Failed(Some(InFlight::Post { unit, part })),
     }
 }
 
@@ -176,7 +175,7 @@ pub(crate) fn commit<T: LockStore, K: Keeper>(
     requires fresh { AllByRecursion (IsAhead books.old.ledger) sessions.old }
     requires users { AllByRecursion (OfLock (HasItsUser books.old.ledger.start sessions.old)) (T.table locks.old).entries }
     ensures act { (s : State) → s.sessions ≡ sessions.old → s.locks ≡ (T.table locks.old).entries
-        → s.stored ≡ books.old.ledger → s.mark_limit ≡ max_marks → closed s ≡ None
+        → s.stored ≡ books.old.ledger → s.mark_limit ≡ max_marks → Admits s
         → IsWritten s (command.Commit name.now parts.now)
         (record s { sessions = sessions.new; locks = (T.table locks.new).entries; stored = books.new.ledger })
         result }
@@ -203,19 +202,53 @@ pub(crate) fn commit<T: LockStore, K: Keeper>(
     if is_full(books, max_marks) {
         return Written::Answered(Reply::Refused(Refusal::StoreFull(max_marks)));
     }
-    let Ok(unit) = unit_of(alloc, books.start(), locks, &session, parts) else {
+    let own_name = session.name;
+    let Ok(unit) = unit_of(alloc, books.start(), locks, session, parts) else {
         return Written::Answered(Reply::Refused(Refusal::NoMemory));
     };
-    let Ok(prepared) = books.prepare_unit(alloc, &unit, &[]) else {
+    let Ok(recorded) = unit.copy(alloc) else {
+        return Written::Answered(Reply::Refused(Refusal::NoMemory));
+    };
+    let Ok(prepared) = books.prepare_unit(alloc, recorded, &[]) else {
         return Written::Answered(Reply::Refused(Refusal::NoMemory));
     };
     match books.write(prepared) {
         Ok(()) => {
             locks.hand(&unit.key);
-            sessions.begin_unit(&session.name);
+            sessions.begin_unit(alloc, &own_name);
             Written::Answered(Reply::Unit(unit.key))
         }
-        Err(_) => Written::Failed(InFlight::Unit(unit)),
+        Err(_) => Written::Failed(Some(InFlight::Unit(unit))),
+    }
+}
+
+/// Reads a business row on behalf of a session.
+pub(crate) fn read<K: Keeper>(
+    alloc: Global,
+    sessions: &Sessions,
+    books: &mut Books<K>,
+    name: &Name,
+    table: &Name,
+    key: &Key,
+) -> Written
+    requires usable { IsUsable K.held K.is_open books.old }
+    ensures act { (s : State) → s.sessions ≡ sessions.now → s.told ≡ is_some (K.held books.old.keeper)
+        → s.stored ≡ books.old.ledger → s.pending ≡ None → Admits s
+        → IsWritten s (command.Read name.now table.now key.now) (record s { stored = books.new.ledger }) result }
+    ensures ledger { books.new.ledger ≡ books.old.ledger }
+    ensures usable { OnAnswer result (IsUsable K.held K.is_open books.new) }
+    ensures told { is_some (K.held books.new.keeper) ≡ is_some (K.held books.old.keeper) }
+    ensures left { LeavesWritten K.held K.may_leave books.new result }
+    ensures cause { HasStoreCause (K.faults books.old.keeper) (K.faults books.new.keeper) (written_reply result) }
+    ensures kept { KeepsStore K.held K.may_leave books.old.keeper books.new.keeper (written_reply result) }
+{
+    if let Err(refusal) = session_of(sessions, name) {
+        return Written::Answered(Reply::Refused(refusal));
+    }
+    match books.read(alloc, table, key) {
+        Ok(text) => Written::Answered(Reply::Row(text)),
+        Err(KeepFault::NoMemory) => Written::Answered(Reply::Refused(Refusal::NoMemory)),
+        Err(KeepFault::Failed) => Written::Failed(None),
     }
 }
 
@@ -232,7 +265,7 @@ pub(crate) fn cancel<T: LockStore, K: Keeper>(
     requires limited { max_marks ≤ 1048576 }
     requires places { length orders.now ≡ 256 }
     ensures act { (s : State) → s.orders ≡ orders.now → s.locks ≡ (T.table locks.old).entries
-        → s.stored ≡ books.old.ledger → s.mark_limit ≡ max_marks → closed s ≡ None
+        → s.stored ≡ books.old.ledger → s.mark_limit ≡ max_marks → Admits s
         → IsWritten s (command.Cancel unit)
         (record s { locks = (T.table locks.new).entries; stored = books.new.ledger })
         result }
@@ -256,7 +289,7 @@ pub(crate) fn cancel<T: LockStore, K: Keeper>(
             free_cancelled(locks, unit, status);
             Written::Answered(Reply::Unit(unit))
         }
-        Err(_) => Written::Failed(InFlight::Cancel(unit)),
+        Err(_) => Written::Failed(Some(InFlight::Cancel(unit))),
     }
 }
 
@@ -317,7 +350,7 @@ pub(crate) fn resubmit<T: LockStore, K: Keeper>(
     requires limited { max_marks ≤ 1048576 }
     requires stored { AllByRecursion HasGoodLocks books.old.ledger.units }
     ensures act { (s : State) → s.locks ≡ (T.table locks.old).entries → s.limit ≡ (T.table locks.old).limit
-        → s.stored ≡ books.old.ledger → s.mark_limit ≡ max_marks → closed s ≡ None
+        → s.stored ≡ books.old.ledger → s.mark_limit ≡ max_marks → Admits s
         → IsWritten s (command.Resubmit unit)
         (record s { locks = (T.table locks.new).entries; stored = books.new.ledger })
         result }
@@ -349,7 +382,7 @@ fn reopen<T: LockStore, K: Keeper>(
     requires follows { MayGet books.old.ledger unit Again1 }
     ensures act { (s : State) → s.locks ≡ (T.table locks.old).entries → s.limit ≡ (T.table locks.old).limit
         → s.stored ≡ books.old.ledger → step.to_resubmit books.old.ledger s.mark_limit unit ≡ Ok Status.Bad
-        → closed s ≡ None
+        → Admits s
         → IsWritten s (command.Resubmit unit)
         (record s { locks = (T.table locks.new).entries; stored = books.new.ledger })
         result }
@@ -373,7 +406,7 @@ fn reopen<T: LockStore, K: Keeper>(
     }
     match books.write(prepared) {
         Ok(()) => Written::Answered(Reply::Unit(unit)),
-        Err(_) => Written::Failed(InFlight::Again { unit, part: 1 }),
+        Err(_) => Written::Failed(Some(InFlight::Again { unit, part: 1 })),
     }
 }
 
@@ -388,7 +421,7 @@ fn repost<T: LockStore, K: Keeper>(
     requires marks { HasMarksLeft books.old.ledger }
     requires follows { MayGet books.old.ledger unit Again2 }
     ensures act { (s : State) → s.locks ≡ (T.table locks.now).entries → s.stored ≡ books.old.ledger
-        → step.to_resubmit books.old.ledger s.mark_limit unit ≡ Ok Status.Bad2 → closed s ≡ None
+        → step.to_resubmit books.old.ledger s.mark_limit unit ≡ Ok Status.Bad2 → Admits s
         → IsWritten s (command.Resubmit unit)
         (record s { locks = (T.table locks.now).entries; stored = books.new.ledger })
         result }
@@ -404,7 +437,7 @@ fn repost<T: LockStore, K: Keeper>(
     };
     match books.write(prepared) {
         Ok(()) => Written::Answered(Reply::Unit(unit)),
-        Err(_) => Written::Failed(InFlight::Again { unit, part: 2 }),
+        Err(_) => Written::Failed(Some(InFlight::Again { unit, part: 2 })),
     }
 }
 

@@ -30,6 +30,31 @@ enum Call {
     Drop(u8),
     // Of the first unit.
     Cancel,
+    // Of the row that commits are to put.
+    Read,
+}
+
+// What a call is to be answered, where a unit is the first one.
+#[derive(Clone, Copy)]
+enum Answer {
+    Done,
+    Unit,
+    Posted,
+    Row(&'static [u8]),
+    NoRow,
+    Refused(Refusal),
+}
+
+fn is_answer(reply: &Reply, answer: &Answer) -> bool {
+    match (reply, answer) {
+        (Reply::Done, Answer::Done) | (Reply::Row(None), Answer::NoRow) => true,
+        (Reply::Unit(unit), Answer::Unit) | (Reply::Posted(unit), Answer::Posted) => {
+            *unit == FIRST_UNIT
+        }
+        (Reply::Row(Some(text)), Answer::Row(row)) => text.bytes() == *row,
+        (Reply::Refused(refusal), Answer::Refused(expected)) => refusal == expected,
+        _ => false,
+    }
 }
 
 fn parts_of(alloc: Global, effects: usize) -> Result<Parts, Fail> {
@@ -80,13 +105,22 @@ fn make(alloc: Global, hall: &mut MemHall, call: Call) -> Result<Reply, Fail> {
         Call::Post(worker) => Ok(hall.do1(alloc, 1, worker)),
         Call::Drop(worker) => Ok(hall.drop_order(1, worker)),
         Call::Cancel => Ok(hall.cancel(alloc, 1, FIRST_UNIT)),
+        Call::Read => {
+            let table = read_name(b"T").ok_or("a name")?;
+            let key = Key::new(b"1").ok_or("a key")?;
+            Ok(hall.read(alloc, 1, session, table, key))
+        }
     }
 }
 
 // Makes calls, each of which is to be answered so, and to leave so many locks.
-fn make_all(alloc: Global, hall: &mut MemHall, calls: &[(Call, Reply, usize)]) -> Result<(), Fail> {
-    for (call, reply, locks) in calls {
-        if make(alloc, hall, *call)? != *reply {
+fn make_all(
+    alloc: Global,
+    hall: &mut MemHall,
+    calls: &[(Call, Answer, usize)],
+) -> Result<(), Fail> {
+    for (call, answer, locks) in calls {
+        if !is_answer(&make(alloc, hall, *call)?, answer) {
             return Err(Fail::from("another answer"));
         }
         if hall.entries(alloc)?.len() != *locks {
@@ -138,11 +172,11 @@ fn a_hall_shows_its_locks_and_its_calls(rt: HostRuntime) -> Result<(), Fail> {
         alloc,
         &mut hall,
         &[
-            (Call::Logon, Reply::Done, 0),
-            (Call::Ask(FIRST_ORDER), Reply::Done, 1),
-            (Call::Ask(SECOND_ORDER), Reply::Refused(full), 1),
-            (Call::Free(FIRST_ORDER), Reply::Done, 0),
-            (Call::Logoff, Reply::Done, 0),
+            (Call::Logon, Answer::Done, 0),
+            (Call::Ask(FIRST_ORDER), Answer::Done, 1),
+            (Call::Ask(SECOND_ORDER), Answer::Refused(full), 1),
+            (Call::Free(FIRST_ORDER), Answer::Done, 0),
+            (Call::Logoff, Answer::Done, 0),
         ],
     )?;
     assert_eq!(rt; hall.past().len(), 5);
@@ -154,25 +188,30 @@ fn a_full_history_does_not_grow(rt: HostRuntime) -> Result<(), Fail> {
     let alloc = rt.alloc();
     let mut hall = opened(alloc, 1, 1)?;
     for _ in 0..262_144 {
-        assert!(rt; hall.drop_order(0, 1) == Reply::Refused(Refusal::NoOrder));
+        let reply = hall.drop_order(0, 1);
+        assert!(rt; is_answer(&reply, &Answer::Refused(Refusal::NoOrder)));
     }
     make_all(
         alloc,
         &mut hall,
         &[
-            (Call::Drop(1), Reply::Refused(Refusal::LogFull), 0),
-            (Call::Logon, Reply::Refused(Refusal::LogFull), 0),
-            (Call::Ask(FIRST_ORDER), Reply::Refused(Refusal::LogFull), 0),
-            (Call::Free(FIRST_ORDER), Reply::Refused(Refusal::LogFull), 0),
+            (Call::Drop(1), Answer::Refused(Refusal::LogFull), 0),
+            (Call::Logon, Answer::Refused(Refusal::LogFull), 0),
+            (Call::Ask(FIRST_ORDER), Answer::Refused(Refusal::LogFull), 0),
             (
-                Call::Commit { effects: 0 },
-                Reply::Refused(Refusal::LogFull),
+                Call::Free(FIRST_ORDER),
+                Answer::Refused(Refusal::LogFull),
                 0,
             ),
-            (Call::Take(1), Reply::Refused(Refusal::LogFull), 0),
-            (Call::Post(1), Reply::Refused(Refusal::LogFull), 0),
-            (Call::Cancel, Reply::Refused(Refusal::LogFull), 0),
-            (Call::Logoff, Reply::Refused(Refusal::LogFull), 0),
+            (
+                Call::Commit { effects: 0 },
+                Answer::Refused(Refusal::LogFull),
+                0,
+            ),
+            (Call::Take(1), Answer::Refused(Refusal::LogFull), 0),
+            (Call::Post(1), Answer::Refused(Refusal::LogFull), 0),
+            (Call::Cancel, Answer::Refused(Refusal::LogFull), 0),
+            (Call::Logoff, Answer::Refused(Refusal::LogFull), 0),
         ],
     )?;
     assert_eq!(rt; hall.past().len(), 262_144);
@@ -199,10 +238,10 @@ fn a_commit_hands_its_locks_over(rt: HostRuntime) -> Result<(), Fail> {
         alloc,
         &mut hall,
         &[
-            (Call::Logon, Reply::Done, 0),
-            (Call::AskForUnit(FIRST_ORDER, Mode::O), Reply::Done, 1),
-            (Call::AskForUnit(FIRST_ORDER, Mode::E), Reply::Done, 2),
-            (Call::Commit { effects: 1 }, Reply::Unit(FIRST_UNIT), 1),
+            (Call::Logon, Answer::Done, 0),
+            (Call::AskForUnit(FIRST_ORDER, Mode::O), Answer::Done, 1),
+            (Call::AskForUnit(FIRST_ORDER, Mode::E), Answer::Done, 2),
+            (Call::Commit { effects: 1 }, Answer::Unit, 1),
         ],
     )?;
     assert!(rt; hands_over(hall.entries(alloc)?.as_slice()));
@@ -218,11 +257,11 @@ fn a_post_frees_the_locks_of_its_unit_alone(rt: HostRuntime) -> Result<(), Fail>
         alloc,
         &mut hall,
         &[
-            (Call::Logon, Reply::Done, 0),
-            (Call::AskForBoth(FIRST_ORDER), Reply::Done, 2),
-            (Call::Commit { effects: 1 }, Reply::Unit(FIRST_UNIT), 2),
-            (Call::Take(1), Reply::Unit(FIRST_UNIT), 2),
-            (Call::Post(1), Reply::Posted(FIRST_UNIT), 1),
+            (Call::Logon, Answer::Done, 0),
+            (Call::AskForBoth(FIRST_ORDER), Answer::Done, 2),
+            (Call::Commit { effects: 1 }, Answer::Unit, 2),
+            (Call::Take(1), Answer::Unit, 2),
+            (Call::Post(1), Answer::Posted, 1),
         ],
     )
 }
@@ -237,26 +276,60 @@ fn a_full_store_takes_no_mark(rt: HostRuntime) -> Result<(), Fail> {
         alloc,
         &mut hall,
         &[
-            (Call::Logon, Reply::Done, 0),
-            (Call::Cancel, Reply::Refused(Refusal::UnknownUnit), 0),
-            (Call::Commit { effects: 1 }, Reply::Unit(FIRST_UNIT), 0),
-            (Call::Take(1), Reply::Unit(FIRST_UNIT), 0),
-            (Call::Cancel, Reply::Refused(Refusal::UnitClaimed(1)), 0),
-            (Call::Post(1), Reply::Refused(Refusal::StoreFull(1)), 0),
-            (Call::Post(2), Reply::Refused(Refusal::NoOrder), 0),
+            (Call::Logon, Answer::Done, 0),
+            (Call::Cancel, Answer::Refused(Refusal::UnknownUnit), 0),
+            (Call::Commit { effects: 1 }, Answer::Unit, 0),
+            (Call::Take(1), Answer::Unit, 0),
+            (Call::Cancel, Answer::Refused(Refusal::UnitClaimed(1)), 0),
+            (Call::Post(1), Answer::Refused(Refusal::StoreFull(1)), 0),
+            (Call::Post(2), Answer::Refused(Refusal::NoOrder), 0),
             (
                 Call::Commit { effects: 1 },
-                Reply::Refused(Refusal::StoreFull(1)),
+                Answer::Refused(Refusal::StoreFull(1)),
                 0,
             ),
             (
                 Call::Commit { effects: 201 },
-                Reply::Refused(Refusal::UnitTooLarge),
+                Answer::Refused(Refusal::UnitTooLarge),
                 0,
             ),
-            (Call::Commit { effects: 0 }, Reply::Done, 0),
-            (Call::Drop(1), Reply::Unit(FIRST_UNIT), 0),
-            (Call::Cancel, Reply::Refused(Refusal::StoreFull(1)), 0),
+            (Call::Commit { effects: 0 }, Answer::Done, 0),
+            (Call::Drop(1), Answer::Unit, 0),
+            (Call::Cancel, Answer::Refused(Refusal::StoreFull(1)), 0),
         ],
     )
+}
+
+// How many units, marks and numbers are shown.
+fn shows(alloc: Global, hall: &MemHall, units: usize, marks: u32) -> Result<bool, Fail> {
+    Ok(hall.units(alloc)?.len() == units && hall.marks() == marks && hall.numbers() == 0)
+}
+
+// A row is read as the posted parts have left it, and the hall shows its units and marks.
+#[test]
+fn a_row_is_read_as_it_was_posted(rt: HostRuntime) -> Result<(), Fail> {
+    let alloc = rt.alloc();
+    let mut hall = opened(alloc, 1, 2)?;
+    make_all(
+        alloc,
+        &mut hall,
+        &[
+            (Call::Read, Answer::Refused(Refusal::UnknownSession), 0),
+            (Call::Logon, Answer::Done, 0),
+            (Call::Commit { effects: 1 }, Answer::Unit, 0),
+            (Call::Read, Answer::NoRow, 0),
+            (Call::Take(1), Answer::Unit, 0),
+        ],
+    )?;
+    assert!(rt; shows(alloc, &hall, 1, 1)?);
+    make_all(
+        alloc,
+        &mut hall,
+        &[
+            (Call::Post(1), Answer::Posted, 0),
+            (Call::Read, Answer::Row(b"X"), 0),
+        ],
+    )?;
+    assert!(rt; shows(alloc, &hall, 1, 2)?);
+    Ok(())
 }

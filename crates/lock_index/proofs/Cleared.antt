@@ -1,12 +1,10 @@
 -- Several places are emptied.
-use Rattle.std.proofs.Common.{◌≡◌, ℕ, zero, suc, ◌+◌, ◌<◌, List, [], ◌∷◌, ◌++◌, Bool, true, false, cond, not, ◌||◌, nat_eq, length, take, set, map, filter, get_or, Option, Some, None, sym, ◌∙◌, ap, refl, arith, inl, inr}
+use Rattle.std.proofs.Common.{◌≡◌, ℕ, zero, suc, ◌+◌, ◌<◌, List, [], ◌∷◌, ◌++◌, Bool, true, false, cond, not, ◌||◌, nat_eq, length, take, set, map, filter, get_or, Option, Some, None, sym, ◌∙◌, ap, refl, arith}
 use Rattle.std.specs.List.{list_any, cons_option}
-use Rattle.std.proofs.lemmas.Bool.{cases_Bool, eqb-true}
 use Rattle.std.proofs.lemmas.Bool.Decides.{nat_tests}
 use Rattle.std.proofs.lemmas.List.{length-map}
 use Rattle.lock_entry.specs.declared.entry.Entry.{Entry}
 use Rattle.lock_index.specs.Slots.{slot_at, live, on_some}
-use Rattle.lock_index.proofs.Changed.{length-set}
 use Rattle.lock_index.proofs.Numbers.{any-more}
 use Rattle.lock_index.proofs.Owned.{get_or-same, slots-same}
 

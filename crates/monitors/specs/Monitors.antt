@@ -8,9 +8,9 @@ use Rattle.enq_base.specs.declared.unit.Status.TheVariants as status
 use Rattle.lock_entry.specs.declared.entry.Entry.{Entry}
 use Rattle.monitors.specs.Shown.{counts_text, doubt_line, end_line, entry_text, range_text, replica_text, shown_line, unit_line_text}
 use Rattle.monitors.specs.declared.views.Counts.{Counts}
-use Rattle.monitors.specs.declared.views.RangeView.{RangeView}
 use Rattle.monitors.specs.declared.views.ServerView.{ServerView}
-use Rattle.monitors.specs.declared.views.UnitView.{UnitView}
+use Rattle.number_ranges.specs.Draws.{RangeState}
+use Rattle.update_records.specs.declared.view.UnitView.{UnitView}
 
 abbrev pub entry_lines : ℕ → List Entry → List ℕ
 entry_lines n es = flat_map (λ (e : Entry). shown_line n (entry_text e)) es
@@ -18,8 +18,8 @@ entry_lines n es = flat_map (λ (e : Entry). shown_line n (entry_text e)) es
 abbrev pub unit_lines : ℕ → List UnitView → List ℕ
 unit_lines n us = flat_map (λ (u : UnitView). shown_line n (unit_line_text u)) us
 
-abbrev pub range_lines : ℕ → List RangeView → List ℕ
-range_lines n rs = flat_map (λ (r : RangeView). shown_line n (range_text r)) rs
+abbrev pub range_lines : ℕ → List RangeState → List ℕ
+range_lines n rs = flat_map (λ (r : RangeState). shown_line n (range_text r.interval r.holder)) rs
 
 -- the first line of SM12, where the server is up
 abbrev pub up_text : ServerView → ℕ → List ℕ
@@ -47,7 +47,7 @@ abbrev pub sm13_text : ℕ → Condition → List UnitView → List ℕ
 sm13_text n c us = unless_in_doubt n c (unit_lines n us)
 
 -- SNRO: the number ranges
-abbrev pub snro_text : ℕ → Condition → List RangeView → List ℕ
+abbrev pub snro_text : ℕ → Condition → List RangeState → List ℕ
 snro_text n c rs = unless_in_doubt n c (range_lines n rs)
 
 abbrev pub same_status : Status → Status → Bool

@@ -1,5 +1,5 @@
 -- The texts of replies.
-use Rattle.std.specs.Prelude.{ℕ, List, Some, None, codes, decimal}
+use Rattle.std.specs.Prelude.{ℕ, Bool, true, false, List, Some, None, codes, decimal}
 use Rattle.enq_base.specs.Text.{◌␣◌, reason_text, status_text, unit_text}
 use Rattle.enq_base.specs.declared.refusal.ArgKind.{ArgKind}
 use Rattle.enq_base.specs.declared.refusal.ArgKind.TheVariants as kind
@@ -54,6 +54,21 @@ refusal_text (refusal.StoreFull limit) = codes "STORE_FULL" ␣ decimal limit
 refusal_text refusal.LinkFault = codes "LINK_FAULT"
 refusal_text (refusal.UnitClaimed worker) = codes "UNIT_CLAIMED" ␣ decimal worker
 refusal_text (refusal.Unsound bad) = codes "UNSOUND"
+
+-- refusals of which more is told than words
+abbrev pub tells_more : Refusal → Bool
+tells_more (refusal.Down number) = true
+tells_more (refusal.ForeignLock owner user table argument) = true
+tells_more (refusal.LockTableFull used limit) = true
+tells_more (refusal.IntervalBusy session) = true
+tells_more (refusal.IntervalOverflow to) = true
+tells_more (refusal.WorkerBusy unit) = true
+tells_more (refusal.WrongStatus unit status) = true
+tells_more (refusal.BadArgument kind) = true
+tells_more (refusal.UnknownVariable name) = true
+tells_more (refusal.StoreFull limit) = true
+tells_more (refusal.UnitClaimed worker) = true
+tells_more _ = false
 
 -- a refused effect of a unit, and why it is refused
 abbrev pub bad_text : List ℕ → List ℕ → ℕ → List ℕ → List ℕ

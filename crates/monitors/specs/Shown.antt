@@ -7,8 +7,8 @@ use Rattle.enq_base.specs.declared.unit.Reason.{Reason}
 use Rattle.lock_entry.specs.declared.entry.Entry.{Entry}
 use Rattle.mode_rules.specs.Modes.{mode_text}
 use Rattle.monitors.specs.declared.views.Counts.{Counts}
-use Rattle.monitors.specs.declared.views.RangeView.{RangeView}
-use Rattle.monitors.specs.declared.views.UnitView.{UnitView}
+use Rattle.number_ranges.specs.declared.interval.Interval.{Interval}
+use Rattle.update_records.specs.declared.view.UnitView.{UnitView}
 
 -- a line of a monitor: the number of the script line, a space, the text, and the line's end
 abbrev pub shown_line : ℕ → List ℕ → List ℕ
@@ -58,11 +58,11 @@ abbrev pub holder_text : Option (List ℕ) → List ℕ
 holder_text None = []
 holder_text (Some session) = codes " BY " ++ session
 
--- an interval and its numbers, its level, block size and percentage
-abbrev pub range_text : RangeView → List ℕ
-range_text r =
-    r.object ␣ r.nr ␣ decimal r.from ␣ decimal r.to ␣ codes "LEVEL" ␣ decimal r.level
-    ␣ codes "BUFFER" ␣ decimal r.buffer ␣ codes "PERCENT" ␣ (decimal r.percent ++ holder_text r.holder)
+-- an interval and its numbers, its present level, block size and percentage, and who holds it
+abbrev pub range_text : Interval → Option (List ℕ) → List ℕ
+range_text i holder =
+    i.object ␣ i.nr ␣ decimal i.from ␣ decimal i.to ␣ codes "LEVEL" ␣ decimal i.level
+    ␣ codes "BUFFER" ␣ decimal i.buffer ␣ codes "PERCENT" ␣ (decimal i.percent ++ holder_text holder)
 
 -- how many units there are, in all and by status, and how many marks and numbers
 abbrev pub counts_text : Counts → List ℕ

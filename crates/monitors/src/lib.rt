@@ -10,4 +10,4 @@ mod views;
 
 pub use monitor::{Bytes, audit, sm12, sm13, snro};
 pub use reply::{ReplyView, reply_line};
-pub use views::{RangeView, ServerView, UnitView};
+pub use views::ServerView;

@@ -3,10 +3,11 @@ ghost use Rattle.monitors.specs.Monitors.{entry_lines, range_lines, unit_lines};
 ghost use Rattle.monitors.specs.Shown.{shown_line};
 
 use crate::shown::{EntryText, RangeText, UnitText};
-use crate::views::{RangeView, UnitView};
 use enq_base::NoMemory;
 use lock_entry::Entry;
+use number_ranges::Range;
 use std::fmt;
+use update_records::UnitView;
 
 /// A line of a monitor: the number of the script line, and the text.
 pub(crate) fn put_line<D: fmt::Display + Drop>(
@@ -39,11 +40,15 @@ pub(crate) fn put_units(text: &mut String, line: u32, units: &[UnitView]) -> Res
     Ok(())
 }
 
-pub(crate) fn put_ranges(text: &mut String, line: u32, ranges: &[RangeView]) -> Result<(), NoMemory>
+pub(crate) fn put_ranges(text: &mut String, line: u32, ranges: &[Range]) -> Result<(), NoMemory>
     ensures { OnOk result (string_bytes text.new ≡ string_bytes text.old ++ range_lines line ranges.now) }
 {
     for range in ranges {
-        put_line(text, line, RangeText(*range))?;
+        let shown = RangeText {
+            interval: range.interval(),
+            holder: range.holder(),
+        };
+        put_line(text, line, shown)?;
     }
     Ok(())
 }

@@ -5,10 +5,12 @@ ghost use Rattle.monitors.specs.Shown.{doubt_line, end_line};
 
 use crate::lines::{put_entries, put_line, put_ranges, put_units};
 use crate::shown::{CountsText, ReplicaText};
-use crate::views::{Counts, RangeView, ServerView, UnitView};
+use crate::views::{Counts, ServerView};
 use enq_base::{Condition, Items, NoMemory, Status};
 use lock_entry::Entry;
+use number_ranges::Range;
 use std::alloc::Global;
+use update_records::UnitView;
 
 /// Bytes that are owned.
 pub type Bytes = Items<u8>;
@@ -70,7 +72,7 @@ pub fn snro(
     alloc: Global,
     line: u32,
     condition: Condition,
-    ranges: &[RangeView],
+    ranges: &[Range],
 ) -> Result<Bytes, NoMemory>
     ensures { IfOk result (λ text. text ≡ snro_text line condition ranges.now) }
 {

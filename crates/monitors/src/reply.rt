@@ -1,5 +1,5 @@
-ghost use Rattle.std.specs.Prelude.{◌≡◌, IfOk, Some};
-ghost use Rattle.monitors.specs.Replies.{kind_text, refusal_text, reply_line_text};
+ghost use Rattle.std.specs.Prelude.{◌≡◌, false, IfOk, Some};
+ghost use Rattle.monitors.specs.Replies.{kind_text, refusal_text, reply_line_text, tells_more};
 
 use crate::lines::put_line;
 use crate::monitor::Bytes;
@@ -92,11 +92,7 @@ impl fmt::Display for RefusalText {
 
     fn fmt<W: fmt::Write>(&self, f: &mut fmt::Formatter<W>) -> fmt::Result {
         match self.0 {
-            Refusal::UnknownSession => f.write_str("UNKNOWN_SESSION"),
-            Refusal::SessionExists => f.write_str("SESSION_EXISTS"),
-            Refusal::SystemFailure => f.write_str("SYSTEM_FAILURE"),
             Refusal::Down(number) => write!(f, "DOWN {number}"),
-            Refusal::LocksLost => f.write_str("LOCKS_LOST"),
             Refusal::ForeignLock {
                 owner: _,
                 user,
@@ -104,36 +100,51 @@ impl fmt::Display for RefusalText {
                 argument,
             } => write!(f, "FOREIGN_LOCK {user} {table} {argument}"),
             Refusal::LockTableFull { used, limit } => write!(f, "LOCK_TABLE_FULL {used} {limit}"),
-            Refusal::CountFull => f.write_str("COUNT_FULL"),
-            Refusal::OptimisticLost => f.write_str("OPTIMISTIC_LOST"),
-            Refusal::UnitTooLarge => f.write_str("UNIT_TOO_LARGE"),
-            Refusal::IntervalNotFound => f.write_str("INTERVAL_NOT_FOUND"),
             Refusal::IntervalBusy(session) => write!(f, "INTERVAL_BUSY {session}"),
             Refusal::IntervalOverflow(to) => write!(f, "INTERVAL_OVERFLOW {to}"),
-            Refusal::Idle => f.write_str("IDLE"),
             Refusal::WorkerBusy(unit) => write!(f, "WORKER_BUSY {unit}"),
-            Refusal::NoOrder => f.write_str("NO_ORDER"),
             Refusal::WrongStatus { unit, status } => write!(f, "WRONG_STATUS {unit} {status}"),
-            Refusal::UnknownUnit => f.write_str("UNKNOWN_UNIT"),
-            Refusal::NotAttached => f.write_str("NOT_ATTACHED"),
-            Refusal::ServerUp => f.write_str("SERVER_UP"),
-            Refusal::StoreFault => f.write_str("STORE_FAULT"),
-            Refusal::BackupFault => f.write_str("BACKUP_FAULT"),
-            Refusal::LogFull => f.write_str("LOG_FULL"),
-            Refusal::NoMemory => f.write_str("NO_MEMORY"),
-            Refusal::UnknownObject => f.write_str("UNKNOWN_OBJECT"),
             Refusal::BadArgument(kind) => {
                 let kind = KindText(kind);
                 write!(f, "BAD_ARGUMENT {kind}")
             }
-            Refusal::ContainerFull => f.write_str("CONTAINER_FULL 64"),
             Refusal::UnknownVariable(name) => write!(f, "UNKNOWN_VARIABLE {name}"),
-            Refusal::SessionsFull => f.write_str("SESSIONS_FULL 1024"),
             Refusal::StoreFull(limit) => write!(f, "STORE_FULL {limit}"),
-            Refusal::LinkFault => f.write_str("LINK_FAULT"),
             Refusal::UnitClaimed(worker) => write!(f, "UNIT_CLAIMED {worker}"),
-            Refusal::Unsound(_) => f.write_str("UNSOUND"),
+            refusal => f.write_str(word_of(refusal)),
         }
+    }
+}
+
+/// The words of a refusal that tells nothing more.
+fn word_of(refusal: Refusal) -> &'static str
+    requires { tells_more refusal ≡ false }
+    ensures { result.now ≡ refusal_text refusal }
+{
+    match refusal {
+        Refusal::UnknownSession => "UNKNOWN_SESSION",
+        Refusal::SessionExists => "SESSION_EXISTS",
+        Refusal::SystemFailure => "SYSTEM_FAILURE",
+        Refusal::LocksLost => "LOCKS_LOST",
+        Refusal::CountFull => "COUNT_FULL",
+        Refusal::OptimisticLost => "OPTIMISTIC_LOST",
+        Refusal::UnitTooLarge => "UNIT_TOO_LARGE",
+        Refusal::IntervalNotFound => "INTERVAL_NOT_FOUND",
+        Refusal::Idle => "IDLE",
+        Refusal::NoOrder => "NO_ORDER",
+        Refusal::UnknownUnit => "UNKNOWN_UNIT",
+        Refusal::NotAttached => "NOT_ATTACHED",
+        Refusal::ServerUp => "SERVER_UP",
+        Refusal::StoreFault => "STORE_FAULT",
+        Refusal::BackupFault => "BACKUP_FAULT",
+        Refusal::LogFull => "LOG_FULL",
+        Refusal::NoMemory => "NO_MEMORY",
+        Refusal::UnknownObject => "UNKNOWN_OBJECT",
+        Refusal::ContainerFull => "CONTAINER_FULL 64",
+        Refusal::SessionsFull => "SESSIONS_FULL 1024",
+        Refusal::LinkFault => "LINK_FAULT",
+        Refusal::Unsound(_) => "UNSOUND",
+        _ => unreachable!(),
     }
 }
 

@@ -2,10 +2,12 @@ ghost use Rattle.std.specs.Prelude.{Some};
 ghost use Rattle.monitors.specs.Shown.{counts_text, entry_text, range_text, unit_line_text};
 ghost use Rattle.monitors.specs.Shown.{counters_text, error_text, flag_text, holder_text, replica_text};
 
-use crate::views::{Counts, RangeView, UnitView};
+use crate::views::Counts;
 use enq_base::{Name, Owner, Reason};
 use lock_entry::Entry;
+use number_ranges::Interval;
 use std::{fmt, str};
+use update_records::UnitView;
 
 /// Whether a replica is attached.
 #[derive(Clone, Copy)]
@@ -145,14 +147,18 @@ impl fmt::Display for NrText {
     }
 }
 
+/// An interval with its present level, and the session that holds it.
 #[derive(Clone, Copy)]
-pub(crate) struct RangeText(pub(crate) RangeView);
+pub(crate) struct RangeText {
+    pub(crate) interval: Interval,
+    pub(crate) holder: Option<Name>,
+}
 
 impl fmt::Display for RangeText {
-    ghost output = { λ shown. Some (range_text shown.0) };
+    ghost output = { λ shown. Some (range_text shown.interval shown.holder) };
 
     fn fmt<W: fmt::Write>(&self, f: &mut fmt::Formatter<W>) -> fmt::Result {
-        let RangeView {
+        let Interval {
             object,
             nr,
             from,
@@ -160,10 +166,9 @@ impl fmt::Display for RangeText {
             level,
             buffer,
             percent,
-            holder,
-        } = self.0;
+        } = self.interval;
         let nr = NrText(nr);
-        let holder = HolderText(holder);
+        let holder = HolderText(self.holder);
         write!(
             f,
             "{object} {nr} {from} {to} LEVEL {level} BUFFER {buffer} PERCENT {percent}{holder}"

@@ -63,13 +63,12 @@ pushed_two old mid new x y first second a b is_first is_second =
 abbrev pub unit_rows_at : ℕ → ℕ → UnitOfWork → List StoredInterval → List Change
 unit_rows_at start n unit intervals = (unit_rows unit ++ mark_row (record { seq = n + 1; unit = unit.key; kind = Rec }) ∷ meta_row start (n + 1) ∷ []) ++ interval_rows intervals
 
-pub unit_makes : (held : Option Rows) (ledger : Ledger) (unit copy : UnitOfWork) (intervals copies : List StoredInterval) (batch : List Change) (start n : ℕ) → HasMarksLeft ledger → IsNewUnit ledger unit → MayStore ledger intervals unit.numbers → IsSpelt unit
-    → start ≡ ledger.start → n ≡ length ledger.marks → copy ≡ unit → copies ≡ intervals → batch ≡ unit_rows_at start n unit intervals → IfSome held (λ rows. StandFor rows ledger) → IfSome held (λ rows. StandFor (changed batch rows) (with_intervals copies (with_unit ledger copy)))
-unit_makes None ledger unit copy intervals copies batch start n few new may spelt s m same all is h = tt
-unit_makes (Some rows) ledger unit copy intervals copies batch start n few new may spelt s m same all is h =
-    subst (λ u. StandFor (changed batch rows) (with_intervals copies (with_unit ledger u))) (sym same)
-    (subst (λ ls. StandFor (changed batch rows) (with_intervals ls (with_unit ledger unit))) (sym all)
-    (subst (λ b. StandFor (changed b rows) (with_intervals intervals (with_unit ledger unit))) (sym (is ∙ ap (λ k. unit_rows_at k n unit intervals) s ∙ ap (λ k. unit_rows_at ledger.start k unit intervals) m)) (unit_stands rows ledger unit intervals few new may spelt h)))
+pub unit_makes : (held : Option Rows) (ledger : Ledger) (unit : UnitOfWork) (intervals copies : List StoredInterval) (batch : List Change) (start n : ℕ) → HasMarksLeft ledger → IsNewUnit ledger unit → MayStore ledger intervals unit.numbers → IsSpelt unit
+    → start ≡ ledger.start → n ≡ length ledger.marks → copies ≡ intervals → batch ≡ unit_rows_at start n unit intervals → IfSome held (λ rows. StandFor rows ledger) → IfSome held (λ rows. StandFor (changed batch rows) (with_intervals copies (with_unit ledger unit)))
+unit_makes None ledger unit intervals copies batch start n few new may spelt s m all is h = tt
+unit_makes (Some rows) ledger unit intervals copies batch start n few new may spelt s m all is h =
+    subst (λ ls. StandFor (changed batch rows) (with_intervals ls (with_unit ledger unit))) (sym all)
+    (subst (λ b. StandFor (changed b rows) (with_intervals intervals (with_unit ledger unit))) (sym (is ∙ ap (λ k. unit_rows_at k n unit intervals) s ∙ ap (λ k. unit_rows_at ledger.start k unit intervals) m)) (unit_stands rows ledger unit intervals few new may spelt h))
 
 pub unit_is_batch : (ledger : Ledger) (unit : UnitOfWork) (intervals : List StoredInterval) (batch : List Change) (start n : ℕ) → IsNewUnit ledger unit → HasDistinctIntervals intervals → batch ≡ unit_rows_at start n unit intervals → IsBatch batch
 unit_is_batch ledger unit intervals batch start n new apart is =

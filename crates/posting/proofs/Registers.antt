@@ -130,17 +130,17 @@ turns_kept marks old new m s alone at known sets other =
     ∙ ap (λ d. if same_unit m.unit other && not d then Some (length marks) else last_turn other marks) (sym alone)
     ∙ sym (last_push other marks m)
 
-recorded_turns : (status : Status) (units : List UnitOfWork) (marks : List Mark) (queue : List (Option UnitKey)) (unit : UnitOfWork) (seq : ℕ) → NoneOf unit.key marks → queue ≡ turns_of status units marks
-    → queue ++ (if has_status status (Some Open) then Some unit.key else None) ∷ [] ≡ turns_of status (units ++ unit ∷ []) (marks ++ rec_of seq unit.key ∷ [])
-recorded_turns status units marks queue unit seq none is =
+recorded_turns : (status : Status) (units : List UnitOfWork) (marks : List Mark) (v1_queue : List (Option UnitKey)) (unit : UnitOfWork) (seq : ℕ) → NoneOf unit.key marks → v1_queue ≡ turns_of status units marks
+    → v1_queue ++ (if has_status status (Some Open) then Some unit.key else None) ∷ [] ≡ turns_of status (units ++ unit ∷ []) (marks ++ rec_of seq unit.key ∷ [])
+recorded_turns status units marks v1_queue unit seq none is =
     ap (λ q. q ++ (if has_status status (Some Open) then Some unit.key else None) ∷ []) (is ∙ sym (turns_grow status units unit marks none))
     ∙ sym (turns_first status (units ++ unit ∷ []) marks (rec_of seq unit.key) refl none)
 
-pub recorded_register : {S : Type 0} (start : ℕ) (units : List UnitOfWork) (marks : List Mark) (queue again : List (Option UnitKey)) (old new : Standings S) (unit : UnitOfWork) (seq numbers : ℕ)
-    → IsRegister start units marks old queue again numbers → IsSmall unit → length marks < 1048576 → 1 ≤ start → status_of units marks unit.key ≡ None
+pub recorded_register : {S : Type 0} (start : ℕ) (units : List UnitOfWork) (marks : List Mark) (v1_queue v2_queue : List (Option UnitKey)) (old new : Standings S) (unit : UnitOfWork) (seq numbers : ℕ)
+    → IsRegister start units marks old v1_queue v2_queue numbers → IsSmall unit → length marks < 1048576 → 1 ≤ start → status_of units marks unit.key ≡ None
     → Sets old new unit.key (open_at (length units) (length marks))
-    → IsRegister start (units ++ unit ∷ []) (marks ++ rec_of seq unit.key ∷ []) new (queue ++ Some unit.key ∷ []) (again ++ None ∷ []) (numbers + length unit.numbers)
-recorded_register start units marks queue again old new unit seq numbers reg small few begun fresh sets =
+    → IsRegister start (units ++ unit ∷ []) (marks ++ rec_of seq unit.key ∷ []) new (v1_queue ++ Some unit.key ∷ []) (v2_queue ++ None ∷ []) (numbers + length unit.numbers)
+recorded_register start units marks v1_queue v2_queue old new unit seq numbers reg small few begun fresh sets =
     let none : NoneOf unit.key marks = none_of _ unit.key marks fresh in
     let absent : standing_at old unit.key ≡ None = no_standing (standing_at old unit.key) (reg.status unit.key ∙ fresh) in
     let no_unit : unit_at units unit.key ≡ None = sym (reg.unit unit.key) ∙ ap (option_and_then (λ (s : Standing). slice_get units s.place)) absent in
@@ -153,8 +153,8 @@ recorded_register start units marks queue again old new unit seq numbers reg sma
       unit = recorded_unit units old new unit (length marks) no_unit reg.unit reg.placed sets;
       placed = recorded_placed units old new unit (length marks) reg.placed sets;
       turn = turns_kept marks old new (rec_of seq unit.key) (open_at (length units) (length marks)) refl refl reg.turn sets;
-      waits = recorded_turns Open units marks queue unit seq none reg.waits;
-      waits_again = recorded_turns Posted units marks again unit seq none reg.waits_again;
+      waits = recorded_turns Open units marks v1_queue unit seq none reg.waits;
+      waits_again = recorded_turns Posted units marks v2_queue unit seq none reg.waits_again;
       counted = ap (λ k. k + length unit.numbers) reg.counted ∙ sym (length-append (numbers_of units marks) unit.numbers) ∙ ap length (sym (numbers_recorded units unit marks seq none no_unit));
       few_numbers = omega (arith, n, small.few_numbers, reg.few_numbers);
       small = All-push IsSmall units unit reg.small small;
@@ -199,10 +199,10 @@ noted_error marks old new key kind turn seq s after error stands known gave sets
     ] refl
     ∙ sym (error_push other None marks (mark_of seq key kind))
 
-pub noted_turns : (status : Status) (units : List UnitOfWork) (marks : List Mark) (queue : List (Option UnitKey)) (unit : UnitOfWork) (m : Mark) (before after : Status) (turn : ℕ) → unit_at units m.unit ≡ Some unit → draws_alone m.kind ≡ false
-    → Gave unit m.kind before after → last_turn m.unit marks ≡ Some turn → queue ≡ turns_of status units marks
-    → slice_set queue turn None ++ (if same_status status after then Some m.unit else None) ∷ [] ≡ turns_of status units (marks ++ m ∷ [])
-noted_turns status units marks queue unit m before after turn there alone gave last is =
+pub noted_turns : (status : Status) (units : List UnitOfWork) (marks : List Mark) (v1_queue : List (Option UnitKey)) (unit : UnitOfWork) (m : Mark) (before after : Status) (turn : ℕ) → unit_at units m.unit ≡ Some unit → draws_alone m.kind ≡ false
+    → Gave unit m.kind before after → last_turn m.unit marks ≡ Some turn → v1_queue ≡ turns_of status units marks
+    → slice_set v1_queue turn None ++ (if same_status status after then Some m.unit else None) ∷ [] ≡ turns_of status units (marks ++ m ∷ [])
+noted_turns status units marks v1_queue unit m before after turn there alone gave last is =
     let turns = turns_of status units marks in
     let gives : has_status status (given (has_no_v2 units m.unit) m.kind None) ≡ same_status status after =
     ap (has_status status) (given_same (has_no_v2 units m.unit) m.kind (Some before) alone ∙ ap (λ b. given b m.kind (Some before)) (sym (has_part units m.unit unit there)) ∙ sym gave) in
@@ -246,12 +246,12 @@ pub in_range : {S : Type 0} (units : List UnitOfWork) (old : Standings S) (key :
     → ((other : UnitKey) → IfSome (standing_at old other) (λ (t : Standing). t.place < length units)) → standing_at old key ≡ Some s → s.place < length units
 in_range units old key s placed is = subst (λ o. IfSome o (λ (t : Standing). t.place < length units)) is (placed key)
 
-pub noted_register : {S : Type 0} (start : ℕ) (units : List UnitOfWork) (marks : List Mark) (queue again : List (Option UnitKey)) (old new : Standings S) (unit : UnitOfWork) (key : UnitKey) (kind : MarkKind) (s : Standing) (seq numbers : ℕ) (after : Status) (error : Option (ℕ × Reason))
-    → IsRegister start units marks old queue again numbers → (kind ≡ Rec → ⊥) → length marks < 1048576 → 1 ≤ start → standing_at old key ≡ Some s → slice_get units s.place ≡ Some unit → draws_alone kind ≡ false
+pub noted_register : {S : Type 0} (start : ℕ) (units : List UnitOfWork) (marks : List Mark) (v1_queue v2_queue : List (Option UnitKey)) (old new : Standings S) (unit : UnitOfWork) (key : UnitKey) (kind : MarkKind) (s : Standing) (seq numbers : ℕ) (after : Status) (error : Option (ℕ × Reason))
+    → IsRegister start units marks old v1_queue v2_queue numbers → (kind ≡ Rec → ⊥) → length marks < 1048576 → 1 ≤ start → standing_at old key ≡ Some s → slice_get units s.place ≡ Some unit → draws_alone kind ≡ false
     → Gave unit kind s.status after → error ≡ told kind s.error → Sets old new key (stands_at s.place (length marks) after error)
-    → IsRegister start units (marks ++ mark_of seq key kind ∷ []) new (slice_set queue s.turn None ++ (if same_status Open after then Some key else None) ∷ [])
-    (slice_set again s.turn None ++ (if same_status Posted after then Some key else None) ∷ []) numbers
-noted_register start units marks queue again old new unit key kind s seq numbers after error reg no_rec few begun stands at alone gave tells sets =
+    → IsRegister start units (marks ++ mark_of seq key kind ∷ []) new (slice_set v1_queue s.turn None ++ (if same_status Open after then Some key else None) ∷ [])
+    (slice_set v2_queue s.turn None ++ (if same_status Posted after then Some key else None) ∷ []) numbers
+noted_register start units marks v1_queue v2_queue old new unit key kind s seq numbers after error reg no_rec few begun stands at alone gave tells sets =
     let there = place_known units old key s unit reg.unit stands at in
     let n = length-append marks (mark_of seq key kind ∷ []) in
     let was : Some s.status ≡ status_of units marks key = sym (ap (option_map status_in) stands) ∙ reg.status key in
@@ -264,8 +264,8 @@ noted_register start units marks queue again old new unit key kind s seq numbers
       unit = noted_unit units old new unit key s.place (length marks) after error at there reg.unit sets;
       placed = noted_placed units old new key s.place (length marks) after error (in_range units old key s reg.placed stands) reg.placed sets;
       turn = turns_kept marks old new (mark_of seq key kind) (stands_at s.place (length marks) after error) alone refl reg.turn sets;
-      waits = noted_turns Open units marks queue unit (mark_of seq key kind) s.status after s.turn there alone gave turn reg.waits;
-      waits_again = noted_turns Posted units marks again unit (mark_of seq key kind) s.status after s.turn there alone gave turn reg.waits_again;
+      waits = noted_turns Open units marks v1_queue unit (mark_of seq key kind) s.status after s.turn there alone gave turn reg.waits;
+      waits_again = noted_turns Posted units marks v2_queue unit (mark_of seq key kind) s.status after s.turn there alone gave turn reg.waits_again;
       counted = reg.counted ∙ ap length (sym (numbers_same units marks (mark_of seq key kind) (draws_nothing units seq key kind alone no_rec)));
       few_numbers = omega (arith, n, reg.few_numbers);
       small = reg.small;
@@ -282,12 +282,12 @@ has_marks units [] key s h = cc
 has_marks units (m ∷ marks) key s h = omega arith
 
 -- the same of what the code has at hand
-pub recorded_anew : {S : Type 0} (start : ℕ) (units : List UnitOfWork) (marks : List Mark) (queue again : List (Option UnitKey)) (old new : Standings S) (unit : UnitOfWork) (seq numbers numbers' : ℕ) (levels : Levels) (ledger : Ledger)
-    (place turn : ℕ) (units' : List UnitOfWork) (marks' : List Mark) (queue' again' : List (Option UnitKey))
-    → (record { start = start; units = units; marks = marks; levels = levels }) ≡ ledger → IsRegister start units marks old queue again numbers → HasMarksLeft ledger × IsNewUnit ledger unit
-    → Sets old new unit.key (open_at place turn) → place ≡ length units → turn ≡ length marks → units' ≡ units ++ unit ∷ [] → marks' ≡ marks ++ rec_of seq unit.key ∷ [] → queue' ≡ queue ++ Some unit.key ∷ [] → again' ≡ again ++ None ∷ []
-    → numbers' ≡ numbers + length unit.numbers → IsRegister start units' marks' new queue' again' numbers'
-recorded_anew start units marks queue again old new unit seq numbers numbers' levels ledger place turn units' marks' queue' again' is reg may sets at turns u m q a count =
+pub recorded_anew : {S : Type 0} (start : ℕ) (units : List UnitOfWork) (marks : List Mark) (v1_queue v2_queue : List (Option UnitKey)) (old new : Standings S) (unit : UnitOfWork) (seq numbers numbers' : ℕ) (levels : Levels) (ledger : Ledger)
+    (place turn : ℕ) (units' : List UnitOfWork) (marks' : List Mark) (v1_queue' v2_queue' : List (Option UnitKey))
+    → (record { start = start; units = units; marks = marks; levels = levels }) ≡ ledger → IsRegister start units marks old v1_queue v2_queue numbers → HasMarksLeft ledger × IsNewUnit ledger unit
+    → Sets old new unit.key (open_at place turn) → place ≡ length units → turn ≡ length marks → units' ≡ units ++ unit ∷ [] → marks' ≡ marks ++ rec_of seq unit.key ∷ [] → v1_queue' ≡ v1_queue ++ Some unit.key ∷ [] → v2_queue' ≡ v2_queue ++ None ∷ []
+    → numbers' ≡ numbers + length unit.numbers → IsRegister start units' marks' new v1_queue' v2_queue' numbers'
+recorded_anew start units marks v1_queue v2_queue old new unit seq numbers numbers' levels ledger place turn units' marks' v1_queue' v2_queue' is reg may sets at turns u m q a count =
     let same_marks : ledger.marks ≡ marks = ap (λ (l : Ledger). l.marks) (sym is) in
     let same_units : ledger.units ≡ units = ap (λ (l : Ledger). l.units) (sym is) in
     let same_start : ledger.start ≡ start = ap (λ (l : Ledger). l.start) (sym is) in
@@ -295,11 +295,11 @@ recorded_anew start units marks queue again old new unit seq numbers numbers' le
     let begun : 1 ≤ start = omega (arith, may.1.first, may.1.last, same_start) in
     let fresh : status_of units marks unit.key ≡ None = ap (λ us. status_of us marks unit.key) (sym same_units) ∙ ap (λ ms. status_of ledger.units ms unit.key) (sym same_marks) ∙ may.1.fresh in
     let set : Sets old new unit.key (open_at (length units) (length marks)) = subst (λ p. Sets old new unit.key (open_at (length units) p)) turns (subst (λ p. Sets old new unit.key (open_at p turn)) at sets) in
-    let done = recorded_register start units marks queue again old new unit seq numbers reg (record { few = may.1.few; few_numbers = may.1.few_numbers; few_entries = may.1.few_entries }) few begun fresh set in
-    subst (IsRegister start units' marks' new queue' again') (sym count)
-    (subst (λ us. IsRegister start us marks' new queue' again' (numbers + length unit.numbers)) (sym u) (subst (λ ms. IsRegister start (units ++ unit ∷ []) ms new queue' again' (numbers + length unit.numbers)) (sym m)
-    (subst (λ w. IsRegister start (units ++ unit ∷ []) (marks ++ rec_of seq unit.key ∷ []) new w again' (numbers + length unit.numbers)) (sym q)
-    (subst (λ w. IsRegister start (units ++ unit ∷ []) (marks ++ rec_of seq unit.key ∷ []) new (queue ++ Some unit.key ∷ []) w (numbers + length unit.numbers)) (sym a) done))))
+    let done = recorded_register start units marks v1_queue v2_queue old new unit seq numbers reg (record { few = may.1.few; few_numbers = may.1.few_numbers; few_entries = may.1.few_entries }) few begun fresh set in
+    subst (IsRegister start units' marks' new v1_queue' v2_queue') (sym count)
+    (subst (λ us. IsRegister start us marks' new v1_queue' v2_queue' (numbers + length unit.numbers)) (sym u) (subst (λ ms. IsRegister start (units ++ unit ∷ []) ms new v1_queue' v2_queue' (numbers + length unit.numbers)) (sym m)
+    (subst (λ w. IsRegister start (units ++ unit ∷ []) (marks ++ rec_of seq unit.key ∷ []) new w v2_queue' (numbers + length unit.numbers)) (sym q)
+    (subst (λ w. IsRegister start (units ++ unit ∷ []) (marks ++ rec_of seq unit.key ∷ []) new (v1_queue ++ Some unit.key ∷ []) w (numbers + length unit.numbers)) (sym a) done))))
 
 has_marks_of : (units : List UnitOfWork) (marks : List Mark) (key : UnitKey) (o : Option Status) → status_of units marks key ≡ o → IsSome o → 1 ≤ length marks
 has_marks_of units marks key None e h = cc
@@ -320,27 +320,27 @@ follows_no_rec (Some s) kind h f e = false≢true (sym (not_rec s kind f) ∙ ap
 not_recording : (ledger : Ledger) (key : UnitKey) (kind : MarkKind) → MayGet ledger key kind → kind ≡ Rec → ⊥
 not_recording ledger key kind may = follows_no_rec (status_of ledger.units ledger.marks key) kind may.recorded may.follows
 
-pub noted_anew : {S : Type 0} (start : ℕ) (units : List UnitOfWork) (marks : List Mark) (queue again : List (Option UnitKey)) (old new : Standings S) (unit : UnitOfWork) (key : UnitKey) (kind : MarkKind) (s : Standing) (seq numbers : ℕ) (levels : Levels) (ledger : Ledger)
-    (turn : ℕ) (status : Status) (error : Option (ℕ × Reason)) (o : Option Standing) (opened posted : Bool) (marks' : List Mark) (queue' again' : List (Option UnitKey))
-    → (record { start = start; units = units; marks = marks; levels = levels }) ≡ ledger → IsRegister start units marks old queue again numbers → HasMarksLeft ledger × MayGet ledger key kind
+pub noted_anew : {S : Type 0} (start : ℕ) (units : List UnitOfWork) (marks : List Mark) (v1_queue v2_queue : List (Option UnitKey)) (old new : Standings S) (unit : UnitOfWork) (key : UnitKey) (kind : MarkKind) (s : Standing) (seq numbers : ℕ) (levels : Levels) (ledger : Ledger)
+    (turn : ℕ) (status : Status) (error : Option (ℕ × Reason)) (o : Option Standing) (opened posted : Bool) (marks' : List Mark) (v1_queue' v2_queue' : List (Option UnitKey))
+    → (record { start = start; units = units; marks = marks; levels = levels }) ≡ ledger → IsRegister start units marks old v1_queue v2_queue numbers → HasMarksLeft ledger × MayGet ledger key kind
     → o ≡ Some s → o ≡ standing_at old key → unit ≡ get_or units s.place unit → Gave unit kind s.status status → error ≡ told kind s.error → opened ≡ same_status Open status → posted ≡ same_status Posted status
     → Sets old new key (stands_at s.place turn status error) → turn ≡ length marks
-    → marks' ≡ marks ++ mark_of seq key kind ∷ [] → queue' ≡ slice_set queue s.turn None ++ (if opened then Some key else None) ∷ []
-    → again' ≡ slice_set again s.turn None ++ (if posted then Some key else None) ∷ []
-    → IsRegister start units marks' new queue' again' numbers
-noted_anew start units marks queue again old new unit key kind s seq numbers levels ledger turn status error o opened posted marks' queue' again' is reg may some found at gave tells is_open is_posted sets turns m q a =
+    → marks' ≡ marks ++ mark_of seq key kind ∷ [] → v1_queue' ≡ slice_set v1_queue s.turn None ++ (if opened then Some key else None) ∷ []
+    → v2_queue' ≡ slice_set v2_queue s.turn None ++ (if posted then Some key else None) ∷ []
+    → IsRegister start units marks' new v1_queue' v2_queue' numbers
+noted_anew start units marks v1_queue v2_queue old new unit key kind s seq numbers levels ledger turn status error o opened posted marks' v1_queue' v2_queue' is reg may some found at gave tells is_open is_posted sets turns m q a =
     let same_marks : ledger.marks ≡ marks = ap (λ (l : Ledger). l.marks) (sym is) in
     let few : length marks < 1048576 = subst (λ (ms : List Mark). length ms < 1048576) same_marks may.0 in
     let n : 1 ≤ length marks = subst (λ (ms : List Mark). 1 ≤ length ms) same_marks (has_marks_of ledger.units ledger.marks key (status_of ledger.units ledger.marks key) refl may.1.recorded) in
     let stands : standing_at old key ≡ Some s = sym found ∙ some in
     let there : slice_get units s.place ≡ Some unit = within_get units s.place unit (in_range units old key s reg.placed stands) at in
     let set : Sets old new key (stands_at s.place (length marks) status error) = subst (λ p. Sets old new key (stands_at s.place p status error)) turns sets in
-    let done = noted_register start units marks queue again old new unit key kind s seq numbers status error reg (not_recording ledger key kind may.1) few (reg.begun n) stands there (may_not_draw ledger key kind may.1) gave tells set in
-    let q' = q ∙ ap (λ b. slice_set queue s.turn None ++ (if b then Some key else None) ∷ []) is_open in
-    let a' = a ∙ ap (λ b. slice_set again s.turn None ++ (if b then Some key else None) ∷ []) is_posted in
-    subst (λ ms. IsRegister start units ms new queue' again' numbers) (sym m)
-    (subst (λ w. IsRegister start units (marks ++ mark_of seq key kind ∷ []) new w again' numbers) (sym q')
-    (subst (λ w. IsRegister start units (marks ++ mark_of seq key kind ∷ []) new (slice_set queue s.turn None ++ (if same_status Open status then Some key else None) ∷ []) w numbers) (sym a') done))
+    let done = noted_register start units marks v1_queue v2_queue old new unit key kind s seq numbers status error reg (not_recording ledger key kind may.1) few (reg.begun n) stands there (may_not_draw ledger key kind may.1) gave tells set in
+    let q' = q ∙ ap (λ b. slice_set v1_queue s.turn None ++ (if b then Some key else None) ∷ []) is_open in
+    let a' = a ∙ ap (λ b. slice_set v2_queue s.turn None ++ (if b then Some key else None) ∷ []) is_posted in
+    subst (λ ms. IsRegister start units ms new v1_queue' v2_queue' numbers) (sym m)
+    (subst (λ w. IsRegister start units (marks ++ mark_of seq key kind ∷ []) new w v2_queue' numbers) (sym q')
+    (subst (λ w. IsRegister start units (marks ++ mark_of seq key kind ∷ []) new (slice_set v1_queue s.turn None ++ (if same_status Open status then Some key else None) ∷ []) w numbers) (sym a') done))
 
 -- ---- one more mark of numbers alone
 
@@ -348,10 +348,10 @@ same_again : {X : Type 0} (b : Bool) (x : X) → (if b then x else x) ≡ x
 same_again true x = refl
 same_again false x = refl
 
-drawn_register : {S : Type 0} (start : ℕ) (units : List UnitOfWork) (marks : List Mark) (queue again : List (Option UnitKey)) (standings : Standings S) (key : UnitKey) (drawn : List Number) (seq numbers : ℕ)
-    → IsRegister start units marks standings queue again numbers → length drawn ≤ 64 → length marks < 1048576 → 1 ≤ start
-    → IsRegister start units (marks ++ mark_of seq key (Num drawn) ∷ []) standings (queue ++ None ∷ []) (again ++ None ∷ []) (numbers + length drawn)
-drawn_register start units marks queue again standings key drawn seq numbers reg few_drawn few begun =
+drawn_register : {S : Type 0} (start : ℕ) (units : List UnitOfWork) (marks : List Mark) (v1_queue v2_queue : List (Option UnitKey)) (standings : Standings S) (key : UnitKey) (drawn : List Number) (seq numbers : ℕ)
+    → IsRegister start units marks standings v1_queue v2_queue numbers → length drawn ≤ 64 → length marks < 1048576 → 1 ≤ start
+    → IsRegister start units (marks ++ mark_of seq key (Num drawn) ∷ []) standings (v1_queue ++ None ∷ []) (v2_queue ++ None ∷ []) (numbers + length drawn)
+drawn_register start units marks v1_queue v2_queue standings key drawn seq numbers reg few_drawn few begun =
     let m = mark_of seq key (Num drawn) in
     let n = length-append marks (m ∷ []) in
     record {
@@ -369,24 +369,24 @@ drawn_register start units marks queue again standings key drawn seq numbers reg
       small = reg.small;
     }
 
-pub drawn_anew : {S : Type 0} (start : ℕ) (units : List UnitOfWork) (marks marks' : List Mark) (queue again : List (Option UnitKey)) (standings : Standings S) (key : UnitKey) (drawn : List Number) (seq numbers numbers' : ℕ) (levels : Levels) (ledger : Ledger) (queue' again' : List (Option UnitKey))
-    → (record { start = start; units = units; marks = marks; levels = levels }) ≡ ledger → IsRegister start units marks standings queue again numbers → HasMarksLeft ledger × IsDrawing ledger key drawn
-    → marks' ≡ marks ++ mark_of seq key (Num drawn) ∷ [] → queue' ≡ queue ++ None ∷ [] → again' ≡ again ++ None ∷ [] → numbers' ≡ numbers + length drawn
-    → IsRegister start units marks' standings queue' again' numbers'
-drawn_anew start units marks marks' queue again standings key drawn seq numbers numbers' levels ledger queue' again' is reg may m q a count =
+pub drawn_anew : {S : Type 0} (start : ℕ) (units : List UnitOfWork) (marks marks' : List Mark) (v1_queue v2_queue : List (Option UnitKey)) (standings : Standings S) (key : UnitKey) (drawn : List Number) (seq numbers numbers' : ℕ) (levels : Levels) (ledger : Ledger) (v1_queue' v2_queue' : List (Option UnitKey))
+    → (record { start = start; units = units; marks = marks; levels = levels }) ≡ ledger → IsRegister start units marks standings v1_queue v2_queue numbers → HasMarksLeft ledger × IsDrawing ledger key drawn
+    → marks' ≡ marks ++ mark_of seq key (Num drawn) ∷ [] → v1_queue' ≡ v1_queue ++ None ∷ [] → v2_queue' ≡ v2_queue ++ None ∷ [] → numbers' ≡ numbers + length drawn
+    → IsRegister start units marks' standings v1_queue' v2_queue' numbers'
+drawn_anew start units marks marks' v1_queue v2_queue standings key drawn seq numbers numbers' levels ledger v1_queue' v2_queue' is reg may m q a count =
     let same_start : ledger.start ≡ start = ap (λ (l : Ledger). l.start) (sym is) in
     let few : length marks < 1048576 = subst (λ (ms : List Mark). length ms < 1048576) (ap (λ (l : Ledger). l.marks) (sym is)) may.0 in
     let begun : 1 ≤ start = omega (arith, may.1.first, may.1.last, same_start) in
-    let done = drawn_register start units marks queue again standings key drawn seq numbers reg may.1.few few begun in
-    subst (IsRegister start units marks' standings queue' again') (sym count) (subst (λ ms. IsRegister start units ms standings queue' again' (numbers + length drawn)) (sym m)
-    (subst (λ w. IsRegister start units (marks ++ mark_of seq key (Num drawn) ∷ []) standings w again' (numbers + length drawn)) (sym q)
-    (subst (λ w. IsRegister start units (marks ++ mark_of seq key (Num drawn) ∷ []) standings (queue ++ None ∷ []) w (numbers + length drawn)) (sym a) done)))
+    let done = drawn_register start units marks v1_queue v2_queue standings key drawn seq numbers reg may.1.few few begun in
+    subst (IsRegister start units marks' standings v1_queue' v2_queue') (sym count) (subst (λ ms. IsRegister start units ms standings v1_queue' v2_queue' (numbers + length drawn)) (sym m)
+    (subst (λ w. IsRegister start units (marks ++ mark_of seq key (Num drawn) ∷ []) standings w v2_queue' (numbers + length drawn)) (sym q)
+    (subst (λ w. IsRegister start units (marks ++ mark_of seq key (Num drawn) ∷ []) standings (v1_queue ++ None ∷ []) w (numbers + length drawn)) (sym a) done)))
 
 -- a turn more can be counted where a mark more may come
-pub turn_left : {S : Type 0} (start : ℕ) (units : List UnitOfWork) (marks : List Mark) (queue again : List (Option UnitKey)) (standings : Standings S) (numbers : ℕ) (levels : Levels) (ledger : Ledger)
-    → (record { start = start; units = units; marks = marks; levels = levels }) ≡ ledger → IsRegister start units marks standings queue again numbers → HasMarksLeft ledger
-    → (length queue < 1048576) × (length again < 1048576)
-turn_left start units marks queue again standings numbers levels ledger is reg left =
+pub turn_left : {S : Type 0} (start : ℕ) (units : List UnitOfWork) (marks : List Mark) (v1_queue v2_queue : List (Option UnitKey)) (standings : Standings S) (numbers : ℕ) (levels : Levels) (ledger : Ledger)
+    → (record { start = start; units = units; marks = marks; levels = levels }) ≡ ledger → IsRegister start units marks standings v1_queue v2_queue numbers → HasMarksLeft ledger
+    → (length v1_queue < 1048576) × (length v2_queue < 1048576)
+turn_left start units marks v1_queue v2_queue standings numbers levels ledger is reg left =
     let few : length marks < 1048576 = subst (λ (ms : List Mark). length ms < 1048576) (ap (λ (l : Ledger). l.marks) (sym is)) left in
     let first = ap length reg.waits ∙ one_each Open units marks in
     let second = ap length reg.waits_again ∙ one_each Posted units marks in

@@ -107,31 +107,31 @@ few_recorded (m ∷ marks) = elim (is_rec m.kind) as (λ b. length (map (λ (y :
 ]
 
 -- the first mark is still to come
-pub none_yet : (followed : Followed) (units : List UnitOfWork) → ((key : UnitKey) → standing_at followed.standings key ≡ None) → followed.queue.turns ≡ [] → followed.again.turns ≡ [] → followed.units ≡ 0 → followed.marks ≡ 0
+pub none_yet : (followed : Followed) (units : List UnitOfWork) → ((key : UnitKey) → standing_at followed.standings key ≡ None) → followed.v1_queue.turns ≡ [] → followed.v2_queue.turns ≡ [] → followed.units ≡ 0 → followed.marks ≡ 0
     → IsFollowed followed units []
-none_yet followed units none queue again count_units count_marks = record {
+none_yet followed units none v1_queue v2_queue count_units count_marks = record {
   status = λ key. ap (option_map status_in) (none key);
   error = λ key. ap (option_and_then error_in) (none key);
   unit = λ key. subst (λ o. IfSome o (λ (s : Standing). slice_get units s.place ≡ unit_at units key)) (sym (none key)) tt;
   placed = λ key. subst (λ o. IfSome o (λ (s : Standing). s.place < length units)) (sym (none key)) tt;
   turn = λ key. ap (option_map turn_in) (none key);
-  queue = queue;
-  again = again;
+  v1_queue = v1_queue;
+  v2_queue = v2_queue;
   count_units = count_units;
   count_marks = count_marks;
 }
 
 -- what is known stays so where the standings, the turns and the counts do
-pub same_followed : (old new : Followed) (units : List UnitOfWork) (before : List Mark) → ((key : UnitKey) → standing_at new.standings key ≡ standing_at old.standings key) → new.queue.turns ≡ old.queue.turns → new.again.turns ≡ old.again.turns
+pub same_followed : (old new : Followed) (units : List UnitOfWork) (before : List Mark) → ((key : UnitKey) → standing_at new.standings key ≡ standing_at old.standings key) → new.v1_queue.turns ≡ old.v1_queue.turns → new.v2_queue.turns ≡ old.v2_queue.turns
     → new.units ≡ old.units → new.marks ≡ old.marks → IsFollowed old units before → IsFollowed new units before
-same_followed old new units before same queue again count_units count_marks so_far = record {
+same_followed old new units before same v1_queue v2_queue count_units count_marks so_far = record {
   status = λ key. ap (option_map status_in) (same key) ∙ so_far.status key;
   error = λ key. ap (option_and_then error_in) (same key) ∙ so_far.error key;
   unit = λ key. subst (λ o. IfSome o (λ (s : Standing). slice_get units s.place ≡ unit_at units key)) (sym (same key)) (so_far.unit key);
   placed = λ key. subst (λ o. IfSome o (λ (s : Standing). s.place < length units)) (sym (same key)) (so_far.placed key);
   turn = λ key. ap (option_map turn_in) (same key) ∙ so_far.turn key;
-  queue = queue ∙ so_far.queue;
-  again = again ∙ so_far.again;
+  v1_queue = v1_queue ∙ so_far.v1_queue;
+  v2_queue = v2_queue ∙ so_far.v2_queue;
   count_units = count_units ∙ so_far.count_units;
   count_marks = count_marks ∙ so_far.count_marks;
 }
@@ -139,31 +139,31 @@ same_followed old new units before same queue again count_units count_marks so_f
 -- a mark more can be counted where marks are left
 pub turns_left : (followed : Followed) (units : List UnitOfWork) (before : List Mark) → IsFollowed followed units before → length before < 1048576 → HasTurnsLeft followed
 turns_left followed units before so_far few =
-    let queue = ap length so_far.queue ∙ one_each Open units before in
-    let again = ap length so_far.again ∙ one_each Posted units before in
+    let v1_queue = ap length so_far.v1_queue ∙ one_each Open units before in
+    let v2_queue = ap length so_far.v2_queue ∙ one_each Posted units before in
     record {
       units = omega (arith, few, so_far.count_units, few_recorded before);
       marks = omega (arith, few, so_far.count_marks);
-      queue = omega (arith, few, queue);
-      again = omega (arith, few, again);
+      v1_queue = omega (arith, few, v1_queue);
+      v2_queue = omega (arith, few, v2_queue);
     }
 
 module _ (units : List UnitOfWork) (before : List Mark) (old new : Followed) (m : Mark) (so_far : IsFollowed old units before) where
   one_counted : new.marks ≡ old.marks + 1 → new.marks ≡ length (before ++ m ∷ [])
   one_counted more = more ∙ ap (λ n. n + 1) so_far.count_marks ∙ sym (length-append before (m ∷ []))
 
-  rec_turns : (status : Status) (queue : List (Option UnitKey)) → NoneOf m.unit before → is_rec m.kind ≡ true → queue ≡ turns_of status units before
-      → queue ++ (if has_status status (Some Open) then Some m.unit else None) ∷ [] ≡ turns_of status units (before ++ m ∷ [])
-  rec_turns status queue none is known =
+  rec_turns : (status : Status) (v1_queue : List (Option UnitKey)) → NoneOf m.unit before → is_rec m.kind ≡ true → v1_queue ≡ turns_of status units before
+      → v1_queue ++ (if has_status status (Some Open) then Some m.unit else None) ∷ [] ≡ turns_of status units (before ++ m ∷ [])
+  rec_turns status v1_queue none is known =
       let kind = rec_is m.kind is in
       ap (λ q. q ++ (if has_status status (Some Open) then Some m.unit else None) ∷ []) known
       ∙ ap (λ k. turns_of status units before ++ (if has_status status (given (has_no_v2 units m.unit) k None) then Some m.unit else None) ∷ []) (sym kind)
       ∙ sym (turns_first status units before m (ap draws_alone kind) none)
 
   pub follow_rec : MayBeNext units before m → is_rec m.kind ≡ true
-      → Sets old.standings new.standings m.unit (open_at old.units old.marks) → new.queue.turns ≡ old.queue.turns ++ Some m.unit ∷ [] → new.again.turns ≡ old.again.turns ++ None ∷ [] → new.units ≡ old.units + 1 → new.marks ≡ old.marks + 1
+      → Sets old.standings new.standings m.unit (open_at old.units old.marks) → new.v1_queue.turns ≡ old.v1_queue.turns ++ Some m.unit ∷ [] → new.v2_queue.turns ≡ old.v2_queue.turns ++ None ∷ [] → new.units ≡ old.units + 1 → new.marks ≡ old.marks + 1
       → IsFollowed new units (before ++ m ∷ [])
-  follow_rec next is sets queue again more_units more_marks =
+  follow_rec next is sets v1_queue v2_queue more_units more_marks =
       let kind = rec_is m.kind is in
       let first = open_at old.units old.marks in
       let fresh : status_of units before m.unit ≡ None = rec_follows _ (subst (λ k. may_follow (status_of units before m.unit) k ≡ true) kind next.legal) in
@@ -190,18 +190,18 @@ module _ (units : List UnitOfWork) (before : List Mark) (old new : Followed) (m 
             ] refl);
         placed = noted_placed units old.standings new.standings m.unit old.units old.marks Open None (omega (arith, next.within is, so_far.count_units)) so_far.placed sets;
         turn = turns_kept before old.standings new.standings m first (ap draws_alone kind) so_far.count_marks so_far.turn sets;
-        queue = queue ∙ rec_turns Open old.queue.turns none is so_far.queue;
-        again = again ∙ rec_turns Posted old.again.turns none is so_far.again;
+        v1_queue = v1_queue ∙ rec_turns Open old.v1_queue.turns none is so_far.v1_queue;
+        v2_queue = v2_queue ∙ rec_turns Posted old.v2_queue.turns none is so_far.v2_queue;
         count_units = more_units ∙ ap (λ n. n + 1) so_far.count_units ∙ sym (one_more before m is);
         count_marks = one_counted more_marks;
       }
 
   pub follow_some : (s : Standing) (unit : UnitOfWork) (after : Status) (error : Option (ℕ × Reason)) (opened posted : Bool) → is_rec m.kind ≡ false → draws_alone m.kind ≡ false → standing_at old.standings m.unit ≡ Some s
       → slice_get units s.place ≡ Some unit → Gave unit m.kind s.status after → error ≡ told m.kind s.error → opened ≡ same_status Open after → posted ≡ same_status Posted after
-      → Sets old.standings new.standings m.unit (stands_at s.place old.marks after error) → new.queue.turns ≡ slice_set old.queue.turns s.turn None ++ (if opened then Some m.unit else None) ∷ []
-      → new.again.turns ≡ slice_set old.again.turns s.turn None ++ (if posted then Some m.unit else None) ∷ [] → new.units ≡ old.units → new.marks ≡ old.marks + 1
+      → Sets old.standings new.standings m.unit (stands_at s.place old.marks after error) → new.v1_queue.turns ≡ slice_set old.v1_queue.turns s.turn None ++ (if opened then Some m.unit else None) ∷ []
+      → new.v2_queue.turns ≡ slice_set old.v2_queue.turns s.turn None ++ (if posted then Some m.unit else None) ∷ [] → new.units ≡ old.units → new.marks ≡ old.marks + 1
       → IsFollowed new units (before ++ m ∷ [])
-  follow_some s unit after error opened posted other alone stands at gave tells is_open is_posted sets queue again same_units more_marks =
+  follow_some s unit after error opened posted other alone stands at gave tells is_open is_posted sets v1_queue v2_queue same_units more_marks =
       let known : slice_get units s.place ≡ unit_at units m.unit = subst (λ o. IfSome o (λ (t : Standing). slice_get units t.place ≡ unit_at units m.unit)) stands (so_far.unit m.unit) in
       let there : unit_at units m.unit ≡ Some unit = sym known ∙ at in
       let turn = turn_known before old.standings m.unit s so_far.turn stands in
@@ -215,8 +215,8 @@ module _ (units : List UnitOfWork) (before : List Mark) (old new : Followed) (m 
             ] refl);
         placed = noted_placed units old.standings new.standings m.unit s.place old.marks after error (in_range units old.standings m.unit s so_far.placed stands) so_far.placed sets;
         turn = turns_kept before old.standings new.standings m (stands_at s.place old.marks after error) alone so_far.count_marks so_far.turn sets;
-        queue = queue ∙ ap (λ b. slice_set old.queue.turns s.turn None ++ (if b then Some m.unit else None) ∷ []) is_open ∙ noted_turns Open units before old.queue.turns unit m s.status after s.turn there alone gave turn so_far.queue;
-        again = again ∙ ap (λ b. slice_set old.again.turns s.turn None ++ (if b then Some m.unit else None) ∷ []) is_posted ∙ noted_turns Posted units before old.again.turns unit m s.status after s.turn there alone gave turn so_far.again;
+        v1_queue = v1_queue ∙ ap (λ b. slice_set old.v1_queue.turns s.turn None ++ (if b then Some m.unit else None) ∷ []) is_open ∙ noted_turns Open units before old.v1_queue.turns unit m s.status after s.turn there alone gave turn so_far.v1_queue;
+        v2_queue = v2_queue ∙ ap (λ b. slice_set old.v2_queue.turns s.turn None ++ (if b then Some m.unit else None) ∷ []) is_posted ∙ noted_turns Posted units before old.v2_queue.turns unit m s.status after s.turn there alone gave turn so_far.v2_queue;
         count_units = same_units ∙ so_far.count_units ∙ sym (no_more before m other);
         count_marks = one_counted more_marks;
       }
@@ -228,9 +228,9 @@ module _ (units : List UnitOfWork) (before : List Mark) (old new : Followed) (m 
       let alone = alone_is m.kind (subst (λ s. may_follow s m.kind ≡ true) none next.legal) other in
       absurd (false≢true (sym decides ∙ alone))
 
-  pub follow_draw : draws_alone m.kind ≡ true → ((key : UnitKey) → standing_at new.standings key ≡ standing_at old.standings key) → new.queue.turns ≡ old.queue.turns ++ None ∷ [] → new.again.turns ≡ old.again.turns ++ None ∷ []
+  pub follow_draw : draws_alone m.kind ≡ true → ((key : UnitKey) → standing_at new.standings key ≡ standing_at old.standings key) → new.v1_queue.turns ≡ old.v1_queue.turns ++ None ∷ [] → new.v2_queue.turns ≡ old.v2_queue.turns ++ None ∷ []
       → new.units ≡ old.units → new.marks ≡ old.marks + 1 → IsFollowed new units (before ++ m ∷ [])
-  follow_draw alone same queue again same_units more_marks =
+  follow_draw alone same v1_queue v2_queue same_units more_marks =
       let only = draws_only m.kind alone in
       record {
         status = λ key.
@@ -250,8 +250,8 @@ module _ (units : List UnitOfWork) (before : List Mark) (old new : Followed) (m 
         unit = λ key. subst (λ o. IfSome o (λ (s : Standing). slice_get units s.place ≡ unit_at units key)) (sym (same key)) (so_far.unit key);
         placed = λ key. subst (λ o. IfSome o (λ (s : Standing). s.place < length units)) (sym (same key)) (so_far.placed key);
         turn = λ key. ap (option_map turn_in) (same key) ∙ so_far.turn key ∙ sym (last_drawn key before m alone);
-        queue = queue ∙ ap (λ q. q ++ None ∷ []) so_far.queue ∙ sym (turns_drawn Open units before m alone);
-        again = again ∙ ap (λ q. q ++ None ∷ []) so_far.again ∙ sym (turns_drawn Posted units before m alone);
+        v1_queue = v1_queue ∙ ap (λ q. q ++ None ∷ []) so_far.v1_queue ∙ sym (turns_drawn Open units before m alone);
+        v2_queue = v2_queue ∙ ap (λ q. q ++ None ∷ []) so_far.v2_queue ∙ sym (turns_drawn Posted units before m alone);
         count_units = same_units ∙ so_far.count_units ∙ sym (no_more before m (only true None None).1.1);
         count_marks = one_counted more_marks;
       }
@@ -320,16 +320,16 @@ all_followed followed units marks i h same so_far =
         placed = all.placed;
         turn = all.turn;
       };
-      queue = all.queue;
-      again = all.again;
+      v1_queue = all.v1_queue;
+      v2_queue = all.v2_queue;
     }
 
 -- ---- the register
 
-pub restored_register : {S : Type 0} (start : ℕ) (units : List UnitOfWork) (marks : List Mark) (standings : Standings S) (queue again : List (Option UnitKey)) (numbers : ℕ) → (1 ≤ length marks → 1 ≤ start) → length marks < 1048577
-    → AreStandings standings units marks → queue ≡ turns_of Open units marks → again ≡ turns_of Posted units marks → numbers ≡ length (numbers_of units marks) → numbers ≤ 64 * length marks → All IsSmall units
-    → IsRegister start units marks standings queue again numbers
-restored_register start units marks standings queue again numbers begun few known waits waits_again counted few_numbers small = record {
+pub restored_register : {S : Type 0} (start : ℕ) (units : List UnitOfWork) (marks : List Mark) (standings : Standings S) (v1_queue v2_queue : List (Option UnitKey)) (numbers : ℕ) → (1 ≤ length marks → 1 ≤ start) → length marks < 1048577
+    → AreStandings standings units marks → v1_queue ≡ turns_of Open units marks → v2_queue ≡ turns_of Posted units marks → numbers ≡ length (numbers_of units marks) → numbers ≤ 64 * length marks → All IsSmall units
+    → IsRegister start units marks standings v1_queue v2_queue numbers
+restored_register start units marks standings v1_queue v2_queue numbers begun few known waits waits_again counted few_numbers small = record {
   begun = begun;
   few = omega (arith, few);
   status = known.status;

@@ -21,23 +21,23 @@ pub record IsFollowed (followed : Followed) (units : List UnitOfWork) (before : 
   pub unit : (key : UnitKey) → IfSome (standing_at followed.standings key) (λ (s : Standing). slice_get units s.place ≡ unit_at units key)
   pub placed : (key : UnitKey) → IfSome (standing_at followed.standings key) (λ (s : Standing). s.place < length units)
   pub turn : (key : UnitKey) → option_map (λ (s : Standing). s.turn) (standing_at followed.standings key) ≡ last_turn key before
-  pub queue : followed.queue.turns ≡ turns_of Open units before
-  pub again : followed.again.turns ≡ turns_of Posted units before
+  pub v1_queue : followed.v1_queue.turns ≡ turns_of Open units before
+  pub v2_queue : followed.v2_queue.turns ≡ turns_of Posted units before
   pub count_units : followed.units ≡ length (recorded before)
   pub count_marks : followed.marks ≡ length before
 
 -- one mark more takes no memory
 pub record HasRoom (followed : Followed) : Type 0 where
   pub standings : 1 ≤ spare followed.standings
-  pub queue : 1 ≤ followed.queue.room
-  pub again : 1 ≤ followed.again.room
+  pub v1_queue : 1 ≤ followed.v1_queue.room
+  pub v2_queue : 1 ≤ followed.v2_queue.room
 
 -- one mark more can be counted
 pub record HasTurnsLeft (followed : Followed) : Type 0 where
   pub units : followed.units < 1048576
   pub marks : followed.marks < 1048576
-  pub queue : length followed.queue.turns < 1048576
-  pub again : length followed.again.turns < 1048576
+  pub v1_queue : length followed.v1_queue.turns < 1048576
+  pub v2_queue : length followed.v2_queue.turns < 1048576
 
 -- a mark that may come next: it follows the status that its unit has, and one that records tells of the next unit
 pub record MayBeNext (units : List UnitOfWork) (before : List Mark) (m : Mark) : Type 0 where
@@ -56,5 +56,5 @@ pub record AreStandings {S : Type 0} (standings : Standings S) (units : List Uni
 -- the standings and the turns that all marks give
 pub record AreFollowed (followed : Followed) (units : List UnitOfWork) (marks : List Mark) : Type 0 where
   pub standings : AreStandings followed.standings units marks
-  pub queue : followed.queue.turns ≡ turns_of Open units marks
-  pub again : followed.again.turns ≡ turns_of Posted units marks
+  pub v1_queue : followed.v1_queue.turns ≡ turns_of Open units marks
+  pub v2_queue : followed.v2_queue.turns ≡ turns_of Posted units marks

@@ -46,7 +46,7 @@ pub record IsSmall (unit : UnitOfWork) : Type 0 where
   pub few_entries : length unit.entries < 2 ^ 32
 
 -- what is kept beside the units and the marks agrees with them
-pub record IsRegister {S : Type 0} (start : ℕ) (units : List UnitOfWork) (marks : List Mark) (standings : Standings S) (queue again : List (Option UnitKey)) (numbers : ℕ) : Type 0 where
+pub record IsRegister {S : Type 0} (start : ℕ) (units : List UnitOfWork) (marks : List Mark) (standings : Standings S) (v1_queue v2_queue : List (Option UnitKey)) (numbers : ℕ) : Type 0 where
   pub begun : 1 ≤ length marks → 1 ≤ start
   pub few : length marks ≤ 1048576
   pub status : (key : UnitKey) → option_map (λ (s : Standing). s.status) (standing_at standings key) ≡ status_of units marks key
@@ -54,8 +54,8 @@ pub record IsRegister {S : Type 0} (start : ℕ) (units : List UnitOfWork) (mark
   pub unit : (key : UnitKey) → option_and_then (λ (s : Standing). slice_get units s.place) (standing_at standings key) ≡ unit_at units key
   pub placed : (key : UnitKey) → IfSome (standing_at standings key) (λ (s : Standing). s.place < length units)
   pub turn : (key : UnitKey) → option_map (λ (s : Standing). s.turn) (standing_at standings key) ≡ last_turn key marks
-  pub waits : queue ≡ turns_of Open units marks
-  pub waits_again : again ≡ turns_of Posted units marks
+  pub waits : v1_queue ≡ turns_of Open units marks
+  pub waits_again : v2_queue ≡ turns_of Posted units marks
   pub counted : numbers ≡ length (numbers_of units marks)
   pub few_numbers : numbers ≤ 64 * length marks
   pub small : All IsSmall units

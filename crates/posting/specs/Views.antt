@@ -10,7 +10,7 @@ use Rattle.update_records.specs.declared.records.Unit.{Unit as UnitOfWork}
 use Rattle.posting.specs.Posts.{entries_of}
 use Rattle.posting.specs.Standings.{error_of}
 use Rattle.posting.specs.Steps.{waiting_for}
-use Rattle.posting.specs.declared.view.UnitView.{UnitView}
+use Rattle.update_records.specs.declared.view.UnitView.{UnitView}
 
 -- a recorded unit always has a status, that of its last mark
 abbrev pub view_of : Ledger → UnitOfWork → UnitView

@@ -1,4 +1,4 @@
-ghost use Rattle.std.specs.Prelude.{◌≡◌, ◌≤◌, ◌⊎◌, List, [], length, nat_eq, true, if◌then◌else◌, Option, Some, None, IfSome, IfOk, IfErr, OnOk, OnErr, IsTrue, is_some, ◌∷◌};
+ghost use Rattle.std.specs.Prelude.{◌≡◌, ◌≤◌, ◌⊎◌, List, [], length, nat_eq, true, false, if◌then◌else◌, Option, Some, None, IfSome, IfOk, IfErr, OnOk, OnErr, IsTrue, is_some, ◌∷◌};
 ghost use Rattle.std.specs.FinMap.{get};
 ghost use Rattle.std.specs.Option.{option_map};
 ghost use Rattle.update_records.specs.Business.{numbers_of};
@@ -30,7 +30,6 @@ use crate::opening::{BooksFault, open_ledger, restored};
 use crate::prepared::{Outcome, Prepared, Step};
 use crate::register::Register;
 use crate::spots::{apply_to_store, read_text};
-use crate::view::UnitView;
 use crate::viewing;
 use enq_base::{
     Effect, Failed, Items, Key, Name, NoMemory, Num, Parts, Reason, Status, Text, UnitKey,
@@ -40,7 +39,7 @@ use lock_entry::{Entry, UnitLocks};
 use module_effects::Spot;
 use std::alloc::Global;
 use std::marker::Model;
-use update_records::{Mark, MarkKind, StoredInterval, Unit};
+use update_records::{Mark, MarkKind, StoredInterval, Unit, UnitView};
 
 /// The books of update units, and the keeper of their rows (Updates in the SAP System).
 #[derive(Drop)]
@@ -103,6 +102,32 @@ impl<K: Keeper> Books<K> {
             Ok(()) => Ok(books),
             Err(fault) => Err((fault, books.into_keeper())),
         }
+    }
+
+    /// Reads the store anew, and raises no start number. The ledger changes only on `Ok`; on an error it is what it was,
+    /// and only `reopen` and `into_keeper` are allowed then.
+    pub fn reopen(&mut self, alloc: Global) -> Result<(), BooksFault>
+        ensures usable { OnOk result (IsUsable K.held K.is_open self.new) }
+        ensures ledger { OnOk result (IfSome (K.held self.new.keeper) (λ _. IsRaised (HasStood (K.may_leave self.old.keeper)) false self.new.ledger)) }
+        // Also where the keeper doesn't tell its rows.
+        ensures sound { OnOk result (IsRaised IsSound false self.new.ledger) }
+        ensures numbers { OnOk result (AreNumbersRight self.new.ledger) }
+        ensures kept { OnErr result (self.new.ledger ≡ self.old.ledger) }
+        ensures told { is_some (K.held self.new.keeper) ≡ is_some (K.held self.old.keeper) }
+        ensures left { IsWithin (K.may_leave self.new.keeper) (K.may_leave self.old.keeper) }
+        ensures counts { OnOk result (K.faults self.new.keeper ≡ K.faults self.old.keeper) }
+        ensures fault { IfErr result (λ fault. IfSome (K.held self.new.keeper) (λ rows. IsOpeningFault false rows fault)) }
+        ensures untold_fault { IfErr result (MayBeOpeningFault false) }
+        // The rows of a store that isn't good are some that a crash might have left.
+        ensures found { IfErr result (λ fault. OnBad fault (IfSome (K.held self.new.keeper) (K.may_leave self.old.keeper))) }
+        ensures cause { IfErr result (λ fault. CountsFault fault (K.faults self.old.keeper) (K.faults self.new.keeper)) }
+    {
+        let stored = open_ledger(alloc, &mut self.keeper)?;
+        let Ok(register) = restored(alloc, stored) else {
+            return Err(BooksFault::NoMemory);
+        };
+        self.register = register;
+        Ok(())
     }
 
     /// The number of this start, or 0 where none was ever raised.
@@ -266,24 +291,23 @@ impl<K: Keeper> Books<K> {
         self.prepare(alloc, batch, step)
     }
 
-    /// Makes ready to record a unit. Nothing changes in the store.
+    /// Makes ready to record a unit, which is dropped where memory runs out. Nothing changes in the store.
     pub fn prepare_unit(
         &mut self,
         alloc: Global,
-        unit: &Unit,
+        unit: Unit,
         levels: &[StoredInterval],
     ) -> Result<Prepared, NoMemory>
         requires usable { IsUsable K.held K.is_open self.old }
         requires marks { HasMarksLeft self.old.ledger }
-        requires unit { IsNewUnit self.old.ledger unit.now }
-        requires store { MayStore self.old.ledger levels.now unit.now.numbers }
+        requires unit { IsNewUnit self.old.ledger unit }
+        requires store { MayStore self.old.ledger levels.now unit.numbers }
         ensures ready { IfOk result (λ prepared. IsReady K.held K.has_room self.new prepared) }
-        ensures step { IfOk result (λ prepared. prepared.step ≡ Record unit.now levels.now) }
+        ensures step { IfOk result (λ prepared. prepared.step ≡ Record unit levels.now) }
         ensures usable { IsUsable K.held K.is_open self.new }
         ensures unmoved { IsUnmoved K.held K.may_leave K.faults self.old self.new }
     {
-        let batch = unit_batch(alloc, self.start(), self.marks(), unit, levels)?;
-        let unit = unit.copy(alloc)?;
+        let batch = unit_batch(alloc, self.start(), self.marks(), &unit, levels)?;
         let levels = Items::from_vec(Vec::from_slice(alloc, levels)?);
         self.prepare(alloc, batch, Step::Record { unit, levels })
     }

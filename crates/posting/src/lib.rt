@@ -9,11 +9,9 @@ mod prepared;
 mod register;
 mod restoring;
 mod spots;
-mod view;
 mod viewing;
 
 pub use books::Books;
 pub use opening::BooksFault;
 pub use prepared::{Outcome, Prepared, Step};
 pub use update_records::StoredInterval;
-pub use view::UnitView;

@@ -42,15 +42,15 @@ pub struct Standing {
 }
 
 /// The ledger in memory: units and marks in order, each unit's standing by its key, the turns in which units wait for
-/// their V1 part and again for their V2 part, the stored intervals, and how many numbers were committed.
+/// their V1 part and for their V2 part, the stored intervals, and how many numbers were committed.
 #[derive(Drop)]
 pub struct Register {
     start: u32,
     units: Vec<Unit>,
     marks: Vec<Mark>,
     standings: HashMap<UnitId, Standing>,
-    queue: Turns,
-    again: Turns,
+    v1_queue: Turns,
+    v2_queue: Turns,
     intervals: IntervalList,
     numbers: u64,
 }
@@ -72,11 +72,11 @@ impl Model for Register {
     ghost view = { λ r. record {
       ledger = record { start = r.start; units = r.units.items; marks = r.marks.items; levels = r.intervals.levels };
       room = min (vec_capacity r.units - vec_len r.units) (min (vec_capacity r.marks - vec_len r.marks)
-          (min (spare r.standings) (min r.queue.room r.again.room)));
+          (min (spare r.standings) (min r.v1_queue.room r.v2_queue.room)));
       spare = r.intervals.spare;
     } };
 
-    ghost invariant = { λ r. IsRegister r.start r.units.items r.marks.items r.standings r.queue.turns r.again.turns r.numbers };
+    ghost invariant = { λ r. IsRegister r.start r.units.items r.marks.items r.standings r.v1_queue.turns r.v2_queue.turns r.numbers };
 }
 
 impl Register {
@@ -89,8 +89,8 @@ impl Register {
             units: Vec::new(alloc),
             marks: Vec::new(alloc),
             standings: HashMap::new(alloc),
-            queue: Turns::new(alloc),
-            again: Turns::new(alloc),
+            v1_queue: Turns::new(alloc),
+            v2_queue: Turns::new(alloc),
             intervals: IntervalList::new(alloc),
             numbers: 0,
         }
@@ -115,8 +115,8 @@ impl Register {
         let followed = follow_all(alloc, units.as_slice(), marks.as_slice())?;
         let Followed {
             standings,
-            queue,
-            again,
+            v1_queue,
+            v2_queue,
             ..
         } = followed;
         let numbers = count_numbers(units.as_slice(), marks.as_slice(), &standings);
@@ -126,8 +126,8 @@ impl Register {
             units,
             marks,
             standings,
-            queue,
-            again,
+            v1_queue,
+            v2_queue,
             intervals,
             numbers,
         })
@@ -179,7 +179,11 @@ impl Register {
         requires { (part ≡ 1) ⊎ (part ≡ 2) }
         ensures { waiting_in result.now.turns ≡ waiting_for part self.now.ledger }
     {
-        if part == 1 { &self.queue } else { &self.again }
+        if part == 1 {
+            &self.v1_queue
+        } else {
+            &self.v2_queue
+        }
     }
 
     pub fn waiting(&self, part: u8) -> u32
@@ -227,8 +231,8 @@ impl Register {
         self.units.reserve(1)?;
         self.marks.reserve(1)?;
         self.standings.reserve(1)?;
-        self.queue.make_room()?;
-        self.again.make_room()?;
+        self.v1_queue.make_room()?;
+        self.v2_queue.make_room()?;
         self.intervals.make_room(intervals)?;
         Ok(())
     }
@@ -276,8 +280,8 @@ impl Register {
         push_mark(&mut self.marks, key, MarkKind::Rec);
         self.units.push_reserved(unit);
         set_standing(&mut self.standings, &key, standing);
-        self.queue.push(Some(key));
-        pass_turn(&mut self.again);
+        self.v1_queue.push(Some(key));
+        pass_turn(&mut self.v2_queue);
     }
 
     /// Takes a mark of numbers alone, which gives its unit no standing. At its turn nobody waits.
@@ -289,8 +293,8 @@ impl Register {
     {
         self.numbers += numbers.as_slice().len() as u64;
         push_mark(&mut self.marks, key, MarkKind::Num(numbers));
-        pass_turn(&mut self.queue);
-        pass_turn(&mut self.again);
+        pass_turn(&mut self.v1_queue);
+        pass_turn(&mut self.v2_queue);
     }
 
     fn note(&mut self, key: UnitKey, kind: MarkKind)
@@ -310,8 +314,8 @@ impl Register {
         };
         push_mark(&mut self.marks, key, kind);
         set_standing(&mut self.standings, &key, standing);
-        take_turn(&mut self.queue, before.turn, &key, is_open(status));
-        take_turn(&mut self.again, before.turn, &key, is_posted(status));
+        take_turn(&mut self.v1_queue, before.turn, &key, is_open(status));
+        take_turn(&mut self.v2_queue, before.turn, &key, is_posted(status));
     }
 }
 

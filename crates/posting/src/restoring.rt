@@ -23,12 +23,12 @@ use turn_list::Turns;
 use update_records::{Mark, MarkKind, StoredInterval, Unit, UnitId};
 
 /// What the marks so far make of the units: each one's standing, the turns in which units wait for their V1 part and
-/// again for their V2 part, how many units were recorded, and how many marks there were.
+/// for their V2 part, how many units were recorded, and how many marks there were.
 #[derive(Drop)]
 pub struct Followed {
     pub standings: HashMap<UnitId, Standing>,
-    pub queue: Turns,
-    pub again: Turns,
+    pub v1_queue: Turns,
+    pub v2_queue: Turns,
     pub units: usize,
     pub marks: usize,
 }
@@ -40,8 +40,8 @@ impl Followed {
     {
         Followed {
             standings: HashMap::new(alloc),
-            queue: Turns::new(alloc),
-            again: Turns::new(alloc),
+            v1_queue: Turns::new(alloc),
+            v2_queue: Turns::new(alloc),
             units: 0,
             marks: 0,
         }
@@ -53,8 +53,8 @@ impl Followed {
         ensures room { OnOk result (HasRoom self.new) }
     {
         self.standings.reserve(1)?;
-        self.queue.make_room()?;
-        self.again.make_room()?;
+        self.v1_queue.make_room()?;
+        self.v2_queue.make_room()?;
         Ok(())
     }
 
@@ -74,8 +74,8 @@ impl Followed {
         self.units += 1;
         self.marks += 1;
         set_standing(&mut self.standings, &mark.unit, standing);
-        self.queue.push(Some(mark.unit));
-        pass_turn(&mut self.again);
+        self.v1_queue.push(Some(mark.unit));
+        pass_turn(&mut self.v2_queue);
     }
 
     /// Follows a mark of numbers alone, which changes nothing. At its turn nobody waits.
@@ -86,8 +86,8 @@ impl Followed {
             → IsFollowed self.new units (before ++ m ∷ []) }
     {
         self.marks += 1;
-        pass_turn(&mut self.queue);
-        pass_turn(&mut self.again);
+        pass_turn(&mut self.v1_queue);
+        pass_turn(&mut self.v2_queue);
     }
 
     /// Follows a mark of a unit that was recorded: it waits at this turn, or no longer.
@@ -110,8 +110,13 @@ impl Followed {
         };
         self.marks += 1;
         set_standing(&mut self.standings, &mark.unit, standing);
-        take_turn(&mut self.queue, before.turn, &mark.unit, is_open(status));
-        take_turn(&mut self.again, before.turn, &mark.unit, is_posted(status));
+        take_turn(&mut self.v1_queue, before.turn, &mark.unit, is_open(status));
+        take_turn(
+            &mut self.v2_queue,
+            before.turn,
+            &mark.unit,
+            is_posted(status),
+        );
     }
 
     /// Follows one mark more.

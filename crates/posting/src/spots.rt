@@ -11,7 +11,7 @@ use enq_base::{Effect, Items, Key, Name, NoMemory, Text, TextFault};
 use keeper_api::{Bytes, Change, KeepFault, Keeper};
 use module_effects::{EffectFault, Spot, apply};
 use std::alloc::Global;
-use update_records::encode_business;
+use update_records::{encode_business, tables};
 
 /// The key in the store of a business row.
 fn place_of(alloc: Global, table: &Name, key: &Key) -> Result<Vec<u8>, NoMemory>
@@ -54,7 +54,7 @@ pub fn read_text<K: Keeper>(
     ensures cause { HasFaultCause (K.faults keeper.old) (K.faults keeper.new) result }
 {
     let place = place_of(alloc, table, key)?;
-    let bytes = keeper.get(alloc, 6, place.as_slice())?;
+    let bytes = keeper.get(alloc, tables::BUSINESS, place.as_slice())?;
     match text_of(alloc, &bytes) {
         Ok(text) => Ok(text),
         Err(_) => Err(KeepFault::NoMemory),
@@ -158,7 +158,10 @@ fn encode_row(alloc: Global, spot: &Spot) -> Result<Change, NoMemory>
 {
     let Some(text) = &spot.text else {
         let key = Items::from_vec(place_of(alloc, &spot.table, &spot.key)?);
-        return Ok(Change::Del { table: 6, key });
+        return Ok(Change::Del {
+            table: tables::BUSINESS,
+            key,
+        });
     };
     encode_business(alloc, &spot.table, &spot.key, text)
 }

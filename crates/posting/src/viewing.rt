@@ -5,11 +5,10 @@ ghost use Rattle.posting.specs.Standings.{IsSmall};
 ghost use Rattle.posting.specs.Views.{locks_of, open_locks, view_of, views_of};
 
 use crate::register::Register;
-use crate::view::UnitView;
 use enq_base::{Items, NoMemory, Status, UnitKey};
 use lock_entry::{Entry, UnitLocks};
 use std::alloc::Global;
-use update_records::Unit;
+use update_records::{Unit, UnitView};
 
 fn view_of(register: &Register, unit: &Unit) -> UnitView
     requires { IsSmall unit.now }

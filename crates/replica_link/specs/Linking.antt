@@ -15,11 +15,11 @@ OnFailed (Ok x) P = Unit {0}
 OnFailed (Err Failed) P = P
 OnFailed (Err NoMemory) P = Unit {0}
 
--- the count of the answer's fault rose, and each other count stands still
+-- The count of the answer's fault rose. Either count may rise too where a call that found faults went on to another answer.
 abbrev pub CountsTell : {T : Type 0} → Result T LinkFault → (faults faults' refusals refusals' : ℕ) → Type 0
-CountsTell (Ok x) faults faults' refusals refusals' = (faults' ≡ faults) × (refusals' ≡ refusals)
-CountsTell (Err Failed) faults faults' refusals refusals' = Rose faults faults' × (refusals' ≡ refusals)
-CountsTell (Err NoMemory) faults faults' refusals refusals' = (faults' ≡ faults) × Rose refusals refusals'
+CountsTell (Ok x) faults faults' refusals refusals' = Unit {0}
+CountsTell (Err Failed) faults faults' refusals refusals' = Rose faults faults'
+CountsTell (Err NoMemory) faults faults' refusals refusals' = Rose refusals refusals'
 
 -- neither count has fallen, `Failed` comes only where the faults rose, and `NoMemory` only where the refusals did
 pub record HasCauses {L T : Type 0} (faults refusals : L → ℕ) (old new : L) (result : Result T LinkFault) : Type 0 where

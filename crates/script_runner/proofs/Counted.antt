@@ -4,7 +4,8 @@ use Rattle.std.specs.Prelude.{◌||◌}
 use Rattle.std.specs.List.{list_any}
 use Rattle.enq_base.specs.Causes.{Rose}
 use Rattle.script_runner.specs.Run.{Turn, store_fails, store_fails_in}
-use Rattle.script_runner.specs.Turns.{CountsEach, HasCounted}
+use Rattle.hall.specs.Leaving.{HasCounted}
+use Rattle.script_runner.specs.Turns.{CountsEach}
 
 pub rose_from : (a b c : ℕ) → a ≤ b → Rose b c → Rose a c
 rose_from a b c h r = omega arith

@@ -4,17 +4,19 @@ use Rattle.std.specs.Prelude.{◌||◌, fold, Option, Some, None}
 use Rattle.std.specs.List.{list_any}
 use Rattle.enq_base.specs.Causes.{Rose}
 use Rattle.enq_base.specs.declared.condition.Condition.{Condition}
-use Rattle.hall.proofs.Conditions.{Becomes, is_store_failure, step_becomes}
+use Rattle.hall.proofs.Frames.{Becomes, step_becomes}
 use Rattle.hall.specs.declared.command.Reply.TheVariants as reply
-use Rattle.hall.specs.History.{DeviceOutcome, Well, Wanting, StoreFails, Comes, step}
+use Rattle.hall.specs.Devices.{DeviceOutcome}
+use Rattle.hall.specs.History.{step}
+use Rattle.hall.specs.Leaving.{HasCounted}
 use Rattle.hall.specs.State.{State}
 use Rattle.script_lang.specs.declared.script_line.ScriptLine.{ScriptLine}
 use Rattle.script_runner.specs.declared.runner.Why.{Why}
 use Rattle.script_runner.specs.declared.runner.Why.TheVariants.{StoreFault}
-use Rattle.script_runner.specs.Lines.{Meaning, Calls, Declines, Changes, line_in, meaning, settled}
+use Rattle.script_runner.specs.Lines.{Meaning, Silent, Shows, Calls, Declines, Changes, line_in, meaning, settled}
 use Rattle.script_runner.specs.Replay.{HasDoubtCause, Replays, Seen, doubt_in, doubt_of}
 use Rattle.script_runner.specs.Run.{LineOutcome, NoRoom, Called, Turn, Turned, Progress, after_turn, begun, does, next, said, store_fails, store_fails_in}
-use Rattle.script_runner.specs.Turns.{CountsEach, HasCounted}
+use Rattle.script_runner.specs.Turns.{CountsEach}
 use Rattle.script_runner.specs.World.{World, world}
 use Rattle.script_runner.proofs.Counted.{all_counted}
 use Rattle.script_runner.proofs.TurnLemmas.{answered-world}
@@ -37,30 +39,24 @@ becomes_on a b c d e (inl h) (inl k) = inl (k ∙ h)
 becomes_on true b c d e (inr h) (inl k) = inr (refl, (h.1.0, k ∙ h.1.1))
 becomes_on false b c d e (inr h) (inl k) = absurd (let wrong : false ≡ true = h.0 in cc)
 
-same_failure : (d : DeviceOutcome) → is_store_failure d ≡ store_fails (Called (Some d))
-same_failure Well = refl
-same_failure Wanting = refl
-same_failure StoreFails = refl
-same_failure (Comes o) = refl
-
 abbrev LineBecomes : Bool → World → Turned → Type 0
 LineBecomes fails w t = Becomes fails w.hall.condition t.world.hall.condition
 
-does_becomes : (w : World) (n : ℕ) (l : ScriptLine) (d : DeviceOutcome) (m : Meaning) → LineBecomes (store_fails (Called (Some d))) w (does w n l d m)
+does_becomes : (w : World) (n : ℕ) (l : ScriptLine) (d : DeviceOutcome) (m : Meaning) → LineBecomes (store_fails (Called d)) w (does w n l d m)
+does_becomes w n l d Silent = inl refl
+does_becomes w n l d (Shows m) = inl refl
 does_becomes w n l d (Calls c) =
     let r = step d w.hall n c in
     let after = world w.objects r.state (settled l r.reply w.sides) in
-    let stays = subst (λ b. Becomes b w.hall.condition r.state.condition) (same_failure d) (step_becomes d w.hall n c) in
-    subst (λ (x : World). Becomes (store_fails (Called (Some d))) w.hall.condition x.hall.condition) (sym (answered-world after n r.reply)) stays
+    subst (λ (x : World). Becomes (store_fails (Called d)) w.hall.condition x.hall.condition) (sym (answered-world after n r.reply)) (step_becomes d w.hall n c)
 does_becomes w n l d (Declines r) =
     inl (ap (λ (x : World). x.hall.condition) (answered-world w n (reply.Refused r)))
 does_becomes w n l d (Changes sides) = inl refl
 
 said_becomes : (w : World) (n : ℕ) (known : Option ScriptLine) (outcome : LineOutcome) → LineBecomes (store_fails outcome) w (said w n known outcome)
 said_becomes w n known NoRoom = inl refl
-said_becomes w n None (Called call) = inl refl
-said_becomes w n (Some l) (Called None) = does_becomes w n l Well (meaning w l)
-said_becomes w n (Some l) (Called (Some d)) = does_becomes w n l d (meaning w l)
+said_becomes w n None (Called d) = inl refl
+said_becomes w n (Some l) (Called d) = does_becomes w n l d (meaning w l)
 
 next_becomes : (p : Progress) (t : Turn) → Becomes (store_fails_in t) p.world.hall.condition (next p t).world.hall.condition
 next_becomes p t =

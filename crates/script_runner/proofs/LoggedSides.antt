@@ -1,15 +1,18 @@
 -- The session of each private side is logged on, whatever the lines do.
 use Rattle.std.proofs.Common.{◌≡◌, ℕ, ◌+◌, Bool, true, false, true≢false, cond, inl, inr, List, [], ◌∷◌, ◌++◌, refl, sym, ap, ◌∙◌, subst}
-use Rattle.std.specs.Prelude.{nat_eq, nat_le, nat_lt, length, if◌then◌else◌, fold, Option, Some, None, Result, Ok, Err, is_some, unwrap_or}
+use Rattle.std.specs.Prelude.{nat_eq, nat_le, nat_lt, length, if◌then◌else◌, fold, Option, Some, None, Result, Ok, Err, is_some}
 use Rattle.std.specs.Cmp.Lexicographic.{bytes_decides}
 use Rattle.std.specs.Str.{bytes_eq}
 use Rattle.std.proofs.lemmas.Bool.{cases_Bool}
 use Rattle.enq_base.specs.declared.refusal.Refusal.{Refusal}
 use Rattle.enq_base.specs.declared.refusal.Refusal.TheVariants as refusal
 use Rattle.enq_base.specs.declared.unit.Effect.{Effect}
-use Rattle.dialogue_session.specs.Private.{Private, with_effect, with_requests, without_effects, without_requests}
-use Rattle.hall.proofs.Logons.{EntersSession, IsLoggedOn, logon_enters, logs_off_name, step_keeps}
-use Rattle.hall.specs.History.{DeviceOutcome, Well, step}
+use Rattle.dialogue_session.specs.Private.{Private, with_effect, with_requests, with_variable, without_effects, without_requests}
+use Rattle.hall.proofs.Logons as Logons
+use Rattle.hall.proofs.Logons.{IsLoggedOn, OnDone, logs_off_name, step_enters, step_keeps}
+use Rattle.hall.specs.Calls.{call_of}
+use Rattle.hall.specs.Devices.{DeviceOutcome}
+use Rattle.hall.specs.History.{step}
 use Rattle.hall.specs.Sessions.{session_at}
 use Rattle.hall.specs.Step.{effects_in}
 use Rattle.hall.specs.declared.command.Command.TheVariants as command
@@ -18,10 +21,11 @@ use Rattle.hall.specs.declared.command.Reply.TheVariants as reply
 use Rattle.hall.specs.declared.command.Session.{Session}
 use Rattle.script_lang.specs.declared.script_line.ScriptLine.{ScriptLine}
 use Rattle.script_lang.specs.declared.script_line.ScriptLine.TheVariants as line
+use Rattle.script_runner.specs.declared.effects.Verb.{Verb}
 use Rattle.script_runner.specs.declared.effects.Verb.TheVariants as verb
-use Rattle.script_runner.specs.Lines.{Meaning, Calls, Declines, Changes, asking, collecting, effect_in, effecting, line_in, meaning, of_session, registering, requesting, settled, unless_refused}
+use Rattle.script_runner.specs.Lines.{Meaning, Silent, Shows, Calls, Declines, Changes, asking, collecting, effect_with, effecting, key_with, line_in, meaning, of_session, registering, requesting, settled, unless_refused}
 use Rattle.script_runner.specs.Run.{LineOutcome, NoRoom, Called, Turn, Turned, Progress, after_turn, does, next, said}
-use Rattle.script_runner.specs.Sides.{AreLoggedOn, container_of, is_side_of, parts_of, side_of, with_new_side, with_side, without_side}
+use Rattle.script_runner.specs.Sides.{AreLoggedOn, container_of, is_side_of, parts_of, side_of, variables_of, with_new_side, with_side, without_side}
 use Rattle.script_runner.specs.World.{World, world}
 use Rattle.script_runner.proofs.TurnLemmas.{answered-world}
 
@@ -71,11 +75,11 @@ effect_session part e p =
 -- ---- a line
 
 abbrev ends_name : ScriptLine → Reply → List ℕ → Bool
-ends_name (line.Logoff s) r n = logs_off_name (command.Logoff s) r n
+ends_name (line.Logoff s) r n = logs_off_name (call_of (command.Logoff s)) r n
 ends_name _ r n = false
 
 abbrev Enters : ScriptLine → Reply → List Session → Type 0
-Enters (line.Logon s user) r sessions = EntersSession s r sessions
+Enters (line.Logon s user) r sessions = OnDone r (IsLoggedOn sessions s)
 Enters _ r sessions = Unit {0}
 
 settled_logged : (l : ScriptLine) (r : Reply) (before after : List Session) (sides : List Private) → ((n : List ℕ) → ends_name l r n ≡ false → IsLoggedOn before n → IsLoggedOn after n) → Enters l r after → AreLoggedOn before sides → AreLoggedOn after (settled l r sides)
@@ -85,9 +89,12 @@ settled_logged (line.Flush s) reply.Done before after sides keeps enters h = cha
 settled_logged (line.Rollback s) reply.Done before after sides keeps enters h = changed after s (λ p. without_requests (without_effects p)) (λ p. refl) sides (kept before after sides (λ n. keeps n refl) h)
 settled_logged (line.Commit s) reply.Done before after sides keeps enters h = changed after s without_effects (λ p. refl) sides (kept before after sides (λ n. keeps n refl) h)
 settled_logged (line.Commit s) (reply.Unit unit) before after sides keeps enters h = changed after s without_effects (λ p. refl) sides (kept before after sides (λ n. keeps n refl) h)
+settled_logged (line.Read s table key variable) (reply.Row (Some text)) before after sides keeps enters h = changed after s (with_variable variable text) (λ p. refl) sides (kept before after sides (λ n. keeps n refl) h)
 settled_logged _ _ before after sides keeps enters h = kept before after sides (λ n. keeps n refl) h
 
 abbrev MeansLogged : World → ScriptLine → Meaning → Type 0
+MeansLogged w l Silent = Unit {0}
+MeansLogged w l (Shows m) = Unit {0}
 MeansLogged w l (Calls c) =
     (d : DeviceOutcome) (n : ℕ) → AreLoggedOn (step d w.hall n c).state.sessions (settled l (step d w.hall n c).reply w.sides)
 MeansLogged w l (Declines r) = Unit {0}
@@ -105,14 +112,18 @@ room_logged : (w : World) (l : ScriptLine) (full : Bool) (why : Refusal) (sides 
 room_logged w l true why sides h = tt
 room_logged w l false why sides h = h
 
-effect_logged : (w : World) (l : ScriptLine) (s : List ℕ) (part : ℕ) (effect : Result Effect Refusal) → AreLoggedOn w.hall.sessions w.sides → MeansLogged w l (effecting w s part effect)
-effect_logged w l s part effect h =
-    session_logged w l s _ (unless_logged w l effect (registering w.sides s part)
+effect_logged : (w : World) (l : ScriptLine) (s : List ℕ) (part : ℕ) (v : Verb) (table key text : List ℕ) → AreLoggedOn w.hall.sessions w.sides → MeansLogged w l (effecting w s part v table key text)
+effect_logged w l s part v table key text h =
+    session_logged w l s _ (unless_logged w l (effect_with (variables_of w.sides s) v table key text) (registering w.sides s part)
     (λ e. room_logged w l (nat_le 200 (effects_in (parts_of w.sides s))) refusal.UnitTooLarge (with_side s (with_effect part e) w.sides) (changed w.hall.sessions s (with_effect part e) (effect_session part e) w.sides h)))
+
+entered : (r : Reply) (s : List ℕ) (before after : List Session) → OnDone r (Logons.Enters s before after) → OnDone r (IsLoggedOn after s)
+entered reply.Done s before after h = h.entered
+entered _ s before after h = tt
 
 meaning_logged : (w : World) (l : ScriptLine) → AreLoggedOn w.hall.sessions w.sides → MeansLogged w l (meaning w l)
 meaning_logged w (line.Logon s user) h =
-    λ d n. settled_logged (line.Logon s user) _ w.hall.sessions _ w.sides (λ m off. step_keeps d w.hall n (command.Logon s user) m refl) (logon_enters d w.hall n s user) h
+    λ d n. settled_logged (line.Logon s user) _ w.hall.sessions _ w.sides (λ m off. step_keeps d w.hall n (command.Logon s user) m refl) (entered _ _ _ _ (step_enters d w.hall n s user)) h
 meaning_logged w (line.Logoff s) h =
     session_logged w (line.Logoff s) s (Calls (command.Logoff s)) (λ d n. settled_logged (line.Logoff s) _ w.hall.sessions _ w.sides (step_keeps d w.hall n (command.Logoff s)) tt h)
 meaning_logged w (line.DeqAll s) h =
@@ -125,21 +136,24 @@ meaning_logged w (line.Rollback s) h =
     session_logged w (line.Rollback s) s (Calls (command.Rollback s)) (λ d n. settled_logged (line.Rollback s) _ w.hall.sessions _ w.sides (λ m off. step_keeps d w.hall n (command.Rollback s) m refl) tt h)
 meaning_logged w (line.Enq s object m scope values) h =
     let l = line.Enq s object m scope values in
-    session_logged w l s _ (unless_logged w l (requesting w.objects object m scope values) (λ rs. Calls (command.Ask s rs)) (λ rs d n. settled_logged l (step d w.hall n (command.Ask s rs)).reply w.hall.sessions _ w.sides (λ m off. step_keeps d w.hall n (command.Ask s rs) m refl) tt h))
+    session_logged w l s _ (unless_logged w l (requesting (variables_of w.sides s) w.objects object m scope values) (λ rs. Calls (command.Ask s rs)) (λ rs d n. settled_logged l (step d w.hall n (command.Ask s rs)).reply w.hall.sessions _ w.sides (λ m off. step_keeps d w.hall n (command.Ask s rs) m refl) tt h))
 meaning_logged w (line.Deq s object m scope values) h =
     let l = line.Deq s object m scope values in
-    session_logged w l s _ (unless_logged w l (requesting w.objects object m scope values) (λ rs. Calls (command.Free s rs)) (λ rs d n. settled_logged l (step d w.hall n (command.Free s rs)).reply w.hall.sessions _ w.sides (λ m off. step_keeps d w.hall n (command.Free s rs) m refl) tt h))
+    session_logged w l s _ (unless_logged w l (requesting (variables_of w.sides s) w.objects object m scope values) (λ rs. Calls (command.Free s rs)) (λ rs d n. settled_logged l (step d w.hall n (command.Free s rs)).reply w.hall.sessions _ w.sides (λ m off. step_keeps d w.hall n (command.Free s rs) m refl) tt h))
 meaning_logged w (line.Collect s object m scope values) h =
     let l = line.Collect s object m scope values in
-    session_logged w l s _ (unless_logged w l (requesting w.objects object m scope values) (collecting w.sides s)
+    session_logged w l s _ (unless_logged w l (requesting (variables_of w.sides s) w.objects object m scope values) (collecting w.sides s)
     (λ rs. room_logged w l (nat_lt 64 (length (container_of w.sides s) + length rs)) refusal.ContainerFull (with_side s (with_requests rs) w.sides) (changed w.hall.sessions s (with_requests rs) (λ p. refl) w.sides h)))
 meaning_logged w (line.Convert s object values) h =
     let l = line.Convert s object values in
-    session_logged w l s _ (unless_logged w l (asking w.objects object _ values) (λ asked. Calls (command.Convert s asked)) (λ asked d n. settled_logged l (step d w.hall n (command.Convert s asked)).reply w.hall.sessions _ w.sides (λ m off. step_keeps d w.hall n (command.Convert s asked) m refl) tt h))
-meaning_logged w (line.Put s part table key text) h = effect_logged w (line.Put s part table key text) s part (effect_in verb.Put table key text) h
-meaning_logged w (line.Ins s part table key text) h = effect_logged w (line.Ins s part table key text) s part (effect_in verb.Ins table key text) h
-meaning_logged w (line.Del s part table key) h = effect_logged w (line.Del s part table key) s part (effect_in verb.Del table key []) h
-meaning_logged w (line.Add s part table key number) h = effect_logged w (line.Add s part table key number) s part (effect_in verb.Add table key number) h
+    session_logged w l s _ (unless_logged w l (asking (variables_of w.sides s) w.objects object _ values) (λ asked. Calls (command.Convert s asked)) (λ asked d n. settled_logged l (step d w.hall n (command.Convert s asked)).reply w.hall.sessions _ w.sides (λ m off. step_keeps d w.hall n (command.Convert s asked) m refl) tt h))
+meaning_logged w (line.Read s table key variable) h =
+    let l = line.Read s table key variable in
+    session_logged w l s _ (unless_logged w l (key_with (variables_of w.sides s) key) (λ k. Calls (command.Read s table k)) (λ k d n. settled_logged l (step d w.hall n (command.Read s table k)).reply w.hall.sessions _ w.sides (λ m off. step_keeps d w.hall n (command.Read s table k) m refl) tt h))
+meaning_logged w (line.Put s part table key text) h = effect_logged w (line.Put s part table key text) s part verb.Put table key text h
+meaning_logged w (line.Ins s part table key text) h = effect_logged w (line.Ins s part table key text) s part verb.Ins table key text h
+meaning_logged w (line.Del s part table key) h = effect_logged w (line.Del s part table key) s part verb.Del table key [] h
+meaning_logged w (line.Add s part table key number) h = effect_logged w (line.Add s part table key number) s part verb.Add table key number h
 meaning_logged w (line.Commit s) h =
     session_logged w (line.Commit s) s (Calls (command.Commit s (parts_of w.sides s))) (λ d n. settled_logged (line.Commit s) _ w.hall.sessions _ w.sides (λ m off. step_keeps d w.hall n (command.Commit s (parts_of w.sides s)) m refl) tt h)
 meaning_logged w (line.Take1 worker) h =
@@ -164,6 +178,8 @@ abbrev LeavesLogged : Turned → Type 0
 LeavesLogged t = AreLoggedOn t.world.hall.sessions t.world.sides
 
 does_logged : (w : World) (n : ℕ) (l : ScriptLine) (d : DeviceOutcome) (m : Meaning) → AreLoggedOn w.hall.sessions w.sides → MeansLogged w l m → LeavesLogged (does w n l d m)
+does_logged w n l d Silent h k = h
+does_logged w n l d (Shows m) h k = h
 does_logged w n l d (Calls c) h k =
     let r = step d w.hall n c in
     let after = world w.objects r.state (settled l r.reply w.sides) in
@@ -173,8 +189,8 @@ does_logged w n l d (Changes sides) h k = k
 
 said_logged : (w : World) (n : ℕ) (known : Option ScriptLine) (outcome : LineOutcome) → AreLoggedOn w.hall.sessions w.sides → LeavesLogged (said w n known outcome)
 said_logged w n known NoRoom h = h
-said_logged w n None (Called call) h = h
-said_logged w n (Some l) (Called call) h = does_logged w n l (unwrap_or call Well) (meaning w l) h (meaning_logged w l h)
+said_logged w n None (Called d) h = h
+said_logged w n (Some l) (Called d) h = does_logged w n l d (meaning w l) h (meaning_logged w l h)
 
 next_logged : (p : Progress) (t : Turn) → AreLoggedOn p.world.hall.sessions p.world.sides → AreLoggedOn (next p t).world.hall.sessions (next p t).world.sides
 next_logged p t h =

@@ -1,15 +1,15 @@
 -- What the devices did in one line.
 use Rattle.std.proofs.Common.{◌⊎◌, inl, inr, ◌≡◌, ℕ, Bool, false, List, refl}
-use Rattle.std.specs.Prelude.{Option, Some, None, is_some, IsTrue, unwrap_or}
+use Rattle.std.specs.Prelude.{Option, Some, None, is_some, IsTrue}
 use Rattle.enq_base.specs.declared.refusal.Refusal.TheVariants as refusal
 use Rattle.hall.specs.declared.command.Reply.{Reply}
 use Rattle.hall.specs.declared.command.Reply.TheVariants as reply
-use Rattle.hall.specs.History.{DeviceOutcome, Well, Wanting, StoreFails, Comes}
+use Rattle.hall.specs.Devices.{DeviceOutcome, Event, AllWell, Wanting, StoreFails, Reading, all_well, is_store_failure}
 use Rattle.script_lang.specs.declared.script_line.ScriptLine.{ScriptLine}
 use Rattle.script_runner.specs.declared.runner.Why.{Why}
 use Rattle.script_runner.specs.declared.runner.Why.TheVariants.{NoMemory}
-use Rattle.script_runner.specs.Lines.{Meaning, Calls, Declines, Changes, line_in, meaning}
-use Rattle.script_runner.specs.Run.{LineOutcome, MayHave, NoRoom, Called, answered, does, said, line_does, store_fails}
+use Rattle.script_runner.specs.Lines.{Meaning, Silent, Shows, Calls, Declines, Changes, line_in, meaning}
+use Rattle.script_runner.specs.Run.{CallMayHave, LineOutcome, MayHave, NoRoom, Called, answered, does, done, said, line_does, store_fails}
 use Rattle.script_runner.specs.Whole.{IsCalm}
 use Rattle.script_runner.specs.World.{World}
 
@@ -22,6 +22,8 @@ answered_fine w n (reply.Refused refusal.NoMemory) = inr refl
 answered_fine w n _ = inl refl
 
 does_fine : (w : World) (n : ℕ) (l : ScriptLine) (d : DeviceOutcome) (m : Meaning) → IsFine (does w n l d m).stop
+does_fine w n l d Silent = inl refl
+does_fine w n l d (Shows m) = inl refl
 does_fine w n l d (Calls c) = answered_fine _ n _
 does_fine w n l d (Declines r) = answered_fine w n (reply.Refused r)
 does_fine w n l d (Changes sides) = inl refl
@@ -29,53 +31,67 @@ does_fine w n l d (Changes sides) = inl refl
 said_fine : (w : World) (n : ℕ) (known : Option ScriptLine) (outcome : LineOutcome) → IsTrue (is_some known) → IsFine (said w n known outcome).stop
 said_fine w n known NoRoom h = inr refl
 said_fine w n None (Called call) h = cc
-said_fine w n (Some l) (Called call) h = does_fine w n l (unwrap_or call Well) (meaning w l)
+said_fine w n (Some l) (Called o) h = does_fine w n l o (meaning w l)
 
 pub line_fine : (w : World) (n : ℕ) (bytes : List ℕ) (outcome : LineOutcome) → IsTrue (is_some (line_in bytes)) → IsFine (line_does w n bytes outcome).stop
 line_fine w n bytes outcome h = said_fine w n (line_in bytes) outcome h
 
 -- the same but for a want that changed nothing
+abbrev calmed_by : Event → Reading → DeviceOutcome
+calmed_by AllWell reading = record { event = AllWell; reading = reading }
+calmed_by Wanting reading = all_well
+calmed_by StoreFails reading = record { event = StoreFails; reading = reading }
+
 abbrev pub calmed : LineOutcome → LineOutcome
-calmed NoRoom = Called None
-calmed (Called None) = Called None
-calmed (Called (Some Wanting)) = Called None
-calmed (Called (Some Well)) = Called (Some Well)
-calmed (Called (Some StoreFails)) = Called (Some StoreFails)
-calmed (Called (Some (Comes o))) = Called (Some (Comes o))
+calmed NoRoom = Called all_well
+calmed (Called outcome) = Called (calmed_by outcome.event outcome.reading)
+
+calm_event : (e : Event) (g : Reading) → is_store_failure e ≡ false → (calmed_by e g).event ≡ AllWell
+calm_event AllWell g off = refl
+calm_event Wanting g off = refl
+calm_event StoreFails g off = absurd (cc)
 
 pub calmed_calm : (o : LineOutcome) → store_fails o ≡ false → IsCalm (calmed o)
-calmed_calm NoRoom off = tt
-calmed_calm (Called None) off = tt
-calmed_calm (Called (Some Well)) off = tt
-calmed_calm (Called (Some Wanting)) off = tt
-calmed_calm (Called (Some StoreFails)) off = absurd (cc)
-calmed_calm (Called (Some (Comes o))) off = tt
+calmed_calm NoRoom off = refl
+calmed_calm (Called o) off = calm_event o.event o.reading off
+
+-- where the devices do nothing out of the common the line may have it
+well_may : (w : World) (m : Meaning) → CallMayHave w all_well m
+well_may w Silent = refl
+well_may w (Shows m) = refl
+well_may w (Calls c) = record { reading = tt; event = tt }
+well_may w (Declines r) = refl
+well_may w (Changes sides) = refl
+
+all_well_may : (w : World) (lists : Bool) (known : Option ScriptLine) → MayHave w lists known (Called all_well)
+all_well_may w lists None = refl
+all_well_may w lists (Some l) = well_may w (meaning w l)
+
+event_may : (w : World) (lists : Bool) (known : Option ScriptLine) (e : Event) (g : Reading) → MayHave w lists known (Called (record { event = e; reading = g })) → MayHave w lists known (Called (calmed_by e g))
+event_may w lists known AllWell g h = h
+event_may w lists known Wanting g h = all_well_may w lists known
+event_may w lists known StoreFails g h = h
 
 pub calmed_may : (w : World) (lists : Bool) (known : Option ScriptLine) (o : LineOutcome) → MayHave w lists known o → MayHave w lists known (calmed o)
-calmed_may w lists known NoRoom h = tt
-calmed_may w lists known (Called None) h = tt
-calmed_may w lists known (Called (Some Wanting)) h = tt
-calmed_may w lists known (Called (Some Well)) h = h
-calmed_may w lists known (Called (Some StoreFails)) h = h
-calmed_may w lists known (Called (Some (Comes o))) h = h
+calmed_may w lists known NoRoom h = all_well_may w lists known
+calmed_may w lists known (Called o) h = event_may w lists known o.event o.reading h
 
-wanting_stops : (w : World) (n : ℕ) (l : ScriptLine) (m : Meaning) → (does w n l Wanting m).stop ≡ None → does w n l Wanting m ≡ does w n l Well m
-wanting_stops w n l (Calls c) h = cc
-wanting_stops w n l (Declines r) h = refl
-wanting_stops w n l (Changes sides) h = refl
+wanting_stops : (w : World) (n : ℕ) (l : ScriptLine) (g : Reading) (m : Meaning) → (does w n l (record { event = Wanting; reading = g }) m).stop ≡ None → does w n l (record { event = Wanting; reading = g }) m ≡ does w n l all_well m
+wanting_stops w n l g Silent h = refl
+wanting_stops w n l g (Shows m) h = refl
+wanting_stops w n l g (Calls c) h = cc
+wanting_stops w n l g (Declines r) h = refl
+wanting_stops w n l g (Changes sides) h = refl
+
+event_well : (w : World) (n : ℕ) (l : ScriptLine) (e : Event) (g : Reading) → (done w n l (record { event = e; reading = g })).stop ≡ None → done w n l (record { event = e; reading = g }) ≡ done w n l (calmed_by e g)
+event_well w n l AllWell g h = refl
+event_well w n l Wanting g h = wanting_stops w n l g (meaning w l) h
+event_well w n l StoreFails g h = refl
 
 said_well : (w : World) (n : ℕ) (known : Option ScriptLine) (outcome : LineOutcome) → (said w n known outcome).stop ≡ None → said w n known outcome ≡ said w n known (calmed outcome)
 said_well w n known NoRoom h = cc
-said_well w n None (Called None) h = refl
-said_well w n None (Called (Some Well)) h = refl
-said_well w n None (Called (Some Wanting)) h = refl
-said_well w n None (Called (Some StoreFails)) h = refl
-said_well w n None (Called (Some (Comes o))) h = refl
-said_well w n (Some l) (Called None) h = refl
-said_well w n (Some l) (Called (Some Well)) h = refl
-said_well w n (Some l) (Called (Some Wanting)) h = wanting_stops w n l (meaning w l) h
-said_well w n (Some l) (Called (Some StoreFails)) h = refl
-said_well w n (Some l) (Called (Some (Comes o))) h = refl
+said_well w n None (Called o) h = refl
+said_well w n (Some l) (Called o) h = event_well w n l o.event o.reading h
 
 -- a line after which the run goes on wanted nothing
 pub line_well : (w : World) (n : ℕ) (bytes : List ℕ) (outcome : LineOutcome) → (line_does w n bytes outcome).stop ≡ None → line_does w n bytes outcome ≡ line_does w n bytes (calmed outcome)

@@ -1,10 +1,10 @@
 -- A line that is made ready before its call.
-use Rattle.std.proofs.Common.{◌≡◌, ℕ, ◌≤◌, Bool, true, false, List, refl, sym, ap, ◌∙◌, subst}
-use Rattle.std.specs.Prelude.{Result, Ok, Err, is_some}
+use Rattle.std.proofs.Common.{◌≡◌, ℕ, List, sym, ap, ◌∙◌, subst}
+use Rattle.std.specs.Prelude.{Ok, Err, Some, is_some}
 use Rattle.enq_base.specs.declared.refusal.Refusal.{Refusal}
 use Rattle.enq_base.specs.declared.refusal.Refusal.TheVariants as refusal
 use Rattle.dialogue_session.specs.Private.{Private}
-use Rattle.hall.proofs.Logons.{logon_was_free}
+use Rattle.hall.proofs.Logons.{logon_enters}
 use Rattle.hall.specs.History.{IsStep}
 use Rattle.hall.specs.State.{State}
 use Rattle.hall.specs.declared.command.Command.{Command}
@@ -13,8 +13,7 @@ use Rattle.hall.specs.declared.command.Reply.{Reply}
 use Rattle.hall.specs.declared.command.Reply.TheVariants as reply
 use Rattle.script_lang.specs.declared.script_line.ScriptLine.{ScriptLine}
 use Rattle.script_lang.specs.declared.script_line.ScriptLine.TheVariants as line
-use Rattle.script_runner.specs.Answers.{IsRefusedBy}
-use Rattle.script_runner.specs.Lines.{Meaning, Calls, grows, meaning, unless_refused}
+use Rattle.script_runner.specs.Lines.{Calls, grows, meaning}
 use Rattle.script_runner.specs.Preparing.{HasRoomFor, IsPrepared, MayEnter}
 use Rattle.script_runner.specs.Sides.{AreLoggedOn, SidesView, side_of}
 use Rattle.script_runner.specs.Turns.{IsDone}
@@ -37,5 +36,6 @@ same_call a b e = cc
 pub may_enter : (w : World) (t : State) (n : ℕ) (l : ScriptLine) (c : Command) (r : Reply) (made : Prepared) (sides : SidesView) → AreLoggedOn w.hall.sessions w.sides → meaning w l ≡ Calls c → IsStep w.hall t n c r → HasRoomFor l (Ok made) sides → sides.items ≡ w.sides → MayEnter l r sides
 may_enter w t n (line.Logon s user) c reply.Done made sides logged is step room same =
     let logon : IsStep w.hall t n (command.Logon s user) reply.Done = subst (λ x. IsStep w.hall t n x reply.Done) (sym (same_call (command.Logon s user) c is)) step in
-    (room, ap (λ xs. is_some (side_of xs s)) same ∙ no_side w.hall.sessions w.sides s logged (logon_was_free w.hall t n s user logon))
+    (room, ap (λ xs. is_some (side_of xs s)) same ∙ no_side w.hall.sessions w.sides s logged (logon_enters w.hall t n s user logon).free)
+may_enter w t n (line.Read s table key variable) c (reply.Row (Some text)) made sides logged is step room same = room
 may_enter w t n _ c _ made sides logged is step room same = tt

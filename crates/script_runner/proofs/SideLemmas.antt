@@ -21,7 +21,7 @@ side_is_missing name xs none some =
 ok_err : (why : Refusal) (done : Unit) → IsErrOf {T = Unit} (Ok done) why → ⊥
 ok_err why done e = cc
 
-refused_as : {X : Type 0} (rule : Result X Refusal) (why : Refusal) → rule ≡ Err why → IsRefusedBy rule why
+pub refused_as : {X : Type 0} (rule : Result X Refusal) (why : Refusal) → rule ≡ Err why → IsRefusedBy rule why
 refused_as rule refusal.NoMemory is = tt
 refused_as rule _ is = is
 

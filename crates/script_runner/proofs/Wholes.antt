@@ -13,7 +13,7 @@ use Rattle.script_runner.specs.declared.runner.Why.TheVariants.{Done, BadWords, 
 use Rattle.script_runner.specs.Run.{AreAllowed, Turn, Progress, begun, next, run, moved, after_turn, line_does, store_fails_in}
 use Rattle.script_runner.specs.World.{World}
 use Rattle.script_runner.specs.Replay.{Replays, Seen, IsEnd, IsReadToEnd}
-use Rattle.script_runner.specs.Turns.{HasCounted}
+use Rattle.hall.specs.Leaving.{HasCounted}
 use Rattle.script_runner.proofs.Counted.{all_counted}
 use Rattle.script_runner.proofs.Doubts.{or_left, or_right, run_doubt}
 use Rattle.enq_base.specs.Causes.{Rose}

@@ -1,12 +1,12 @@
 -- What a line of a script comes to.
 use Rattle.std.specs.Prelude.{ℕ, ℤ, ◌+◌, Bool, true, false, ◌&&◌, ◌||◌, nat_eq, nat_le, nat_lt, List, [], ◌∷◌, map, length, cond, if◌then◌else◌, Option, Some, None, is_some, option_and_then, Result, Ok, Err}
-use Rattle.std.specs.List.{find, list_all, list_any}
+use Rattle.std.specs.List.{find, list_all}
 use Rattle.std.specs.Str.{bytes_eq}
 use Rattle.enq_base.specs.Grammar.{is_key_byte, is_short, is_text_byte}
 use Rattle.enq_base.specs.TextFaults.{has_text_length}
 use Rattle.enq_base.specs.declared.owner.Scope.{Scope}
 use Rattle.enq_base.specs.declared.refusal.ArgKind.{ArgKind}
-use Rattle.enq_base.specs.declared.refusal.ArgKind.TheVariants as kind
+use Rattle.enq_base.specs.declared.refusal.ArgKind.TheVariants as arg
 use Rattle.enq_base.specs.declared.refusal.Refusal.{Refusal}
 use Rattle.enq_base.specs.declared.refusal.Refusal.TheVariants as refusal
 use Rattle.enq_base.specs.declared.unit.Deed.{Deed}
@@ -25,7 +25,9 @@ use Rattle.lock_objects.specs.declared.value.Value.{Value}
 use Rattle.lock_objects.specs.declared.value.Value.TheVariants.{Given, Initial, Long}
 use Rattle.module_effects.specs.Integers.{integer_of}
 use Rattle.owner_scope.specs.Halves.{names_dialogue, names_update}
-use Rattle.dialogue_session.specs.Private.{Private, with_effect, with_requests, without_effects, without_requests}
+use Rattle.dialogue_session.specs.Filling.{filled}
+use Rattle.dialogue_session.specs.declared.variables.Variable.{Variable}
+use Rattle.dialogue_session.specs.Private.{Private, with_effect, with_requests, with_variable, without_effects, without_requests}
 use Rattle.hall.specs.declared.command.Command.{Command}
 use Rattle.hall.specs.declared.command.Command.TheVariants as command
 use Rattle.hall.specs.declared.command.Reply.{Reply}
@@ -37,12 +39,12 @@ use Rattle.script_lang.specs.declared.script_line.ScriptLine.{ScriptLine}
 use Rattle.script_lang.specs.declared.script_line.ScriptLine.TheVariants as line
 use Rattle.script_runner.specs.declared.effects.Verb.{Verb}
 use Rattle.script_runner.specs.declared.effects.Verb.TheVariants as verb
-use Rattle.script_runner.specs.Sides.{container_of, parts_of, side_of, with_new_side, with_side, without_side}
+use Rattle.script_runner.specs.declared.monitor.Monitor.{Monitor}
+use Rattle.script_runner.specs.declared.monitor.Monitor.TheVariants as monitor
+use Rattle.script_runner.specs.declared.monitor.LineKind.{LineKind}
+use Rattle.script_runner.specs.declared.monitor.LineKind.TheVariants as kind
+use Rattle.script_runner.specs.Sides.{container_of, parts_of, side_of, variables_of, with_new_side, with_side, without_side}
 use Rattle.script_runner.specs.World.{World}
-
--- `$` stands before the name of a variable
-abbrev pub has_variables : List ℕ → Bool
-has_variables bytes = list_any (nat_eq 36) bytes
 
 -- part 1, V1, or part 2, V2
 abbrev pub is_part : ℕ → Bool
@@ -50,6 +52,10 @@ is_part part = nat_eq part 1 || nat_eq part 2
 
 -- the lines that have a meaning so far
 abbrev pub is_built : ScriptLine → Bool
+is_built line.Blank = true
+is_built line.Sm12 = true
+is_built line.Sm13 = true
+is_built line.Audit = true
 is_built (line.Logon s user) = true
 is_built (line.Logoff s) = true
 is_built (line.DeqAll s) = true
@@ -60,6 +66,7 @@ is_built (line.Enq s object m scope values) = true
 is_built (line.Deq s object m scope values) = true
 is_built (line.Collect s object m scope values) = true
 is_built (line.Convert s object values) = true
+is_built (line.Read s table key variable) = true
 is_built (line.Put s part table key text) = is_part part
 is_built (line.Ins s part table key text) = is_part part
 is_built (line.Del s part table key) = is_part part
@@ -77,24 +84,41 @@ is_built _ = false
 abbrev pub if_built : ScriptLine → Option ScriptLine
 if_built l = if is_built l then Some l else None
 
--- the line of these bytes; none is a bad line, as is so far one with variables
+-- the line of these bytes; none is a bad line
 unfoldable pub line_in : List ℕ → Option ScriptLine
-line_in bytes = if has_variables bytes then None else option_and_then if_built (line_of bytes)
+line_in bytes = option_and_then if_built (line_of bytes)
+
+-- what comes next, where nothing was refused
+abbrev pub and_next : {X Y : Type 0} → Result X Refusal → (X → Result Y Refusal) → Result Y Refusal
+and_next (Ok x) next = next x
+and_next (Err r) next = Err r
 
 -- An empty value is the initial one. Each byte of a line is a text's, so that a value can only be too long.
 abbrev pub value_of : List ℕ → Value
 value_of [] = Initial
 value_of (b ∷ bs) = cond (is_short (b ∷ bs)) (Given (b ∷ bs)) Long
 
-abbrev pub field_value : RawValue → FieldValue
-field_value v = record { field = v.field; value = value_of v.raw }
+-- the value that bytes stand for, with texts in place of variables
+abbrev pub given_value : List Variable → List ℕ → Result Value Refusal
+given_value variables raw = and_next (filled variables raw) (λ bytes. Ok (value_of bytes))
+
+-- a value of a field, in front of those behind it
+abbrev pub value_before : List ℕ → Result Value Refusal → Result (List FieldValue) Refusal → Result (List FieldValue) Refusal
+value_before field (Ok v) (Ok vs) = Ok (record { field = field; value = v } ∷ vs)
+value_before field (Ok v) (Err r) = Err r
+value_before field (Err r) vs = Err r
+
+-- the values of a line with texts in place of variables, or the first of these that isn't known
+abbrev pub field_values : List Variable → List RawValue → Result (List FieldValue) Refusal
+field_values variables [] = Ok []
+field_values variables (v ∷ vs) = value_before v.field (given_value variables v.raw) (field_values variables vs)
 
 abbrev pub kind_of : ArgFault → ArgKind
-kind_of fault.UnknownField = kind.Field
-kind_of fault.TooWide = kind.Wide
-kind_of fault.BadByte = kind.Byte
-kind_of fault.Repeat = kind.Repeat
-kind_of fault.NoMemory = kind.Field
+kind_of fault.UnknownField = arg.Field
+kind_of fault.TooWide = arg.Wide
+kind_of fault.BadByte = arg.Byte
+kind_of fault.Repeat = arg.Repeat
+kind_of fault.NoMemory = arg.Field
 
 abbrev pub is_object_called : List ℕ → Object → Bool
 is_object_called name o = bytes_eq o.name name
@@ -110,13 +134,14 @@ arguments_at o values m =
       | Some f ↦ Err (refusal.BadArgument (kind_of f))
     ]
 
--- what a line on a lock object asks for
-abbrev pub asking : List Object → List ℕ → Mode → List RawValue → Result (List Asked) Refusal
-asking objects object m values =
-    elim (object_at objects object) [
-      | None ↦ Err refusal.UnknownObject
-      | Some o ↦ arguments_at o (map field_value values) m
-    ]
+-- the arguments that values make at the object of this name
+abbrev pub asked_at : List Object → List ℕ → Mode → List FieldValue → Result (List Asked) Refusal
+asked_at objects object m values =
+    elim (object_at objects object) [ None ↦ Err refusal.UnknownObject | Some o ↦ arguments_at o values m ]
+
+-- what a line on a lock object asks for: first its variables are looked up, then the object, and then the values are tested
+abbrev pub asking : List Variable → List Object → List ℕ → Mode → List RawValue → Result (List Asked) Refusal
+asking variables objects object m values = and_next (field_values variables values) (asked_at objects object m)
 
 abbrev pub request_in : Scope → Asked → Request
 request_in scope asked = record { asked = asked; dialogue = names_dialogue scope; update = names_update scope }
@@ -126,8 +151,8 @@ in_scope scope (Ok asked) = Ok (map (request_in scope) asked)
 in_scope scope (Err r) = Err r
 
 -- the requests of a line, for the owners that its scope names
-abbrev pub requesting : List Object → List ℕ → Mode → Scope → List RawValue → Result (List Request) Refusal
-requesting objects object m scope values = in_scope scope (asking objects object m values)
+abbrev pub requesting : List Variable → List Object → List ℕ → Mode → Scope → List RawValue → Result (List Request) Refusal
+requesting variables objects object m scope values = in_scope scope (asking variables objects object m values)
 
 -- 1 to 60 bytes
 abbrev pub has_key_length : List ℕ → Bool
@@ -136,8 +161,8 @@ has_key_length key = nat_le 1 (length key) && nat_le (length key) 60
 -- bytes that are to be a key or a text: their number is tested first
 abbrev pub argument_in : Bool → Bool → List ℕ → Result (List ℕ) Refusal
 argument_in fits good bytes =
-    if fits then (if good then Ok bytes else Err (refusal.BadArgument kind.Byte))
-    else Err (refusal.BadArgument kind.Length)
+    if fits then (if good then Ok bytes else Err (refusal.BadArgument arg.Byte))
+    else Err (refusal.BadArgument arg.Length)
 
 abbrev pub key_in : List ℕ → Result (List ℕ) Refusal
 key_in key = argument_in (has_key_length key) (list_all is_key_byte key) key
@@ -146,7 +171,7 @@ abbrev pub text_in : List ℕ → Result (List ℕ) Refusal
 text_in text = argument_in (has_text_length text) (list_all is_text_byte text) text
 
 abbrev pub number_in : List ℕ → Result ℤ Refusal
-number_in text = elim (integer_of text) [ None ↦ Err (refusal.BadArgument kind.Number) | Some n ↦ Ok n ]
+number_in text = elim (integer_of text) [ None ↦ Err (refusal.BadArgument arg.Number) | Some n ↦ Ok n ]
 
 abbrev pub then_deed : {X : Type 0} → (X → Deed) → Result X Refusal → Result Deed Refusal
 then_deed deed (Ok x) = Ok (deed x)
@@ -168,6 +193,11 @@ effect_of table (Err r) deed = Err r
 abbrev pub effect_in : Verb → List ℕ → List ℕ → List ℕ → Result Effect Refusal
 effect_in v table key text = effect_of table (key_in key) (deed_in v text)
 
+-- the same with texts in place of variables: those of the key and of the text are looked up before either is tested
+abbrev pub effect_with : List Variable → Verb → List ℕ → List ℕ → List ℕ → Result Effect Refusal
+effect_with variables v table key text =
+    and_next (filled variables key) (λ k. and_next (filled variables text) (λ t. effect_in v table k t))
+
 -- the line of an effect
 abbrev pub effect_line : Verb → List ℕ → ℕ → List ℕ → List ℕ → List ℕ → ScriptLine
 effect_line verb.Put s part table key text = line.Put s part table key text
@@ -175,8 +205,20 @@ effect_line verb.Ins s part table key text = line.Ins s part table key text
 effect_line verb.Del s part table key text = line.Del s part table key
 effect_line verb.Add s part table key text = line.Add s part table key text
 
+-- whether a line is blank, shows a monitor, or has a reply
+abbrev pub line_kind : ScriptLine → LineKind
+line_kind line.Blank = kind.Blank
+line_kind line.Sm12 = kind.Shown monitor.Sm12
+line_kind line.Sm13 = kind.Shown monitor.Sm13
+line_kind line.Audit = kind.Shown monitor.Audit
+line_kind _ = kind.Replied
+
 -- what a line comes to
 pub data Meaning : Type 0 where
+  -- nothing: it is only counted
+  Silent : Meaning
+  -- what a monitor shows
+  Shows : Monitor → Meaning
   -- a call of the server
   Calls : Command → Meaning
   -- a refusal before any call
@@ -210,10 +252,36 @@ registering sides s part effect = unless_refused (registered sides s part effect
 abbrev pub collecting : List Private → List ℕ → List Request → Meaning
 collecting sides s requests = unless_refused (collected sides s requests) Changes
 
-abbrev pub effecting : World → List ℕ → ℕ → Result Effect Refusal → Meaning
-effecting w s part effect = of_session w.sides s (unless_refused effect (registering w.sides s part))
+-- the line of a session that asks for something at a lock object
+abbrev pub with_asked : World → List ℕ → List ℕ → Mode → List RawValue → (List Asked → Meaning) → Meaning
+with_asked w s object m values next =
+    of_session w.sides s (unless_refused (asking (variables_of w.sides s) w.objects object m values) next)
+
+-- the same in requests, for the owners that its scope names
+abbrev pub with_requested : World → List ℕ → List ℕ → Mode → Scope → List RawValue → (List Request → Meaning) → Meaning
+with_requested w s object m scope values next =
+    of_session w.sides s (unless_refused (requesting (variables_of w.sides s) w.objects object m scope values) next)
+
+-- the line of a session that registers an effect
+abbrev pub effecting : World → List ℕ → ℕ → Verb → List ℕ → List ℕ → List ℕ → Meaning
+effecting w s part v table key text =
+    of_session w.sides s
+    (unless_refused (effect_with (variables_of w.sides s) v table key text) (registering w.sides s part))
+
+-- the key of a row with texts in place of variables, which are looked up before the key is tested
+abbrev pub key_with : List Variable → List ℕ → Result (List ℕ) Refusal
+key_with variables key = and_next (filled variables key) key_in
+
+-- the line of a session that reads a row
+abbrev pub reading : World → List ℕ → List ℕ → List ℕ → Meaning
+reading w s table key =
+    of_session w.sides s (unless_refused (key_with (variables_of w.sides s) key) (λ k. Calls (command.Read s table k)))
 
 abbrev pub meaning : World → ScriptLine → Meaning
+meaning w line.Blank = Silent
+meaning w line.Sm12 = Shows monitor.Sm12
+meaning w line.Sm13 = Shows monitor.Sm13
+meaning w line.Audit = Shows monitor.Audit
 meaning w (line.Logon s user) = Calls (command.Logon s user)
 meaning w (line.Logoff s) = of_session w.sides s (Calls (command.Logoff s))
 meaning w (line.DeqAll s) = of_session w.sides s (Calls (command.FreeAll s))
@@ -221,17 +289,16 @@ meaning w (line.Flush s) = of_session w.sides s (Calls (command.Ask s (container
 meaning w (line.Reset s) = of_session w.sides s (Changes (with_side s without_requests w.sides))
 meaning w (line.Rollback s) = of_session w.sides s (Calls (command.Rollback s))
 meaning w (line.Enq s object m scope values) =
-    of_session w.sides s (unless_refused (requesting w.objects object m scope values) (λ rs. Calls (command.Ask s rs)))
+    with_requested w s object m scope values (λ rs. Calls (command.Ask s rs))
 meaning w (line.Deq s object m scope values) =
-    of_session w.sides s (unless_refused (requesting w.objects object m scope values) (λ rs. Calls (command.Free s rs)))
-meaning w (line.Collect s object m scope values) =
-    of_session w.sides s (unless_refused (requesting w.objects object m scope values) (collecting w.sides s))
-meaning w (line.Convert s object values) =
-    of_session w.sides s (unless_refused (asking w.objects object mode.O values) (λ asked. Calls (command.Convert s asked)))
-meaning w (line.Put s part table key text) = effecting w s part (effect_in verb.Put table key text)
-meaning w (line.Ins s part table key text) = effecting w s part (effect_in verb.Ins table key text)
-meaning w (line.Del s part table key) = effecting w s part (effect_in verb.Del table key [])
-meaning w (line.Add s part table key number) = effecting w s part (effect_in verb.Add table key number)
+    with_requested w s object m scope values (λ rs. Calls (command.Free s rs))
+meaning w (line.Collect s object m scope values) = with_requested w s object m scope values (collecting w.sides s)
+meaning w (line.Convert s object values) = with_asked w s object mode.O values (λ asked. Calls (command.Convert s asked))
+meaning w (line.Read s table key variable) = reading w s table key
+meaning w (line.Put s part table key text) = effecting w s part verb.Put table key text
+meaning w (line.Ins s part table key text) = effecting w s part verb.Ins table key text
+meaning w (line.Del s part table key) = effecting w s part verb.Del table key []
+meaning w (line.Add s part table key number) = effecting w s part verb.Add table key number
 meaning w (line.Commit s) = of_session w.sides s (Calls (command.Commit s (parts_of w.sides s)))
 meaning w (line.Take1 worker) = Calls (command.Take1 worker)
 meaning w (line.Do1 worker) = Calls (command.Do1 worker)
@@ -250,16 +317,22 @@ settled (line.Flush s) reply.Done sides = with_side s without_requests sides
 settled (line.Rollback s) reply.Done sides = with_side s (λ p. without_requests (without_effects p)) sides
 settled (line.Commit s) reply.Done sides = with_side s without_effects sides
 settled (line.Commit s) (reply.Unit unit) sides = with_side s without_effects sides
+settled (line.Read s table key variable) (reply.Row (Some text)) sides = with_side s (with_variable variable text) sides
 settled _ _ sides = sides
 
--- the lines for which memory may be wanting once they are read: with lists or an effect, or that make or copy a private side
+-- the lines for which memory may be wanting once they are read: with lists, an effect or a variable, that make or copy a
+-- private side, or that show a monitor
 abbrev pub grows : ScriptLine → Bool
+grows line.Sm12 = true
+grows line.Sm13 = true
+grows line.Audit = true
 grows (line.Logon s user) = true
 grows (line.Flush s) = true
 grows (line.Enq s object m scope values) = true
 grows (line.Deq s object m scope values) = true
 grows (line.Collect s object m scope values) = true
 grows (line.Convert s object values) = true
+grows (line.Read s table key variable) = true
 grows (line.Put s part table key text) = true
 grows (line.Ins s part table key text) = true
 grows (line.Del s part table key) = true

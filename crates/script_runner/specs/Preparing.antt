@@ -1,5 +1,5 @@
 -- What a line comes to before any call, and how the private sides follow the answer of a call.
-use Rattle.std.specs.Prelude.{◌≡◌, ℕ, ◌≤◌, Bool, true, false, List, Result, Ok, Err, is_some}
+use Rattle.std.specs.Prelude.{◌≡◌, ◌≤◌, Bool, true, false, List, Result, Ok, Err, Some, is_some}
 use Rattle.enq_base.specs.declared.refusal.Refusal.{Refusal}
 use Rattle.enq_base.specs.declared.refusal.Refusal.TheVariants as refusal
 use Rattle.dialogue_session.specs.Private.{Private}
@@ -8,7 +8,7 @@ use Rattle.hall.specs.declared.command.Reply.TheVariants as reply
 use Rattle.script_lang.specs.declared.script_line.ScriptLine.{ScriptLine}
 use Rattle.script_lang.specs.declared.script_line.ScriptLine.TheVariants as line
 use Rattle.script_runner.specs.Lines.{Meaning, Calls, Declines, Changes, is_part}
-use Rattle.script_runner.specs.Sides.{SidesView, side_of}
+use Rattle.script_runner.specs.Sides.{SidesView, side_of, variable_room}
 use Rattle.script_runner.specs.declared.preparing.Prepared.{Prepared}
 use Rattle.script_runner.specs.declared.preparing.Prepared.TheVariants.{Call, Changed}
 
@@ -20,28 +20,38 @@ IsPrepared m grows before after (Ok Changed) = m ≡ Changes after
 IsPrepared m grows before after (Err refusal.NoMemory) = (grows ≡ true) × (after ≡ before)
 IsPrepared m grows before after (Err r) = (m ≡ Declines r) × (after ≡ before)
 
--- where a session is to be logged on there is room for its private side
+-- where a session is to be logged on there is room for its private side, and where a row is to be read for the variable
 abbrev pub HasRoomFor : ScriptLine → Result Prepared Refusal → SidesView → Type 0
 HasRoomFor (line.Logon s user) (Ok made) sides = 1 ≤ sides.room
+HasRoomFor (line.Read s table key variable) (Ok made) sides = 1 ≤ variable_room sides s
 HasRoomFor _ _ sides = Unit {0}
 
--- a session that was logged on has no private side yet, and there is room for it
+-- a session that was logged on has no private side yet, and there is room for it; there is room for a text that was read
 abbrev pub MayEnter : ScriptLine → Reply → SidesView → Type 0
 MayEnter (line.Logon s user) reply.Done sides = (1 ≤ sides.room) × (is_some (side_of sides.items s) ≡ false)
+MayEnter (line.Read s table key variable) (reply.Row (Some text)) sides = 1 ≤ variable_room sides s
 MayEnter _ _ sides = Unit {0}
 
--- the lines with values of a lock object
-abbrev pub is_lock_line : ScriptLine → Bool
-is_lock_line (line.Enq s object m scope values) = true
-is_lock_line (line.Deq s object m scope values) = true
-is_lock_line (line.Collect s object m scope values) = true
-is_lock_line (line.Convert s object values) = true
-is_lock_line _ = false
+-- the lines that ask for locks of an object, or give some back
+abbrev pub is_request_line : ScriptLine → Bool
+is_request_line (line.Enq s object m scope values) = true
+is_request_line (line.Deq s object m scope values) = true
+is_request_line _ = false
 
--- the lines of effects, for part 1 or part 2
-abbrev pub is_effect_line : ScriptLine → Bool
-is_effect_line (line.Put s part table key text) = is_part part
-is_effect_line (line.Ins s part table key text) = is_part part
-is_effect_line (line.Del s part table key) = is_part part
-is_effect_line (line.Add s part table key number) = is_part part
-is_effect_line _ = false
+-- the other lines with values of an object
+abbrev pub is_other_lock_line : ScriptLine → Bool
+is_other_lock_line (line.Collect s object m scope values) = true
+is_other_lock_line (line.Convert s object values) = true
+is_other_lock_line _ = false
+
+-- the lines that put a text into a row, in part 1 or part 2
+abbrev pub is_text_line : ScriptLine → Bool
+is_text_line (line.Put s part table key text) = is_part part
+is_text_line (line.Ins s part table key text) = is_part part
+is_text_line _ = false
+
+-- the other lines of effects, for part 1 or part 2
+abbrev pub is_other_effect_line : ScriptLine → Bool
+is_other_effect_line (line.Del s part table key) = is_part part
+is_other_effect_line (line.Add s part table key number) = is_part part
+is_other_effect_line _ = false

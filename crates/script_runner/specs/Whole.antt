@@ -1,8 +1,8 @@
 -- Scripts that are in order from the first line to the last, and what a run of one comes to.
-use Rattle.std.specs.Prelude.{◌≡◌, ℕ, ◌≤◌, List, map, length, Option, Some, None, is_some, All, IsTrue}
+use Rattle.std.specs.Prelude.{◌≡◌, ℕ, ◌≤◌, List, map, length, Option, Some, is_some, All, IsTrue}
 use Rattle.std.specs.List.{AllByRecursion}
 use Rattle.std.specs.Io.KnownBytes.{Appends}
-use Rattle.hall.specs.History.{Well, Wanting, StoreFails, Comes}
+use Rattle.hall.specs.Devices.{AllWell}
 use Rattle.hall.specs.State.{State}
 use Rattle.io_edge.specs.Lines.{lines_of, IsLine}
 use Rattle.script_runner.specs.declared.runner.Why.{Why}
@@ -26,11 +26,7 @@ pub record IsScript (bytes : List ℕ) : Type 0 where
 -- nothing was wanting in a line, and nothing failed
 abbrev pub IsCalm : LineOutcome → Type 0
 IsCalm NoRoom = ⊥
-IsCalm (Called None) = Unit {0}
-IsCalm (Called (Some Well)) = Unit {0}
-IsCalm (Called (Some Wanting)) = ⊥
-IsCalm (Called (Some StoreFails)) = ⊥
-IsCalm (Called (Some (Comes outcome))) = Unit {0}
+IsCalm (Called outcome) = outcome.event ≡ AllWell
 
 -- the run went through all lines of the bytes, each done with nothing wanting, and wrote their whole text
 pub record IsAllDone (before : World) (after : State) (bytes : List ℕ) (old new : Option (List ℕ)) : Type 0 where

@@ -1,8 +1,7 @@
-ghost use Rattle.std.specs.Prelude.{◌≡◌, Err, IfOk, IsTrue, nat_eq, true};
-ghost use Rattle.std.specs.List.{list_any};
+ghost use Rattle.std.specs.Prelude.{◌≡◌, Err, IfOk, IsTrue, true};
 ghost use Rattle.script_lang.specs.Memory.{holds_lists};
 ghost use Rattle.script_lang.specs.Reading.{Gives};
-ghost use Rattle.script_runner.specs.Lines.{has_variables, is_built, line_in};
+ghost use Rattle.script_runner.specs.Lines.{is_built, line_in};
 
 use script_lang::{ReadFault, ScriptLine, read_line};
 use std::alloc::Global;
@@ -14,9 +13,6 @@ pub(crate) fn read_built(alloc: Global, bytes: &[u8]) -> Result<ScriptLine, Read
     ensures built { IfOk result (λ l. is_built l ≡ true) }
     ensures no_memory { result ≡ Err ReadFault.NoMemory → IsTrue (holds_lists bytes.now) }
 {
-    if has_variables(bytes) {
-        return Err(ReadFault::BadLine);
-    }
     let line = read_line(alloc, bytes)?;
     if is_built(&line) {
         Ok(line)
@@ -25,18 +21,16 @@ pub(crate) fn read_built(alloc: Global, bytes: &[u8]) -> Result<ScriptLine, Read
     }
 }
 
-fn has_variables(bytes: &[u8]) -> bool
-    ensures { result ≡ has_variables bytes.now }
-{
-    bytes.iter().any(|b| b'$' == *b)
-}
-
 pub(crate) fn is_built(line: &ScriptLine) -> bool
     ensures { result ≡ is_built line.now }
 {
     matches!(
         line,
-        ScriptLine::Logon { .. }
+        ScriptLine::Blank
+            | ScriptLine::Sm12
+            | ScriptLine::Sm13
+            | ScriptLine::Audit
+            | ScriptLine::Logon { .. }
             | ScriptLine::Logoff { .. }
             | ScriptLine::DeqAll { .. }
             | ScriptLine::Flush { .. }
@@ -46,6 +40,7 @@ pub(crate) fn is_built(line: &ScriptLine) -> bool
             | ScriptLine::Deq { .. }
             | ScriptLine::Collect { .. }
             | ScriptLine::Convert { .. }
+            | ScriptLine::Read { .. }
             | ScriptLine::Put { part: 1 | 2, .. }
             | ScriptLine::Ins { part: 1 | 2, .. }
             | ScriptLine::Del { part: 1 | 2, .. }

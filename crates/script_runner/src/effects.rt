@@ -2,8 +2,10 @@ ghost use Rattle.std.specs.Prelude.{ℕ, ℤ, List};
 ghost use Rattle.enq_base.specs.declared.unit.Deed.{Deed as DeedView};
 ghost use Rattle.enq_base.specs.declared.unit.Effect.{Effect as EffectView};
 ghost use Rattle.script_runner.specs.Answers.{IsGivenBy};
-ghost use Rattle.script_runner.specs.Lines.{deed_in, effect_in, key_in, number_in, text_in};
+ghost use Rattle.script_runner.specs.Lines.{deed_in, effect_in, effect_with, key_in, key_with, number_in, text_in};
 
+use crate::filling::part_of;
+use dialogue_session::Dialogue;
 use enq_base::{ArgKind, Deed, Effect, Key, Name, Refusal, Text, TextFault};
 use module_effects::read_integer;
 use std::alloc::Global;
@@ -17,8 +19,23 @@ pub(crate) enum Verb {
     Add,
 }
 
-/// The effect of a line. The text is what stands behind the key.
-pub(crate) fn effect_in(
+/// The effect of a session's line. The text is what stands behind the key.
+pub(crate) fn effect_with(
+    alloc: Global,
+    side: &Dialogue,
+    verb: Verb,
+    table: Name,
+    key: &[u8],
+    text: &[u8],
+) -> Result<Effect, Refusal>
+    ensures { IsGivenBy (λ (effect : EffectView). effect) (effect_with side.now.side.variables verb table key.now text.now) result }
+{
+    let key = part_of(alloc, side, key)?;
+    let text = part_of(alloc, side, text)?;
+    effect_in(alloc, verb, table, key.bytes(), text.bytes())
+}
+
+fn effect_in(
     alloc: Global,
     verb: Verb,
     table: Name,
@@ -50,6 +67,14 @@ fn number_in(text: &[u8]) -> Result<i64, Refusal>
         Some(number) => Ok(number),
         None => Err(Refusal::BadArgument(ArgKind::Number)),
     }
+}
+
+/// The key of a row that a session's line names.
+pub(crate) fn key_with(alloc: Global, side: &Dialogue, key: &[u8]) -> Result<Key, Refusal>
+    ensures { IsGivenBy (λ (key : List ℕ). key) (key_with side.now.side.variables key.now) result }
+{
+    let filled = part_of(alloc, side, key)?;
+    key_in(filled.bytes())
 }
 
 fn key_in(bytes: &[u8]) -> Result<Key, Refusal>

@@ -1,12 +1,14 @@
-ghost use Rattle.std.specs.Prelude.{◌≡◌, ◌⊎◌, List, false, true};
+ghost use Rattle.std.specs.Prelude.{◌≡◌, ◌⊎◌, ◌≤◌, [], List, OnOk, false, true};
 ghost use Rattle.hall.specs.State.{State};
 ghost use Rattle.lock_objects.specs.Objects.{Object};
 ghost use Rattle.script_lang.specs.declared.script_line.ScriptLine.TheVariants as line;
-ghost use Rattle.script_runner.specs.Lines.{effect_line, grows, is_built, meaning, settled};
-ghost use Rattle.script_runner.specs.Preparing.{HasRoomFor, IsPrepared, MayEnter, is_effect_line, is_lock_line};
+ghost use Rattle.script_runner.specs.Lines.{effect_line, grows, is_built, line_kind, meaning, reading, settled};
+ghost use Rattle.script_runner.specs.Preparing.{HasRoomFor, IsPrepared, MayEnter, is_other_effect_line, is_other_lock_line, is_request_line, is_text_line};
+ghost use Rattle.script_runner.specs.Sides.{variable_room};
 ghost use Rattle.script_runner.specs.World.{world};
 
-use crate::effects::{Verb, effect_in};
+use crate::effects::{Verb, effect_with, key_with};
+use crate::monitor::LineKind;
 use crate::requests::{asked_of, requests_of};
 use crate::sides::Sides;
 use enq_base::{Items, Name, Refusal, Scope};
@@ -32,7 +34,8 @@ pub(crate) fn prepare(
     line: &ScriptLine,
     sides: &mut Sides,
 ) -> Result<Prepared, Refusal>
-    requires { is_built line.now ≡ true }
+    requires built { is_built line.now ≡ true }
+    requires replied { line_kind line.now ≡ LineKind.Replied }
     ensures prepared { (hall : State) → IsPrepared (meaning (world objects.now hall sides.old.items) line.now) (grows line.now) sides.old.items sides.new.items result }
     ensures room { HasRoomFor line.now result sides.new }
 {
@@ -44,14 +47,20 @@ pub(crate) fn prepare(
         ScriptLine::Flush { session } => flush(alloc, sides, *session),
         ScriptLine::Reset { session } => empty(sides, *session),
         ScriptLine::Commit { session } => commit(alloc, sides, *session),
-        ScriptLine::Enq { .. }
-        | ScriptLine::Deq { .. }
-        | ScriptLine::Collect { .. }
-        | ScriptLine::Convert { .. } => prepare_locks(alloc, objects, line, sides),
-        ScriptLine::Put { .. }
-        | ScriptLine::Ins { .. }
-        | ScriptLine::Del { .. }
-        | ScriptLine::Add { .. } => prepare_effect(alloc, line, sides),
+        ScriptLine::Enq { .. } | ScriptLine::Deq { .. } => {
+            prepare_request(alloc, objects, line, sides)
+        }
+        ScriptLine::Collect { .. } | ScriptLine::Convert { .. } => {
+            prepare_other_locks(alloc, objects, line, sides)
+        }
+        ScriptLine::Read {
+            session,
+            table,
+            key,
+            ..
+        } => read(alloc, sides, *session, *table, key.as_slice()),
+        ScriptLine::Put { .. } | ScriptLine::Ins { .. } => prepare_text(alloc, line, sides),
+        ScriptLine::Del { .. } | ScriptLine::Add { .. } => prepare_other_effect(alloc, line, sides),
         ScriptLine::Take1 { worker } => Ok(Prepared::Call(Command::Take1 { worker: *worker })),
         ScriptLine::Do1 { worker } => Ok(Prepared::Call(Command::Do1 { worker: *worker })),
         ScriptLine::Take2 { worker } => Ok(Prepared::Call(Command::Take2 { worker: *worker })),
@@ -65,15 +74,15 @@ pub(crate) fn prepare(
     }
 }
 
-/// A line with values of a lock object.
-fn prepare_locks(
+/// A line that asks for locks of an object, or gives some back.
+fn prepare_request(
     alloc: Global,
     objects: &[LockObject],
     line: &ScriptLine,
-    sides: &mut Sides,
+    sides: &Sides,
 ) -> Result<Prepared, Refusal>
-    requires { is_lock_line line.now ≡ true }
-    ensures { (hall : State) → IsPrepared (meaning (world objects.now hall sides.old.items) line.now) (grows line.now) sides.old.items sides.new.items result }
+    requires { is_request_line line.now ≡ true }
+    ensures { (hall : State) → IsPrepared (meaning (world objects.now hall sides.now.items) line.now) (grows line.now) sides.now.items sides.now.items result }
 {
     match line {
         ScriptLine::Enq {
@@ -100,6 +109,21 @@ fn prepare_locks(
                 alloc, objects, sides, *session, object, *mode, *scope, values,
             )
         }
+        _ => unreachable!(),
+    }
+}
+
+/// A line that collects locks of an object, or turns optimistic ones into exclusive ones.
+fn prepare_other_locks(
+    alloc: Global,
+    objects: &[LockObject],
+    line: &ScriptLine,
+    sides: &mut Sides,
+) -> Result<Prepared, Refusal>
+    requires { is_other_lock_line line.now ≡ true }
+    ensures { (hall : State) → IsPrepared (meaning (world objects.now hall sides.old.items) line.now) (grows line.now) sides.old.items sides.new.items result }
+{
+    match line {
         ScriptLine::Collect {
             session,
             object,
@@ -121,9 +145,9 @@ fn prepare_locks(
     }
 }
 
-/// A line of an effect.
-fn prepare_effect(alloc: Global, line: &ScriptLine, sides: &mut Sides) -> Result<Prepared, Refusal>
-    requires { is_effect_line line.now ≡ true }
+/// A line that puts a text into a row.
+fn prepare_text(alloc: Global, line: &ScriptLine, sides: &mut Sides) -> Result<Prepared, Refusal>
+    requires { is_text_line line.now ≡ true }
     ensures { (objects : List Object) (hall : State) → IsPrepared (meaning (world objects hall sides.old.items) line.now) (grows line.now) sides.old.items sides.new.items result }
 {
     match line {
@@ -147,6 +171,20 @@ fn prepare_effect(alloc: Global, line: &ScriptLine, sides: &mut Sides) -> Result
             let (key, text) = (key.as_slice(), text.as_slice());
             effect(alloc, Verb::Ins, sides, *session, *part, *table, key, text)
         }
+        _ => unreachable!(),
+    }
+}
+
+/// A line that deletes a row, or adds a number to it.
+fn prepare_other_effect(
+    alloc: Global,
+    line: &ScriptLine,
+    sides: &mut Sides,
+) -> Result<Prepared, Refusal>
+    requires { is_other_effect_line line.now ≡ true }
+    ensures { (objects : List Object) (hall : State) → IsPrepared (meaning (world objects hall sides.old.items) line.now) (grows line.now) sides.old.items sides.new.items result }
+{
+    match line {
         ScriptLine::Del {
             session,
             part,
@@ -163,17 +201,8 @@ fn prepare_effect(alloc: Global, line: &ScriptLine, sides: &mut Sides) -> Result
             key,
             number,
         } => {
-            let (key, number) = (key.as_slice(), number.as_slice());
-            effect(
-                alloc,
-                Verb::Add,
-                sides,
-                *session,
-                *part,
-                *table,
-                key,
-                number,
-            )
+            let (key, text) = (key.as_slice(), number.as_slice());
+            effect(alloc, Verb::Add, sides, *session, *part, *table, key, text)
         }
         _ => unreachable!(),
     }
@@ -247,6 +276,34 @@ fn commit(alloc: Global, sides: &Sides, session: Name) -> Result<Prepared, Refus
     Ok(Prepared::Call(Command::Commit { session, parts }))
 }
 
+/// A call for the text of a row, with the memory for the variable that it is for.
+fn read(
+    alloc: Global,
+    sides: &mut Sides,
+    session: Name,
+    table: Name,
+    key: &[u8],
+) -> Result<Prepared, Refusal>
+    ensures prepared { (objects : List Object) (hall : State) → IsPrepared (reading (world objects hall sides.old.items) session table key.now) true sides.old.items sides.new.items result }
+    ensures room { OnOk result (1 ≤ variable_room sides.new session) }
+{
+    let Some(side) = sides.side_of(&session) else {
+        return Err(Refusal::UnknownSession);
+    };
+    let key = match key_with(alloc, side, key) {
+        Ok(key) => key,
+        Err(refusal) => return Err(refusal),
+    };
+    if sides.make_variable_room(&session).is_err() {
+        return Err(Refusal::NoMemory);
+    }
+    Ok(Prepared::Call(Command::Read {
+        session,
+        table,
+        key,
+    }))
+}
+
 /// Empties a session's container.
 fn empty(sides: &mut Sides, session: Name) -> Result<Prepared, Refusal>
     ensures { (objects : List Object) (hall : State) → IsPrepared (meaning (world objects hall sides.old.items) (line.Reset session)) false sides.old.items sides.new.items result }
@@ -271,10 +328,10 @@ fn enqueue(
 ) -> Result<Prepared, Refusal>
     ensures { (hall : State) → IsPrepared (meaning (world objects.now hall sides.now.items) (line.Enq session object.now mode scope values.now)) true sides.now.items sides.now.items result }
 {
-    if !sides.has_side(&session) {
+    let Some(side) = sides.side_of(&session) else {
         return Err(Refusal::UnknownSession);
-    }
-    match requests_of(alloc, objects, object, mode, scope, values) {
+    };
+    match requests_of(alloc, side, objects, object, mode, scope, values) {
         Ok(requests) => {
             let requests = Items::from_vec(requests);
             Ok(Prepared::Call(Command::Ask { session, requests }))
@@ -296,10 +353,10 @@ fn dequeue(
 ) -> Result<Prepared, Refusal>
     ensures { (hall : State) → IsPrepared (meaning (world objects.now hall sides.now.items) (line.Deq session object.now mode scope values.now)) true sides.now.items sides.now.items result }
 {
-    if !sides.has_side(&session) {
+    let Some(side) = sides.side_of(&session) else {
         return Err(Refusal::UnknownSession);
-    }
-    match requests_of(alloc, objects, object, mode, scope, values) {
+    };
+    match requests_of(alloc, side, objects, object, mode, scope, values) {
         Ok(requests) => {
             let requests = Items::from_vec(requests);
             Ok(Prepared::Call(Command::Free { session, requests }))
@@ -321,10 +378,10 @@ fn collect(
 ) -> Result<Prepared, Refusal>
     ensures { (hall : State) → IsPrepared (meaning (world objects.now hall sides.old.items) (line.Collect session object.now mode scope values.now)) true sides.old.items sides.new.items result }
 {
-    if !sides.has_side(&session) {
+    let Some(side) = sides.side_of(&session) else {
         return Err(Refusal::UnknownSession);
-    }
-    let requests = match requests_of(alloc, objects, object, mode, scope, values) {
+    };
+    let requests = match requests_of(alloc, side, objects, object, mode, scope, values) {
         Ok(requests) => requests,
         Err(refusal) => return Err(refusal),
     };
@@ -345,10 +402,10 @@ fn convert(
 ) -> Result<Prepared, Refusal>
     ensures { (hall : State) → IsPrepared (meaning (world objects.now hall sides.now.items) (line.Convert session object.now values.now)) true sides.now.items sides.now.items result }
 {
-    if !sides.has_side(&session) {
+    let Some(side) = sides.side_of(&session) else {
         return Err(Refusal::UnknownSession);
-    }
-    match asked_of(alloc, objects, object, Mode::O, values) {
+    };
+    match asked_of(alloc, side, objects, object, Mode::O, values) {
         Ok(asked) => {
             let asked = Items::from_vec(asked);
             Ok(Prepared::Call(Command::Convert { session, asked }))
@@ -357,7 +414,7 @@ fn convert(
     }
 }
 
-/// Registers an effect. The text is what stands behind the key.
+/// Registers an effect. The text is what stands behind the key: nothing, where a row is deleted.
 fn effect(
     alloc: Global,
     verb: Verb,
@@ -368,13 +425,14 @@ fn effect(
     key: &[u8],
     text: &[u8],
 ) -> Result<Prepared, Refusal>
-    requires { (part ≡ 1) ⊎ (part ≡ 2) }
+    requires part { (part ≡ 1) ⊎ (part ≡ 2) }
+    requires nothing { verb ≡ Verb.Del → text.now ≡ [] }
     ensures { (objects : List Object) (hall : State) → IsPrepared (meaning (world objects hall sides.old.items) (effect_line verb session part table key.now text.now)) true sides.old.items sides.new.items result }
 {
-    if !sides.has_side(&session) {
+    let Some(side) = sides.side_of(&session) else {
         return Err(Refusal::UnknownSession);
-    }
-    let effect = match effect_in(alloc, verb, table, key, text) {
+    };
+    let effect = match effect_with(alloc, side, verb, table, key, text) {
         Ok(effect) => effect,
         Err(refusal) => return Err(refusal),
     };
@@ -397,6 +455,14 @@ pub(crate) fn settle(alloc: Global, line: &ScriptLine, reply: &Reply, sides: &mu
         (ScriptLine::Commit { session }, Reply::Done | Reply::Unit(_)) => {
             sides.drop_effects(session)
         }
+        (
+            ScriptLine::Read {
+                session,
+                variable,
+                ..
+            },
+            Reply::Row(Some(text)),
+        ) => sides.set_variable(session, *variable, text.bytes()),
         _ => {}
     }
 }

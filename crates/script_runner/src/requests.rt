@@ -1,9 +1,14 @@
-ghost use Rattle.std.specs.Prelude.{◌≡◌, ◌<◌, length, map, IfOk, IfSome};
+ghost use Rattle.std.specs.Prelude.{◌≡◌, ◌<◌, [], ◌∷◌, ◌++◌, length, map, IfErr, IfOk, IfSome, OnOk};
 ghost use Rattle.std.specs.Global.{Vec};
 ghost use Rattle.std.specs.List.{position};
+ghost use Rattle.lock_objects.specs.declared.value.FieldValue.{FieldValue as FieldValueView};
+ghost use Rattle.lock_objects.specs.declared.value.Value.{Value as ValueView};
 ghost use Rattle.script_runner.specs.Answers.{IsGivenBy};
-ghost use Rattle.script_runner.specs.Lines.{arguments_at, asking, field_value, is_object_called, kind_of, request_in, requesting, value_of};
+ghost use Rattle.script_runner.specs.Lines.{arguments_at, asked_at, asking, field_values, given_value, is_object_called, kind_of};
+ghost use Rattle.script_runner.specs.Lines.{request_in, requesting, value_of};
 
+use crate::filling::part_of;
+use dialogue_session::Dialogue;
 use enq_base::{ArgKind, Name, NoMemory, Refusal, Scope, Short};
 use lock_entry::{Asked, Request};
 use lock_objects::{ArgFault, FieldValue, LockObject, Value};
@@ -12,41 +17,53 @@ use owner_scope::halves;
 use script_lang::RawValue;
 use std::alloc::Global;
 
-/// The requests of a line, for the owners that its scope names.
+/// The requests of a session's line, for the owners that its scope names.
 pub(crate) fn requests_of(
     alloc: Global,
+    side: &Dialogue,
     objects: &[LockObject],
     object: &Name,
     mode: Mode,
     scope: Scope,
     values: &[RawValue],
 ) -> Result<Vec<Request>, Refusal>
-    ensures { IsGivenBy (λ (v : Vec Request). v.items) (requesting objects.now object.now mode scope values.now) result }
+    ensures { IsGivenBy (λ (v : Vec Request). v.items) (requesting side.now.side.variables objects.now object.now mode scope values.now) result }
 {
-    let asked = asked_of(alloc, objects, object, mode, values)?;
+    let asked = asked_of(alloc, side, objects, object, mode, values)?;
     match in_scope(alloc, scope, asked.as_slice()) {
         Ok(requests) => Ok(requests),
         Err(_) => Err(Refusal::NoMemory),
     }
 }
 
-/// What a line asks for, one argument for each table of its object.
+/// What a session's line asks for, one argument for each table of its object.
 pub(crate) fn asked_of(
     alloc: Global,
+    side: &Dialogue,
     objects: &[LockObject],
     object: &Name,
     mode: Mode,
     values: &[RawValue],
 ) -> Result<Vec<Asked>, Refusal>
-    ensures { IsGivenBy (λ (v : Vec Asked). v.items) (asking objects.now object.now mode values.now) result }
+    ensures { IsGivenBy (λ (v : Vec Asked). v.items) (asking side.now.side.variables objects.now object.now mode values.now) result }
+{
+    let values = field_values(alloc, side, values)?;
+    asked_at(alloc, objects, object, mode, values.as_slice())
+}
+
+fn asked_at(
+    alloc: Global,
+    objects: &[LockObject],
+    object: &Name,
+    mode: Mode,
+    values: &[FieldValue],
+) -> Result<Vec<Asked>, Refusal>
+    ensures { IsGivenBy (λ (v : Vec Asked). v.items) (asked_at objects.now object.now mode values.now) result }
 {
     let Some(place) = place_of(objects, object) else {
         return Err(Refusal::UnknownObject);
     };
-    let Ok(values) = field_values(alloc, values) else {
-        return Err(Refusal::NoMemory);
-    };
-    arguments_at(alloc, &objects[place], values.as_slice(), mode)
+    arguments_at(alloc, &objects[place], values, mode)
 }
 
 fn arguments_at(
@@ -90,18 +107,40 @@ fn is_object_called(object: &LockObject, name: &Name) -> bool
     object.name().is(name)
 }
 
-fn field_values(alloc: Global, values: &[RawValue]) -> Result<Vec<FieldValue>, NoMemory>
-    ensures { IfOk result (λ all. all.items ≡ map field_value values.now) }
+/// The values of a line with texts in place of variables.
+fn field_values(
+    alloc: Global,
+    side: &Dialogue,
+    values: &[RawValue],
+) -> Result<Vec<FieldValue>, Refusal>
+    ensures { IsGivenBy (λ (v : Vec FieldValueView). v.items) (field_values side.now.side.variables values.now) result }
 {
     let mut all = Vec::new(alloc);
-    for value in values {
-        let given: Value = value_of(value.raw.as_slice());
-        all.push(FieldValue {
-            field: value.field,
-            value: given,
-        })?;
+    let mut rest = values;
+    'rest: while let Some((value, after)) = rest.split_first() {
+        let given: Value = given_value(alloc, side, value.raw.as_slice())?;
+        put_value(&mut all, value.field, given)?;
+        rest = after;
     }
     Ok(all)
+}
+
+/// The value that bytes stand for, with texts in place of variables.
+fn given_value(alloc: Global, side: &Dialogue, raw: &[u8]) -> Result<Value, Refusal>
+    ensures { IsGivenBy (λ (v : ValueView). v) (given_value side.now.side.variables raw.now) result }
+{
+    let bytes = part_of(alloc, side, raw)?;
+    Ok(value_of(bytes.bytes()))
+}
+
+fn put_value(values: &mut Vec<FieldValue>, field: Name, value: Value) -> Result<(), Refusal>
+    ensures put { OnOk result (values.new.items ≡ values.old.items ++ record { field = field; value = value } ∷ []) }
+    ensures refused { IfErr result (λ r. r ≡ Refusal.NoMemory) }
+{
+    match values.push(FieldValue { field, value }) {
+        Ok(()) => Ok(()),
+        Err(_) => Err(Refusal::NoMemory),
+    }
 }
 
 /// An empty value is the initial one. One that is no short text is too long: each of its bytes is a text's.

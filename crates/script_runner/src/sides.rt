@@ -1,9 +1,9 @@
-ghost use Rattle.std.specs.Prelude.{◌≡◌, ◌⊎◌, ◌≤◌, [], false, is_some, IfOk, IsTrue, OnErr, OnOk};
-ghost use Rattle.std.specs.Option.{option_copied};
-ghost use Rattle.dialogue_session.specs.Private.{without_effects, without_requests};
+ghost use Rattle.std.specs.Prelude.{◌≡◌, ◌⊎◌, ◌≤◌, [], false, length, is_some, IfOk, IsTrue, OnErr, OnOk};
+ghost use Rattle.std.specs.Option.{option_map};
+ghost use Rattle.dialogue_session.specs.Private.{with_variable, without_effects, without_requests};
 ghost use Rattle.script_runner.specs.Answers.{IsGivenBy};
 ghost use Rattle.script_runner.specs.Lines.{collected, registered};
-ghost use Rattle.script_runner.specs.Sides.{container_of, parts_of, side_of, with_new_side, with_side, without_side};
+ghost use Rattle.script_runner.specs.Sides.{container_of, parts_of, side_of, variable_room, with_new_side, with_side, without_side};
 
 use dialogue_session::Dialogue;
 use enq_base::{Effect, Items, Name, NoMemory, Parts, Refusal};
@@ -20,15 +20,20 @@ pub(crate) struct Sides {
 }
 
 impl Model for Sides {
+    ghost use Rattle.std.specs.Prelude.{map};
     ghost use Rattle.indexmap.specs.IndexMap.{spare, values};
     ghost use Rattle.hall.specs.Named.{AreNamed};
     ghost use Rattle.script_runner.specs.Sides.{SidesView};
 
     ghost Value = { SidesView };
 
-    ghost view = { λ s. record { items = values s.by_name; room = spare s.by_name } };
+    ghost view = { λ s. record {
+      items = map (λ d. d.side) (values s.by_name);
+      dialogues = values s.by_name;
+      room = spare s.by_name;
+    } };
 
-    ghost invariant = { λ s. AreNamed (λ p. p.session) s.by_name.entries };
+    ghost invariant = { λ s. AreNamed (λ d. d.side.session) s.by_name.entries };
 }
 
 impl Sides {
@@ -48,8 +53,9 @@ impl Sides {
         self.side_of(name).is_some()
     }
 
-    fn side_of(&self, name: &Name) -> Option<&Dialogue>
-        ensures { option_copied result ≡ side_of self.now.items name.now }
+    /// The private side of the session.
+    pub(crate) fn side_of(&self, name: &Name) -> Option<&Dialogue>
+        ensures { option_map (λ side. side.now.side) result ≡ side_of self.now.items name.now }
     {
         self.by_name.get(name)
     }
@@ -84,6 +90,30 @@ impl Sides {
     {
         self.by_name.reserve(1)?;
         Ok(())
+    }
+
+    /// Takes the memory for one more variable of the session.
+    pub(crate) fn make_variable_room(&mut self, name: &Name) -> Result<(), NoMemory>
+        requires { IsTrue (is_some (side_of self.old.items name.now)) }
+        ensures items { self.new.items ≡ self.old.items }
+        ensures room { OnOk result (1 ≤ variable_room self.new name.now) }
+    {
+        let Some(side) = self.by_name.get_mut(name) else {
+            unreachable!()
+        };
+        side.make_room()
+    }
+
+    /// Lets a text stand for a variable of the session. There is room for it.
+    pub(crate) fn set_variable(&mut self, name: &Name, variable: Name, text: &[u8])
+        requires room { 1 ≤ variable_room self.old name.now }
+        requires text { length text.now ≤ 512 }
+        ensures { self.new.items ≡ with_side name.now (with_variable variable text.now) self.old.items }
+    {
+        let Some(side) = self.by_name.get_mut(name) else {
+            unreachable!()
+        };
+        side.set_variable(variable, text);
     }
 
     /// Makes the private side of a session that has logged on and has none yet. There is room for it.

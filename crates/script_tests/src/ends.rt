@@ -15,7 +15,7 @@ struct Row {
     status: u8,
 }
 
-const ROWS: [Row; 9] = [
+const ROWS: [Row; 10] = [
     Row {
         script: b"",
         replies: b"",
@@ -40,8 +40,15 @@ const ROWS: [Row; 9] = [
         why: Why::BadLine(2),
         status: 4,
     },
+    // Blank lines are counted, and have no reply.
     Row {
-        script: b"A LOGON MILLER\n\nA LOGOFF\n",
+        script: b"# two lines of a session\nA LOGON MILLER\n\n#\nA LOGOFF\n",
+        replies: b"2 OK\n5 OK\n",
+        why: Why::Done,
+        status: 0,
+    },
+    Row {
+        script: b"A LOGON MILLER\n? SNRO\n",
         replies: b"1 OK\n",
         why: Why::BadLine(2),
         status: 4,
@@ -83,12 +90,23 @@ const ROWS: [Row; 9] = [
         why: Why::Done,
         status: 0,
     },
-    // A variable has no meaning yet.
+    // A name that isn't known refuses its line, behind the session alone. A `$` without a name stands for itself.
     Row {
-        script: b"A LOGON MILLER\nA ENQ EZORDER E 1 MANDT=100 ORDNR=$N\n",
-        replies: b"1 OK\n",
-        why: Why::BadLine(2),
-        status: 4,
+        script: b"A ENQ EZORDER E 1 ORDNR=$N\n\
+            A LOGON MILLER\n\
+            A ENQ EZORDER E 1 MANDT=100 ORDNR=$N\n\
+            A ENQ NOOBJ E 1 PLANT=$M ORDNR=$N\n\
+            A COLLECT EZORDER E 1 MANDT=1000 ORDNR=$N$M\n\
+            A V1 PUT STAT A$ $5\n\
+            A V1 PUT STAT $M $N\n\
+            A V1 ADD STAT A$ $N1X\n\
+            A V1 ADD STAT A$ $\n\
+            A V1 DEL STAT $-$N_\n",
+        replies: b"1 UNKNOWN_SESSION\n2 OK\n3 UNKNOWN_VARIABLE N\n4 UNKNOWN_VARIABLE M\n\
+            5 UNKNOWN_VARIABLE N\n6 OK\n7 UNKNOWN_VARIABLE M\n8 UNKNOWN_VARIABLE N1X\n\
+            9 BAD_ARGUMENT NUMBER\n10 UNKNOWN_VARIABLE N_\n",
+        why: Why::Done,
+        status: 0,
     },
 ];
 

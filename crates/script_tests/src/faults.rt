@@ -73,7 +73,7 @@ const RESUBMITTED: Fault = Fault {
     then: &[],
 };
 
-const FAULTS: [Fault; 9] = [
+const FAULTS: [Fault; 11] = [
     // The commit of a post follows the commit of the unit and the read of its row.
     Fault {
         script: ORDER,
@@ -127,6 +127,29 @@ const FAULTS: [Fault; 9] = [
         left: &[],
         next: (b"@1 TAKE2\n@1 DO2\n", b"1 OK 1.1.1\n2 CLOSED 1.1.1\n"),
         then: &[(6, b"\x04STATN", b"1", true)],
+    },
+    // A row that can't be read leaves a doubt, with nothing to be written.
+    Fault {
+        script: b"A LOGON MILLER\nA V1 PUT T 1 X\nA COMMIT\nA READ T 1 V\nA READ T 1 V\n",
+        call: OPENING + 2,
+        is_kept: false,
+        replies: b"1 OK\n2 OK\n3 OK 1.1.1\n4 STORE_FAULT\n5 DOWN 3\n",
+        since: 3,
+        left: AT_ONE_MARK,
+        next: (b"@1 TAKE1\n@1 DO1\n", b"1 OK 1.1.1\n2 POSTED 1.1.1\n"),
+        then: POSTED,
+    },
+    // In doubt a monitor shows that alone.
+    Fault {
+        script: b"A LOGON MILLER\nA V1 PUT T 1 X\nA COMMIT\n@1 TAKE1\n@1 DO1\n? SM13\n? SM12\n? AUDIT\n",
+        call: OPENING + 3,
+        is_kept: false,
+        replies: b"1 OK\n2 OK\n3 OK 1.1.1\n4 OK 1.1.1\n5 STORE_FAULT\n\
+            6 DOUBT 4\n6 END\n7 DOUBT 4\n7 END\n8 DOUBT 4\n8 END\n",
+        since: 4,
+        left: AT_ONE_MARK,
+        next: (POST_AGAIN, b"1 OK 1.1.1\n2 POSTED 1.1.1\n3 IDLE\n"),
+        then: POSTED_ONCE,
     },
     // A unit is cancelled whole or not at all.
     CANCELLED,

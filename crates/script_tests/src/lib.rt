@@ -16,9 +16,13 @@ mod limits;
 #[cfg(test)]
 mod locks;
 #[cfg(test)]
+mod reads;
+#[cfg(test)]
 mod runs;
 #[cfg(test)]
 mod second_parts;
+#[cfg(test)]
+mod shown;
 #[cfg(test)]
 mod starts;
 #[cfg(test)]

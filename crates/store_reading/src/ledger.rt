@@ -15,7 +15,7 @@ use crate::units::{marks_in, units_in};
 use enq_base::NoMemory;
 use keeper_api::Keeper;
 use std::alloc::Global;
-use update_records::{Mark, Record, StoredInterval, Unit};
+use update_records::{Mark, Record, StoredInterval, Unit, tables};
 
 /// What a good store stands for: the number of its last start, or 0, its units in the order of recording, its marks in
 /// order, and its intervals in the order of their rows.
@@ -61,10 +61,10 @@ fn ledger_in(alloc: Global, records: &StoredRecords) -> Result<StoredLedger, NoM
     ensures { IfOk result (λ stored. ledger_of stored ≡ ledger_in records.now) }
 {
     Ok(StoredLedger {
-        start: start_in(records.table(0)),
+        start: start_in(records.table(tables::META)),
         units: units_in(alloc, records)?,
         marks: marks_in(alloc, records)?,
-        levels: intervals_in(alloc, records.table(5))?,
+        levels: intervals_in(alloc, records.table(tables::LEVELS))?,
     })
 }
 

@@ -17,7 +17,7 @@ use crate::rules::Place;
 use enq_base::{NoMemory, Num};
 use std::alloc::Global;
 use std::collections::{HashMap, HashSet};
-use update_records::Record;
+use update_records::{Record, tables};
 
 /// Whether these are so many numbers from the first on.
 fn run_from(numbers: &[u64], from: u64, count: u64) -> bool
@@ -129,7 +129,10 @@ fn wrong_level(
     for stored in levels {
         let is_right = is_right_level(alloc, lists, stored)?;
         if !is_right {
-            return Ok(Some(Place { table: 5, row }));
+            return Ok(Some(Place {
+                table: tables::LEVELS,
+                row,
+            }));
         }
         row += 1;
     }
@@ -175,7 +178,10 @@ fn missing_level(stored: &HashSet<IntervalId>, numbers: &[Num], levels: &[Record
         return None;
     }
     let row = levels.len() as u64 + 1;
-    Some(Place { table: 5, row })
+    Some(Place {
+        table: tables::LEVELS,
+        row,
+    })
 }
 
 /// The first row of table 5 that doesn't fit the numbers that the marks commit, or the place behind the last row where

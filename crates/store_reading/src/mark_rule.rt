@@ -13,7 +13,7 @@ use crate::rules::Place;
 use enq_base::{NoMemory, Status, UnitKey};
 use std::alloc::Global;
 use std::collections::{HashMap, HashSet};
-use update_records::{Mark, MarkKind, Record, UnitId, id_of};
+use update_records::{Mark, MarkKind, Record, UnitId, id_of, tables};
 
 fn given(no_v2: bool, kind: &MarkKind, before: Option<Status>) -> Option<Status>
     ensures { result ≡ given no_v2 kind.now before }
@@ -143,7 +143,10 @@ pub fn mark_fault(
     let mut row = 1;
     for stored in marks {
         if !follow(start, &second, &mut statuses, stored)? {
-            return Ok(Some(Place { table: 4, row }));
+            return Ok(Some(Place {
+                table: tables::MARKS,
+                row,
+            }));
         }
         row += 1;
     }

@@ -15,7 +15,7 @@ use crate::texts::{is_refused, post};
 use enq_base::{Effect, NoMemory, Text};
 use std::alloc::Global;
 use std::collections::{BTreeMap, HashMap};
-use update_records::{MarkKind, Record};
+use update_records::{MarkKind, Record, tables};
 
 /// Whether a record may stand behind the marks so far, whose post is then done.
 fn follow_post(
@@ -57,7 +57,10 @@ fn post_marks(
     let mut row = 1;
     for stored in marks {
         if !follow_post(alloc, &parts, texts, stored)? {
-            return Ok(Some(Place { table: 4, row }));
+            return Ok(Some(Place {
+                table: tables::MARKS,
+                row,
+            }));
         }
         row += 1;
     }
@@ -100,10 +103,16 @@ fn difference(texts: &BTreeMap<TextId, Text>, business: &[Record]) -> Option<Pla
     let mut row = 1;
     for (id, text) in texts {
         let Some((stored, others)) = rest.split_first() else {
-            return Some(Place { table: 6, row });
+            return Some(Place {
+                table: tables::BUSINESS,
+                row,
+            });
         };
         if !is_row(id, text, stored) {
-            return Some(Place { table: 6, row });
+            return Some(Place {
+                table: tables::BUSINESS,
+                row,
+            });
         }
         rest = others;
         row += 1;
@@ -111,7 +120,10 @@ fn difference(texts: &BTreeMap<TextId, Text>, business: &[Record]) -> Option<Pla
     if rest.is_empty() {
         return None;
     }
-    Some(Place { table: 6, row })
+    Some(Place {
+        table: tables::BUSINESS,
+        row,
+    })
 }
 
 /// The first mark of a post that doesn't say what its part gives, else the first row of table 6 that isn't what the

@@ -1,7 +1,7 @@
 ghost use Rattle.std.specs.Prelude.{◌≡◌, length};
 ghost use Rattle.store_reading.specs.Rules.{has_meta, has_number, is_meta, meta_fault, number_fault};
 
-use update_records::Record;
+use update_records::{Record, tables};
 
 /// A row of a table, counted from 1.
 #[derive(Clone, Copy, Debug, PartialEq, Eq)]
@@ -41,7 +41,10 @@ pub fn meta_fault(meta: &[Record], marks: &[Record]) -> Option<Place>
     if has_meta(meta, marks.len() as u64) {
         return None;
     }
-    Some(Place { table: 0, row: 1 })
+    Some(Place {
+        table: tables::META,
+        row: 1,
+    })
 }
 
 fn has_number(stored: &Record, number: u64) -> bool
@@ -60,7 +63,10 @@ pub fn number_fault(marks: &[Record]) -> Option<Place>
     let mut row = 1;
     for stored in marks {
         if !has_number(stored, row) {
-            return Some(Place { table: 4, row });
+            return Some(Place {
+                table: tables::MARKS,
+                row,
+            });
         }
         row += 1;
     }

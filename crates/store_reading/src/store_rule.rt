@@ -9,7 +9,7 @@ use crate::rules::{Place, meta_fault, number_fault};
 use crate::unit_rule::unit_fault;
 use enq_base::NoMemory;
 use std::alloc::Global;
-use update_records::Record;
+use update_records::{Record, tables};
 
 /// The start number that the meta row tells, or 0.
 pub fn start_in(meta: &[Record]) -> u32
@@ -37,8 +37,8 @@ fn is_bare(records: &StoredRecords) -> bool
 fn rule_fault(alloc: Global, records: &StoredRecords) -> Result<Option<Place>, NoMemory>
     ensures { IfOk result (λ place. place ≡ rule_fault records.now) }
 {
-    let (meta, headers) = (records.table(0), records.table(1));
-    let (steps, marks) = (records.table(3), records.table(4));
+    let (meta, headers) = (records.table(tables::META), records.table(tables::HEADERS));
+    let (steps, marks) = (records.table(tables::STEPS), records.table(tables::MARKS));
     if let Some(place) = meta_fault(meta, marks) {
         return Ok(Some(place));
     }
@@ -48,14 +48,14 @@ fn rule_fault(alloc: Global, records: &StoredRecords) -> Result<Option<Place>, N
     if let Some(place) = mark_fault(alloc, start_in(meta), headers, marks)? {
         return Ok(Some(place));
     }
-    let (modules, locks) = (records.table(2), records.table(7));
+    let (modules, locks) = (records.table(tables::MODULES), records.table(tables::LOCKS));
     if let Some(place) = unit_fault(alloc, headers, modules, steps, marks, locks)? {
         return Ok(Some(place));
     }
-    if let Some(place) = post_fault(alloc, steps, marks, records.table(6))? {
+    if let Some(place) = post_fault(alloc, steps, marks, records.table(tables::BUSINESS))? {
         return Ok(Some(place));
     }
-    level_fault(alloc, headers, marks, records.table(5))
+    level_fault(alloc, headers, marks, records.table(tables::LEVELS))
 }
 
 /// The first place where the records of a store break a rule, in the order of the rules. A store without rows breaks

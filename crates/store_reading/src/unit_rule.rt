@@ -12,7 +12,7 @@ use crate::unit_rows::{has_part, has_rows, recorded_units, rows_of};
 use enq_base::{NoMemory, UnitKey};
 use std::alloc::Global;
 use std::collections::{HashMap, HashSet};
-use update_records::{MarkKind, Record, UnitId, id_of};
+use update_records::{MarkKind, Record, UnitId, id_of, tables};
 
 const MOST_EFFECTS: u32 = 200;
 
@@ -87,7 +87,10 @@ impl UnitIndex {
         let mut row = 1;
         for stored in marks {
             if !self.is_right(stored) {
-                return Some(Place { table: 4, row });
+                return Some(Place {
+                    table: tables::MARKS,
+                    row,
+                });
             }
             row += 1;
         }
@@ -123,7 +126,10 @@ fn unrecorded_header(recorded: &HashSet<UnitId>, headers: &[Record]) -> Option<P
     let mut row = 1;
     for stored in headers {
         if !is_recorded_header(recorded, stored) {
-            return Some(Place { table: 1, row });
+            return Some(Place {
+                table: tables::HEADERS,
+                row,
+            });
         }
         row += 1;
     }
@@ -163,8 +169,8 @@ pub fn unit_fault(
         index
             .wrong_mark(marks)
             .or(unrecorded_header(&recorded, headers))
-            .or(uncounted_row(&index.counts, 2, modules))
-            .or(uncounted_row(&index.counts, 3, steps))
-            .or(uncounted_row(&index.counts, 7, locks)),
+            .or(uncounted_row(&index.counts, tables::MODULES, modules))
+            .or(uncounted_row(&index.counts, tables::STEPS, steps))
+            .or(uncounted_row(&index.counts, tables::LOCKS, locks)),
     )
 }

@@ -22,7 +22,7 @@ use enq_base::{Effect, Items, Name, NoMemory, Num, Owner, Parts, UnitKey};
 use lock_entry::Entry;
 use std::alloc::Global;
 use std::collections::HashMap;
-use update_records::{Mark, MarkKind, Record, Unit, UnitId, id_of};
+use update_records::{Mark, MarkKind, Record, Unit, UnitId, id_of, tables};
 
 /// What the rows of the units tell, by the keys of the units.
 #[derive(Drop)]
@@ -192,10 +192,15 @@ pub fn units_in(alloc: Global, records: &StoredRecords) -> Result<Vec<Unit>, NoM
     requires headers { (key : UnitKey) → is_recorded (records_in records.now 4) key ≡ true → IsSome (find (is_header key) (records_in records.now 1)) }
     ensures { IfOk result (λ units. units.items ≡ units_in records.now) }
 {
-    let headers = records.table(1);
-    let told = units_told(alloc, headers, records.table(3), records.table(7))?;
+    let headers = records.table(tables::HEADERS);
+    let told = units_told(
+        alloc,
+        headers,
+        records.table(tables::STEPS),
+        records.table(tables::LOCKS),
+    )?;
     let mut units = Vec::new(alloc);
-    for stored in records.table(4) {
+    for stored in records.table(tables::MARKS) {
         if let Some(key) = key_in(stored) {
             let Some(user) = told.users.get(&id_of(&key)).copied() else {
                 unreachable!();
@@ -211,7 +216,7 @@ pub fn marks_in(alloc: Global, records: &StoredRecords) -> Result<Vec<Mark>, NoM
     ensures { IfOk result (λ marks. marks.items ≡ marks_in (records_in records.now 4)) }
 {
     let mut marks = Vec::new(alloc);
-    for stored in records.table(4) {
+    for stored in records.table(tables::MARKS) {
         if let Record::Mark(mark) = stored {
             marks.push(mark.copy(alloc)?)?;
         }

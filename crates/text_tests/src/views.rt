@@ -1,8 +1,12 @@
+ghost use Rattle.std.specs.Prelude.{◌≡◌, IfOk};
+
 use enq_base::{Condition, Name, Owner, Pattern, Reason, Status, UnitKey, read_name};
 use lock_entry::Entry;
 use mode_rules::Mode;
-use monitors::{RangeView, ServerView, UnitView, audit, sm12, sm13, snro};
+use monitors::{ServerView, audit, sm12, sm13, snro};
+use number_ranges::{Interval, Range};
 use std::test::*;
+use update_records::UnitView;
 
 const UNIT: UnitKey = UnitKey {
     start: 1,
@@ -42,8 +46,10 @@ fn order_unit(status: Status, error: Option<(u32, Reason)>) -> Result<UnitView, 
     })
 }
 
-fn order_range(holder: Option<Name>) -> Result<RangeView, Fail> {
-    Ok(RangeView {
+fn free_range() -> Result<Range, Fail>
+    ensures { IfOk result (λ range. range.interval.buffer ≡ 0) }
+{
+    Ok(Range::new(Interval {
         object: name(b"ZORDNR")?,
         nr: *b"01",
         from: 1,
@@ -51,8 +57,16 @@ fn order_range(holder: Option<Name>) -> Result<RangeView, Fail> {
         level: 1,
         buffer: 0,
         percent: 10,
-        holder,
-    })
+    }))
+}
+
+fn held_range() -> Result<Range, Fail> {
+    let session = name(b"A")?;
+    let mut range = free_range()?;
+    match range.draw_plain(session) {
+        Ok(_) => Ok(range),
+        Err(_) => Err(Fail::from("no number")),
+    }
 }
 
 #[test]
@@ -164,8 +178,8 @@ fn sm13_shows_units_and_their_errors(rt: HostRuntime) -> Result<(), Fail> {
 #[test]
 fn snro_shows_intervals_and_their_holders(rt: HostRuntime) -> Result<(), Fail> {
     let alloc = rt.alloc();
-    let free = [order_range(None)?];
-    let held = [order_range(Some(name(b"A")?))?];
+    let free = [free_range()?];
+    let held = [held_range()?];
     for (condition, ranges, want) in [
         (
             Condition::Up,

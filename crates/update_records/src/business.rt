@@ -4,6 +4,7 @@ ghost use Rattle.update_records.specs.Spelling.{IsRecord};
 ghost use Rattle.update_records.specs.declared.stored.Record.TheVariants as rec;
 
 use crate::bytes::{push_bytes, push_short, put};
+use crate::tables;
 use enq_base::{Key, Name, NoMemory, Text};
 use keeper_api::Change;
 use std::alloc::Global;
@@ -23,5 +24,5 @@ pub fn encode_business(
     push_bytes(&mut place, key.bytes())?;
     let mut value = Vec::new(alloc);
     push_bytes(&mut value, text.bytes())?;
-    Ok(put(6, place, value))
+    Ok(put(tables::BUSINESS, place, value))
 }

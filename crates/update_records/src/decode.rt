@@ -10,6 +10,7 @@ use crate::mark_rows::mark_at;
 use crate::plain_rows::{business_at, level_at, meta_at};
 use crate::step_rows::step_at;
 use crate::stored::Record;
+use crate::tables;
 use crate::unit_rows::{header_at, lock_at, module_at};
 use keeper_api::Row;
 use std::alloc::Global;
@@ -20,14 +21,14 @@ fn row_at(alloc: Global, table: u8, key: &[u8], value: &[u8]) -> Result<Record, 
     ensures memory { takes_memory table ≡ false → IfErr result (λ fault. fault ≡ Bad) }
 {
     match table {
-        0 => meta_at(key, value),
-        1 => header_at(alloc, key, value),
-        2 => module_at(key, value),
-        3 => step_at(alloc, key, value),
-        4 => mark_at(alloc, key, value),
-        5 => level_at(key, value),
-        6 => business_at(alloc, key, value),
-        7 => lock_at(key, value),
+        tables::META => meta_at(key, value),
+        tables::HEADERS => header_at(alloc, key, value),
+        tables::MODULES => module_at(key, value),
+        tables::STEPS => step_at(alloc, key, value),
+        tables::MARKS => mark_at(alloc, key, value),
+        tables::LEVELS => level_at(key, value),
+        tables::BUSINESS => business_at(alloc, key, value),
+        tables::LOCKS => lock_at(key, value),
         _ => Err(RowFault::Bad),
     }
 }

@@ -6,6 +6,7 @@ ghost use Rattle.update_records.specs.declared.stored.Record.TheVariants as rec;
 
 use crate::bytes::{push_bytes, push_short, push_u64, put};
 use crate::stored::Interval;
+use crate::tables;
 use enq_base::{Name, NoMemory};
 use keeper_api::Change;
 use std::alloc::Global;
@@ -43,5 +44,5 @@ pub fn encode_level(
     push_u64(&mut value, to)?;
     push_u64(&mut value, level)?;
     value.push(flag_byte(buffered))?;
-    Ok(put(5, place, value))
+    Ok(put(tables::LEVELS, place, value))
 }

@@ -16,9 +16,11 @@ mod plain_rows;
 mod records;
 mod step_rows;
 mod stored;
+pub mod tables;
 mod unit_id;
 mod unit_rows;
 mod units;
+mod view;
 
 pub use business::encode_business;
 pub use decode::decode_row;
@@ -30,3 +32,4 @@ pub use records::{Mark, MarkKind, Unit};
 pub use stored::{Interval, Record, StoredInterval};
 pub use unit_id::{UnitId, id_of};
 pub use units::encode_unit;
+pub use view::UnitView;

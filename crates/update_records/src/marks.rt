@@ -7,6 +7,7 @@ ghost use Rattle.update_records.specs.declared.stored.Record.TheVariants as rec;
 
 use crate::bytes::{bytes_of_unit, push_bytes, push_u32, push_u64, put};
 use crate::records::{Mark, MarkKind};
+use crate::tables;
 use crate::units::push_numbers;
 use enq_base::{Items, NoMemory, Reason};
 use keeper_api::Change;
@@ -71,7 +72,7 @@ pub fn encode_mark(alloc: Global, mark: &Mark) -> Result<Change, NoMemory>
     value.push(kind_byte(&mark.kind))?;
     push_bytes(&mut value, bytes_of_unit(alloc, &mark.unit)?.as_slice())?;
     push_tail(&mut value, &mark.kind)?;
-    Ok(put(4, place, value))
+    Ok(put(tables::MARKS, place, value))
 }
 
 /// The row of the start number and of how many marks there are.
@@ -84,7 +85,7 @@ pub fn encode_meta(alloc: Global, start: u32, marks: u64) -> Result<Change, NoMe
     let mut value = Vec::new(alloc);
     push_u32(&mut value, start)?;
     push_u64(&mut value, marks)?;
-    Ok(put(0, place, value))
+    Ok(put(tables::META, place, value))
 }
 
 impl MarkKind {

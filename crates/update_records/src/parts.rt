@@ -5,6 +5,7 @@ ghost use Rattle.update_records.specs.Grammar.{IsEffect, IsDeed};
 ghost use Rattle.update_records.specs.RecordRows.{module_row, step_row, step_rows, part_rows, operand, verb, text_bytes};
 
 use crate::bytes::{bytes_of_unit, push_bytes, push_i64, push_short, push_u16, put};
+use crate::tables;
 use enq_base::{Deed, Effect, NoMemory, Text, UnitKey};
 use keeper_api::Change;
 use std::alloc::Global;
@@ -59,7 +60,7 @@ fn encode_step(
     push_short(&mut value, effect.table.bytes())?;
     push_short(&mut value, effect.key.bytes())?;
     push_operand(&mut value, &effect.deed)?;
-    Ok(put(3, place, value))
+    Ok(put(tables::STEPS, place, value))
 }
 
 fn push_steps(
@@ -94,7 +95,7 @@ fn encode_module(
     place.push(part)?;
     let mut value = Vec::new(alloc);
     push_u16(&mut value, effects.len() as u16)?;
-    Ok(put(2, place, value))
+    Ok(put(tables::MODULES, place, value))
 }
 
 /// The rows of a part behind those of a batch.

@@ -11,6 +11,7 @@ ghost use Rattle.update_records.specs.RecordRows.{header_row, lock_row, lock_row
 use crate::bytes::{bytes_of_unit, push_bytes, push_short, push_u16, push_u32, push_u64, put};
 use crate::parts::push_part;
 use crate::records::Unit;
+use crate::tables;
 use enq_base::{Effect, Items, NoMemory, Num, UnitKey};
 use keeper_api::Change;
 use lock_entry::{Entry, Mode};
@@ -80,7 +81,7 @@ fn encode_header(alloc: Global, unit: &Unit) -> Result<Change, NoMemory>
     push_count(&mut value, unit.parts.v2.as_slice())?;
     push_u32(&mut value, unit.entries.as_slice().len() as u32)?;
     push_numbers(&mut value, unit.numbers.as_slice())?;
-    Ok(put(1, place, value))
+    Ok(put(tables::HEADERS, place, value))
 }
 
 fn mode_byte(mode: Mode) -> u8
@@ -105,7 +106,7 @@ fn encode_lock(alloc: Global, key: &UnitKey, index: u32, entry: &Entry) -> Resul
     value.push(mode_byte(entry.mode))?;
     push_u16(&mut value, entry.count)?;
     push_short(&mut value, entry.pattern.bytes())?;
-    Ok(put(7, place, value))
+    Ok(put(tables::LOCKS, place, value))
 }
 
 fn push_locks(

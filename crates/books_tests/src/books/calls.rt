@@ -25,6 +25,17 @@ pub fn opened(alloc: Global, keeper: MemKeeper, raise: bool) -> Result<Books<Mem
     Ok(books)
 }
 
+/// The books of the store as it is read anew.
+pub fn reopened(alloc: Global, books: Books<MemKeeper>) -> Result<Books<MemKeeper>, Fail>
+    ensures { IfOk result (IsUsable held_rows IsSettled) }
+{
+    let mut books = books;
+    let Ok(()) = books.reopen(alloc) else {
+        return Err(Fail::from("refused anew"));
+    };
+    Ok(books)
+}
+
 /// Writes what was prepared.
 pub fn write(books: &mut Books<MemKeeper>, prepared: Prepared) -> Result<(), Fail>
     requires usable { IsUsable held_rows IsSettled books.old }
@@ -54,7 +65,7 @@ pub fn commit(
         return Err(Fail::from("no new unit"));
     }
     let unit = unit_of(alloc, unit, parts)?;
-    let prepared = books.prepare_unit(alloc, &unit, &[])?;
+    let prepared = books.prepare_unit(alloc, unit, &[])?;
     write(books, prepared)
 }
 

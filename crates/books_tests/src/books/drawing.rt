@@ -149,6 +149,6 @@ pub fn commit_locked(
     }
     let unit = locked_unit(alloc, unit, parts)?;
     let interval = interval_at(2)?;
-    let prepared = books.prepare_unit(alloc, &unit, &[interval])?;
+    let prepared = books.prepare_unit(alloc, unit, &[interval])?;
     write(books, prepared)
 }

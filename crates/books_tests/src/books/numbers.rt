@@ -2,8 +2,9 @@ use super::steps::{Step, do_steps};
 use super::told::Told;
 use super::units::{Act, name_of, unit_key};
 use enq_base::Status;
-use posting::{Outcome, UnitView};
+use posting::Outcome;
 use std::test::*;
+use update_records::UnitView;
 
 #[test]
 fn an_interval_is_stored(rt: HostRuntime) -> Result<(), Fail> {

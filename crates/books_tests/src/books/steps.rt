@@ -2,21 +2,24 @@ ghost use Rattle.std.specs.Prelude.{IfOk, OnOk};
 ghost use Rattle.keeper_mem.specs.Memory.{IsSettled, held_rows};
 ghost use Rattle.posting.specs.Shelf.{IsUsable};
 
-use super::calls::{cancel, commit, has_text, opened, post1, post2, try_again};
+use super::calls::{cancel, commit, has_text, opened, post1, post2, reopened, try_again};
 use super::drawing::{commit_locked, draw, store};
 use super::told::{Told, are_numbers, are_open, are_views, has_lock, is_told};
 use super::units::{Act, parts_of, unit_key};
 use keeper_mem::MemKeeper;
-use posting::{Books, Outcome, UnitView};
+use posting::{Books, Outcome};
 use std::alloc::Global;
 use std::process::Abort;
 use std::test::Fail;
+use update_records::UnitView;
 
 /// What is done with the books, where a unit of the first session is called by its number, and what is told then.
 #[derive(Clone, Copy)]
 pub enum Step<'a> {
     /// They are taken apart and opened again, with the next start or without.
     Open(bool),
+    /// The store is read anew.
+    Reopen,
     /// A unit is recorded with these parts.
     Record(u32, &'static [Act], &'static [Act]),
     /// A unit is recorded with this V1 part, the first two numbers of STAT, and a lock.
@@ -109,6 +112,7 @@ fn again(alloc: Global, books: Books<MemKeeper>, step: &Step) -> Result<Books<Me
 {
     match step {
         Step::Open(raise) => opened(alloc, books.into_keeper(), *raise),
+        Step::Reopen => reopened(alloc, books),
         Step::Unit(..) => opened(alloc, books.into_keeper(), true),
         _ => Ok(books),
     }

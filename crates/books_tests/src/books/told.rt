@@ -5,9 +5,10 @@ use super::units::unit_key;
 use enq_base::{Reason, Status, UnitKey};
 use keeper_mem::MemKeeper;
 use lock_entry::Entry;
-use posting::{Books, UnitView};
+use posting::Books;
 use std::alloc::Global;
 use std::test::Fail;
+use update_records::UnitView;
 
 /// What is told of a unit, and the numbers of the units that wait for either part.
 #[derive(Clone, Copy)]

@@ -1,4 +1,4 @@
-use Rattle.std.proofs.Common.{◌≡◌, ◌≤◌, length, not, ap, sym, subst, ◌∙◌}
+use Rattle.std.proofs.Common.{◌≤◌, length, not, ap, sym, subst, ◌∙◌}
 use Rattle.std.specs.List.{filter}
 use Rattle.enq_base.specs.declared.owner.Owner.TheVariants.{Upd}
 use Rattle.mode_rules.specs.Modes.{same_mode}
@@ -7,7 +7,6 @@ use Rattle.lock_entry.proofs.OwnEntries.{filter-filter}
 use Rattle.lock_entry.specs.Names.{is_of}
 use Rattle.lock_entry.specs.declared.entry.Entry.{Entry}
 use Rattle.backup_file.specs.Handing.{IsHandable}
-use Rattle.enq_server.specs.Server.{lasting}
 use Rattle.enq_server.proofs.Lasting.{lasting_handable}
 use Rattle.enq_server.proofs.server.lasting.Goals as goal
 

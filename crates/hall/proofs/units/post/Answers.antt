@@ -1,5 +1,5 @@
 use Rattle.std.proofs.Common.{◌≤◌, sym, refl, ap, ◌∙◌, subst}
-use Rattle.std.specs.Prelude.{None, is_some, slice_set}
+use Rattle.std.specs.Prelude.{None, Some, is_some, slice_set}
 use Rattle.enq_base.specs.Causes.{Rose}
 use Rattle.posting.specs.Posts.{kind_for}
 use Rattle.posting.specs.Steps.{after_step}
@@ -97,7 +97,7 @@ returns-in-Err-Failed-clause-left g c =
     let held = g.K.Keeper.held in
     let may_leave = g.K.Keeper.may_leave in
     unread_leaves (held c.prepare.new.books.keeper) (held c.args.books.now.keeper) (may_leave c.prepare.new.books.keeper) (may_leave c.args.books.now.keeper)
-    c.prepare.new.books.ledger c.args.books.now.ledger (flight.Post c.in-Some.unit c.args.part)
+    c.prepare.new.books.ledger c.args.books.now.ledger (Some (flight.Post c.in-Some.unit c.args.part))
     c.prepare.ensures.told c.prepare.ensures.ledger c.prepare.ensures.crash
     (answered_leaves held g.K.Keeper.is_open may_leave c.args.books.now g.met.K.Keeper.settled c.requires.usable)
 

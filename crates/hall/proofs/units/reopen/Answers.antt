@@ -9,7 +9,8 @@ use Rattle.update_records.specs.Growing.{with_mark}
 use Rattle.update_records.specs.declared.records.MarkKind.TheVariants.{Again1}
 use Rattle.hall.proofs.Leaves.{failed_leaves, refused_keeps, where_told}
 use Rattle.hall.proofs.Owned.{may_be_readmitted}
-use Rattle.hall.proofs.Writes.{reopens, reopens_in_doubt, reopens_in_vain}
+use Rattle.enq_base.specs.declared.unit.Status.TheVariants.{Bad}
+use Rattle.hall.proofs.Writes.{reopens, reopens_in_doubt, reopens_in_vain, resubmits_wanting}
 use Rattle.hall.specs.Sessions.{owners_of}
 use Rattle.hall.specs.declared.units.InFlight.TheVariants as flight
 use Rattle.hall.proofs.units.reopen.Goals as goal
@@ -69,3 +70,11 @@ returns-in-Ok-write-clause-kept g c = tt
 
 pub returns-clause-kept : goal.returns-clause-kept
 returns-clause-kept g c = tt
+
+pub returns-in_default-clause-act : goal.returns-in_default-clause-act
+returns-in_default-clause-act g c s f l q h room =
+    resubmits_wanting s (g.T.LockStore.table c.args.locks.now).entries c.args.books.now.ledger c.args.books.now.ledger s.mark_limit c.args.unit Bad f q refl room h refl
+
+pub returns-in_default-prepare_mark-clause-act : goal.returns-in_default-prepare_mark-clause-act
+returns-in_default-prepare_mark-clause-act g c s f l q h room =
+    resubmits_wanting s (g.T.LockStore.table c.args.locks.now).entries c.args.books.now.ledger c.prepare_mark.new.self.ledger s.mark_limit c.args.unit Bad f q refl room h c.prepare_mark.ensures.unmoved.ledger

@@ -1,4 +1,4 @@
-use Rattle.std.proofs.Common.{◌≡◌, ◌≤◌, ◌∙◌, ap, cond, nat_eq, length, None, get_or, arith}
+use Rattle.std.proofs.Common.{◌≤◌, ◌∙◌, ap, cond, nat_eq, length, None, get_or, arith}
 use Rattle.std.specs.List.{list_any}
 use Rattle.std.proofs.lemmas.List.{take_all}
 use Rattle.lock_index.specs.Slots.{slot_at}

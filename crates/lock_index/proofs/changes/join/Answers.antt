@@ -1,4 +1,4 @@
-use Rattle.std.proofs.Common.{◌≡◌, ◌∙◌, ◌+◌, ap, sym, set, Some, Bool, cond, ℕ}
+use Rattle.std.proofs.Common.{◌∙◌, ◌+◌, ap, sym, set, Some, Bool, cond, ℕ}
 use Rattle.std.specs.Prelude.{min}
 use Rattle.lock_entry.specs.Turning.{joined}
 use Rattle.lock_index.specs.Slots.{live}

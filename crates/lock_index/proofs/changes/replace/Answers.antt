@@ -1,6 +1,5 @@
-use Rattle.std.proofs.Common.{◌∙◌, ◌++◌, ap, filter, not, List}
+use Rattle.std.proofs.Common.{◌∙◌, ◌++◌, ap, filter, not}
 use Rattle.std.proofs.lemmas.Result.{on_ok_weaker}
-use Rattle.lock_entry.specs.declared.entry.Entry.{Entry}
 use Rattle.lock_entry.specs.Freeing.{freed_owner}
 use Rattle.lock_index.specs.Keys.{has_key}
 use Rattle.lock_index.specs.Slots.{is_lengths, live}

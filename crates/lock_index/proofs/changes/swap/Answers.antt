@@ -1,4 +1,4 @@
-use Rattle.std.proofs.Common.{◌≡◌, ◌∙◌, ◌++◌, ap, cond, filter, length, map, nat_eq, not, List, Option, None, Some}
+use Rattle.std.proofs.Common.{◌∙◌, ◌++◌, ap, cond, filter, length, map, nat_eq, not, List, None, Some}
 use Rattle.std.specs.List.{list_any}
 use Rattle.lock_entry.specs.declared.entry.Entry.{Entry}
 use Rattle.lock_index.specs.Keys.{has_key}

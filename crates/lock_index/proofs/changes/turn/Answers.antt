@@ -1,6 +1,5 @@
-use Rattle.std.proofs.Common.{◌≡◌, ◌∙◌, ap, sym, set, Some, None, Bool, true, false, cond, map, List}
+use Rattle.std.proofs.Common.{◌≡◌, ◌∙◌, ap, sym, set, Some, Bool, true, false, cond, map}
 use Rattle.mode_rules.specs.declared.Mode.TheVariants.{E, O}
-use Rattle.lock_entry.specs.declared.entry.Entry.{Entry}
 use Rattle.lock_entry.specs.declared.entry.LockName.{LockName}
 use Rattle.lock_entry.specs.Names.{has_name, has_distinct_names, stands}
 use Rattle.lock_entry.specs.Freeing.{without}

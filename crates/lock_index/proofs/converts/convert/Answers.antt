@@ -1,4 +1,4 @@
-use Rattle.std.proofs.Common.{◌≡◌, ◌∙◌, ap, sym, subst, not, nat_eq, filter, Bool}
+use Rattle.std.proofs.Common.{◌∙◌, ap, sym, subst, not, nat_eq, filter, Bool}
 use Rattle.std.specs.List.{IsDistinct, list_any}
 use Rattle.lock_entry.specs.declared.entry.Entry.{Entry}
 use Rattle.lock_entry.specs.Converting.{gives_way, turns}

@@ -1,4 +1,4 @@
-use Rattle.std.proofs.Common.{◌≡◌, ◌≤◌, ◌∙◌, ◌||◌, Bool, ap, sym, nat_eq, length, take, arith, []}
+use Rattle.std.proofs.Common.{◌≤◌, ◌∙◌, ◌||◌, Bool, ap, sym, nat_eq, length, arith}
 use Rattle.std.specs.List.{list_any}
 use Rattle.std.proofs.lemmas.List.{take_all}
 use Rattle.lock_entry.specs.Converting.{gives_way}

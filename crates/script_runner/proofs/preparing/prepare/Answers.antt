@@ -1,3 +1,7 @@
+use Rattle.std.proofs.Common.{true, subst}
+use Rattle.script_runner.specs.Lines.{reading}
+use Rattle.script_runner.specs.Preparing.{IsPrepared}
+use Rattle.script_runner.specs.World.{world}
 use Rattle.script_runner.proofs.preparing.prepare.Goals as goal
 
 pub returns-in-Logon-clause-prepared : goal.returns-in-Logon-clause-prepared
@@ -22,4 +26,14 @@ pub returns-in-Commit-clause-prepared : goal.returns-in-Commit-clause-prepared
 returns-in-Commit-clause-prepared c = λ hall. rw c.in-Commit.is (c.commit.ensures c.args.objects.now hall)
 
 pub returns-in-Put-clause-prepared : goal.returns-in-Put-clause-prepared
-returns-in-Put-clause-prepared c = λ hall. c.prepare_effect.ensures c.args.objects.now hall
+returns-in-Put-clause-prepared c = λ hall. c.prepare_text.ensures c.args.objects.now hall
+
+pub returns-in-Del-clause-prepared : goal.returns-in-Del-clause-prepared
+returns-in-Del-clause-prepared c = λ hall. c.prepare_other_effect.ensures c.args.objects.now hall
+
+pub returns-in-Read-clause-prepared : goal.returns-in-Read-clause-prepared
+returns-in-Read-clause-prepared c = λ hall.
+    let w = world c.args.objects.now hall c.args.sides.now.items in
+    rw c.in-Read.is
+    (subst (λ key. IsPrepared (reading w c.in-Read.session c.in-Read.table key) true c.args.sides.now.items c.read.new.sides.items c.read.result)
+    c.as_slice.ensures (c.read.ensures.prepared c.args.objects.now hall))

@@ -4,7 +4,7 @@ use Rattle.enq_base.specs.declared.refusal.Refusal.{Refusal}
 use Rattle.enq_base.specs.declared.refusal.Refusal.TheVariants as refusal
 use Rattle.lock_collector.specs.declared.collector.CollectFault.{CollectFault}
 use Rattle.lock_collector.specs.declared.collector.CollectFault.TheVariants.{Full, NoMemory}
-use Rattle.dialogue_session.specs.Private.{Private, refused}
+use Rattle.dialogue_session.specs.Private.{DialogueView, refused}
 use Rattle.dialogue_session.proofs.dialogue.Dialogue.collect.Goals as goal
 
 -- the container's answer tells that it would be too full, and so does the session's
@@ -18,5 +18,5 @@ pub returns-clause-full : goal.returns-clause-full
 returns-clause-full c =
     let n = length c.args.requests.now in
     let by_answer = told (length c.self.inside.collector + n) c.add.result c.add.ensures.full c.add.ensures.fault in
-    subst (λ (p : Private). (64 < length p.container + n) ↔ IsErrOf c.refused.result refusal.ContainerFull) c.self.view_is
+    subst (λ (d : DialogueView). (64 < length d.side.container + n) ↔ IsErrOf c.refused.result refusal.ContainerFull) c.self.view_is
     (subst (λ (r : Result Unit Refusal). (64 < length c.self.inside.collector + n) ↔ IsErrOf r refusal.ContainerFull) (sym c.refused.ensures) by_answer)

@@ -1,8 +1,24 @@
-use Rattle.std.proofs.Common.{subst, sym}
+use Rattle.std.proofs.Common.{ap, subst, sym, ◌∙◌}
+use Rattle.enq_base.specs.declared.owner.Owner.TheVariants.{Upd}
+use Rattle.replica_link.proofs.Drops.{owner_ops-freed_owner}
+use Rattle.enq_server.specs.Following.{IsAt}
 use Rattle.backup_file.specs.Backup.{IsReady}
 use Rattle.enq_server.proofs.Others.{without_absent}
 use Rattle.enq_server.proofs.server.EnqServer.end_unit.Goals as goal
 use Rattle.enq_server.proofs.server.EnqServer.end_unit.Goals.{then-stands+in_ok-free, else-stands}
+
+pub invariant_of-self-2 : goal.invariant_of-self-2
+invariant_of-self-2 g c =
+    let inside = c.if-stands.self-inside in
+    let before : IsAt g.L.Link.applied inside.follower (g.T.LockStore.table inside.table).entries = elim c.if-stands.branch [
+      | then-stands+in_ok-free w ↦ rw w.self-inside-is c.self.invariant.1
+      | else-stands w ↦ rw w.self-inside-is c.self.invariant.1
+    ] in (
+      c.free_owner.ensures.good,
+      subst (IsAt g.L.Link.applied c.ship_owner.new.follower)
+          (owner_ops-freed_owner (g.T.LockStore.table inside.table).entries (Upd c.args.unit.now) ∙ sym (ap (λ t. t.entries) c.free_owner.ensures.after))
+          (c.ship_owner.ensures.at (g.T.LockStore.table inside.table).entries before),
+    )
 
 pub returns-clause-freed : goal.returns-clause-freed
 returns-clause-freed g c = λ t l ready.

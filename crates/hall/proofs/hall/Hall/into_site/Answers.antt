@@ -1,4 +1,4 @@
-use Rattle.std.proofs.Common.{◌≡◌, subst}
+use Rattle.std.proofs.Common.{subst}
 use Rattle.hall.specs.Leaving.{LeavesState}
 use Rattle.hall.proofs.hall.Hall.into_site.Goals as goal
 

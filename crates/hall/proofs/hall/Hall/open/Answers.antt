@@ -8,7 +8,7 @@ use Rattle.hall.proofs.hall.Hall.open.Goals as goal
 pub returns-in-Ok-open-clause-state : goal.returns-in-Ok-open-clause-state
 returns-in-Ok-open-clause-state g c =
     let told = is_some (g.K.Keeper.held c.args.keeper) in
-    let is : c.first.result.state ≡ opened c.args.max_locks c.args.max_marks told c.in-Ok-open.books.ledger = c.first.ensures.state ∙ (λ i. opened (c.in-Ok.ensures.locks i).limit c.args.max_marks (c.in-Ok-open.ensures.told i) c.in-Ok-open.books.ledger) in
+    let is : c.first.result.state ≡ opened c.args.max_locks c.args.max_marks told c.in-Ok-open.books.ledger = c.first.ensures.state ∙ (λ i. opened c.args.max_locks c.args.max_marks (c.in-Ok-open.ensures.told i) c.in-Ok-open.books.ledger) in
     is ∙ ap (λ (s : State). opened c.args.max_locks c.args.max_marks told s.stored) (sym is)
 
 pub returns-in-Ok-open-clause-stored : goal.returns-in-Ok-open-clause-stored

@@ -1,7 +1,8 @@
-use Rattle.std.proofs.Common.{◌≡◌, [], ◌∷◌, ◌++◌, sym, ap, ◌∙◌, subst, rules}
-use Rattle.hall.proofs.Endings.{act_of, unrecorded_same}
+use Rattle.std.proofs.Common.{[], ◌∷◌, ◌++◌, sym, ◌∙◌, subst, rules}
+use Rattle.hall.proofs.Endings.{given_noted, unrecorded_same}
 use Rattle.hall.proofs.Few.{kept_call}
-use Rattle.hall.proofs.Steps.{noted_step}
+use Rattle.hall.proofs.Frames.{noted_step}
+use Rattle.hall.proofs.Replies.{given_act}
 use Rattle.hall.specs.History.{IsStep, entry_of}
 use Rattle.hall.specs.Kept.{IsKept}
 use Rattle.hall.specs.Serving.{with_calls}
@@ -12,19 +13,21 @@ invariant_of-self g c =
     let past = c.self.inside.past.items in
     let s = with_calls c.self.inside.server.state past in
     let after = with_calls c.serve-reply.new.self.state past in
-    let e = sym c.is_unrecorded.ensures ∙ c.if-is_unrecorded.true in
-    (c.self.invariant.0, subst IsKept (sym (unrecorded_same s c.args.command after c.serve-reply.result c.serve-reply.ensures.call e)) c.self.invariant.1)
+    let off = sym c.is_unrecorded.ensures ∙ c.if-is_unrecorded.true in
+    (c.self.invariant.0, subst IsKept (sym (unrecorded_same s c.args.command after c.serve-reply.result c.serve-reply.ensures.call off)) c.self.invariant.1)
 
 pub invariant_of-self-2 : goal.invariant_of-self-2
 invariant_of-self-2 g c =
     let past = c.self.inside.past.items in
     let s = with_calls c.self.inside.server.state past in
     let after = with_calls c.serve-reply.new.self.state past in
-    let e = sym c.is_unrecorded.ensures ∙ c.if-is_unrecorded.false in
-    let noted = c.note.ensures.noted ∙ ap (λ a. past ++ entry_of c.args.line c.args.command c.serve-reply.result a ∷ []) c.after-after.ensures in (
+    let given = c.told_twice-noted.result.1 in
+    let on = sym c.is_unrecorded.ensures ∙ c.if-is_unrecorded.false in
+    let act = given_act s c.args.command after c.serve-reply.result given c.told_twice-noted.ensures.given c.serve-reply.ensures.call in
+    let noted = c.note.ensures.noted ∙ (λ i. past ++ entry_of c.args.line c.args.command (c.told_twice-noted.ensures.twice i) (c.after-after.ensures i) ∷ []) in (
       search rules,
       subst (λ p. IsKept (with_calls c.serve-reply.new.self.state p)) (sym noted)
-          (kept_call s c.args.line c.args.command after c.serve-reply.result c.self.invariant.1 (c.serve-reply.ensures.room e) (act_of s c.args.command after c.serve-reply.result c.serve-reply.ensures.call e)),
+          (kept_call s c.args.line c.args.command after given c.self.invariant.1 (c.serve-reply.ensures.room on) act),
     )
 
 pub returns-clause-step : goal.returns-clause-step
@@ -32,10 +35,10 @@ returns-clause-step g c =
     let past = c.self.inside.past.items in
     let s = with_calls c.self.inside.server.state past in
     let after = with_calls c.serve-reply.new.self.state past in
-    let e = sym c.is_unrecorded.ensures ∙ c.if-is_unrecorded.false in
-    let noted = c.note.ensures.noted ∙ ap (λ a. past ++ entry_of c.args.line c.args.command c.serve-reply.result a ∷ []) c.after-after.ensures in
-    let new = with_calls c.serve-reply.new.self.state c.note.new.past.items in
-    subst (λ v. IsStep v.state new c.args.line c.args.command c.note.result) c.self.view_is
-    (subst (λ r. IsStep s new c.args.line c.args.command r) (sym c.note.ensures.answer)
-    (subst (λ p. IsStep s (with_calls c.serve-reply.new.self.state p) c.args.line c.args.command c.serve-reply.result) (sym noted)
-    (noted_step s c.args.line c.args.command after c.serve-reply.result (act_of s c.args.command after c.serve-reply.result c.serve-reply.ensures.call e))))
+    let given = c.told_twice-noted.result.1 in
+    let on = sym c.is_unrecorded.ensures ∙ c.if-is_unrecorded.false in
+    let act = given_act s c.args.command after c.serve-reply.result given c.told_twice-noted.ensures.given c.serve-reply.ensures.call in
+    let noted = c.note.ensures.noted ∙ (λ i. past ++ entry_of c.args.line c.args.command (c.told_twice-noted.ensures.twice i) (c.after-after.ensures i) ∷ []) in
+    subst (λ v. IsStep v.state (with_calls c.serve-reply.new.self.state c.note.new.past.items) c.args.line c.args.command given) c.self.view_is
+    (subst (λ p. IsStep s (with_calls c.serve-reply.new.self.state p) c.args.line c.args.command given) (sym noted)
+    (noted_step s c.args.line c.args.command after given act (given_noted c.serve-reply.result given c.told_twice-noted.ensures.given on)))

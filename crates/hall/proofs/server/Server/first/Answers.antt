@@ -1,4 +1,4 @@
-use Rattle.std.proofs.Common.{◌≡◌, [], None, is_some}
+use Rattle.std.proofs.Common.{[], None, is_some}
 use Rattle.enq_base.specs.declared.condition.Condition.TheVariants.{Up}
 use Rattle.hall.proofs.Beginning.{first_leaves}
 use Rattle.hall.proofs.Leaves.{answered_leaves}
@@ -14,7 +14,7 @@ invariant_of-result g c = (
 
 pub returns-clause-state : goal.returns-clause-state
 returns-clause-state g c =
-    λ i. record (state_of (is_some (g.K.Keeper.held c.args.books.keeper)) Up (c.new.ensures i) 1 (c.requires.orders i) (g.T.LockStore.table c.args.locks) c.args.max_marks c.args.books.ledger None []) { locks = c.requires.locks i }
+    λ i. state_of (is_some (g.K.Keeper.held c.args.books.keeper)) Up (c.new.ensures i) 1 (c.requires.orders i) (c.requires.locks i) c.args.max_locks c.args.max_marks c.args.books.ledger None []
 
 pub returns-clause-left : goal.returns-clause-left
 returns-clause-left g c =

@@ -1,24 +1,24 @@
-use Rattle.std.proofs.Common.{◌≡◌, refl, sym, ◌∙◌}
-use Rattle.hall.proofs.Endings.{any_store, barred_call, barred_room, barred_store, same_keeper}
+use Rattle.std.proofs.Common.{sym, ◌∙◌}
+use Rattle.hall.proofs.Endings.{any_store, barred_call, barred_room, barred_store, due_of, same_keeper}
 use Rattle.hall.proofs.Few.{has_room}
 use Rattle.hall.specs.Serving.{with_calls}
 use Rattle.hall.proofs.server.Server.serve.Goals as goal
 
 pub returns-in-Some-clause-call : goal.returns-in-Some-clause-call
 returns-in-Some-clause-call g c =
-    barred_call (with_calls c.args.self.now.state c.args.past.now.items) c.args.command.now c.in-Some.refusal (sym c.closed.ensures ∙ c.in-Some.is)
+    barred_call (with_calls c.args.self.now.state c.args.past.now.items) c.args.command.now c.in-Some.refusal (sym c.barred.ensures ∙ c.in-Some.is)
 
 pub returns-in-Some-clause-store : goal.returns-in-Some-clause-store
 returns-in-Some-clause-store g c =
-    barred_store g.K.Keeper.held g.K.Keeper.may_leave g.K.Keeper.faults c.args.self.now.keeper (with_calls c.args.self.now.state c.args.past.now.items) c.in-Some.refusal (sym c.closed.ensures ∙ c.in-Some.is)
+    barred_store g.K.Keeper.held g.K.Keeper.may_leave g.K.Keeper.faults c.args.self.now.keeper (with_calls c.args.self.now.state c.args.past.now.items) c.in-Some.refusal (sym c.barred.ensures ∙ c.in-Some.is)
 
 pub returns-in-Some-clause-room : goal.returns-in-Some-clause-room
 returns-in-Some-clause-room g c =
-    barred_room (with_calls c.args.self.now.state c.args.past.now.items) c.in-Some.refusal (sym c.closed.ensures ∙ c.in-Some.is)
+    barred_room (with_calls c.args.self.now.state c.args.past.now.items) c.in-Some.refusal (sym c.barred.ensures ∙ c.in-Some.is)
 
 pub returns-in-None-clause-store : goal.returns-in-None-clause-store
 returns-in-None-clause-store g c =
-    any_store g.K.Keeper.held g.K.Keeper.may_leave g.K.Keeper.faults c.args.self.now.keeper c.act.new.self.keeper (with_calls c.args.self.now.state c.args.past.now.items) c.args.command.now c.act.result c.act.ensures.call.allowed c.act.ensures.store
+    any_store g.K.Keeper.held g.K.Keeper.may_leave g.K.Keeper.faults c.args.self.now.keeper c.act.new.self.keeper (with_calls c.args.self.now.state c.args.past.now.items) c.args.command.now (with_calls c.act.new.self.state c.args.past.now.items) c.act.result c.act.ensures.call c.act.ensures.store
 
 pub returns-in-None-clause-keeper : goal.returns-in-None-clause-keeper
 returns-in-None-clause-keeper g c =
@@ -26,4 +26,7 @@ returns-in-None-clause-keeper g c =
 
 pub returns-in-None-clause-room : goal.returns-in-None-clause-room
 returns-in-None-clause-room g c =
-    λ noted. has_room (with_calls c.args.self.now.state c.args.past.now.items) (sym c.closed.ensures ∙ c.in-None.is)
+    λ noted. has_room (with_calls c.args.self.now.state c.args.past.now.items) (sym c.barred.ensures ∙ c.in-None.is)
+
+pub act-requires : goal.act-requires
+act-requires g c = due_of c.args.self.now.state c.args.past.now.items c.requires (sym c.barred.ensures ∙ c.in-None.is)

@@ -1,4 +1,4 @@
-use Rattle.std.proofs.Common.{◌≡◌, ◌∷◌, [], None, refl, ap, sym, ◌∙◌, subst}
+use Rattle.std.proofs.Common.{◌≡◌, ◌+◌, ◌∷◌, [], None, refl, ap, sym, ◌∙◌, subst}
 use Rattle.std.specs.Map.{lookup, values_of}
 use Rattle.std.specs.Option.{option_copied_mut}
 use Rattle.hall.specs.Named.{AreNamed}
@@ -14,7 +14,10 @@ invariant_of-self c =
       | in-Some w ↦
           let x = w.in-Some.session.now in
           let at = sym (ap option_copied_mut w.in-Some.is) ∙ c.get_mut.ensures.value in
-          let is = ap (λ s. s.by_name.entries) w.self-inside-is ∙ (c.get_mut.follows.holds (with_next_unit x)).0 in
+          let is =
+          ap (λ s. s.by_name.entries) w.self-inside-is
+          ∙ ap (λ d. (c.get_mut.follows.lender (record x { luw = x.luw + 1; draws = d })).entries) w.no_numbers.ensures
+          ∙ (c.get_mut.follows.holds (with_next_unit x)).0 in
           subst (AreNamed (λ x. x.name)) (sym is) (are_named_changed (λ x. x.name) c.args.name.now es x (with_next_unit x) c.self.invariant at refl)
       | in_default w ↦
           let is = ap (λ s. s.by_name.entries) w.self-inside-is ∙ ap (λ m. m.entries) c.get_mut.follows.holds-at-none in
@@ -28,7 +31,10 @@ returns c =
       | in-Some w ↦
           let x = w.in-Some.session.now in
           let at = sym (ap option_copied_mut w.in-Some.is) ∙ c.get_mut.ensures.value in
-          let is = ap (λ s. s.by_name.entries) w.self-inside-is ∙ (c.get_mut.follows.holds (with_next_unit x)).0 in
+          let is =
+          ap (λ s. s.by_name.entries) w.self-inside-is
+          ∙ ap (λ d. (c.get_mut.follows.lender (record x { luw = x.luw + 1; draws = d })).entries) w.no_numbers.ensures
+          ∙ (c.get_mut.follows.holds (with_next_unit x)).0 in
           ap values_of is ∙ changed_by_name (λ x. x.name) c.args.name.now with_next_unit es x (with_next_unit x) c.self.invariant at refl
           ∙ ap (with_session c.args.name.now with_next_unit) c.self.view_is
       | in_default w ↦

@@ -5,5 +5,5 @@ use Rattle.hall.proofs.sessions.Sessions.find.Goals as goal
 
 pub returns : goal.returns
 returns c =
-    c.copied.ensures ∙ c.get.ensures.value ∙ found_by_name (λ x. x.name) c.args.name.now c.self.inside.by_name.entries c.self.invariant
+    c.get.ensures.value ∙ found_by_name (λ x. x.name) c.args.name.now c.self.inside.by_name.entries c.self.invariant
     ∙ ap (λ xs. session_at xs c.args.name.now) c.self.view_is

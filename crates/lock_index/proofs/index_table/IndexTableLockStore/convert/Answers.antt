@@ -1,4 +1,4 @@
-use Rattle.std.proofs.Common.{◌≡◌, ◌∙◌, Ok}
+use Rattle.std.proofs.Common.{◌≡◌, Ok}
 use Rattle.lock_entry.specs.Table.{Table}
 use Rattle.lock_entry.specs.Converting.{conversion, converted}
 use Rattle.lock_entry.proofs.ConversionSound.{IsTable-converted}

@@ -1,10 +1,11 @@
-use Rattle.std.proofs.Common.{◌≡◌, ◌∷◌, [], None, ap, sym, ◌∙◌, subst}
-use Rattle.std.specs.Map.{lookup, values_of}
+use Rattle.std.proofs.Common.{◌≡◌, None, ap, sym, ◌∙◌, subst}
+use Rattle.std.specs.Map.{lookup}
 use Rattle.std.specs.Option.{option_copied_mut}
 use Rattle.dialogue_session.specs.Private.{Private, without_requests}
 use Rattle.hall.specs.Named.{AreNamed}
-use Rattle.hall.proofs.Named.{are_named_changed, changed_by_name, name_eq, unchanged_by_name}
+use Rattle.hall.proofs.Named.{are_named_changed, name_eq}
 use Rattle.script_runner.specs.Sides.{with_side}
+use Rattle.script_runner.proofs.Dialogues.{owner, side_changed, side_unchanged, sides_in}
 use Rattle.script_runner.proofs.sides.Sides.reset.Goals as goal
 use Rattle.script_runner.proofs.sides.Sides.reset.Goals.{in-Some, in_default}
 
@@ -15,11 +16,11 @@ invariant_of-self c =
       | in-Some w ↦
           let at = sym (ap option_copied_mut w.in-Some.is) ∙ c.get_mut.ensures.value in
           let is = ap (λ s. s.by_name.entries) w.self-inside-is ∙ (c.get_mut.follows.holds w.reset.new.self).0 in
-          subst (AreNamed (λ p. p.session)) (sym is)
-          (are_named_changed (λ p. p.session) c.args.name.now es w.in-Some.side.now w.reset.new.self c.self.invariant at (ap (λ (p : Private). p.session) w.reset.ensures))
+          subst (AreNamed owner) (sym is)
+          (are_named_changed owner c.args.name.now es w.in-Some.side.now w.reset.new.self c.self.invariant at (ap (λ (p : Private). p.session) w.reset.ensures))
       | in_default w ↦
           let is = ap (λ s. s.by_name.entries) w.self-inside-is ∙ ap (λ m. m.entries) c.get_mut.follows.holds-at-none in
-          subst (AreNamed (λ p. p.session)) (sym is) c.self.invariant
+          subst (AreNamed owner) (sym is) c.self.invariant
     ]
 
 pub returns : goal.returns
@@ -30,12 +31,12 @@ returns c =
       | in-Some w ↦
           let at = sym (ap option_copied_mut w.in-Some.is) ∙ c.get_mut.ensures.value in
           let is = ap (λ s. s.by_name.entries) w.self-inside-is ∙ (c.get_mut.follows.holds w.reset.new.self).0 in
-          ap values_of is
-          ∙ changed_by_name (λ p. p.session) c.args.name.now change es w.in-Some.side.now w.reset.new.self c.self.invariant at w.reset.ensures
+          ap sides_in is
+          ∙ side_changed c.args.name.now change es w.in-Some.side.now w.reset.new.self c.self.invariant at w.reset.ensures
           ∙ ap (λ v. with_side c.args.name.now change v.items) c.self.view_is
       | in_default w ↦
           let none : lookup (name_eq c.args.name.now) es ≡ None = sym c.get_mut.ensures.value ∙ ap option_copied_mut w.in_default.is in
           let is = ap (λ s. s.by_name.entries) w.self-inside-is ∙ ap (λ m. m.entries) c.get_mut.follows.holds-at-none in
-          ap values_of is ∙ unchanged_by_name (λ p. p.session) c.args.name.now (λ p. change p ∷ []) es c.self.invariant none
+          ap sides_in is ∙ side_unchanged c.args.name.now change es c.self.invariant none
           ∙ ap (λ v. with_side c.args.name.now change v.items) c.self.view_is
     ]

@@ -1,0 +1,5 @@
+//! Tests of what a session keeps to itself.
+#![tactic(auto)]
+
+#[cfg(test)]
+mod variables;

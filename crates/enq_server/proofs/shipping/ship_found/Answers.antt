@@ -1,0 +1,29 @@
+use Rattle.std.proofs.Common.{[], ◌∷◌, ◌+◌, take, sym, subst, ◌∙◌}
+use Rattle.replica_link.specs.Operations.{replica}
+use Rattle.replica_link.specs.Shipping.{owner_ops}
+use Rattle.enq_server.specs.Following.{IsAt}
+use Rattle.enq_server.proofs.Following.{at_more, keeps_both, owner_end, owner_more}
+use Rattle.enq_server.proofs.shipping.ship_found.Goals as goal
+use Rattle.enq_server.proofs.shipping.ship_found.Goals.{in-Some, in_default}
+
+pub loop-place-preserved : goal.loop-place-preserved
+loop-place-preserved g c =
+    let es = (g.T.LockStore.table c.args.table.now).entries in
+    let i = c.loop-place.place in
+    let owner = c.args.owner.now in
+    elim c.match-at.branch [
+      | in-Some w ↦ rw w.follower-is (record {
+        at = λ list before.
+            at_more g.L.Link.applied w.ship_own.new.follower list (owner_ops (take i es) owner) (owner_ops (w.in-Some.entry ∷ []) owner) (owner_ops (take (i + 1) es) owner)
+            (owner_more es i w.in-Some.entry owner (sym c.at.ensures.entry ∙ w.in-Some.is))
+            (w.ship_own.ensures.at (replica list (owner_ops (take i es) owner)) (c.loop-place.invariant.at list before));
+        told = w.ship_own.ensures.told ∙ c.loop-place.invariant.told;
+        keeps = keeps_both g.L.Link.faults g.L.Link.refusals c.args.follower.now c.loop-place.follower w.ship_own.new.follower c.loop-place.invariant.keeps w.ship_own.ensures.keeps;
+      })
+      | in_default w ↦ rw w.follower-is (record {
+        at = λ list before.
+            subst (λ ops. IsAt g.L.Link.applied c.loop-place.follower (replica list ops)) (sym (owner_end es i owner (sym c.at.ensures.entry ∙ w.in_default.is))) (c.loop-place.invariant.at list before);
+        told = c.loop-place.invariant.told;
+        keeps = c.loop-place.invariant.keeps;
+      })
+    ]

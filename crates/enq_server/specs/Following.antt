@@ -1,0 +1,50 @@
+-- A replica that follows the lock table.
+use Rattle.std.specs.Prelude.{◌≡◌, ◌⊎◌, ◌≤◌, ℕ, Bool, true, false, List, Option, Some, IfSome}
+use Rattle.enq_base.specs.Causes.{Rose}
+use Rattle.lock_entry.specs.Sound.{IsSound, first_clash}
+use Rattle.lock_entry.specs.declared.entry.Entry.{Entry}
+use Rattle.replica_link.specs.declared.fault.LinkFault.{LinkFault}
+use Rattle.replica_link.specs.declared.fault.LinkFault.TheVariants as link
+use Rattle.enq_server.specs.declared.fault.OverFault.{OverFault}
+use Rattle.enq_server.specs.declared.fault.OverFault.TheVariants as over
+
+-- the link to it, the number of the next operation, and whether it follows
+pub record Following (L : Type 0) : Type 0 where
+  pub link : L
+  pub seq : ℕ
+  pub attached : Bool
+
+-- where it follows and the link tells its list, that is this one
+abbrev pub IsAt : {L : Type 0} → (L → Option (List Entry)) → Following L → List Entry → Type 0
+IsAt applied f list = f.attached ≡ true → IfSome (applied f.link) (λ l. l ≡ list)
+
+-- neither count has fallen, and what followed before is lost only where one of them rose
+pub record KeepsOn {L : Type 0} (faults refusals : L → ℕ) (old new : Following L) : Type 0 where
+  pub faults_later : faults old.link ≤ faults new.link
+  pub refusals_later : refusals old.link ≤ refusals new.link
+  pub kept : new.attached ≡ true → old.attached ≡ true
+  pub lost : old.attached ≡ true → new.attached ≡ false → Rose (faults old.link) (faults new.link) ⊎ Rose (refusals old.link) (refusals new.link)
+
+-- how a fault of the link is told
+abbrev pub over_fault : LinkFault → OverFault
+over_fault link.Failed = over.Link
+over_fault link.NoMemory = over.NoMemory
+
+-- neither count of the link has fallen
+pub record IsLater {L : Type 0} (faults refusals : L → ℕ) (old new : Following L) : Type 0 where
+  pub faults_later : faults old.link ≤ faults new.link
+  pub refusals_later : refusals old.link ≤ refusals new.link
+
+-- it follows as before, and would give the same
+pub record StillFollows {L : Type 0} (gives : L → List Entry) (applied : L → Option (List Entry)) (old new : Following L) : Type 0 where
+  pub before : old.attached ≡ true
+  pub now : new.attached ≡ true
+  pub given : gives new.link ≡ gives old.link
+  pub told : applied new.link ≡ applied old.link
+
+-- why no table was taken over from the replica: none followed, the link failed, what it gives isn't sound, or memory ran out, after which it may be asked again
+abbrev pub IsOverFault : {L : Type 0} → (faults : L → ℕ) → (gives : L → List Entry) → (applied : L → Option (List Entry)) → (old new : Following L) → OverFault → Type 0
+IsOverFault faults gives applied old new over.NotAttached = (old.attached ≡ false) × (new ≡ old)
+IsOverFault faults gives applied old new over.Link = (old.attached ≡ true) × (new.attached ≡ false) × Rose (faults old.link) (faults new.link)
+IsOverFault faults gives applied old new (over.Clash first second) = (old.attached ≡ true) × (new.attached ≡ false) × (IsSound (gives old.link) → ⊥) × (first_clash (gives old.link) ≡ Some (first, second))
+IsOverFault faults gives applied old new over.NoMemory = StillFollows gives applied old new

@@ -1,0 +1,191 @@
+ghost use Rattle.std.specs.Prelude.{◌≡◌, [], ◌∷◌, List, map, is_some};
+ghost use Rattle.std.specs.List.{flat_map};
+ghost use Rattle.lock_entry.specs.declared.entry.Entry.{Entry};
+ghost use Rattle.lock_entry.specs.Names.{halves, halves_of, named};
+ghost use Rattle.replica_link.specs.Operations.{replica};
+ghost use Rattle.replica_link.specs.Shipping.{drop_of, freed_ops, granted_ops, lowered_op, owner_ops, put_ops, turn_ops};
+ghost use Rattle.replica_link.specs.declared.operation.TableOp.TheVariants.{Put};
+ghost use Rattle.enq_server.specs.Following.{IsAt, KeepsOn};
+
+use crate::follower::Follower;
+use enq_base::{NoMemory, Owner};
+use lock_entry::{Asked, Asker, Entry, LockStore, Request};
+use replica_link::{Link, TableOp};
+
+fn drop_of(entry: &Entry) -> TableOp
+    ensures { result ≡ drop_of entry.now }
+{
+    TableOp::Drop {
+        owner: entry.owner,
+        asked: entry.asked(),
+    }
+}
+
+/// The entry goes, where it is the owner's.
+fn ship_own<L: Link>(follower: &mut Follower<L>, entry: &Entry, owner: &Owner)
+    ensures at { (list : List Entry) → IsAt L.applied follower.old list → IsAt L.applied follower.new (replica list (owner_ops (entry.now ∷ []) owner.now)) }
+    ensures told { is_some (L.applied follower.new.link) ≡ is_some (L.applied follower.old.link) }
+    ensures keeps { KeepsOn L.faults L.refusals follower.old follower.new }
+{
+    if entry.is_of(owner) {
+        follower.ship(&drop_of(entry));
+    }
+}
+
+/// The owner's entries of the table go, found one by one.
+fn ship_found<T: LockStore, L: Link>(follower: &mut Follower<L>, table: &T, owner: &Owner)
+    ensures at { (list : List Entry) → IsAt L.applied follower.old list → IsAt L.applied follower.new (replica list (owner_ops (T.table table.now).entries owner.now)) }
+    ensures told { is_some (L.applied follower.new.link) ≡ is_some (L.applied follower.old.link) }
+    ensures keeps { KeepsOn L.faults L.refusals follower.old follower.new }
+{
+    for place in 0..table.len() {
+        if let Some(entry) = table.at(place + 1) {
+            ship_own(follower, &entry, owner);
+        }
+    }
+}
+
+/// The owner's entries of the table go. Without memory for a list of them it goes over the whole table.
+pub fn ship_owner<T: LockStore, L: Link>(follower: &mut Follower<L>, table: &T, owner: &Owner)
+    ensures at { (list : List Entry) → IsAt L.applied follower.old list → IsAt L.applied follower.new (replica list (owner_ops (T.table table.now).entries owner.now)) }
+    ensures told { is_some (L.applied follower.new.link) ≡ is_some (L.applied follower.old.link) }
+    ensures keeps { KeepsOn L.faults L.refusals follower.old follower.new }
+{
+    if follower.attached() {
+        match table.entries_of(follower.alloc(), owner) {
+            Ok(own) => ship_drops(follower, own.as_slice()),
+            Err(NoMemory) => ship_found(follower, table, owner),
+        }
+    }
+}
+
+/// These entries stand.
+pub fn ship_puts<L: Link>(follower: &mut Follower<L>, entries: &[Entry])
+    ensures at { (list : List Entry) → IsAt L.applied follower.old list → IsAt L.applied follower.new (replica list (map Put entries.now)) }
+    ensures told { is_some (L.applied follower.new.link) ≡ is_some (L.applied follower.old.link) }
+    ensures keeps { KeepsOn L.faults L.refusals follower.old follower.new }
+{
+    for entry in entries {
+        follower.ship(&TableOp::Put(*entry));
+    }
+}
+
+/// These entries go.
+pub fn ship_drops<L: Link>(follower: &mut Follower<L>, entries: &[Entry])
+    ensures at { (list : List Entry) → IsAt L.applied follower.old list → IsAt L.applied follower.new (replica list (map drop_of entries.now)) }
+    ensures told { is_some (L.applied follower.new.link) ≡ is_some (L.applied follower.old.link) }
+    ensures keeps { KeepsOn L.faults L.refusals follower.old follower.new }
+{
+    for entry in entries {
+        follower.ship(&drop_of(entry));
+    }
+}
+
+/// The entry of this name stands as it does in the table.
+fn ship_name<T: LockStore, L: Link>(
+    follower: &mut Follower<L>,
+    table: &T,
+    owner: &Owner,
+    asked: &Asked,
+)
+    ensures at { (list : List Entry) → IsAt L.applied follower.old list → IsAt L.applied follower.new (replica list (put_ops (T.table table.now).entries (named owner.now asked.now))) }
+    ensures told { is_some (L.applied follower.new.link) ≡ is_some (L.applied follower.old.link) }
+    ensures keeps { KeepsOn L.faults L.refusals follower.old follower.new }
+{
+    if let Some(entry) = table.find(owner, asked) {
+        follower.ship(&TableOp::Put(entry));
+    }
+}
+
+/// The entries that the halves of a request name stand as they do in the table.
+fn ship_halves<T: LockStore, L: Link>(
+    follower: &mut Follower<L>,
+    table: &T,
+    asker: &Asker,
+    request: &Request,
+)
+    ensures at { (list : List Entry) → IsAt L.applied follower.old list → IsAt L.applied follower.new (replica list (granted_ops (T.table table.now).entries (halves_of asker.now request.now))) }
+    ensures told { is_some (L.applied follower.new.link) ≡ is_some (L.applied follower.old.link) }
+    ensures keeps { KeepsOn L.faults L.refusals follower.old follower.new }
+{
+    if request.dialogue {
+        ship_name(follower, table, &asker.dialogue, &request.asked);
+    }
+    if request.update {
+        ship_name(follower, table, &asker.update, &request.asked);
+    }
+}
+
+/// The entries that the requests name stand as they do in the table.
+pub fn ship_granted<T: LockStore, L: Link>(
+    follower: &mut Follower<L>,
+    table: &T,
+    asker: &Asker,
+    requests: &[Request],
+)
+    ensures at { (list : List Entry) → IsAt L.applied follower.old list → IsAt L.applied follower.new (replica list (granted_ops (T.table table.now).entries (halves asker.now requests.now))) }
+    ensures told { is_some (L.applied follower.new.link) ≡ is_some (L.applied follower.old.link) }
+    ensures keeps { KeepsOn L.faults L.refusals follower.old follower.new }
+{
+    for request in requests {
+        ship_halves(follower, table, asker, request);
+    }
+}
+
+fn lowered(entry: &Entry) -> TableOp
+    ensures { result ≡ lowered_op entry.now }
+{
+    if entry.count <= 1 {
+        drop_of(entry)
+    } else {
+        let mut lower = *entry;
+        lower.count -= 1;
+        TableOp::Put(lower)
+    }
+}
+
+/// The entry of this name, as it stands in the table, loses one.
+pub fn ship_freed<T: LockStore, L: Link>(
+    follower: &mut Follower<L>,
+    table: &T,
+    owner: &Owner,
+    asked: &Asked,
+)
+    ensures at { (list : List Entry) → IsAt L.applied follower.old list → IsAt L.applied follower.new (replica list (freed_ops (T.table table.now).entries (named owner.now asked.now))) }
+    ensures told { is_some (L.applied follower.new.link) ≡ is_some (L.applied follower.old.link) }
+    ensures keeps { KeepsOn L.faults L.refusals follower.old follower.new }
+{
+    if let Some(entry) = table.find(owner, asked) {
+        follower.ship(&lowered(&entry));
+    }
+}
+
+fn turn_of(owner: Owner, asked: &Asked) -> TableOp
+    ensures { result ≡ TableOp.Turn owner asked.now.table asked.now.pattern }
+{
+    TableOp::Turn {
+        owner,
+        table: asked.table,
+        pattern: asked.pattern,
+    }
+}
+
+/// The asker's optimistic entries at these tables and arguments turn.
+pub fn ship_turns<L: Link>(follower: &mut Follower<L>, asker: &Asker, asked: &[Asked])
+    ensures at { (list : List Entry) → IsAt L.applied follower.old list → IsAt L.applied follower.new (replica list (flat_map (turn_ops asker.now) asked.now)) }
+    ensures told { is_some (L.applied follower.new.link) ≡ is_some (L.applied follower.old.link) }
+    ensures keeps { KeepsOn L.faults L.refusals follower.old follower.new }
+{
+    for one in asked {
+        ship_turn(follower, asker, one);
+    }
+}
+
+fn ship_turn<L: Link>(follower: &mut Follower<L>, asker: &Asker, asked: &Asked)
+    ensures at { (list : List Entry) → IsAt L.applied follower.old list → IsAt L.applied follower.new (replica list (turn_ops asker.now asked.now)) }
+    ensures told { is_some (L.applied follower.new.link) ≡ is_some (L.applied follower.old.link) }
+    ensures keeps { KeepsOn L.faults L.refusals follower.old follower.new }
+{
+    follower.ship(&turn_of(asker.dialogue, asked));
+    follower.ship(&turn_of(asker.update, asked));
+}

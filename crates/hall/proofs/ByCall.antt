@@ -1,0 +1,215 @@
+-- What holds of the verdict of each call holds of any call.
+use Rattle.std.proofs.Common.{◌≡◌, ℕ, Bool, true, false, cond, List, length, map, refl}
+use Rattle.std.specs.Prelude.{if◌then◌else◌, nat_eq, nat_le, nat_lt, Option, Some, None, Result, Ok, Err, is_some}
+use Rattle.enq_base.specs.declared.condition.Condition.{Condition}
+use Rattle.enq_base.specs.declared.condition.Condition.TheVariants as condition
+use Rattle.enq_base.specs.declared.owner.UnitKey.{UnitKey}
+use Rattle.enq_base.specs.declared.refusal.Refusal.{Refusal}
+use Rattle.enq_base.specs.declared.refusal.Refusal.TheVariants as refusal
+use Rattle.enq_base.specs.declared.unit.Parts.{Parts}
+use Rattle.enq_base.specs.declared.unit.Status.{Status}
+use Rattle.enq_base.specs.declared.unit.Status.TheVariants.{Bad, Bad2}
+use Rattle.lock_entry.specs.Converting.{Conversion, converted, first_withstanding, is_lost, sum_exceeds}
+use Rattle.lock_entry.specs.Granting.{asked, first_bar, is_full, is_over, new_names, readmitted, unless_barred}
+use Rattle.lock_entry.specs.Names.{halves}
+use Rattle.lock_entry.specs.Table.{Table}
+use Rattle.lock_entry.specs.declared.entry.Asked.{Asked}
+use Rattle.lock_entry.specs.declared.entry.Asker.{Asker}
+use Rattle.lock_entry.specs.declared.entry.Entry.{Entry}
+use Rattle.lock_entry.specs.declared.entry.Request.{Request}
+use Rattle.lock_entry.specs.declared.fault.AskFault.{AskFault}
+use Rattle.posting.specs.Posts.{entries_of, kind_for}
+use Rattle.posting.specs.Steps.{waiting_for}
+use Rattle.update_records.specs.Marks.{status_of}
+use Rattle.hall.specs.Calls.{Call, LogsOn, OfSession, OfWorker, OfAdmin, Cancels, Resubmits, Takes, Posts, Drops}
+use Rattle.hall.specs.Calls.{SessionCall, LogsOff, Asks, Frees, FreesAll, Converts, Reads, Commits, RollsBack, call_of, wants_server}
+use Rattle.hall.specs.Devices.{DeviceOutcome, AllWell, Wanting, StoreFails, found_by}
+use Rattle.hall.specs.History.{Served, doubted, ends_in, judged, pending_after, refused, served}
+use Rattle.hall.specs.Orders.{first_unclaimed, order_for, order_of, without_order}
+use Rattle.hall.specs.Sessions.{owners_of, pair_of, session_at, unit_key}
+use Rattle.hall.specs.State.{State}
+use Rattle.hall.specs.Step.{Found, Verdict, Refuses, Leaves, ask_refusal, barred, called, caller_refusal, call_verdict, cancelled, commit, committed, converting, effects_in, entered, freed_all, granting, logged_off, logon, lowered, marked, or_else, own_verdict, posted_reply, posting, reopened, reposted, rolled_back, session_call, session_refusal, taken, taking, unavailable, unless_refused, verdict, with_room}
+use Rattle.hall.specs.declared.command.Command.{Command}
+use Rattle.hall.specs.declared.command.Reply.TheVariants as reply
+use Rattle.hall.specs.declared.command.Session.{Session}
+use Rattle.update_records.specs.Ledger.{Ledger}
+use Rattle.hall.proofs.Cancels.{CanBeCancelled, by_cancel}
+use Rattle.hall.proofs.Plain.{IsOfRule, IsPlain}
+use Rattle.hall.proofs.Resubmissions.{by_resubmit, table_in}
+
+-- What each call comes to, by the cases that there are: a property is shown for each of them once. The refusals of all
+-- calls are one case.
+pub record OfEach (P : Call → Verdict → Type 0) (found : Found) (s : State) : Type 0 where
+  pub refuses : (call : Call) (r : Refusal) → IsPlain r → P call (Refuses r)
+  pub enters : (name user : List ℕ) → is_some (session_at s.sessions name) ≡ false → P (LogsOn name user) (Leaves (entered s name user) reply.Done)
+  pub logs_off : (name : List ℕ) (x : Session) → session_at s.sessions name ≡ Some x → P (OfSession name LogsOff) (Leaves (logged_off s x) reply.Done)
+  pub grants : (name : List ℕ) (x : Session) (rs : List Request) (locks : List Entry) → session_at s.sessions name ≡ Some x → asked (table_in s) (pair_of s.stored.start x) x.user rs ≡ Ok locks → P (OfSession name (Asks rs)) (Leaves (record s { locks = locks }) reply.Done)
+  pub lowers : (name : List ℕ) (x : Session) (rs : List Request) → session_at s.sessions name ≡ Some x → P (OfSession name (Frees rs)) (Leaves (lowered s x rs) reply.Done)
+  pub frees : (name : List ℕ) (x : Session) → session_at s.sessions name ≡ Some x → P (OfSession name FreesAll) (Leaves (freed_all s x) reply.Done)
+  pub converts : (name : List ℕ) (x : Session) (wanted : List Asked) (c : Conversion) → session_at s.sessions name ≡ Some x → converted s.locks (pair_of s.stored.start x) wanted ≡ Ok c → P (OfSession name (Converts wanted)) (Leaves (record s { locks = c.entries }) reply.Done)
+  pub reads : (name : List ℕ) (x : Session) (table key : List ℕ) → session_at s.sessions name ≡ Some x → P (OfSession name (Reads table key)) (Leaves s (reply.Row (found.row table key)))
+  pub commits_nothing : (name : List ℕ) (x : Session) (parts : Parts) → session_at s.sessions name ≡ Some x → P (OfSession name (Commits parts)) (Leaves s reply.Done)
+  pub commits : (name : List ℕ) (x : Session) (parts : Parts) → session_at s.sessions name ≡ Some x → P (OfSession name (Commits parts)) (Leaves (committed s x parts) (reply.Unit (unit_key s.stored.start x)))
+  pub rolls_back : (name : List ℕ) (x : Session) → session_at s.sessions name ≡ Some x → P (OfSession name RollsBack) (Leaves (rolled_back s x) reply.Done)
+  pub takes : (worker part : ℕ) (unit : UnitKey) → order_of s.orders worker ≡ None → first_unclaimed s.orders (waiting_for part s.stored) ≡ Some unit → P (OfWorker worker (Takes part)) (Leaves (taken s worker unit) (reply.Unit unit))
+  pub posts : (worker part : ℕ) (unit : UnitKey) → order_for part s.stored s.orders worker ≡ Some unit → P (OfWorker worker (Posts part)) (Leaves (marked part s worker unit (kind_for part (found.part part unit))) (posted_reply part unit (found.part part unit)))
+  pub drops : (worker : ℕ) (unit : UnitKey) → order_of s.orders worker ≡ Some unit → P (OfWorker worker Drops) (Leaves (record s { orders = without_order s.orders worker }) (reply.Unit unit))
+  pub cancels : (unit : UnitKey) (status : Status) → CanBeCancelled s.stored s.orders s.mark_limit unit status → P (OfAdmin (Cancels unit)) (Leaves (cancelled s unit status) (reply.Unit unit))
+  pub reopens : (unit : UnitKey) (es : List Entry) → status_of s.stored.units s.stored.marks unit ≡ Some Bad → readmitted (table_in s) (owners_of unit) (entries_of s.stored.units unit) ≡ Ok es → P (OfAdmin (Resubmits unit)) (Leaves (reopened s unit es) (reply.Unit unit))
+  pub reposts : (unit : UnitKey) → status_of s.stored.units s.stored.marks unit ≡ Some Bad2 → P (OfAdmin (Resubmits unit)) (Leaves (reposted s unit) (reply.Unit unit))
+
+-- ---- choices
+
+one_of : (Q : Verdict → Type 0) (b : Bool) (v w : Verdict) → (b ≡ true → Q v) → (b ≡ false → Q w) → Q (if b then v else w)
+one_of Q true v w p q = p refl
+one_of Q false v w p q = q refl
+
+-- a call that adds a mark: what holds where the store has no room for it, and where it has
+pub by_room : (Q : Verdict → Type 0) (s : State) (v : Verdict) → Q (Refuses (refusal.StoreFull s.mark_limit)) → Q v → Q (with_room s v)
+by_room Q s v full room = one_of Q (nat_le s.mark_limit (length s.stored.marks)) _ v (λ e. full) (λ e. room)
+
+-- the grant rule refuses for its own reasons alone
+barred-of_rule : {X : Type 0} (o : Option Entry) (r : Result X AskFault) → IsOfRule r → IsOfRule (unless_barred o r)
+barred-of_rule None r h = h
+barred-of_rule (Some e) r h = refl
+
+cond-of_rule : {X : Type 0} (b : Bool) (x y : Result X AskFault) → IsOfRule x → IsOfRule y → IsOfRule (cond b x y)
+cond-of_rule true x y h k = h
+cond-of_rule false x y h k = k
+
+asked-of_rule : (t : Table) (asker : Asker) (user : List ℕ) (rs : List Request) → IsOfRule (asked t asker user rs)
+unfolding asked
+asked-of_rule t asker user rs =
+    barred-of_rule (first_bar t.entries asker (map (λ r. r.asked) rs)) _ (cond-of_rule (is_full t (length (new_names t.entries (halves asker rs)))) _ _ refl (cond-of_rule (is_over t.entries (halves asker rs)) _ _ refl tt))
+
+converted-of_rule : (entries : List Entry) (asker : Asker) (wanted : List Asked) → IsOfRule (converted entries asker wanted)
+unfolding converted
+converted-of_rule entries asker wanted =
+    cond-of_rule (is_lost entries asker wanted) _ _ refl
+    (barred-of_rule (first_withstanding entries asker wanted) _ (cond-of_rule (sum_exceeds entries asker wanted) _ _ refl tt))
+
+-- ---- one kind after the other
+
+by_grant : (Q : Verdict → Type 0) (s : State) (r : Result (List Entry) AskFault) → IsOfRule r → ((f : Refusal) → IsPlain f → Q (Refuses f)) → ((locks : List Entry) → r ≡ Ok locks → Q (Leaves (record s { locks = locks }) reply.Done)) → Q (granting s r)
+by_grant Q s (Ok locks) own refuse grant = grant locks refl
+by_grant Q s (Err f) own refuse grant = refuse (ask_refusal f) own
+
+by_conversion : (Q : Verdict → Type 0) (s : State) (r : Result Conversion AskFault) → IsOfRule r → ((f : Refusal) → IsPlain f → Q (Refuses f)) → ((c : Conversion) → r ≡ Ok c → Q (Leaves (record s { locks = c.entries }) reply.Done)) → Q (converting s r)
+by_conversion Q s (Ok c) own refuse convert = convert c refl
+by_conversion Q s (Err f) own refuse convert = refuse (ask_refusal f) own
+
+module _ (P : Call → Verdict → Type 0) (found : Found) (s : State) (each : OfEach P found s) where
+  commit-holds : (name : List ℕ) (x : Session) (parts : Parts) → session_at s.sessions name ≡ Some x → P (OfSession name (Commits parts)) (commit s x parts)
+  commit-holds name x parts at =
+      let Q = P (OfSession name (Commits parts)) in
+      one_of Q (nat_lt 200 (effects_in parts)) _ _ (λ e. each.refuses _ _ refl)
+      (λ e. one_of Q (nat_eq (effects_in parts) 0) _ _ (λ f. each.commits_nothing name x parts at)
+      (λ f. by_room Q s _ (each.refuses _ _ refl) (each.commits name x parts at)))
+
+  session-holds : (name : List ℕ) (x : Session) (call : SessionCall) → session_at s.sessions name ≡ Some x → P (OfSession name call) (session_call found s x call)
+  session-holds name x LogsOff at = each.logs_off name x at
+  session-holds name x (Asks rs) at =
+      by_grant (P (OfSession name (Asks rs))) s _ (asked-of_rule (table_in s) (pair_of s.stored.start x) x.user rs) (each.refuses _) (λ locks e. each.grants name x rs locks at e)
+  session-holds name x (Frees rs) at = each.lowers name x rs at
+  session-holds name x FreesAll at = each.frees name x at
+  session-holds name x (Converts wanted) at =
+      by_conversion (P (OfSession name (Converts wanted))) s _ (converted-of_rule s.locks (pair_of s.stored.start x) wanted) (each.refuses _) (λ c e. each.converts name x wanted c at e)
+  session-holds name x (Reads table key) at = each.reads name x table key at
+  session-holds name x (Commits parts) at = commit-holds name x parts at
+  session-holds name x RollsBack at = each.rolls_back name x at
+
+  called-holds : (name : List ℕ) (call : SessionCall) (o : Option Session) → session_at s.sessions name ≡ o → P (OfSession name call) (called found s call o)
+  called-holds name call None at = each.refuses _ _ refl
+  called-holds name call (Some x) at = session-holds name x call at
+
+  taking-holds : (worker part : ℕ) (o : Option UnitKey) → order_of s.orders worker ≡ None → first_unclaimed s.orders (waiting_for part s.stored) ≡ o → P (OfWorker worker (Takes part)) (taking s worker o)
+  taking-holds worker part None free e = each.refuses _ _ refl
+  taking-holds worker part (Some unit) free e = each.takes worker part unit free e
+
+  take-holds : (worker part : ℕ) (o : Option UnitKey) → order_of s.orders worker ≡ o → P (OfWorker worker (Takes part)) (elim o [ Some unit ↦ Refuses (refusal.WorkerBusy unit) | None ↦ taking s worker (first_unclaimed s.orders (waiting_for part s.stored)) ])
+  take-holds worker part None e = taking-holds worker part (first_unclaimed s.orders (waiting_for part s.stored)) e refl
+  take-holds worker part (Some unit) e = each.refuses _ _ refl
+
+  post-holds : (worker part : ℕ) (o : Option UnitKey) → order_for part s.stored s.orders worker ≡ o → P (OfWorker worker (Posts part)) (elim o [ None ↦ Refuses refusal.NoOrder | Some unit ↦ with_room s (posting part s worker unit (found.part part unit)) ])
+  post-holds worker part None e = each.refuses _ _ refl
+  post-holds worker part (Some unit) e = by_room (P (OfWorker worker (Posts part))) s _ (each.refuses _ _ refl) (each.posts worker part unit e)
+
+  drop-holds : (worker : ℕ) (o : Option UnitKey) → order_of s.orders worker ≡ o → P (OfWorker worker Drops) (elim o [ None ↦ Refuses refusal.NoOrder | Some unit ↦ Leaves (record s { orders = without_order s.orders worker }) (reply.Unit unit) ])
+  drop-holds worker None e = each.refuses _ _ refl
+  drop-holds worker (Some unit) e = each.drops worker unit e
+
+  logon-holds : (name user : List ℕ) → P (LogsOn name user) (logon s name user)
+  logon-holds name user =
+      let Q = P (LogsOn name user) in
+      one_of Q (is_some (session_at s.sessions name)) _ _ (λ e. each.refuses _ _ refl)
+      (λ free. one_of Q (nat_le 1024 (length s.sessions)) _ _ (λ e. each.refuses _ _ refl) (λ e. each.enters name user free))
+
+  own-holds : (call : Call) → P call (own_verdict found s call)
+  own-holds (LogsOn name user) = logon-holds name user
+  own-holds (OfSession name call) = called-holds name call (session_at s.sessions name) refl
+  own-holds (OfWorker worker (Takes part)) = take-holds worker part (order_of s.orders worker) refl
+  own-holds (OfWorker worker (Posts part)) = post-holds worker part (order_for part s.stored s.orders worker) refl
+  own-holds (OfWorker worker Drops) = drop-holds worker (order_of s.orders worker) refl
+  own-holds (OfAdmin (Cancels unit)) = by_cancel (P (OfAdmin (Cancels unit))) s unit (each.refuses _) (each.cancels unit)
+  own-holds (OfAdmin (Resubmits unit)) = by_resubmit (P (OfAdmin (Resubmits unit))) s unit (each.refuses _) (each.reopens unit) (each.reposts unit)
+
+-- ---- why a call isn't served
+
+-- a refusal is plain, if there is one
+abbrev ArePlain : Option Refusal → Type 0
+ArePlain None = Unit {0}
+ArePlain (Some r) = IsPlain r
+
+plain_if : (b : Bool) (r : Refusal) (o : Option Refusal) → IsPlain r → ArePlain o → ArePlain (if b then Some r else o)
+plain_if true r o p q = p
+plain_if false r o p q = q
+
+plain_else : (o p : Option Refusal) → ArePlain o → ArePlain p → ArePlain (or_else o p)
+plain_else None p h k = k
+plain_else (Some r) p h k = h
+
+plain_down : (k : Condition) → ArePlain (elim k [ condition.Up ↦ None | condition.NoServer ↦ None | condition.Doubt n ↦ Some (refusal.Down n) ])
+plain_down condition.Up = tt
+plain_down condition.NoServer = tt
+plain_down (condition.Doubt n) = refl
+
+plain_server : (k : Condition) (call : Call) → ArePlain (elim k [ condition.Up ↦ None | condition.NoServer ↦ if wants_server call then Some refusal.SystemFailure else None | condition.Doubt n ↦ None ])
+plain_server condition.Up call = tt
+plain_server condition.NoServer call = plain_if (wants_server call) refusal.SystemFailure None refl tt
+plain_server (condition.Doubt n) call = tt
+
+plain_session : (call : SessionCall) (o : Option Session) → ArePlain (session_refusal call o)
+plain_session call None = refl
+plain_session call (Some x) = plain_if _ refusal.LocksLost None refl tt
+
+plain_caller : (s : State) (call : Call) → ArePlain (caller_refusal s call)
+plain_caller s (LogsOn name user) = tt
+plain_caller s (OfSession name call) = plain_session call (session_at s.sessions name)
+plain_caller s (OfWorker worker call) = tt
+plain_caller s (OfAdmin call) = tt
+
+plain_unavailable : (s : State) (call : Call) → ArePlain (unavailable s call)
+plain_unavailable s call =
+    plain_else (barred s) _ (plain_if _ refusal.LogFull _ refl (plain_down s.condition))
+    (plain_else (caller_refusal s call) _ (plain_caller s call) (plain_server s.condition call))
+
+unless_holds : (Q : Verdict → Type 0) (o : Option Refusal) (v : Verdict) → ArePlain o → ((r : Refusal) → IsPlain r → Q (Refuses r)) → Q v → Q (unless_refused o v)
+unless_holds Q None v plain refuse h = h
+unless_holds Q (Some r) v plain refuse h = refuse r plain
+
+-- ---- any call
+
+pub by_call : (P : Call → Verdict → Type 0) (found : Found) (s : State) → OfEach P found s → (call : Call) → P call (call_verdict found s call)
+unfolding call_verdict
+by_call P found s each call =
+    unless_holds (P call) (unavailable s call) (own_verdict found s call) (plain_unavailable s call) (each.refuses call) (own-holds P found s each call)
+
+-- what is shown of what a call comes to, of want of memory, and of a server in doubt, is shown of what is served
+pub by_event : (Q : Served → Type 0) (o : DeviceOutcome) (s : State) (c : Command) → ((found : Found) → Q (judged s (verdict found s c))) → Q (refused s refusal.NoMemory) → ((pending : Option Ledger) → Q (refused (doubted s pending) refusal.StoreFault)) → Q (served o s c)
+by_event Q o s c well wanting fails =
+    let v = verdict (found_by o.reading s) s c in
+    elim o.event as (λ e. Q (ends_in e s (call_of c) v)) [
+      | AllWell ↦ well (found_by o.reading s)
+      | Wanting ↦ wanting
+      | StoreFails ↦ fails (pending_after s (call_of c) v)
+    ]

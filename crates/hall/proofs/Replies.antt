@@ -1,0 +1,173 @@
+-- How calls are answered.
+use Rattle.std.proofs.Common.{◌≡◌, inl, inr, ℕ, Bool, true, false, refl, sym, ap, ◌∙◌, subst}
+use Rattle.std.specs.Prelude.{if◌then◌else◌, nat_eq, IsTrue, Some, None}
+use Rattle.enq_base.specs.declared.owner.UnitKey.{UnitKey}
+use Rattle.enq_base.specs.declared.refusal.Refusal.TheVariants as refusal
+use Rattle.posting.specs.declared.prepared.Outcome.{Outcome}
+use Rattle.posting.specs.declared.prepared.Outcome.TheVariants as outcome
+use Rattle.hall.specs.Acts.{IsAct}
+use Rattle.hall.specs.Calls.{Call, call_of}
+use Rattle.hall.specs.Devices.{DeviceOutcome, AllWell, Wanting, StoreFails, MayHappen, found_by, is_store_failure, may_want, uses_store}
+use Rattle.hall.specs.History.{IsGiven, Served, is_row, is_unrecorded, judged, served, step}
+use Rattle.hall.specs.Leaving.{HasCounted, HasStoreCause}
+use Rattle.hall.specs.State.{State}
+use Rattle.hall.specs.Step.{Found, Verdict, Leaves, call_verdict, own_verdict, posted_reply, unavailable, unless_refused, verdict}
+use Rattle.hall.specs.declared.command.Command.{Command}
+use Rattle.hall.specs.declared.command.Reply.{Reply}
+use Rattle.hall.specs.declared.command.Reply.TheVariants as reply
+use Rattle.hall.proofs.ByCall.{OfEach, by_call}
+use Rattle.hall.proofs.Frames.{by_noting}
+use Rattle.hall.proofs.Plain.{is_fault}
+
+abbrev pub is_fault_reply : Reply → Bool
+is_fault_reply (reply.Refused r) = is_fault r
+is_fault_reply _ = false
+
+-- an answer that tells no failure, is noted, and has no text
+record IsPlainReply (r : Reply) : Type 0 where
+  own : is_fault_reply r ≡ false
+  noted : is_unrecorded r ≡ false
+  no_row : is_row r ≡ false
+
+-- What is answered where the devices do well: no failure of one. A call that isn't noted changes nothing, and neither does
+-- one that is answered by a row, which may want memory.
+pub record IsAnswered (s : State) (call : Call) (v : Verdict) : Type 0 where
+  pub own : is_fault_reply (judged s v).reply ≡ false
+  pub quiet : is_unrecorded (judged s v).reply ≡ true → (judged s v).state ≡ s
+  pub row : is_row (judged s v).reply ≡ true → ((judged s v).state ≡ s) × IsTrue (may_want s v call)
+
+never : (b : Bool) → b ≡ false → b ≡ true → ⊥
+never true e f = cc
+never false e f = cc
+
+plainly : (s after : State) (call : Call) (r : Reply) → IsPlainReply r → IsAnswered s call (Leaves after r)
+plainly s after call r p = record { own = p.own; quiet = λ e. absurd (never _ p.noted e); row = λ e. absurd (never _ p.no_row e) }
+
+done : IsPlainReply reply.Done
+done = record { own = refl; noted = refl; no_row = refl }
+
+of_unit : (unit : UnitKey) → IsPlainReply (reply.Unit unit)
+of_unit unit = record { own = refl; noted = refl; no_row = refl }
+
+posted : (part : ℕ) (unit : UnitKey) (o : Outcome) → IsPlainReply (posted_reply part unit o)
+posted part unit outcome.Done =
+    elim (nat_eq part 1) as (λ b. IsPlainReply (if b then reply.Posted unit else reply.Closed unit)) [
+      | true ↦ record { own = refl; noted = refl; no_row = refl }
+      | false ↦ record { own = refl; noted = refl; no_row = refl }
+    ]
+posted part unit (outcome.Refused index reason) =
+    elim (nat_eq part 1) as (λ b. IsPlainReply (if b then reply.Bad unit index reason else reply.Bad2 unit index reason)) [
+      | true ↦ record { own = refl; noted = refl; no_row = refl }
+      | false ↦ record { own = refl; noted = refl; no_row = refl }
+    ]
+
+answered : (found : Found) (s : State) → OfEach (IsAnswered s) found s
+answered found s = record {
+  refuses = λ call r plain. record { own = plain; quiet = λ e. refl; row = λ e. absurd (never false refl e) };
+  enters = λ name user free. plainly s _ _ _ done;
+  logs_off = λ name x at. plainly s _ _ _ done;
+  grants = λ name x rs locks at e. plainly s _ _ _ done;
+  lowers = λ name x rs at. plainly s _ _ _ done;
+  frees = λ name x at. plainly s _ _ _ done;
+  converts = λ name x wanted c at e. plainly s _ _ _ done;
+  reads = λ name x table key at. record { own = refl; quiet = λ e. refl; row = λ e. (refl, refl) };
+  commits_nothing = λ name x parts at. plainly s _ _ _ done;
+  commits = λ name x parts at. plainly s _ _ _ (of_unit _);
+  rolls_back = λ name x at. plainly s _ _ _ done;
+  takes = λ worker part unit free e. plainly s _ _ _ (of_unit unit);
+  posts = λ worker part unit e. plainly s _ _ _ (posted part unit (found.part part unit));
+  drops = λ worker unit e. plainly s _ _ _ (of_unit unit);
+  cancels = λ unit status can. plainly s _ _ _ (of_unit unit);
+  reopens = λ unit es here stand. plainly s _ _ _ (of_unit unit);
+  reposts = λ unit here. plainly s _ _ _ (of_unit unit);
+}
+
+verdict_answered : (found : Found) (s : State) (call : Call) → IsAnswered s call (call_verdict found s call)
+verdict_answered found s call = by_call (IsAnswered s) found s (answered found s) call
+
+-- ---- what a call is answered tells of its devices
+
+-- a call that isn't noted changes nothing
+pub unnoted_same : (o : DeviceOutcome) (s : State) (c : Command) → is_unrecorded (served o s c).reply ≡ true → (served o s c).state ≡ s
+unnoted_same o s c =
+    elim o.event as (λ e. is_unrecorded (served (record { event = e; reading = o.reading }) s c).reply ≡ true → (served (record { event = e; reading = o.reading }) s c).state ≡ s) [
+      | AllWell ↦ (verdict_answered _ s _).quiet
+      | Wanting ↦ λ e. refl
+      | StoreFails ↦ λ e. absurd (never false refl e)
+    ]
+
+abbrev IsStoreFault : Reply → Type 0
+IsStoreFault r = r ≡ reply.Refused refusal.StoreFault
+
+no_fault : (r : Reply) → is_fault_reply r ≡ false → IsStoreFault r → ⊥
+no_fault r own is = never (is_fault_reply r) own (ap is_fault_reply is)
+
+not_wanting : IsStoreFault (reply.Refused refusal.NoMemory) → ⊥
+not_wanting e = cc
+
+-- that the store failed is answered only in a call that uses it
+pub fault_uses_store : (s : State) (c : Command) (after : State) → IsAct s c after (reply.Refused refusal.StoreFault) → IsTrue (uses_store (call_of c))
+fault_uses_store s c after act =
+    let o = act.outcome in
+    elim o.event as (λ e. MayHappen e s (call_of c) (call_verdict (found_by o.reading s) s (call_of c)) → IsStoreFault (served (record { event = e; reading = o.reading }) s c).reply → IsTrue (uses_store (call_of c))) [
+      | AllWell ↦ λ may is. absurd (no_fault _ (verdict_answered _ s _).own is)
+      | Wanting ↦ λ may is. absurd (not_wanting is)
+      | StoreFails ↦ λ may is. may.1
+    ] act.allowed.event (ap (λ (r : Served). r.reply) act.same)
+
+-- ---- the store's count of faults
+
+plain_counts : (r : Reply) (f g : ℕ) → is_fault_reply r ≡ false → HasStoreCause f g r → g ≡ f
+plain_counts (reply.Refused refusal.StoreFault) f g own h = absurd (cc)
+plain_counts _ f g own h = h
+
+served_counts : (o : DeviceOutcome) (s : State) (c : Command) (f g : ℕ) → HasStoreCause f g (served o s c).reply → HasCounted (is_store_failure o.event) f g
+served_counts o s c f g =
+    elim o.event as (λ e. HasStoreCause f g (served (record { event = e; reading = o.reading }) s c).reply → HasCounted (is_store_failure e) f g) [
+      | AllWell ↦ λ h. plain_counts _ f g (verdict_answered _ s _).own h
+      | Wanting ↦ λ h. h
+      | StoreFails ↦ λ h. h
+    ]
+
+-- it rises just in a call in which the store fails
+pub step_counts : (o : DeviceOutcome) (s : State) (line : ℕ) (c : Command) (f g : ℕ) → HasStoreCause f g (step o s line c).reply → HasCounted (is_store_failure o.event) f g
+step_counts o s line c f g =
+    by_noting (λ x. HasStoreCause f g x.reply → HasCounted (is_store_failure o.event) f g) line c (served o s c) (served_counts o s c f g) (served_counts o s c f g)
+
+-- ---- a text that can't be told twice
+
+-- a call that is answered by a text is served
+available : (s : State) (call : Call) (found : Found) → is_row (judged s (call_verdict found s call)).reply ≡ true → unavailable s call ≡ None
+unfolding call_verdict
+available s call found =
+    elim (unavailable s call) as (λ o. is_row (judged s (unless_refused o (own_verdict found s call))).reply ≡ true → o ≡ None) [
+      | None ↦ λ e. refl
+      | Some r ↦ λ e. absurd (never false refl e)
+    ]
+
+row_of : (a b : Served) → a ≡ b → is_row b.reply ≡ true → is_row a.reply ≡ true
+row_of a b e h = ap (λ (x : Served). is_row x.reply) e ∙ h
+
+-- what was answered by a text may be answered that memory is wanting
+row_wanting : (s : State) (c : Command) (after : State) (r : Reply) → is_row r ≡ true → IsAct s c after r → IsAct s c after (reply.Refused refusal.NoMemory)
+row_wanting s c after r row act =
+    let o = act.outcome in
+    elim o.event as (λ e. served (record { event = e; reading = o.reading }) s c ≡ record { state = after; reply = r } → IsAct s c after (reply.Refused refusal.NoMemory)) [
+      | AllWell ↦ λ same.
+          let found = found_by o.reading s in
+          let is : is_row (judged s (verdict found s c)).reply ≡ true = row_of _ _ same row in
+          let told = (verdict_answered found s (call_of c)).row is in
+          let stays : s ≡ after = sym told.0 ∙ ap (λ (x : Served). x.state) same in
+          subst (λ t. IsAct s c t (reply.Refused refusal.NoMemory)) stays (record {
+            outcome = record { event = Wanting; reading = o.reading };
+            allowed = record { reading = act.allowed.reading; event = (available s (call_of c) found is, told.1) };
+            same = refl;
+          })
+      | Wanting ↦ λ same. absurd (never false refl (row_of _ _ same row))
+      | StoreFails ↦ λ same. absurd (never false refl (row_of _ _ same row))
+    ] act.same
+
+-- the answer as it is given
+pub given_act : (s : State) (c : Command) (after : State) (made given : Reply) → IsGiven made given → IsAct s c after made → IsAct s c after given
+given_act s c after made given (inl same) act = subst (IsAct s c after) (sym same) act
+given_act s c after made given (inr (row, is)) act = subst (IsAct s c after) (sym is) (row_wanting s c after made row act)

@@ -1,0 +1,26 @@
+use Rattle.std.proofs.Common.{[], refl, sym, is_some}
+use Rattle.enq_base.specs.declared.condition.Condition.{Condition}
+use Rattle.enq_base.specs.declared.condition.Condition.TheVariants.{Up}
+use Rattle.hall.proofs.Calls.{at_state}
+use Rattle.hall.proofs.Endings.{serves_beside, state_with}
+use Rattle.hall.specs.Serving.{with_calls}
+use Rattle.hall.specs.State.{View}
+use Rattle.hall.specs.declared.command.Command.TheVariants as command
+use Rattle.hall.proofs.server.Server.ask.Goals as goal
+
+pub returns : goal.returns
+returns g c =
+    let old = c.self.inside in
+    let table = g.T.LockStore.table in
+    let told = is_some (g.K.Keeper.held old.books.keeper) in
+    let before : Condition → View g.row.K.Denot = λ k. record {
+      state = state_with told k old.sessions old.next_session old.orders.items (table old.locks) old.max_locks old.max_marks old.books.ledger old.pending [];
+      keeper = old.books.keeper;
+    } in
+    let after : Condition → View g.row.K.Denot = λ k. record {
+      state = state_with told k old.sessions old.next_session old.orders.items (table c.ask.new.locks) old.max_locks old.max_marks old.books.ledger old.pending [];
+      keeper = old.books.keeper;
+    } in
+    serves_beside g.K.Keeper.held g.K.Keeper.may_leave g.K.Keeper.faults before after old.condition c.args.self.now c.args.past.now.items (command.Ask c.args.session.now c.args.requests.now) _ _
+    c.self.view_is refl refl c.requires refl c.of.ensures
+    (λ room. at_state _ _ _ _ _ (λ i. record (with_calls (after Up).state c.args.past.now.items) { limit = sym c.ask.ensures.limit i }) (c.ask.ensures.act (with_calls (before Up).state c.args.past.now.items) (sym c.start-start.ensures) refl refl refl room))

@@ -1,0 +1,25 @@
+use Rattle.std.proofs.Common.{[], refl, is_some}
+use Rattle.enq_base.specs.declared.condition.Condition.{Condition}
+use Rattle.enq_base.specs.declared.condition.Condition.TheVariants.{Up}
+use Rattle.hall.proofs.Endings.{serves_beside, state_with}
+use Rattle.hall.specs.Serving.{with_calls}
+use Rattle.hall.specs.State.{View}
+use Rattle.hall.specs.declared.command.Command.TheVariants as command
+use Rattle.hall.proofs.server.Server.drop_order.Goals as goal
+
+pub returns : goal.returns
+returns g c =
+    let old = c.self.inside in
+    let table = g.T.LockStore.table in
+    let told = is_some (g.K.Keeper.held old.books.keeper) in
+    let before : Condition → View g.row.K.Denot = λ k. record {
+      state = state_with told k old.sessions old.next_session old.orders.items (table old.locks) old.max_locks old.max_marks old.books.ledger old.pending [];
+      keeper = old.books.keeper;
+    } in
+    let after : Condition → View g.row.K.Denot = λ k. record {
+      state = state_with told k old.sessions old.next_session c.drop_order.new.orders.items (table old.locks) old.max_locks old.max_marks old.books.ledger old.pending [];
+      keeper = old.books.keeper;
+    } in
+    serves_beside g.K.Keeper.held g.K.Keeper.may_leave g.K.Keeper.faults before after old.condition c.args.self.now c.args.past.now.items (command.DropOrder c.args.worker) _ _
+    c.self.view_is refl refl c.requires refl refl
+    (λ room. c.drop_order.ensures.act (with_calls (before Up).state c.args.past.now.items) refl room)

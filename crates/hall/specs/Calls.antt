@@ -1,0 +1,115 @@
+-- Calls by who makes them.
+use Rattle.std.specs.Prelude.{ℕ, Bool, true, false, nat_eq, List}
+use Rattle.enq_base.specs.declared.owner.UnitKey.{UnitKey}
+use Rattle.enq_base.specs.declared.unit.Parts.{Parts}
+use Rattle.lock_entry.specs.declared.entry.Asked.{Asked}
+use Rattle.lock_entry.specs.declared.entry.Request.{Request}
+use Rattle.hall.specs.declared.command.Command.{Command}
+use Rattle.hall.specs.declared.command.Command.TheVariants as command
+use Rattle.hall.specs.declared.command.Who.{Who}
+use Rattle.hall.specs.declared.command.Who.TheVariants as who
+
+-- what a session that is logged on may ask for
+pub data SessionCall : Type 0 where
+  LogsOff : SessionCall
+  Asks : List Request → SessionCall
+  Frees : List Request → SessionCall
+  FreesAll : SessionCall
+  Converts : List Asked → SessionCall
+  -- the row of this table and this key
+  Reads : List ℕ → List ℕ → SessionCall
+  -- a unit with these effects
+  Commits : Parts → SessionCall
+  RollsBack : SessionCall
+
+-- what a worker may do; part 1 is V1, and part 2 is V2
+pub data WorkerCall : Type 0 where
+  Takes : ℕ → WorkerCall
+  Posts : ℕ → WorkerCall
+  Drops : WorkerCall
+
+-- what an administrator may do
+pub data AdminCall : Type 0 where
+  Cancels : UnitKey → AdminCall
+  Resubmits : UnitKey → AdminCall
+
+pub data Call : Type 0 where
+  -- a session of this name and user begins
+  LogsOn : List ℕ → List ℕ → Call
+  OfSession : List ℕ → SessionCall → Call
+  OfWorker : ℕ → WorkerCall → Call
+  OfAdmin : AdminCall → Call
+
+abbrev pub call_of : Command → Call
+call_of (command.Logon session user) = LogsOn session user
+call_of (command.Logoff session) = OfSession session LogsOff
+call_of (command.Ask session requests) = OfSession session (Asks requests)
+call_of (command.Free session requests) = OfSession session (Frees requests)
+call_of (command.FreeAll session) = OfSession session FreesAll
+call_of (command.Convert session asked) = OfSession session (Converts asked)
+call_of (command.Read session table key) = OfSession session (Reads table key)
+call_of (command.Commit session parts) = OfSession session (Commits parts)
+call_of (command.Rollback session) = OfSession session RollsBack
+call_of (command.Take1 worker) = OfWorker worker (Takes 1)
+call_of (command.Take2 worker) = OfWorker worker (Takes 2)
+call_of (command.Do1 worker) = OfWorker worker (Posts 1)
+call_of (command.Do2 worker) = OfWorker worker (Posts 2)
+call_of (command.DropOrder worker) = OfWorker worker Drops
+call_of (command.Cancel unit) = OfAdmin (Cancels unit)
+call_of (command.Resubmit unit) = OfAdmin (Resubmits unit)
+
+abbrev pub who_calls : Call → Who
+who_calls (LogsOn session user) = who.Session session
+who_calls (OfSession session call) = who.Session session
+who_calls (OfWorker worker call) = who.Worker worker
+who_calls (OfAdmin call) = who.Admin
+
+abbrev pub who_of : Command → Who
+who_of c = who_calls (call_of c)
+
+-- ---- what calls want
+
+-- the calls of a session that want a lock server: all but the reading of a row
+abbrev pub session_wants_server : SessionCall → Bool
+session_wants_server (Reads table key) = false
+session_wants_server call = true
+
+-- a V1 part ends locks, and so it wants the server that has them
+abbrev pub worker_wants_server : WorkerCall → Bool
+worker_wants_server (Posts part) = nat_eq part 1
+worker_wants_server call = false
+
+abbrev pub wants_server : Call → Bool
+wants_server (LogsOn session user) = false
+wants_server (OfSession session call) = session_wants_server call
+wants_server (OfWorker worker call) = worker_wants_server call
+wants_server (OfAdmin call) = true
+
+-- what a session may still do that lost a lock with a lock server
+abbrev pub ends_unit : SessionCall → Bool
+ends_unit LogsOff = true
+ends_unit RollsBack = true
+ends_unit call = false
+
+-- a call that only reads leaves no change in flight where the store fails
+abbrev pub only_reads : Call → Bool
+only_reads (OfSession session (Reads table key)) = true
+only_reads call = false
+
+-- ---- what calls do to the store
+
+abbrev pub session_touches_store : SessionCall → Bool
+session_touches_store (Reads table key) = true
+session_touches_store (Commits parts) = true
+session_touches_store call = false
+
+abbrev pub worker_touches_store : WorkerCall → Bool
+worker_touches_store (Posts part) = true
+worker_touches_store call = false
+
+-- the calls that read rows of the store, or write some where they aren't refused
+abbrev pub touches_store : Call → Bool
+touches_store (LogsOn session user) = false
+touches_store (OfSession session call) = session_touches_store call
+touches_store (OfWorker worker call) = worker_touches_store call
+touches_store (OfAdmin call) = true
