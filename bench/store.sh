@@ -32,6 +32,7 @@ now() {
 # The seconds that enqd takes for so many units.
 served() {
     mkdir "$folder/run"
+    cp "$bench/../demo/landscape.toml" "$folder/run"
     script "$1" > "$folder/run/script"
     begun=$(now)
     (cd "$folder/run" && "$enqd" replay < script > replies)

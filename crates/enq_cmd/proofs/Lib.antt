@@ -1,2 +1,3 @@
+pub mod Lands
 pub mod Openings
 pub mod Tellings

@@ -1,12 +1,18 @@
 -- What a program leaves that didn't open its store, and why it didn't.
-use Rattle.std.proofs.Common.{◌≡◌, inl, inr, ℕ, Bool, true, List, [], Option, Some, None, IfSome, IsTrue, refl, sym, subst}
+use Rattle.std.proofs.Common.{◌≡◌, inl, inr, ℕ, ◌+◌, Bool, true, false, ◌&&◌, not, cond, List, [], ◌∷◌, Option, Some, None, IfSome, IsTrue, refl, sym, ◌∙◌, subst, arith}
 use Rattle.std.specs.Prelude.{is_some}
+use Rattle.std.specs.List.{list_all, position, position_from}
+use Rattle.std.proofs.lemmas.Bool.{false≢true}
+use Rattle.std.proofs.lemmas.Iterator.Adapters.{position_from-zero}
+use Rattle.std.proofs.lemmas.Option.{none-some}
 use Rattle.enq_base.specs.Causes.{Rose}
 use Rattle.keeper_api.specs.Keeping.{IsWithin}
 use Rattle.keeper_api.specs.Rows.{Rows}
-use Rattle.posting.specs.Opening.{CountsFault, OnBad, OnRefused}
-use Rattle.posting.specs.Reopening.{IsOpeningFault, MayBeLeftBy, MayBeOpeningFault}
-use Rattle.posting.specs.declared.opening.BooksFault.TheVariants.{NoStart}
+use Rattle.landscape.specs.declared.landscape.Landscape.{Landscape}
+use Rattle.number_ranges.specs.declared.interval.Interval.{Interval}
+use Rattle.posting.specs.Intervals.{in_row_order}
+use Rattle.posting.specs.Reopening.{MayBeLeftBy}
+use Rattle.range_list.specs.Levels.{fits}
 use Rattle.store_laws.proofs.Faultfree.{good_rules_kept, not_both}
 use Rattle.store_laws.proofs.LedgerRows.{good_rows_spelled}
 use Rattle.store_reading.specs.Good.{IsBadPlace}
@@ -15,40 +21,42 @@ use Rattle.update_records.specs.Ledger.{IsGood}
 use Rattle.hall.specs.declared.command.PastEntry.{PastEntry}
 use Rattle.hall.specs.declared.opening.HallFault.{HallFault}
 use Rattle.hall.specs.declared.opening.HallFault.TheVariants as fault
-use Rattle.hall.specs.Faults.{books_fault}
+use Rattle.hall.specs.Faults.{CountsHallFault, IsHallFault, MayBeHallFault, OnBadStore, OnKept, StoodUnfit}
 use Rattle.script_runner.specs.Replay.{Seen}
 use Rattle.script_runner.specs.declared.runner.Why.{Why}
-use Rattle.script_runner.specs.declared.runner.Why.TheVariants.{StoreFault, NoMemory}
-use Rattle.enq_cmd.specs.Main.{CountsOpening, EndsComplete, HasNoStart, StoodAtLast, IsBadStore, IsOpeningEnd, IsUnopened, MayRemain, opening_end}
+use Rattle.enq_cmd.specs.Main.{CountsOpening, EndsComplete, FitAll, HasNoStart, StoodAtLast, IsBadStore, IsOpeningEnd, IsRead, IsUnfitEnd, IsUnopened, MayRemain, opening_end}
 
-opening_ends : (f : HallFault) → MayBeOpeningFault true (books_fault f) → IsOpeningEnd (opening_end f)
+opening_ends : (f : HallFault) → MayBeHallFault f → IsOpeningEnd (opening_end f)
 opening_ends fault.Store h = refl
 opening_ends (fault.Bad table row) h = h
 opening_ends fault.NoStart h = tt
+opening_ends (fault.Interval row) h = (refl, omega (arith, h))
 opening_ends fault.NoMemory h = tt
 
 -- what a stop may leave of a store that wasn't opened
-remains : (f : HallFault) (before after : Rows → Type 0) → ((rows : Rows) → after rows → MayBeLeftBy before true rows) → OnRefused (books_fault f) (IsWithin after before)
+remains : (f : HallFault) (before after : Rows → Type 0) → ((rows : Rows) → after rows → MayBeLeftBy before true rows) → OnKept f (IsWithin after before)
     → (rows : Rows) → after rows → MayRemain (opening_end f) before rows
 remains fault.Store before after left kept = left
 remains (fault.Bad table row) before after left kept = kept
 remains fault.NoStart before after left kept = kept
+remains (fault.Interval row) before after left kept = left
 remains fault.NoMemory before after left kept = kept
 
 told_left : (o : Option Rows) (P : Type 0) → IsTrue (is_some o) → IfSome o (λ _. P) → P
 told_left None P told h = absurd (cc)
 told_left (Some rows) P told h = h
 
-opening_counts : (f : HallFault) (n m : ℕ) → CountsFault (books_fault f) n m → CountsOpening (opening_end f) n m
+opening_counts : (f : HallFault) (n m : ℕ) → CountsHallFault f n m → CountsOpening (opening_end f) n m
 opening_counts fault.Store n m h = h
 opening_counts (fault.Bad table row) n m h = h
 opening_counts fault.NoStart n m h = h
+opening_counts (fault.Interval row) n m h = h
 opening_counts fault.NoMemory n m h = h
 
 -- the store wasn't opened
 pub unopened : (f : HallFault) (t : Bool) (o : Option Rows) (before after : Rows → Type 0) (old new : Seen) (past : List PastEntry) (why : Why)
-    → why ≡ opening_end f → is_some o ≡ t → record new { store_faults = old.store_faults } ≡ old → MayBeOpeningFault true (books_fault f) → CountsFault (books_fault f) old.store_faults new.store_faults → past ≡ []
-    → IfSome o (λ _. (rows : Rows) → after rows → MayBeLeftBy before true rows) → OnRefused (books_fault f) (IsWithin after before)
+    → why ≡ opening_end f → is_some o ≡ t → record new { store_faults = old.store_faults } ≡ old → MayBeHallFault f → CountsHallFault f old.store_faults new.store_faults → past ≡ []
+    → IfSome o (λ _. (rows : Rows) → after rows → MayBeLeftBy before true rows) → OnKept f (IsWithin after before)
     → IsUnopened t before after old new past why
 unopened f t o before after old new past why is told same may counts none left kept = record {
   end = subst IsOpeningEnd (sym is) (opening_ends f may);
@@ -58,18 +66,6 @@ unopened f t o before after old new past why is told same may counts none left k
   left = λ yes rows may_be.
       let all = told_left o ((rows : Rows) → after rows → MayBeLeftBy before true rows) (subst (λ b. IsTrue b) (sym told) yes) left in
       subst (λ w. MayRemain w before rows) (sym is) (remains f before after all kept rows may_be);
-}
-
--- the store wasn't even asked
-pub not_begun : (t : Bool) (before after : Rows → Type 0) (old new : Seen) (past : List PastEntry) (why : Why)
-    → why ≡ NoMemory → record new { store_faults = old.store_faults } ≡ old → new.store_faults ≡ old.store_faults → past ≡ [] → IsWithin after before
-    → IsUnopened t before after old new past why
-not_begun t before after old new past why is same quiet none kept = record {
-  end = subst IsOpeningEnd (sym is) tt;
-  same = same;
-  counts = subst (λ w. CountsOpening w old.store_faults new.store_faults) (sym is) quiet;
-  none = none;
-  left = λ yes rows may. subst (λ w. MayRemain w before rows) (sym is) (kept rows may);
 }
 
 -- a good store has no bad place
@@ -83,41 +79,70 @@ not_bad : (may_be : Rows → Type 0) (o : Option Rows) (table row : ℕ) → IsT
 not_bad may_be None table row told good bad found = absurd (cc)
 not_bad may_be (Some rows) table row told good bad found = bad_is_not_good rows table row bad (good rows found)
 
-at_last : (may_be : Rows → Type 0) (o : Option Rows) → IsTrue (is_some o) → IfSome o (λ rows. IsOpeningFault true rows NoStart) → IfSome o may_be → StoodAtLast may_be
-at_last may_be None told why found = absurd (cc)
-at_last may_be (Some rows) told why found = (why.1, (rows, found, why.2), why.3)
+at_last : (intervals : List Interval) (may_be : Rows → Type 0) (o : Option Rows) → IsTrue (is_some o) → IfSome o (λ rows. IsHallFault intervals may_be rows fault.NoStart) → IfSome o may_be → StoodAtLast may_be
+at_last intervals may_be None told why found = absurd (cc)
+at_last intervals may_be (Some rows) told why found = (why.0, (rows, found, why.1), why.2)
 
--- where no count rose a good store is opened, unless memory is wanting or it has no next start
-pub opening_completes : (may_be : Rows → Type 0) (before after : Option Rows) (f : HallFault) (n m : ℕ) (why : Why)
-    → why ≡ opening_end f → is_some after ≡ is_some before → IsTrue (is_some before) → ((rows : Rows) → may_be rows → IsGood rows)
-    → IfSome after (λ rows. IsOpeningFault true rows (books_fault f)) → OnBad (books_fault f) (IfSome after may_be) → CountsFault (books_fault f) n m → (Rose n m → ⊥)
+-- where all rows pass a test, none is the first that doesn't
+unfit_from : {X : Type 0} (test : X → Bool) (n k : ℕ) (xs : List X) → position_from (λ x. not (test x)) n xs ≡ Some k → list_all test xs ≡ true → ⊥
+unfit_from test n k [] found all = absurd (none-some k found)
+unfit_from test n k (x ∷ xs) found all =
+    (elim (test x) as (λ b. cond (not b) (Some n) (position_from (λ y. not (test y)) (n + 1) xs) ≡ Some k → (b && list_all test xs) ≡ true → ⊥) [
+      | true ↦ λ f a. unfit_from test (n + 1) k xs f a
+      | false ↦ λ f a. false≢true a
+    ]) found all
+
+unfit_at : {X : Type 0} (test : X → Bool) (k : ℕ) (xs : List X) → position (λ x. not (test x)) xs ≡ Some k → list_all test xs ≡ true → ⊥
+unfit_at test k xs found all = unfit_from test 0 k xs (sym (position_from-zero (λ x. not (test x)) xs) ∙ found) all
+
+no_unfit : (land : Landscape) (may_be : Rows → Type 0) (row : ℕ) → FitAll land may_be → StoodUnfit land.ranges may_be row → ⊥
+no_unfit land may_be row fit stood = unfit_at (fits land.ranges) stood.2.before (in_row_order stood.0.levels) stood.2.first (fit stood.0 stood.1)
+
+not_unfit : (land : Landscape) (may_be : Rows → Type 0) (o : Option Rows) (row : ℕ) → IsTrue (is_some o) → FitAll land may_be → IfSome o (λ _. StoodUnfit land.ranges may_be row) → ⊥
+not_unfit land may_be None row told fit why = absurd (cc)
+not_unfit land may_be (Some rows) row told fit why = no_unfit land may_be row fit why
+
+-- why a store isn't opened whose rows are told
+abbrev pub IsCause : Landscape → (Rows → Type 0) → HallFault → Option Rows → Type 0
+IsCause land may_be f o = IfSome o (λ rows. IsHallFault land.ranges may_be rows f)
+
+-- where no count rose a good store with the landscape's intervals is opened, unless memory is wanting or it has no next start
+pub opening_completes : (land : Landscape) (may_be : Rows → Type 0) (before after : Option Rows) (f : HallFault) (n m : ℕ) (why : Why)
+    → why ≡ opening_end f → is_some after ≡ is_some before → IsTrue (is_some before) → ((rows : Rows) → may_be rows → IsGood rows) → FitAll land may_be
+    → IsCause land may_be f after → OnBadStore f (IfSome after may_be) → CountsHallFault f n m → (Rose n m → ⊥)
     → EndsComplete may_be why
-opening_completes may_be before after fault.Store n m why end same told good why_not found counts calm = absurd (calm counts.1)
-opening_completes may_be before after (fault.Bad table row) n m why end same told good why_not found counts calm =
+opening_completes land may_be before after fault.Store n m why end same told good fit why_not found counts calm = absurd (calm counts.1)
+opening_completes land may_be before after (fault.Bad table row) n m why end same told good fit why_not found counts calm =
     absurd (not_bad may_be after table row (subst (λ b. IsTrue b) (sym same) told) good why_not found)
-opening_completes may_be before after fault.NoStart n m why end same told good why_not found counts calm =
-    inr (inr (end, at_last may_be after (subst (λ b. IsTrue b) (sym same) told) why_not found))
-opening_completes may_be before after fault.NoMemory n m why end same told good why_not found counts calm = inr (inl end)
-
--- the store's fault at its opening comes only where its count rose
-pub opening_faults : (f : HallFault) (n m call : ℕ) → opening_end f ≡ StoreFault call → CountsFault (books_fault f) n m → Rose n m
-opening_faults fault.Store n m call e counts = counts.1
-opening_faults (fault.Bad table row) n m call e counts = absurd (cc)
-opening_faults fault.NoStart n m call e counts = absurd (cc)
-opening_faults fault.NoMemory n m call e counts = absurd (cc)
+opening_completes land may_be before after fault.NoStart n m why end same told good fit why_not found counts calm =
+    inr (inr (end, at_last land.ranges may_be after (subst (λ b. IsTrue b) (sym same) told) why_not found))
+opening_completes land may_be before after (fault.Interval row) n m why end same told good fit why_not found counts calm =
+    absurd (not_unfit land may_be after row (subst (λ b. IsTrue b) (sym same) told) fit why_not)
+opening_completes land may_be before after fault.NoMemory n m why end same told good fit why_not found counts calm = inr (inl end)
 
 -- a bad store is told by its place
-pub opening_place : (f : HallFault) (o : Option Rows) → IfSome o (λ rows. IsOpeningFault true rows (books_fault f)) → IfSome o (λ rows. IsBadStore rows (opening_end f))
-opening_place f None h = tt
-opening_place fault.Store (Some rows) h = tt
-opening_place (fault.Bad table row) (Some rows) h = (h, bad_is_not_good rows table row h)
-opening_place fault.NoStart (Some rows) h = tt
-opening_place fault.NoMemory (Some rows) h = tt
+pub opening_place : (land : Landscape) (may_be : Rows → Type 0) (f : HallFault) (o : Option Rows) → IsCause land may_be f o → IfSome o (λ rows. IsBadStore rows (opening_end f))
+opening_place land may_be f None h = tt
+opening_place land may_be fault.Store (Some rows) h = tt
+opening_place land may_be (fault.Bad table row) (Some rows) h = (h, bad_is_not_good rows table row h)
+opening_place land may_be fault.NoStart (Some rows) h = tt
+opening_place land may_be (fault.Interval row) (Some rows) h = tt
+opening_place land may_be fault.NoMemory (Some rows) h = tt
 
--- and one without a next start stands at the last
-pub opening_last : (f : HallFault) (o : Option Rows) → IfSome o (λ rows. IsOpeningFault true rows (books_fault f)) → IfSome o (λ rows. HasNoStart rows (opening_end f))
-opening_last f None h = tt
-opening_last fault.Store (Some rows) h = tt
-opening_last (fault.Bad table row) (Some rows) h = tt
-opening_last fault.NoStart (Some rows) h = (h.1, h.2, h.3)
-opening_last fault.NoMemory (Some rows) h = tt
+-- one without a next start stands at the last
+pub opening_last : (land : Landscape) (may_be : Rows → Type 0) (f : HallFault) (o : Option Rows) → IsCause land may_be f o → IfSome o (λ rows. HasNoStart rows (opening_end f))
+opening_last land may_be f None h = tt
+opening_last land may_be fault.Store (Some rows) h = tt
+opening_last land may_be (fault.Bad table row) (Some rows) h = tt
+opening_last land may_be fault.NoStart (Some rows) h = h
+opening_last land may_be (fault.Interval row) (Some rows) h = tt
+opening_last land may_be fault.NoMemory (Some rows) h = tt
+
+-- and one with an interval that isn't the landscape's is told by its row
+pub opening_unfit : (left : Option (List ℕ)) (land : Landscape) (may_be : Rows → Type 0) (f : HallFault) (o : Option Rows) → IsRead left land → IsCause land may_be f o → IfSome o (λ _. IsUnfitEnd left may_be (opening_end f))
+opening_unfit left land may_be f None read h = tt
+opening_unfit left land may_be fault.Store (Some rows) read h = tt
+opening_unfit left land may_be (fault.Bad table row) (Some rows) read h = tt
+opening_unfit left land may_be fault.NoStart (Some rows) read h = tt
+opening_unfit left land may_be (fault.Interval row) (Some rows) read h = λ rule. (land, read, record { row = row; stood = h; told = refl })
+opening_unfit left land may_be fault.NoMemory (Some rows) read h = tt

@@ -1,20 +1,22 @@
 -- The history of a run leads to the state that it ends in.
-use Rattle.std.proofs.Common.{inl, inr, is_some, IsTrue, IfSome, ◌≡◌, ℕ, ◌+◌, Bool, true, List, [], ◌∷◌, fold, refl, sym, ap, ◌∙◌, subst, arith, lit<}
+use Rattle.std.proofs.Common.{inl, inr, is_some, IsTrue, IfSome, ◌≡◌, ℕ, ◌+◌, Bool, true, List, [], ◌∷◌, fold, refl, sym, ap, ◌∙◌, ◌<◌, ◌^◌, subst, arith}
 use Rattle.std.specs.Prelude.{Option, Some, None}
 use Rattle.hall.specs.declared.command.Command.{Command}
 use Rattle.hall.specs.declared.command.PastEntry.{PastEntry}
 use Rattle.hall.specs.declared.command.Reply.TheVariants as reply
 use Rattle.hall.specs.Devices.{DeviceOutcome, IsAllowed}
 use Rattle.hall.specs.History.{step}
-use Rattle.hall.specs.Recall.{AreModelAnswers, Made, StaysSound, calls_of, state_after}
-use Rattle.hall.specs.Standing.{LocksReturn, LocksStand}
+use Rattle.hall.specs.Recall.{Made, state_after}
 use Rattle.hall.specs.State.{State}
-use Rattle.hall.proofs.Beginning.{first_sound}
+use Rattle.hall.proofs.Beginning.{AgreeWith, first_sound}
 use Rattle.hall.proofs.Standings.{locks_return, locks_stand}
 use Rattle.hall.proofs.Recalls.{IsTold, stays_sound, told_first, told_step, told-answers}
 use Rattle.script_runner.specs.declared.runner.Why.{Why}
-use Rattle.script_runner.specs.declared.runner.Why.TheVariants.{Done, BadWords, BadLine, SourceFault, SinkFault, LongLine, ManyLines, StoreFault, BadStore, NoStart, NoMemory}
+use Rattle.script_runner.specs.declared.runner.Why.TheVariants.{Done, BadWords, BadLandscape, BadLine, SourceFault, SinkFault, LongLine, ManyLines, StoreFault, BadStore, NoStart, NoMemory}
 use Rattle.lock_objects.specs.Objects.{Object}
+use Rattle.landscape.specs.declared.landscape.Landscape.{Landscape}
+use Rattle.landscape.proofs.Limits.{HasLimits}
+use Rattle.range_list.specs.Levels.{FitRows}
 use Rattle.script_lang.specs.Memory.{holds_lists}
 use Rattle.script_lang.specs.declared.script_line.ScriptLine.{ScriptLine}
 use Rattle.script_runner.specs.Lines.{Meaning, Silent, Shows, Calls, Declines, Changes, line_in, meaning, settled}
@@ -24,7 +26,8 @@ use Rattle.script_runner.proofs.TurnLemmas.{answered-world}
 use Rattle.script_runner.specs.World.{World, first_world, world}
 use Rattle.script_runner.specs.Replay.{doubt_of}
 use Rattle.script_runner.specs.Whole.{IsComplete, IsScript}
-use Rattle.enq_cmd.specs.Main.{EndsComplete, IsFaultless, IsNextOf, IsServed, Ran, SurvivesStop, built_in, first_state}
+use Rattle.enq_cmd.specs.Main.{EndsComplete, IsFaultless, IsNextOf, IsServed, Ran, SurvivesStop, first_state}
+use Rattle.enq_cmd.proofs.Lands.{landed_intervals}
 use Rattle.ledger_laws.proofs.Books.{books_right, holds_books}
 use Rattle.ledger_laws.proofs.OneLedger.{one_ledger}
 use Rattle.update_records.specs.Growing.{with_start}
@@ -64,58 +67,59 @@ told_turns first p [] allowed h = h
 told_turns first p (t ∷ ts) allowed h = told_turns first (next p t) ts allowed.1 (told_turn first p t p.stop allowed.0 h)
 
 -- the state in which a run from the first one ends is that to which its history leads
-told_after : (t : Bool) (l : Ledger) (after : State) (old new : Seen) (why : Why) → RunsScript built_in (first_state t l) after old new why → IsTold (first_state t l) after
-told_after t l after old new why h =
-    let first = first_world built_in (first_state t l) in
+told_after : (land : Landscape) (t : Bool) (l : Ledger) (after : State) (old new : Seen) (why : Why) → RunsScript land.objects (first_state land t l) after old new why → IsTold (first_state land t l) after
+told_after land t l after old new why h =
+    let first = first_world land.objects (first_state land t l) in
     let turns = h.replays.turns in
-    let told : IsTold (first_state t l) (run first turns).world.hall = told_turns (first_state t l) (begun first) turns h.replays.allowed (told_first (first_state t l) refl) in
-    subst (λ (x : World). IsTold (first_state t l) x.hall) (sym h.replays.world) told
+    let told : IsTold (first_state land t l) (run first turns).world.hall = told_turns (first_state land t l) (begun first) turns h.replays.allowed (told_first (first_state land t l) refl) in
+    subst (λ (x : World). IsTold (first_state land t l) x.hall) (sym h.replays.world) told
 
 -- a run, said of what is known of its parts
-pub record HasRun (t : Bool) (l : Ledger) (before after : State) (objects : List Object) (old new : Seen) (past : List PastEntry) (why : Why) : Type 0 where
-  pub first : before ≡ first_state t l
-  pub known : objects ≡ built_in
+pub record HasRun (land : Landscape) (t : Bool) (l : Ledger) (before after : State) (objects : List Object) (old new : Seen) (past : List PastEntry) (why : Why) : Type 0 where
+  pub first : before ≡ first_state land t l
+  pub known : objects ≡ land.objects
   pub history : past ≡ after.past
   pub runs : RunsScript objects before after old new why
   pub complete : (bytes : List ℕ) → old.left ≡ Some bytes → IsScript bytes → IsFaultless old new → IsComplete (first_world objects before) after bytes old.written new.written why
 
-runs_first : (t : Bool) (l : Ledger) (before after : State) (objects : List Object) (old new : Seen) (past : List PastEntry) (why : Why) → HasRun t l before after objects old new past why → RunsScript built_in (first_state t l) after old new why
-runs_first t l before after objects old new past why h =
-    subst (λ s. RunsScript built_in s after old new why) h.first (subst (λ os. RunsScript os before after old new why) h.known h.runs)
+runs_first : (land : Landscape) (t : Bool) (l : Ledger) (before after : State) (objects : List Object) (old new : Seen) (past : List PastEntry) (why : Why) → HasRun land t l before after objects old new past why → RunsScript land.objects (first_state land t l) after old new why
+runs_first land t l before after objects old new past why h =
+    subst (λ s. RunsScript land.objects s after old new why) h.first (subst (λ os. RunsScript os before after old new why) h.known h.runs)
 
 -- the calls of a run, each with what the devices did in it
-told_by : (t : Bool) (l : Ledger) (before after : State) (objects : List Object) (old new : Seen) (past : List PastEntry) (why : Why) → HasRun t l before after objects old new past why → IsTold (first_state t l) after
-told_by t l before after objects old new past why h = told_after t l after old new why (runs_first t l before after objects old new past why h)
+told_by : (land : Landscape) (t : Bool) (l : Ledger) (before after : State) (objects : List Object) (old new : Seen) (past : List PastEntry) (why : Why) → HasRun land t l before after objects old new past why → IsTold (first_state land t l) after
+told_by land t l before after objects old new past why h = told_after land t l after old new why (runs_first land t l before after objects old new past why h)
 
-ran : (t : Bool) (l : Ledger) (before after : State) (objects : List Object) (old new : Seen) (past : List PastEntry) (why : Why) → HasRun t l before after objects old new past why → (told : IsTold (first_state t l) after) → Ran t l old new told.made why
-ran t l before after objects old new past why h told =
+ran : (land : Landscape) (t : Bool) (l : Ledger) (before after : State) (objects : List Object) (old new : Seen) (past : List PastEntry) (why : Why) → HasRun land t l before after objects old new past why → (told : IsTold (first_state land t l) after) → Ran land t l old new told.made why
+ran land t l before after objects old new past why h told =
     record {
       after = after;
       history = told.calls;
       leads = told.state;
-      runs = runs_first t l before after objects old new past why h;
+      runs = runs_first land t l before after objects old new past why h;
       complete = λ bytes left script calm.
-          subst (λ s. IsComplete (first_world built_in s) after bytes old.written new.written why) h.first
+          subst (λ s. IsComplete (first_world land.objects s) after bytes old.written new.written why) h.first
           (subst (λ os. IsComplete (first_world os before) after bytes old.written new.written why) h.known (h.complete bytes left script calm));
     }
 
 -- a run that is complete from a server that is up is done, or memory was wanting
-complete_ends : (may_be : Rows → Type 0) (t : Bool) (l : Ledger) (objects : List Object) (before after : State) (bytes : List ℕ) (old new : Option (List ℕ)) (why : Why) → before ≡ first_state t l → IsComplete (first_world objects before) after bytes old new why → EndsComplete may_be why
-complete_ends may_be t l objects before after bytes old new Done e h = inl refl
-complete_ends may_be t l objects before after bytes old new (StoreFault k) e h = absurd (let up = sym h.0 ∙ ap doubt_of e in cc)
-complete_ends may_be t l objects before after bytes old new NoMemory e h = inr (inl refl)
-complete_ends may_be t l objects before after bytes old new BadWords e h = absurd h
-complete_ends may_be t l objects before after bytes old new (BadLine n) e h = absurd h
-complete_ends may_be t l objects before after bytes old new SourceFault e h = absurd h
-complete_ends may_be t l objects before after bytes old new SinkFault e h = absurd h
-complete_ends may_be t l objects before after bytes old new (LongLine n) e h = absurd h
-complete_ends may_be t l objects before after bytes old new ManyLines e h = absurd h
-complete_ends may_be t l objects before after bytes old new (BadStore table row) e h = absurd h
-complete_ends may_be t l objects before after bytes old new NoStart e h = absurd h
+complete_ends : (may_be : Rows → Type 0) (land : Landscape) (t : Bool) (l : Ledger) (objects : List Object) (before after : State) (bytes : List ℕ) (old new : Option (List ℕ)) (why : Why) → before ≡ first_state land t l → IsComplete (first_world objects before) after bytes old new why → EndsComplete may_be why
+complete_ends may_be land t l objects before after bytes old new Done e h = inl refl
+complete_ends may_be land t l objects before after bytes old new (StoreFault k) e h = absurd (let up = sym h.0 ∙ ap doubt_of e in cc)
+complete_ends may_be land t l objects before after bytes old new NoMemory e h = inr (inl refl)
+complete_ends may_be land t l objects before after bytes old new BadWords e h = absurd h
+complete_ends may_be land t l objects before after bytes old new (BadLandscape rule place) e h = absurd h
+complete_ends may_be land t l objects before after bytes old new (BadLine n) e h = absurd h
+complete_ends may_be land t l objects before after bytes old new SourceFault e h = absurd h
+complete_ends may_be land t l objects before after bytes old new SinkFault e h = absurd h
+complete_ends may_be land t l objects before after bytes old new (LongLine n) e h = absurd h
+complete_ends may_be land t l objects before after bytes old new ManyLines e h = absurd h
+complete_ends may_be land t l objects before after bytes old new (BadStore table row) e h = absurd h
+complete_ends may_be land t l objects before after bytes old new NoStart e h = absurd h
 
-pub completes_as : (may_be : Rows → Type 0) (t : Bool) (l : Ledger) (objects : List Object) (before after : State) (bytes : List ℕ) (old new : Option (List ℕ)) (why end : Why) → before ≡ first_state t l → why ≡ end → IsComplete (first_world objects before) after bytes old new why → EndsComplete may_be end
-completes_as may_be t l objects before after bytes old new why end e w h =
-    subst (EndsComplete may_be) w (complete_ends may_be t l objects before after bytes old new why e h)
+pub completes_as : (may_be : Rows → Type 0) (land : Landscape) (t : Bool) (l : Ledger) (objects : List Object) (before after : State) (bytes : List ℕ) (old new : Option (List ℕ)) (why end : Why) → before ≡ first_state land t l → why ≡ end → IsComplete (first_world objects before) after bytes old new why → EndsComplete may_be end
+completes_as may_be land t l objects before after bytes old new why end e w h =
+    subst (EndsComplete may_be) w (complete_ends may_be land t l objects before after bytes old new why e h)
 
 -- what is said where rows are told
 pub where_told : (P : Type 0) (o : Option Rows) → IsTrue (is_some o) → IfSome o (λ _. P) → P
@@ -142,36 +146,39 @@ follows_on may_leave s left next found =
     (survives.ledger, survives.known, found.2 ∙ ap (λ (l : Ledger). with_start l (l.start + 1)) one)
 
 -- all that is said of a program that opened its store
-pub served_as : (t : Bool) (l : Ledger) (may_be may_leave : Rows → Type 0) (before after : State) (objects : List Object) (old new : Seen) (past : List PastEntry) (why : Why)
-    → IsRaised IsSound true l → (IsTrue t → IsRaised (HasStood may_be) true l) → HasRun t l before after objects old new past why
+pub served_as : (land : Landscape) (t : Bool) (l : Ledger) (may_be may_leave : Rows → Type 0) (before after : State) (objects : List Object) (old new : Seen) (past : List PastEntry) (why : Why)
+    → HasLimits land → IsRaised IsSound true l → (IsTrue t → IsRaised (HasStood may_be) true l) → FitRows land.ranges l.levels → HasRun land t l before after objects old new past why
     → (IsTrue t → (rows : Rows) → may_leave rows → StandForState rows after)
-    → IsServed t may_be may_leave old new past why
-served_as t l may_be may_leave before after objects old new past why good found h left =
-    let first = first_state t l in
-    let told = told_by t l before after objects old new past why h in
+    → IsServed land t may_be may_leave old new past why
+served_as land t l may_be may_leave before after objects old new past why limits good found fit h left =
+    let first = first_state land t l in
+    let told = told_by land t l before after objects old new past why h in
     let made : List Made = told.made in
     let answers = told-answers first after told in
+    let few : land.max_locks < 2 ^ 32 = omega (arith, limits.locks) in
+    let agree : AgreeWith land.ranges l = record { good = landed_intervals land limits; fit = fit } in
     let left_after : IsTrue t → (rows : Rows) → may_leave rows → SurvivesStop rows (state_after first made) =
     λ tells rows may. subst (SurvivesStop rows) told.state (survives rows after (left tells rows may)) in
     record {
       stored = l;
       good = good;
       found = found;
+      fit = fit;
       made = made;
       calls = h.history ∙ told.calls;
-      run = ran t l before after objects old new past why h told;
+      run = ran land t l before after objects old new past why h told;
       history = answers;
-      sound = stays_sound first made (first_sound 1000 1048576 t l (lit< tt) good);
-      stand = locks_stand 1000 1048576 t l made (lit< tt) (omega arith) good answers;
-      back = locks_return 1000 1048576 t l made (lit< tt) (omega arith) good answers;
+      sound = stays_sound first made (first_sound land.max_locks land.max_marks land.ranges t l few good);
+      stand = locks_stand land.max_locks land.max_marks land.ranges t l made few limits.marks agree good answers;
+      back = locks_return land.max_locks land.max_marks land.ranges t l made few limits.marks agree good answers;
       left = λ tells rows may. left_after tells rows may;
       next = λ tells. follows_on may_leave (state_after first made) (left_after tells);
     }
 
 -- the same of what was seen, under other names
-pub served_seen : (t : Bool) (may_be may_leave : Rows → Type 0) (old new older newer : Seen) (past : List PastEntry) (why end : Why)
-    → old ≡ older → new ≡ newer → why ≡ end → IsServed t may_be may_leave old new past why → IsServed t may_be may_leave older newer past end
-served_seen t may_be may_leave old new older newer past why end o n w h =
-    subst (λ x. IsServed t may_be may_leave older newer past x) w
-    (subst (λ x. IsServed t may_be may_leave older x past why) n
-    (subst (λ x. IsServed t may_be may_leave x new past why) o h))
+pub served_seen : (land : Landscape) (t : Bool) (may_be may_leave : Rows → Type 0) (old new older newer : Seen) (past : List PastEntry) (why end : Why)
+    → old ≡ older → new ≡ newer → why ≡ end → IsServed land t may_be may_leave old new past why → IsServed land t may_be may_leave older newer past end
+served_seen land t may_be may_leave old new older newer past why end o n w h =
+    subst (λ x. IsServed land t may_be may_leave older newer past x) w
+    (subst (λ x. IsServed land t may_be may_leave older x past why) n
+    (subst (λ x. IsServed land t may_be may_leave x new past why) o h))

@@ -7,7 +7,16 @@ use Rattle.std.proofs.lemmas.Bool.Decides.{nat_tests}
 use Rattle.std.proofs.lemmas.List.Elements.{recursion_from_All}
 use Rattle.enq_base.specs.declared.condition.Condition.TheVariants as condition
 use Rattle.enq_base.specs.declared.owner.UnitKey.{UnitKey}
+use Rattle.std.specs.FinMap.{get, get-empty}
+use Rattle.std.specs.Prelude.{Contains}
+use Rattle.enq_base.specs.declared.unit.Num.{Num as Number}
 use Rattle.keeper_api.specs.Rows.{Rows}
+use Rattle.module_effects.specs.Rows.{RowName}
+use Rattle.number_ranges.specs.Intervals.{IsInterval}
+use Rattle.number_ranges.specs.declared.interval.Interval.{Interval}
+use Rattle.range_list.proofs.Fits.{present_good}
+use Rattle.range_list.proofs.Names.{contains_first, contains_more}
+use Rattle.range_list.specs.Levels.{AreIntervals, FitRows, first_ranges, present}
 use Rattle.enq_base.specs.Owners.{same_owner}
 use Rattle.enq_base.specs.declared.owner.Owner.TheVariants.{Upd}
 use Rattle.lock_entry.proofs.Naming.{same_owner-refl}
@@ -22,11 +31,13 @@ use Rattle.posting.specs.Reopening.{IsRaised}
 use Rattle.store_reading.specs.Good.{IsSound}
 use Rattle.update_records.proofs.Status.{NoneOf, no_status}
 use Rattle.update_records.specs.Grammar.{IsEntryOf, IsUnit, is_optimistic}
-use Rattle.update_records.specs.Ledger.{IsMarkUnder, Ledger, StandFor, recorded}
+use Rattle.update_records.specs.Business.{numbers_of}
+use Rattle.update_records.specs.Ledger.{IsMarkUnder, IsRightLevel, Ledger, Levels, StandFor, recorded}
+use Rattle.update_records.specs.RecordRows.{Level}
 use Rattle.update_records.specs.Marks.{draws_alone, has_no_v2, is_rec, status_of}
 use Rattle.update_records.specs.declared.records.Mark.{Mark}
 use Rattle.update_records.specs.declared.records.Unit.{Unit as UnitOfWork}
-use Rattle.hall.specs.Kept.{AreOrders, HasFew, HasGoodLocks, HasItsUser, HasSoundLocks, IsKept, IsKnown, IsSteady, IsUnheard, OfLock, OfStored, is_firm}
+use Rattle.hall.specs.Kept.{AreOrders, HasFew, HasGoodLocks, HasItsUser, HasSoundLocks, IsAtLevel, IsKept, IsKnown, IsSteady, IsUnheard, OfLock, OfStored, is_firm}
 use Rattle.hall.specs.Leaving.{StandForPending}
 use Rattle.hall.specs.State.{opened, state_of}
 use Rattle.hall.specs.declared.command.PastEntry.{PastEntry}
@@ -183,17 +194,43 @@ first_stored ledger first =
     subst (λ (l : Ledger). AllByRecursion HasGoodLocks l.units) (sym first.2)
     (every_more (IsEarlier before.start) HasGoodLocks (λ unit h. good_unit unit h.good) before.units (earlier before first.1))
 
-pub first_sound : (limit mark_limit : ℕ) (told : Bool) (ledger : Ledger) → limit < 2 ^ 32 → IsFirst ledger → HasSoundLocks (opened limit mark_limit told ledger)
-first_sound limit mark_limit told ledger fits first = record { table = none_stands limit fits; stored = first_stored ledger first }
+-- the intervals of a landscape, and those that a store has are among them
+pub record AgreeWith (intervals : List Interval) (ledger : Ledger) : Type 0 where
+  pub good : AreIntervals intervals
+  pub fit : FitRows intervals ledger.levels
+
+-- no stored level stands before the one below its first number
+levels_begun : (ledger : Ledger) → IsSound ledger → (name : RowName) → IfSome (get ledger.levels name) (λ l. l.from ≤ l.level + 1)
+levels_begun ledger (inl none) name = subst (λ (x : Ledger). IfSome (get x.levels name) (λ l. l.from ≤ l.level + 1)) (sym none) (simp get-empty tt)
+levels_begun ledger (inr law) name = right_begun name (numbers_of ledger.units ledger.marks) (get ledger.levels name) (law.levels.right name)
+  where
+    right_begun : (name : RowName) (numbers : List Number) (o : Option Level) → IfSome o (IsRightLevel name numbers) → IfSome o (λ l. l.from ≤ l.level + 1)
+    right_begun name numbers None h = tt
+    right_begun name numbers (Some l) h = h.begun
+
+each_at_level : (levels : Levels) (intervals : List Interval) → ((i : Interval) → Contains intervals i → IsInterval (present levels i)) → AllByRecursion (IsAtLevel levels) (first_ranges levels intervals)
+each_at_level levels [] good = tt
+each_at_level levels (i ∷ is) good = (record { interval = good i (contains_first is i); next = refl }, each_at_level levels is (λ j among. good j (contains_more is i j among)))
+
+first_levels : (ledger : Ledger) (intervals : List Interval) → AgreeWith intervals ledger → IsFirst ledger → AllByRecursion (IsAtLevel ledger.levels) (first_ranges ledger.levels intervals)
+first_levels ledger intervals agree first =
+    let before = first.0 in
+    let begun : (name : RowName) → IfSome (get ledger.levels name) (λ l. l.from ≤ l.level + 1) = subst (λ (x : Ledger). (name : RowName) → IfSome (get x.levels name) (λ l. l.from ≤ l.level + 1)) (sym first.2) (levels_begun before first.1) in
+    each_at_level ledger.levels intervals (λ i among. present_good intervals ledger.levels i agree.good agree.fit begun among)
+
+pub first_sound : (limit mark_limit : ℕ) (intervals : List Interval) (told : Bool) (ledger : Ledger) → limit < 2 ^ 32 → IsFirst ledger → HasSoundLocks (opened limit mark_limit intervals told ledger)
+first_sound limit mark_limit intervals told ledger fits first = record { table = none_stands limit fits; stored = first_stored ledger first }
 
 -- ---- the first state
 
-pub first_steady : (limit mark_limit : ℕ) (told : Bool) (ledger : Ledger) → mark_limit ≤ 1048576 → IsFirst ledger → IsSteady (opened limit mark_limit told ledger)
-first_steady limit mark_limit told ledger limited first = record {
+pub first_steady : (limit mark_limit : ℕ) (intervals : List Interval) (told : Bool) (ledger : Ledger) → mark_limit ≤ 1048576 → AgreeWith intervals ledger → IsFirst ledger → IsSteady (opened limit mark_limit intervals told ledger)
+first_steady limit mark_limit intervals told ledger limited agree first = record {
   started = first_started ledger first;
   limited = limited;
   server = tt;
   whole = tt;
+  undrawn = tt;
+  ranges = first_levels ledger intervals agree first;
   settled = refl;
   fresh = record { numbered = tt; ahead = tt; later = λ session luw from. first_unheard ledger first session luw };
   places = idle 256;
@@ -207,23 +244,23 @@ first_steady limit mark_limit told ledger limited first = record {
   };
 }
 
-pub first_few : (limit mark_limit : ℕ) (told : Bool) (ledger : Ledger) → HasFew 0 (opened limit mark_limit told ledger)
-first_few limit mark_limit told ledger = record { sessions = omega arith; units = tt }
+pub first_few : (limit mark_limit : ℕ) (intervals : List Interval) (told : Bool) (ledger : Ledger) → HasFew 0 (opened limit mark_limit intervals told ledger)
+first_few limit mark_limit intervals told ledger = record { sessions = omega arith; units = tt }
 
-first_here : (told : Bool) (max_locks mark_limit : ℕ) (ledger : Ledger) → mark_limit ≤ 1048576 → IsFirst ledger → IsTable (record { entries = []; limit = max_locks }) → IsKept (opened max_locks mark_limit told ledger)
-first_here told max_locks mark_limit ledger limited first good =
+first_here : (told : Bool) (max_locks mark_limit : ℕ) (intervals : List Interval) (ledger : Ledger) → mark_limit ≤ 1048576 → AgreeWith intervals ledger → IsFirst ledger → IsTable (record { entries = []; limit = max_locks }) → IsKept (opened max_locks mark_limit intervals told ledger)
+first_here told max_locks mark_limit intervals ledger limited agree first good =
     record {
       within = omega arith;
-      few = first_few max_locks mark_limit told ledger;
-      steady = first_steady max_locks mark_limit told ledger limited first;
+      few = first_few max_locks mark_limit intervals told ledger;
+      steady = first_steady max_locks mark_limit intervals told ledger limited agree first;
       sound = record { table = good; stored = first_stored ledger first };
     }
 
-pub first_kept : (told : Bool) (table : Table) (max_locks mark_limit : ℕ) (ledger : Ledger) (sessions : List Session) (orders : List (Option UnitKey)) (past : List PastEntry) → mark_limit ≤ 1048576 → IsFirst ledger → IsTable table → table ≡ record { entries = []; limit = max_locks } → sessions ≡ [] → orders ≡ replicate 256 None → past ≡ []
-    → IsKept (state_of told condition.Up sessions 1 orders table max_locks mark_limit ledger None past)
-first_kept told table max_locks mark_limit ledger sessions orders past limited first good free none idle new =
-    subst IsKept (λ i. state_of told condition.Up (sym none i) 1 (sym idle i) (sym free i) max_locks mark_limit ledger None (sym new i))
-    (first_here told max_locks mark_limit ledger limited first (subst IsTable free good))
+pub first_kept : (told : Bool) (table : Table) (max_locks mark_limit : ℕ) (intervals : List Interval) (ledger : Ledger) (sessions : List Session) (orders : List (Option UnitKey)) (past : List PastEntry) → mark_limit ≤ 1048576 → AgreeWith intervals ledger → IsFirst ledger → IsTable table → table ≡ record { entries = []; limit = max_locks } → sessions ≡ [] → orders ≡ replicate 256 None → past ≡ []
+    → IsKept (state_of told condition.Up sessions 1 orders table max_locks mark_limit (first_ranges ledger.levels intervals) ledger None past)
+first_kept told table max_locks mark_limit intervals ledger sessions orders past limited agree first good free none idle new =
+    subst IsKept (λ i. state_of told condition.Up (sym none i) 1 (sym idle i) (sym free i) max_locks mark_limit (first_ranges ledger.levels intervals) ledger None (sym new i))
+    (first_here told max_locks mark_limit intervals ledger limited agree first (subst IsTable free good))
 
 pub first_leaves : (held : Option Rows) (may_leave : Rows → Type 0) (ledger : Ledger) → IfSome held (λ _. (left : Rows) → may_leave left → StandFor left ledger)
     → IfSome held (λ _. (left : Rows) → may_leave left → StandFor left ledger ⊎ StandForPending left None)

@@ -6,6 +6,7 @@ use Rattle.enq_base.specs.declared.condition.Condition.{Condition}
 use Rattle.enq_base.specs.declared.condition.Condition.TheVariants.{Up}
 use Rattle.enq_base.specs.declared.owner.UnitKey.{UnitKey}
 use Rattle.lock_entry.specs.Table.{Table}
+use Rattle.range_list.specs.declared.range.NumberRange.{NumberRange}
 use Rattle.hall.specs.Flights.{landed}
 use Rattle.hall.specs.declared.units.InFlight.{InFlight}
 use Rattle.update_records.specs.Ledger.{Ledger}
@@ -37,8 +38,8 @@ use Rattle.hall.proofs.Leaves.{barred_quiet, same_keeps, untouched_keeps}
 use Rattle.hall.proofs.Replies.{fault_uses_store, unnoted_same}
 
 -- the fields of a hall
-abbrev pub state_with : Bool → Condition → List Session → ℕ → List (Option UnitKey) → Table → ℕ → ℕ → Ledger → Option InFlight → List PastEntry → State
-state_with told k sessions n orders table x m ledger p past = state_of told k sessions n orders table x m ledger (option_map (landed ledger) p) past
+abbrev pub state_with : Bool → Condition → List Session → ℕ → List (Option UnitKey) → Table → ℕ → ℕ → List NumberRange → Ledger → Option InFlight → List PastEntry → State
+state_with told k sessions n orders table x m rs ledger p past = state_of told k sessions n orders table x m rs ledger (option_map (landed ledger) p) past
 
 some_is : {X : Type 0} (a b : X) → Some a ≡ Some b → a ≡ b
 some_is a b e = cc
@@ -76,27 +77,27 @@ same_past s after (Answered r) h = λ i. record after { past = sym h i }
 same_past s after (Failed change) h = refl
 
 -- a call that uses the store, where it fails too
-pub written_call : (told told' : Bool) (k k' : Condition) (ss ss' : List Session) (n : ℕ) (os os' : List (Option UnitKey)) (t t' : Table) (x m : ℕ) (l l' : Ledger) (p p' : Option InFlight) (past : List PastEntry) (w : Written) (c : Command) (said : Reply)
-    → IsDue (state_with told k ss n os t x m l p []) past
+pub written_call : (told told' : Bool) (k k' : Condition) (ss ss' : List Session) (n : ℕ) (os os' : List (Option UnitKey)) (t t' : Table) (x m : ℕ) (rs : List NumberRange) (l l' : Ledger) (p p' : Option InFlight) (past : List PastEntry) (w : Written) (c : Command) (said : Reply)
+    → IsDue (state_with told k ss n os t x m rs l p []) past
     → told' ≡ told → k' ≡ written_condition k (length past) w → p' ≡ written_pending p w → said ≡ written_reply w
     → t'.limit ≡ t.limit → OnFailure w (ss' ≡ ss) → OnFailure w (os' ≡ os) → OnFailure w (l' ≡ l)
-    → (option_map (landed l) p ≡ None → Admits (state_with told Up ss n os t x m l p past) → IsWritten (state_with told Up ss n os t x m l p past) c (rewritten (state_with told Up ss n os t x m l p past) ss' os' t' l') w)
-    → IsAct (state_with told k ss n os t x m l p past) c (state_with told' k' ss' n os' t' x m l' p' past) said
-written_call told told' k k' ss ss' n os os' t t' x m l l' p p' past w c said due tells condition pending reply limit a b d written =
-    let before : Condition → State = λ q. state_with told q ss n os t x m l p past in
+    → (option_map (landed l) p ≡ None → Admits (state_with told Up ss n os t x m rs l p past) → IsWritten (state_with told Up ss n os t x m rs l p past) c (rewritten (state_with told Up ss n os t x m rs l p past) ss' os' t' l') w)
+    → IsAct (state_with told k ss n os t x m rs l p past) c (state_with told' k' ss' n os' t' x m rs l' p' past) said
+written_call told told' k k' ss ss' n os os' t t' x m rs l l' p p' past w c said due tells condition pending reply limit a b d written =
+    let before : Condition → State = λ q. state_with told q ss n os t x m rs l p past in
     let s : State = before Up in
-    let up : k ≡ Up = due_up (state_with told k ss n os t x m l p []) past due in
+    let up : k ≡ Up = due_up (state_with told k ss n os t x m rs l p []) past due in
     let room : Admits s = subst (λ q. Admits (before q)) up due.admits in
     let held : IsKept s = subst (λ q. IsKept (before q)) up due.kept in
     let after : State = written_state s (rewritten s ss' os' t' l') w in
     let act : IsAct s c after (written_reply w) = written_act s c (rewritten s ss' os' t' l') w (written held.steady.settled room) in
     let condition' : k' ≡ written_condition Up (length past) w = condition ∙ ap (λ q. written_condition q (length past) w) up in
-    let is : state_with told' k' ss' n os' t' x m l' p' past ≡ after =
-    (λ i. state_with told' (condition' i) ss' n os' t' x m l' (pending i) past)
-    ∙ ends_as told told' ss ss' n os os' t t' x m l l' p past past w tells held.steady.settled limit a b d
+    let is : state_with told' k' ss' n os' t' x m rs l' p' past ≡ after =
+    (λ i. state_with told' (condition' i) ss' n os' t' x m rs l' (pending i) past)
+    ∙ ends_as told told' ss ss' n os os' t t' x m rs l l' p past past w tells held.steady.settled limit a b d
     ∙ same_past s (rewritten s ss' os' t' l') w refl in
-    subst (λ q. IsAct (before q) c (state_with told' k' ss' n os' t' x m l' p' past) said) (sym up)
-    (acts_as s c after (state_with told' k' ss' n os' t' x m l' p' past) (written_reply w) said act is reply)
+    subst (λ q. IsAct (before q) c (state_with told' k' ss' n os' t' x m rs l' p' past) said) (sym up)
+    (acts_as s c after (state_with told' k' ss' n os' t' x m rs l' p' past) (written_reply w) said act is reply)
 
 -- ---- a call that is barred
 

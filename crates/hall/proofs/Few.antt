@@ -74,22 +74,28 @@ young_next change opens n name (x ∷ xs) k =
       | false ↦ (omega (arith, k.0), young_next change opens n name xs k.1)
     ]
 
--- no session lost a lock
-whole_push : (xs : List Session) (y : Session) → NoneLost xs → y.lost ≡ false → NoneLost (xs ++ y ∷ [])
-whole_push [] y k h = (h, tt)
-whole_push (x ∷ xs) y k h = (k.0, whole_push xs y k.1 h)
+-- what is so of each session
+each_push : (Q : Session → Type 0) (xs : List Session) (y : Session) → AllByRecursion Q xs → Q y → AllByRecursion Q (xs ++ y ∷ [])
+each_push Q [] y k h = (h, tt)
+each_push Q (x ∷ xs) y k h = (k.0, each_push Q xs y k.1 h)
 
-whole_filter : (p : Session → Bool) (xs : List Session) → NoneLost xs → NoneLost (filter p xs)
-whole_filter p [] k = tt
-whole_filter p (x ∷ xs) k = elim (p x) as (λ b. NoneLost (cond b (x ∷ filter p xs) (filter p xs))) [ true ↦ (k.0, whole_filter p xs k.1) | false ↦ whole_filter p xs k.1 ]
+each_filter : (Q : Session → Type 0) (p : Session → Bool) (xs : List Session) → AllByRecursion Q xs → AllByRecursion Q (filter p xs)
+each_filter Q p [] k = tt
+each_filter Q p (x ∷ xs) k = elim (p x) as (λ b. AllByRecursion Q (cond b (x ∷ filter p xs) (filter p xs))) [ true ↦ (k.0, each_filter Q p xs k.1) | false ↦ each_filter Q p xs k.1 ]
 
-whole_with : (change : Session → Session) → ((x : Session) → x.lost ≡ false → (change x).lost ≡ false) → (name : List ℕ) (xs : List Session) → NoneLost xs → NoneLost (with_session name change xs)
-whole_with change keeps name [] k = tt
-whole_with change keeps name (x ∷ xs) k =
-    elim (is_called name x) as (λ b. NoneLost (cond b (change x ∷ xs) (x ∷ with_session name change xs))) [
+each_with : (Q : Session → Type 0) (change : Session → Session) → ((x : Session) → Q x → Q (change x)) → (name : List ℕ) (xs : List Session) → AllByRecursion Q xs → AllByRecursion Q (with_session name change xs)
+each_with Q change keeps name [] k = tt
+each_with Q change keeps name (x ∷ xs) k =
+    elim (is_called name x) as (λ b. AllByRecursion Q (cond b (change x ∷ xs) (x ∷ with_session name change xs))) [
       | true ↦ (keeps x k.0, k.1)
-      | false ↦ (k.0, whole_with change keeps name xs k.1)
+      | false ↦ (k.0, each_with Q change keeps name xs k.1)
     ]
+
+abbrev WasKept : Session → Type 0
+WasKept x = x.lost ≡ false
+
+abbrev WasIdle : Session → Type 0
+WasIdle x = x.draws ≡ []
 
 -- what is kept, but for the length of the history
 pub record Holds (n : ℕ) (s : State) : Type 0 where
@@ -122,6 +128,8 @@ holds_locks n s locks own h =
         limited = steady.limited;
         server = steady.server;
         whole = steady.whole;
+        undrawn = steady.undrawn;
+        ranges = steady.ranges;
         settled = steady.settled;
         fresh = record { numbered = steady.fresh.numbered; ahead = steady.fresh.ahead; later = steady.fresh.later };
         places = steady.places;
@@ -142,7 +150,9 @@ left-holds n s name locks own h =
         started = steady.started;
         limited = steady.limited;
         server = steady.server;
-        whole = whole_filter p s.sessions steady.whole;
+        whole = each_filter WasKept p s.sessions steady.whole;
+        undrawn = each_filter WasIdle p s.sessions steady.undrawn;
+        ranges = steady.ranges;
         settled = steady.settled;
         fresh = record { numbered = fresh.numbered; ahead = fresh.ahead; later = fresh.later };
         places = steady.places;
@@ -171,7 +181,9 @@ next-holds n s name locks own h =
         started = steady.started;
         limited = steady.limited;
         server = steady.server;
-        whole = whole_with with_next_unit (λ x k. k) name s.sessions steady.whole;
+        whole = each_with WasKept with_next_unit (λ x k. k) name s.sessions steady.whole;
+        undrawn = each_with WasIdle with_next_unit (λ x k. refl) name s.sessions steady.undrawn;
+        ranges = steady.ranges;
         settled = steady.settled;
         fresh = record { numbered = fresh.numbered; ahead = fresh.ahead; later = fresh.later };
         places = steady.places;
@@ -205,7 +217,9 @@ commit-holds n s name x parts found same h =
         started = steady.started;
         limited = steady.limited;
         server = steady.server;
-        whole = whole_with with_next_unit (λ x k. k) x.name s.sessions steady.whole;
+        whole = each_with WasKept with_next_unit (λ x k. k) x.name s.sessions steady.whole;
+        undrawn = each_with WasIdle with_next_unit (λ x k. refl) x.name s.sessions steady.undrawn;
+        ranges = steady.ranges;
         settled = steady.settled;
         fresh = record { numbered = fresh.numbered; ahead = fresh.ahead; later = fresh.later };
         places = steady.places;
@@ -263,7 +277,9 @@ entered-holds n s name user h =
         started = steady.started;
         limited = steady.limited;
         server = steady.server;
-        whole = whole_push s.sessions y steady.whole refl;
+        whole = each_push WasKept s.sessions y steady.whole refl;
+        undrawn = each_push WasIdle s.sessions y steady.undrawn refl;
+        ranges = steady.ranges;
         settled = steady.settled;
         fresh = record { numbered = fresh.numbered; ahead = fresh.ahead; later = fresh.later };
         places = steady.places;
@@ -292,6 +308,8 @@ taken-holds n part s worker unit e h =
       limited = steady.limited;
       server = steady.server;
       whole = steady.whole;
+      undrawn = steady.undrawn;
+      ranges = steady.ranges;
       settled = steady.settled;
       fresh = record { numbered = steady.fresh.numbered; ahead = steady.fresh.ahead; later = steady.fresh.later };
       places = length-set s.orders worker (Some unit) ∙ steady.places;
@@ -307,6 +325,8 @@ dropped-holds n s worker h =
       limited = steady.limited;
       server = steady.server;
       whole = steady.whole;
+      undrawn = steady.undrawn;
+      ranges = steady.ranges;
       settled = steady.settled;
       fresh = record { numbered = steady.fresh.numbered; ahead = steady.fresh.ahead; later = steady.fresh.later };
       places = length-set s.orders worker None ∙ steady.places;
@@ -335,6 +355,8 @@ marked-holds n part s worker unit kind e h =
         limited = steady.limited;
         server = steady.server;
         whole = steady.whole;
+        undrawn = steady.undrawn;
+        ranges = steady.ranges;
         settled = steady.settled;
         fresh = record { numbered = fresh.numbered; ahead = fresh.ahead; later = fresh.later };
         places = length-set s.orders worker None ∙ steady.places;
@@ -365,6 +387,8 @@ cancelled-holds n s unit status can h =
         limited = steady.limited;
         server = steady.server;
         whole = steady.whole;
+        undrawn = steady.undrawn;
+        ranges = steady.ranges;
         settled = steady.settled;
         fresh = record { numbered = fresh.numbered; ahead = fresh.ahead; later = fresh.later };
         places = steady.places;
@@ -396,6 +420,8 @@ reopened-holds n s unit es here own h =
         limited = steady.limited;
         server = steady.server;
         whole = steady.whole;
+        undrawn = steady.undrawn;
+        ranges = steady.ranges;
         settled = steady.settled;
         fresh = record { numbered = fresh.numbered; ahead = fresh.ahead; later = fresh.later };
         places = steady.places;
@@ -416,6 +442,8 @@ reposted-holds n s unit here h =
         limited = steady.limited;
         server = steady.server;
         whole = steady.whole;
+        undrawn = steady.undrawn;
+        ranges = steady.ranges;
         settled = steady.settled;
         fresh = record { numbered = fresh.numbered; ahead = fresh.ahead; later = fresh.later };
         places = steady.places;
@@ -468,6 +496,8 @@ doubted-holds n s pending h =
         limited = steady.limited;
         server = tt;
         whole = steady.whole;
+        undrawn = steady.undrawn;
+        ranges = steady.ranges;
         settled = tt;
         fresh = record { numbered = steady.fresh.numbered; ahead = steady.fresh.ahead; later = steady.fresh.later };
         places = steady.places;
@@ -515,6 +545,8 @@ with_past n s past h =
         limited = steady.limited;
         server = steady.server;
         whole = steady.whole;
+        undrawn = steady.undrawn;
+        ranges = steady.ranges;
         settled = steady.settled;
         fresh = record { numbered = steady.fresh.numbered; ahead = steady.fresh.ahead; later = steady.fresh.later };
         places = steady.places;

@@ -50,7 +50,8 @@ use Rattle.hall.specs.Sessions.{owners_of, pair_of, unit_key}
 use Rattle.hall.specs.Standing.{CallKeepsLocks, CallsKeepLocks, HandsOver, IsCommitOf, IsFirm, IsHandedTo, IsResubmissionOf, LocksAreBack, LocksReturn, LocksStand, NoneEndsWait, ReturnsLocked, StillWaits, WaitsLocked, WasFirm, ends_wait, is_commit, is_resubmission_of, with_handed}
 use Rattle.hall.specs.State.{State, opened}
 use Rattle.hall.specs.Step.{Found, Leaves, call_verdict, cancelled, caller_refusal, committed, freed_all, is_full, lowered, or_else, locks_without, marked, own_verdict, posted_reply, reopened, reposted, rolled_back, server_refusal, unit_of, unless_refused}
-use Rattle.hall.proofs.Beginning.{IsFirst, first_few, first_sound, first_steady}
+use Rattle.hall.proofs.Beginning.{AgreeWith, IsFirst, first_few, first_sound, first_steady}
+use Rattle.number_ranges.specs.declared.interval.Interval.{Interval}
 use Rattle.hall.proofs.ByCall.{OfEach, by_call, by_event}
 use Rattle.hall.proofs.Claims.{held_for}
 use Rattle.hall.proofs.Fair.{step-sound}
@@ -336,9 +337,9 @@ record IsReached (s : State) : Type 0 where
   sound : HasSoundLocks s
   sure : AreSure s.locks
 
-reached_first : (limit mark_limit : ℕ) (told : Bool) (ledger : Ledger) → limit < 2 ^ 32 → mark_limit ≤ 1048576 → IsFirst ledger → IsReached (opened limit mark_limit told ledger)
-reached_first limit mark_limit told ledger fits limited first =
-    record { calls = 0; sound = first_sound limit mark_limit told ledger fits first; holds = record { few = first_few limit mark_limit told ledger; steady = first_steady limit mark_limit told ledger limited first }; sure = refl }
+reached_first : (limit mark_limit : ℕ) (intervals : List Interval) (told : Bool) (ledger : Ledger) → limit < 2 ^ 32 → mark_limit ≤ 1048576 → AgreeWith intervals ledger → IsFirst ledger → IsReached (opened limit mark_limit intervals told ledger)
+reached_first limit mark_limit intervals told ledger fits limited agree first =
+    record { calls = 0; sound = first_sound limit mark_limit intervals told ledger fits first; holds = record { few = first_few limit mark_limit intervals told ledger; steady = first_steady limit mark_limit intervals told ledger limited agree first }; sure = refl }
 
 reached_next : (s : State) (m : Made) → IsReached s → IsReached (recalled s m)
 reached_next s m h =
@@ -538,12 +539,12 @@ called s m reached answer = record {
 }
 
 -- each call of a history that is answered as the model answers it keeps the locks of committed units
-pub calls_keep_locks : (limit mark_limit : ℕ) (told : Bool) (ledger : Ledger) (made : List Made) → limit < 2 ^ 32 → mark_limit ≤ 1048576 → IsFirst ledger → AreModelAnswers (opened limit mark_limit told ledger) made → CallsKeepLocks (opened limit mark_limit told ledger) made
-calls_keep_locks limit mark_limit told ledger made fits limited begun answers earlier later m e =
-    let first = opened limit mark_limit told ledger in
+pub calls_keep_locks : (limit mark_limit : ℕ) (intervals : List Interval) (told : Bool) (ledger : Ledger) (made : List Made) → limit < 2 ^ 32 → mark_limit ≤ 1048576 → AgreeWith intervals ledger → IsFirst ledger → AreModelAnswers (opened limit mark_limit intervals told ledger) made → CallsKeepLocks (opened limit mark_limit intervals told ledger) made
+calls_keep_locks limit mark_limit intervals told ledger made fits limited agree begun answers earlier later m e =
+    let first = opened limit mark_limit intervals told ledger in
     let s = state_after first earlier in
     subst (CallKeepsLocks s m.call) (sym (fold-append recalled first earlier (m ∷ [])))
-    (called s m (reached_after first earlier (reached_first limit mark_limit told ledger fits limited begun)) (answers earlier later m e))
+    (called s m (reached_after first earlier (reached_first limit mark_limit intervals told ledger fits limited agree begun)) (answers earlier later m e))
 
 -- a unit that waits, with locks that were handed over to it, waits with them as long as no call ends that
 stays_handed : (unit : UnitKey) (Q : Entry → Type 0) (t : State) (ms : List Made) → ((e : Entry) → Q e → IsHandedTo unit e) → IsReached t → AnswersFrom t ms → NoneEndsWait unit ms → StillWaits unit t → ((e : Entry) → Q e → Among t.locks e) → StillWaits unit (state_after t ms) × ((e : Entry) → Q e → Among (state_after t ms).locks e)
@@ -576,12 +577,12 @@ stored_handed unit s e sound k = record {
 }
 
 -- in a history that is answered as the model answers it each committed unit waits with its locks until a call ends that
-pub locks_stand : (limit mark_limit : ℕ) (told : Bool) (ledger : Ledger) (made : List Made) → limit < 2 ^ 32 → mark_limit ≤ 1048576 → IsFirst ledger → AreModelAnswers (opened limit mark_limit told ledger) made → LocksStand (opened limit mark_limit told ledger) made
-locks_stand limit mark_limit told ledger made fits limited begun answers earlier between later m unit whole is on =
-    let first = opened limit mark_limit told ledger in
+pub locks_stand : (limit mark_limit : ℕ) (intervals : List Interval) (told : Bool) (ledger : Ledger) (made : List Made) → limit < 2 ^ 32 → mark_limit ≤ 1048576 → AgreeWith intervals ledger → IsFirst ledger → AreModelAnswers (opened limit mark_limit intervals told ledger) made → LocksStand (opened limit mark_limit intervals told ledger) made
+locks_stand limit mark_limit intervals told ledger made fits limited agree begun answers earlier between later m unit whole is on =
+    let first = opened limit mark_limit intervals told ledger in
     let s = state_after first earlier in
     let t = recalled s m in
-    let reached = reached_after first earlier (reached_first limit mark_limit told ledger fits limited begun) in
+    let reached = reached_after first earlier (reached_first limit mark_limit intervals told ledger fits limited agree begun) in
     let hands = hands-over unit s t (recalled-hands unit s m reached.holds.steady.server (answers earlier (between ++ later) m whole) is) in
     let stays = stays_handed unit (IsOf unit s) t between (of_unit unit s) (reached_next s m reached) (answers_behind first made earlier between later m answers whole) on hands.waits
     (λ e q. subst (Among t.locks) (sym q.same) (among_from t.locks (with_handed q.was) (hands.handed q.was q.firm q.stood))) in
@@ -593,13 +594,13 @@ locks_stand limit mark_limit told ledger made fits limited begun answers earlier
 
 -- in a history that is answered as the model answers it each unit that waits again has its stored locks until a call ends
 -- that
-pub locks_return : (limit mark_limit : ℕ) (told : Bool) (ledger : Ledger) (made : List Made) → limit < 2 ^ 32 → mark_limit ≤ 1048576 → IsFirst ledger → AreModelAnswers (opened limit mark_limit told ledger) made → LocksReturn (opened limit mark_limit told ledger) made
-locks_return limit mark_limit told ledger made fits limited begun answers earlier between later m unit whole is on waits =
-    let first = opened limit mark_limit told ledger in
+pub locks_return : (limit mark_limit : ℕ) (intervals : List Interval) (told : Bool) (ledger : Ledger) (made : List Made) → limit < 2 ^ 32 → mark_limit ≤ 1048576 → AgreeWith intervals ledger → IsFirst ledger → AreModelAnswers (opened limit mark_limit intervals told ledger) made → LocksReturn (opened limit mark_limit intervals told ledger) made
+locks_return limit mark_limit intervals told ledger made fits limited agree begun answers earlier between later m unit whole is on waits =
+    let first = opened limit mark_limit intervals told ledger in
     let s = state_after first earlier in
     let t = recalled s m in
     let to_here : state_after first (earlier ++ m ∷ []) ≡ t = fold-append recalled first earlier (m ∷ []) in
-    let here = reached_next s m (reached_after first earlier (reached_first limit mark_limit told ledger fits limited begun)) in
+    let here = reached_next s m (reached_after first earlier (reached_first limit mark_limit intervals told ledger fits limited agree begun)) in
     let waits' : StillWaits unit t = subst (StillWaits unit) to_here waits in
     let back = recalled-back unit s m (answers earlier (between ++ later) m whole) is waits' in
     let stays = stays_handed unit (Among (entries_of t.stored.units unit)) t between (λ e k. stored_handed unit t e here.sound k) here (answers_behind first made earlier between later m answers whole) on waits' back in

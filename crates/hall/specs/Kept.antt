@@ -15,7 +15,10 @@ use Rattle.lock_entry.specs.Table.{IsTable}
 use Rattle.mode_rules.specs.declared.Mode.TheVariants.{O}
 use Rattle.mode_rules.specs.Modes.{same_mode}
 use Rattle.posting.specs.Steps.{IsOpenUnit, IsPostedUnit}
-use Rattle.update_records.specs.Ledger.{Ledger}
+use Rattle.number_ranges.specs.Intervals.{IsInterval}
+use Rattle.range_list.specs.Levels.{level_in, present}
+use Rattle.range_list.specs.declared.range.NumberRange.{NumberRange}
+use Rattle.update_records.specs.Ledger.{Ledger, Levels}
 use Rattle.update_records.specs.Marks.{status_of}
 use Rattle.update_records.specs.declared.records.Unit.{Unit as UnitOfWork}
 use Rattle.hall.specs.declared.command.Session.{Session}
@@ -41,6 +44,15 @@ AreNumbered next (x ∷ xs) =
 -- no session lost a lock with a lock server
 abbrev pub NoneLost : List Session → Type 0
 NoneLost sessions = AllByRecursion (λ (x : Session). x.lost ≡ false) sessions
+
+-- no session has drawn a number
+abbrev pub NoneDrawn : List Session → Type 0
+NoneDrawn sessions = AllByRecursion (λ (x : Session). x.draws ≡ []) sessions
+
+-- the level of the range is one that its interval may have, and memory hands out the number behind it
+pub record IsAtLevel (levels : Levels) (r : NumberRange) : Type 0 where
+  pub interval : IsInterval (present levels r.interval)
+  pub next : r.next ≡ level_in levels r.interval + 1
 
 -- nothing is recorded of a unit of this start
 abbrev pub IsUnheard : Ledger → ℕ → ℕ → Type 0
@@ -143,6 +155,8 @@ pub record IsSteady (s : State) : Type 0 where
   pub limited : s.mark_limit ≤ 1048576
   pub server : HasServer s.condition
   pub whole : NoneLost s.sessions
+  pub undrawn : NoneDrawn s.sessions
+  pub ranges : AllByRecursion (IsAtLevel s.stored.levels) s.ranges
   -- nothing is pending while the server is up
   pub settled : WhileUp s.condition (s.pending ≡ None)
   pub fresh : HasFreshKeys s

@@ -1,10 +1,12 @@
--- What the server tells of the units that are recorded: nothing while it is in doubt.
-use Rattle.std.specs.Prelude.{ℕ, List, [], length}
+-- What the server tells of the units that are recorded, nothing while it is in doubt, and of the number ranges.
+use Rattle.std.specs.Prelude.{ℕ, List, [], length, map}
 use Rattle.enq_base.specs.declared.condition.Condition.{Condition}
 use Rattle.enq_base.specs.declared.condition.Condition.TheVariants as condition
+use Rattle.number_ranges.specs.Draws.{RangeState}
 use Rattle.posting.specs.Views.{views_of}
 use Rattle.update_records.specs.Business.{numbers_of}
 use Rattle.update_records.specs.declared.view.UnitView.{UnitView}
+use Rattle.hall.specs.Numbers.{range_state}
 use Rattle.hall.specs.State.{State}
 
 abbrev pub unless_in_doubt : {X : Type 0} → Condition → X → X → X
@@ -23,3 +25,7 @@ marks_shown s = unless_in_doubt s.condition 0 (length s.stored.marks)
 -- how many numbers were committed, by units and alone
 abbrev pub numbers_shown : State → ℕ
 numbers_shown s = unless_in_doubt s.condition 0 (length (numbers_of s.stored.units s.stored.marks))
+
+-- the number ranges in the order of the landscape
+abbrev pub ranges_shown : State → List RangeState
+ranges_shown s = map (range_state s) s.ranges

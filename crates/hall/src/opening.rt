@@ -1,11 +1,16 @@
-ghost use Rattle.std.specs.Prelude.{◌≡◌, ◌≤◌, [], None, IfOk, replicate, vec_capacity};
-ghost use Rattle.hall.specs.Faults.{books_fault};
+ghost use Rattle.std.specs.Prelude.{◌≡◌, ◌≤◌, List, [], None, IfOk, replicate, vec_capacity};
+ghost use Rattle.hall.specs.Faults.{IsRangesFault, hall_fault};
+ghost use Rattle.posting.specs.Intervals.{in_row_order};
+ghost use Rattle.range_list.specs.Levels.{IsLevelFault};
+ghost use Rattle.number_ranges.specs.declared.interval.Interval.{Interval};
+ghost use Rattle.update_records.specs.Ledger.{Levels};
 ghost use Rattle.lock_entry.specs.Table.{IsTable};
 
 use crate::command::PastEntry;
 use enq_base::{NoMemory, UnitKey};
 use lock_entry::LockStore;
 use posting::BooksFault;
+use range_list::LevelFault;
 use std::alloc::Global;
 
 pub(crate) const HISTORY_LIMIT: usize = 262_144;
@@ -21,6 +26,9 @@ pub enum HallFault {
     Bad { table: u8, row: u64 },
     /// The store's start number is the last that there is.
     NoStart,
+    /// The stored interval in this row of the intervals, counted from 1 in the order of their keys, isn't one of the
+    /// landscape: no interval has its name, or it has another first number or another buffering, or a level past the end.
+    Interval { row: u64 },
     NoMemory,
 }
 
@@ -58,12 +66,21 @@ fn no_orders(alloc: Global) -> Result<Vec<Option<UnitKey>>, NoMemory>
 
 /// Why the books weren't opened.
 pub(crate) fn fault_of(fault: BooksFault) -> HallFault
-    ensures { books_fault result ≡ fault }
+    ensures { result ≡ hall_fault fault }
 {
     match fault {
         BooksFault::StoreFault => HallFault::Store,
         BooksFault::BadStore { table, row } => HallFault::Bad { table, row },
         BooksFault::NoStart => HallFault::NoStart,
         BooksFault::NoMemory => HallFault::NoMemory,
+    }
+}
+
+/// Why the levels of the store weren't taken over.
+pub(crate) fn ranges_fault_of(fault: LevelFault) -> HallFault
+    ensures { (intervals : List Interval) (levels : Levels) → IsLevelFault intervals (in_row_order levels) fault → IsRangesFault intervals levels result }
+{
+    match fault {
+        LevelFault::Unfit { row } => HallFault::Interval { row },
     }
 }

@@ -1,26 +1,31 @@
 ghost use Rattle.std.specs.Prelude.{◌≡◌, ◌⊎◌, [], false, length, replicate, None, IfOk, is_some};
 ghost use Rattle.hall.specs.declared.command.Command.TheVariants as command;
 ghost use Rattle.hall.specs.Acts.{IsAct, post_of, take_of, written_condition, written_pending, written_reply};
-ghost use Rattle.hall.specs.Kept.{IsKept};
+ghost use Rattle.hall.specs.Kept.{IsAtLevel, IsKept, NoneDrawn};
+ghost use Rattle.range_list.specs.Levels.{first_ranges, intervals_of};
+ghost use Rattle.std.specs.List.{AllByRecursion};
 ghost use Rattle.hall.specs.Leaving.{LeavesState};
 ghost use Rattle.hall.specs.Calls.{call_of, touches_store};
 ghost use Rattle.hall.specs.Serving.{IsDue, MayWrite, Serves, with_calls};
 ghost use Rattle.hall.specs.State.{opened};
 ghost use Rattle.hall.specs.History.{after_of, is_unrecorded};
 ghost use Rattle.hall.specs.Step.{barred, is_full};
-ghost use Rattle.hall.specs.Views.{marks_shown, numbers_shown, units_shown};
+ghost use Rattle.hall.specs.Views.{marks_shown, numbers_shown, ranges_shown, units_shown};
 ghost use Rattle.posting.specs.Shelf.{IsUsable};
 
 use crate::command::{After, Command, PastEntry, Reply};
 use crate::locks::{ask, convert, free, free_all, log_off, roll_back};
 use crate::opening::HISTORY_LIMIT;
 use crate::orders::{drop_order, take};
+use crate::ranges::undrawn_ranges;
 use crate::sessions::{Sessions, log_on};
 use crate::units::{InFlight, Written, cancel, commit, post, read, resubmit};
 use enq_base::{Condition, Key, Name, NoMemory, Parts, Refusal, UnitKey};
 use keeper_api::Keeper;
 use lock_entry::{Asked, Entry, LockStore, Request};
+use number_ranges::Range;
 use posting::Books;
+use range_list::Ranges;
 use std::alloc::Global;
 use std::marker::Model;
 use update_records::UnitView;
@@ -35,6 +40,7 @@ pub(crate) struct Server<T: LockStore, K: Keeper> {
     pub(crate) locks: T,
     pub(crate) max_locks: u32,
     pub(crate) max_marks: u32,
+    pub(crate) ranges: Ranges,
     pub(crate) books: Books<K>,
     pub(crate) pending: Option<InFlight>,
 }
@@ -57,13 +63,13 @@ impl<T: LockStore, K: Keeper> Model for Server<T, K> {
     ghost use Rattle.hall.specs.Flights.{landed};
 
     ghost view = { λ h. record {
-      state = state_of (is_some (K.held h.books.keeper)) h.condition h.sessions h.next_session h.orders.items (T.table h.locks) h.max_locks h.max_marks h.books.ledger
+      state = state_of (is_some (K.held h.books.keeper)) h.condition h.sessions h.next_session h.orders.items (T.table h.locks) h.max_locks h.max_marks h.ranges h.books.ledger
           (option_map (landed h.books.ledger) h.pending) [];
       keeper = h.books.keeper;
     } };
 
     ghost invariant = { λ h.
-        let s = state_of (is_some (K.held h.books.keeper)) h.condition h.sessions h.next_session h.orders.items (T.table h.locks) h.max_locks h.max_marks h.books.ledger
+        let s = state_of (is_some (K.held h.books.keeper)) h.condition h.sessions h.next_session h.orders.items (T.table h.locks) h.max_locks h.max_marks h.ranges h.books.ledger
         (option_map (landed h.books.ledger) h.pending) [] in
         WhileUp h.condition (IsUsable K.held K.is_open h.books)
         × LeavesState K.held K.may_leave (record { state = s; keeper = h.books.keeper }) };
@@ -75,6 +81,7 @@ impl<T: LockStore, K: Keeper> Server<T, K> {
         alloc: Global,
         locks: T,
         orders: Vec<Option<UnitKey>>,
+        ranges: Ranges,
         max_locks: u32,
         max_marks: u32,
         books: Books<K>,
@@ -82,7 +89,8 @@ impl<T: LockStore, K: Keeper> Server<T, K> {
         requires usable { IsUsable K.held K.is_open books }
         requires locks { T.table locks ≡ record { entries = []; limit = max_locks } }
         requires orders { orders.items ≡ replicate 256 None }
-        ensures state { result.state ≡ opened max_locks max_marks (is_some (K.held books.keeper)) books.ledger }
+        requires levels { ranges ≡ first_ranges books.ledger.levels (intervals_of ranges) }
+        ensures state { result.state ≡ opened max_locks max_marks (intervals_of ranges) (is_some (K.held books.keeper)) books.ledger }
         ensures keeper { result.keeper ≡ books.keeper }
         ensures left { LeavesState K.held K.may_leave result }
     {
@@ -94,6 +102,7 @@ impl<T: LockStore, K: Keeper> Server<T, K> {
             locks,
             max_locks,
             max_marks,
+            ranges,
             books,
             pending: None,
         }
@@ -143,6 +152,15 @@ impl<T: LockStore, K: Keeper> Server<T, K> {
             Condition::Up | Condition::NoServer => self.books.views(alloc),
             Condition::Doubt(_) => Ok(Vec::new(alloc)),
         }
+    }
+
+    /// The number ranges, none of which has numbers drawn.
+    pub(crate) fn ranges(&self, alloc: Global) -> Result<Vec<Range>, NoMemory>
+        requires undrawn { NoneDrawn self.now.state.sessions }
+        requires levels { AllByRecursion (IsAtLevel self.now.state.stored.levels) self.now.state.ranges }
+        ensures { IfOk result (λ ranges. ranges.items ≡ ranges_shown self.now.state) }
+    {
+        undrawn_ranges(alloc, self.ranges.as_slice(), &self.books)
     }
 
     /// How many marks there are: none where the server is in doubt.

@@ -1,3 +1,4 @@
+ghost use Rattle.range_list.specs.Levels.{AreIntervals};
 ghost use Rattle.std.specs.Prelude.{◌≤◌};
 
 use enq_base::{
@@ -7,6 +8,7 @@ use hall::{Hall, Reply};
 use keeper_mem::MemKeeper;
 use lock_entry::{Asked, Entry, Mode, Request};
 use lock_table::ListTable;
+use number_ranges::Interval;
 use std::alloc::Global;
 use std::test::*;
 
@@ -130,11 +132,18 @@ fn make_all(
     Ok(())
 }
 
+// A landscape without number ranges.
+fn no_intervals(alloc: Global) -> Vec<Interval>
+    ensures { AreIntervals result.items }
+{
+    Vec::new(alloc)
+}
+
 fn opened(alloc: Global, max_locks: u32, max_marks: u32) -> Result<MemHall, Fail>
     requires { max_marks ≤ 1048576 }
 {
     let keeper = MemKeeper::new(alloc, Vec::new(alloc), Vec::new(alloc))?;
-    match MemHall::open(alloc, keeper, max_locks, max_marks) {
+    match MemHall::open(alloc, keeper, max_locks, max_marks, no_intervals(alloc)) {
         Ok(hall) => Ok(hall),
         Err(_) => Err(Fail::from("a hall")),
     }

@@ -9,22 +9,22 @@ use Rattle.lock_objects.specs.Objects.{Object, has_width}
 use Rattle.landscape.specs.Objects.{each, field_of, key_table_of, object_of}
 use Rattle.landscape.specs.Tables.{integer_at, items_at, name_at, natural_of, number_within}
 
-bind_all : {A B : Type 0} (f : A → Option B) (P : B → Type 0) (o : Option A) → ((x : A) → IfSome (f x) P) → IfSome (o >>= f) P
+pub bind_all : {A B : Type 0} (f : A → Option B) (P : B → Type 0) (o : Option A) → ((x : A) → IfSome (f x) P) → IfSome (o >>= f) P
 bind_all f P None h = tt
 bind_all f P (Some x) h = h x
 
-bind_if : {A B : Type 0} {Q : A → Type 0} (f : A → Option B) (P : B → Type 0) (o : Option A) → IfSome o Q → ((x : A) → Q x → IfSome (f x) P) → IfSome (o >>= f) P
+pub bind_if : {A B : Type 0} {Q : A → Type 0} (f : A → Option B) (P : B → Type 0) (o : Option A) → IfSome o Q → ((x : A) → Q x → IfSome (f x) P) → IfSome (o >>= f) P
 bind_if f P None q h = tt
 bind_if f P (Some x) q h = h x q
 
-test_then : {B : Type 0} (b : Bool) (x : Option B) (P : B → Type 0) → (b ≡ true → IfSome x P) → IfSome (cond b x None) P
+pub test_then : {B : Type 0} (b : Bool) (x : Option B) (P : B → Type 0) → (b ≡ true → IfSome x P) → IfSome (cond b x None) P
 test_then true x P h = h refl
 test_then false x P h = tt
 
 both : (a b : Bool) → a ≡ true → b ≡ true → (a && b) ≡ true
 both a b p q = ap (λ x. x && b) p ∙ q
 
-within_if : (least most : ℕ) (z : ℤ) → IfSome (number_within least most z) (λ n. (nat_le least n && nat_le n most) ≡ true)
+pub within_if : (least most : ℕ) (z : ℤ) → IfSome (number_within least most z) (λ n. (nat_le least n && nat_le n most) ≡ true)
 unfolding number_within
 within_if least most z =
     bind_all _ _ (natural_of z) (λ n. test_then (nat_le least n && nat_le n most) (Some n) (λ m. (nat_le least m && nat_le m most) ≡ true) (λ e. e))

@@ -1,10 +1,10 @@
 -- The ranges of a landscape: rules 10 to 14.
 use Rattle.std.specs.Prelude.{ℕ, ◌-◌, Bool, false, ◌&&◌, nat_le, ℤ, List, [], ◌∷◌, codes, if◌then◌else◌, Option, Some, None, Result, Ok, Err}
 use Rattle.std.specs.List.{list_any}
-use Rattle.std.specs.Str.{bytes_eq}
 use Rattle.toml.specs.Data.{Data}
 use Rattle.enq_base.specs.Grammar.{is_name, is_digit}
 use Rattle.enq_base.specs.Number.{◌>>=◌}
+use Rattle.number_ranges.specs.Intervals.{is_named}
 use Rattle.number_ranges.specs.declared.interval.Interval.{Interval}
 use Rattle.landscape.specs.Broken.{Broken, in_turn, or_rule, then_read}
 use Rattle.landscape.specs.Tables.{table_with, text_at, integer_at, natural_of, number_within}
@@ -56,11 +56,6 @@ amounts_of s = do
   Some (buffer, percent)
 
 -- ---- rule 14: no earlier range of this object and number
-
-abbrev pub is_named : List ℕ → List ℕ → Interval → Bool
-is_named object nr i = bytes_eq i.object object && bytes_eq i.nr nr
-
--- ---- ranges
 
 -- the interval behind the earlier ones, whose level is below its first number; else the first rule that it breaks
 unfoldable pub range_of : List Interval → Data → Result Interval ℕ

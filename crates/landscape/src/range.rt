@@ -2,8 +2,10 @@ ghost use Rattle.std.specs.Prelude.{◌≡◌, ◌≤◌, IfSome, map, option_ma
 ghost use Rattle.std.specs.List.{list_any};
 ghost use Rattle.toml.specs.View.{view};
 ghost use Rattle.landscape.specs.Broken.{Gives};
-ghost use Rattle.landscape.specs.Ranges.{amounts_of, bounds_of, is_named, name_and_nr, range_of, ranges_of, shape_of};
+ghost use Rattle.landscape.specs.Ranges.{amounts_of, bounds_of, name_and_nr, range_of, ranges_of, shape_of};
+ghost use Rattle.number_ranges.specs.Intervals.{is_named};
 ghost use Rattle.landscape.specs.Seen.{seen};
+ghost use Rattle.number_ranges.specs.Intervals.{is_named};
 
 use crate::land_fault::{LandFault, bad_place};
 use crate::tables::{integer_at, natural, number_within, table_with, text_at};

@@ -1,7 +1,9 @@
+use enq_base::Short;
 use io_edge::{
-    Failed, LineFault, LineReader, MemSink, MemSource, Sink, Source, StdSink, StdSource,
-    SureSource, put_all,
+    Failed, FileSource, LineFault, LineReader, MemSink, MemSource, Sink, Source, StdSink,
+    StdSource, SureSource, put_all,
 };
+use std::fs::{create_dir, remove_dir, remove_file, write};
 use std::io;
 use std::io::{ErrorKind, Read, Write};
 use std::test::*;
@@ -184,4 +186,39 @@ fn a_writer_of_std_is_flushed(rt: HostRuntime) {
         drop(sink);
         assert_eq!(rt; (writer.taken, writer.flushed), (taken, flushed), "{room}");
     }
+}
+
+fn file_source(rt: HostRuntime, path: &str) -> Result<FileSource<HostRuntime>, Fail> {
+    let path = Short::new(path.as_bytes()).ok_or("a path")?;
+    Ok(FileSource::new(rt, path))
+}
+
+#[test]
+fn a_file_is_read_to_its_end(rt: HostRuntime) -> Result<(), Fail> {
+    let path = "a_file_is_read_to_its_end.txt";
+    let mut source = file_source(rt, path)?;
+    // The file is opened at the first read, and not before.
+    write(&rt, path, "max_locks = 2")?;
+    let mut into = [0; 8];
+    assert_eq!(rt; source.read(&mut into), Ok(8));
+    assert_eq!(rt; &into, b"max_lock");
+    assert_eq!(rt; source.read(&mut into), Ok(5));
+    assert_eq!(rt; &into[..5], b"s = 2".as_slice());
+    assert_eq!(rt; source.read(&mut into), Ok(0));
+    remove_file(&rt, path)?;
+    Ok(())
+}
+
+#[test]
+fn what_is_no_file_cannot_be_read(rt: HostRuntime) -> Result<(), Fail> {
+    let folder = "what_is_no_file_cannot_be_read";
+    create_dir(&rt, folder)?;
+    let mut into = [0; 8];
+    for path in [folder, "no such file", "no such folder/file"] {
+        let mut source = file_source(rt, path)?;
+        assert_eq!(rt; source.read(&mut into), Err(Failed), "{path}");
+        assert_eq!(rt; source.read(&mut into), Err(Failed), "{path}");
+    }
+    remove_dir(&rt, folder)?;
+    Ok(())
 }

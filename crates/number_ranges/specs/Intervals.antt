@@ -1,6 +1,7 @@
 -- Intervals, their blocks and the codes of their numbers.
-use Rattle.std.specs.Prelude.{◌≡◌, ℕ, ◌+◌, ◌-◌, ◌*◌, ◌≤◌, ◌<◌, min, nat_eq, nat_le, if◌then◌else◌}
+use Rattle.std.specs.Prelude.{◌≡◌, ℕ, ◌+◌, ◌-◌, ◌*◌, ◌≤◌, ◌<◌, Bool, ◌&&◌, List, min, nat_eq, nat_le, nat_lt, if◌then◌else◌}
 use Rattle.std.specs.Int.{div_ceil}
+use Rattle.std.specs.Str.{bytes_eq}
 use Rattle.number_ranges.specs.declared.interval.Interval.{Interval}
 use Rattle.number_ranges.specs.declared.interval.Code.{Code}
 use Rattle.number_ranges.specs.declared.interval.Code.TheVariants.{Blank, Critical, Last}
@@ -35,3 +36,11 @@ code_of i n = if nat_eq n i.to then Last else if nat_le ((i.to - n) * 100) (i.pe
 
 abbrev pub with_level : ℕ → Interval → Interval
 with_level level i = record i { level = level }
+
+-- the interval of this object and these two digits
+abbrev pub is_named : List ℕ → List ℕ → Interval → Bool
+is_named object nr i = bytes_eq i.object object && bytes_eq i.nr nr
+
+-- numbers of a buffered interval are handed out from memory, block by block
+abbrev pub is_buffered : Interval → Bool
+is_buffered i = nat_lt 0 i.buffer

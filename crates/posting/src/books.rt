@@ -245,6 +245,13 @@ impl<K: Keeper> Books<K> {
         self.register.stored(row)
     }
 
+    /// The stored intervals in that order.
+    pub fn intervals(&self) -> &[StoredInterval]
+        ensures { result.now ≡ in_row_order self.now.ledger.levels }
+    {
+        self.register.intervals()
+    }
+
     /// Makes ready to store an interval anew. Nothing changes in the store.
     pub fn prepare_level(
         &mut self,

@@ -67,6 +67,13 @@ impl IntervalList {
         interval_at(self.items.as_slice(), row as usize - 1)
     }
 
+    /// All of them.
+    pub fn intervals(&self) -> &[StoredInterval]
+        ensures { result.now ≡ in_row_order self.now.levels }
+    {
+        self.items.as_slice()
+    }
+
     /// Takes the memory for so many more intervals.
     pub fn make_room(&mut self, intervals: usize) -> Result<(), NoMemory>
         ensures levels { self.new.levels ≡ self.old.levels }

@@ -222,6 +222,12 @@ impl Register {
         self.intervals.stored(row)
     }
 
+    pub fn intervals(&self) -> &[StoredInterval]
+        ensures { result.now ≡ in_row_order self.now.ledger.levels }
+    {
+        self.intervals.intervals()
+    }
+
     /// Takes the memory for one more unit, one more mark and so many more intervals.
     pub fn make_room(&mut self, intervals: usize) -> Result<(), NoMemory>
         ensures ledger { self.new.ledger ≡ self.old.ledger }

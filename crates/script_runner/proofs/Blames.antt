@@ -7,7 +7,7 @@ use Rattle.std.proofs.lemmas.List.{length-map}
 use Rattle.script_lang.specs.declared.script_line.ScriptLine.{ScriptLine}
 use Rattle.io_edge.specs.Lines.{lines_of}
 use Rattle.script_runner.specs.declared.runner.Why.{Why}
-use Rattle.script_runner.specs.declared.runner.Why.TheVariants.{Done, BadWords, BadLine, SourceFault, SinkFault, LongLine, ManyLines, StoreFault, BadStore, NoStart, NoMemory}
+use Rattle.script_runner.specs.declared.runner.Why.TheVariants.{Done, BadWords, BadLandscape, BadLine, SourceFault, SinkFault, LongLine, ManyLines, StoreFault, BadStore, NoStart, NoMemory}
 use Rattle.script_runner.specs.Lines.{line_in}
 use Rattle.script_runner.specs.LineFaults.{IsKnown, IsToBlame}
 use Rattle.script_runner.specs.Replay.{Replays, Seen, IsEnd}
@@ -132,6 +132,7 @@ blames before bytes left rest turns old new ManyLines all end =
     omega (arith, end.0, k, some_tail rest left end.1, count_lines bytes turns (lines_of (rest ++ left)) all)
 blames before bytes left rest turns old new Done all end = tt
 blames before bytes left rest turns old new BadWords all end = tt
+blames before bytes left rest turns old new (BadLandscape rule place) all end = tt
 blames before bytes left rest turns old new SourceFault all end = tt
 blames before bytes left rest turns old new SinkFault all end = tt
 blames before bytes left rest turns old new (StoreFault k) all end = tt

@@ -9,7 +9,7 @@ use Rattle.std.specs.List.{AllByRecursion, list_any}
 use Rattle.io_edge.specs.Lines.{lines_of, onto_first, is_ended, IsUnbroken}
 use Rattle.script_lang.specs.Memory.{holds_lists}
 use Rattle.script_runner.specs.declared.runner.Why.{Why}
-use Rattle.script_runner.specs.declared.runner.Why.TheVariants.{Done, BadWords, BadLine, SourceFault, SinkFault, LongLine, ManyLines, StoreFault, BadStore, NoStart, NoMemory}
+use Rattle.script_runner.specs.declared.runner.Why.TheVariants.{Done, BadWords, BadLandscape, BadLine, SourceFault, SinkFault, LongLine, ManyLines, StoreFault, BadStore, NoStart, NoMemory}
 use Rattle.script_runner.specs.Run.{AreAllowed, Turn, Progress, begun, next, run, moved, after_turn, line_does, store_fails_in}
 use Rattle.script_runner.specs.World.{World}
 use Rattle.script_runner.specs.Replay.{Replays, Seen, IsEnd, IsReadToEnd}
@@ -211,6 +211,7 @@ ends before after bytes left lines rest turns old new (StoreFault k) allowed is 
 ends before after bytes left lines rest turns old new (BadStore table row) allowed is all script quiet_source quiet_sink off hall end = absurd end
 ends before after bytes left lines rest turns old new NoStart allowed is all script quiet_source quiet_sink off hall end = absurd end
 ends before after bytes left lines rest turns old new BadWords allowed is all script quiet_source quiet_sink off hall end = absurd end
+ends before after bytes left lines rest turns old new (BadLandscape rule place) allowed is all script quiet_source quiet_sink off hall end = absurd end
 ends before after bytes left lines rest turns old new (BadLine n) allowed is all script quiet_source quiet_sink off hall end =
     let good = recursion_from_All IsGood (lines_of bytes) script.each in
     let fine = run_fine (begun before) turns (good_front (lines_in turns) (lines_of (rest ++ left)) (subst (AllByRecursion IsGood) all good)) (inl refl) in

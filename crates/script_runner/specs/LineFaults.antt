@@ -3,7 +3,7 @@ use Rattle.std.specs.Prelude.{◌≡◌, ℕ, ◌+◌, ◌<◌, List, ◌∷◌,
 use Rattle.std.specs.List.{AllByRecursion}
 use Rattle.io_edge.specs.Lines.{lines_of}
 use Rattle.script_runner.specs.declared.runner.Why.{Why}
-use Rattle.script_runner.specs.declared.runner.Why.TheVariants.{Done, BadWords, BadLine, SourceFault, SinkFault}
+use Rattle.script_runner.specs.declared.runner.Why.TheVariants.{Done, BadWords, BadLandscape, BadLine, SourceFault, SinkFault}
 use Rattle.script_runner.specs.declared.runner.Why.TheVariants.{LongLine, ManyLines, StoreFault, BadStore, NoStart, NoMemory}
 use Rattle.script_runner.specs.Lines.{line_in}
 
@@ -40,6 +40,7 @@ IsToBlame (LongLine n) bytes = IsFirstLong n bytes
 IsToBlame ManyLines bytes = 200000 < length (lines_of bytes)
 IsToBlame Done bytes = Unit {0}
 IsToBlame BadWords bytes = Unit {0}
+IsToBlame (BadLandscape rule place) bytes = Unit {0}
 IsToBlame SourceFault bytes = Unit {0}
 IsToBlame SinkFault bytes = Unit {0}
 IsToBlame (StoreFault k) bytes = Unit {0}

@@ -55,6 +55,7 @@ abbrev pub is_built : ScriptLine → Bool
 is_built line.Blank = true
 is_built line.Sm12 = true
 is_built line.Sm13 = true
+is_built line.Snro = true
 is_built line.Audit = true
 is_built (line.Logon s user) = true
 is_built (line.Logoff s) = true
@@ -210,6 +211,7 @@ abbrev pub line_kind : ScriptLine → LineKind
 line_kind line.Blank = kind.Blank
 line_kind line.Sm12 = kind.Shown monitor.Sm12
 line_kind line.Sm13 = kind.Shown monitor.Sm13
+line_kind line.Snro = kind.Shown monitor.Snro
 line_kind line.Audit = kind.Shown monitor.Audit
 line_kind _ = kind.Replied
 
@@ -281,6 +283,7 @@ abbrev pub meaning : World → ScriptLine → Meaning
 meaning w line.Blank = Silent
 meaning w line.Sm12 = Shows monitor.Sm12
 meaning w line.Sm13 = Shows monitor.Sm13
+meaning w line.Snro = Shows monitor.Snro
 meaning w line.Audit = Shows monitor.Audit
 meaning w (line.Logon s user) = Calls (command.Logon s user)
 meaning w (line.Logoff s) = of_session w.sides s (Calls (command.Logoff s))
@@ -325,6 +328,7 @@ settled _ _ sides = sides
 abbrev pub grows : ScriptLine → Bool
 grows line.Sm12 = true
 grows line.Sm13 = true
+grows line.Snro = true
 grows line.Audit = true
 grows (line.Logon s user) = true
 grows (line.Flush s) = true

@@ -2,8 +2,8 @@
 use Rattle.std.specs.Prelude.{ℕ, List}
 use Rattle.hall.specs.History.{after_of}
 use Rattle.hall.specs.State.{State}
-use Rattle.hall.specs.Views.{marks_shown, numbers_shown, units_shown}
-use Rattle.monitors.specs.Monitors.{audit_text, sm12_text, sm13_text}
+use Rattle.hall.specs.Views.{marks_shown, numbers_shown, ranges_shown, units_shown}
+use Rattle.monitors.specs.Monitors.{audit_text, sm12_text, sm13_text, snro_text}
 use Rattle.monitors.specs.declared.views.ServerView.{ServerView}
 use Rattle.script_runner.specs.declared.monitor.Monitor.{Monitor}
 use Rattle.script_runner.specs.declared.monitor.Monitor.TheVariants as monitor
@@ -16,4 +16,5 @@ server_view s = record { condition = s.condition; attached = (after_of s).attach
 abbrev pub monitor_text : ℕ → Monitor → State → List ℕ
 monitor_text n monitor.Sm12 s = sm12_text n (server_view s) s.locks
 monitor_text n monitor.Sm13 s = sm13_text n s.condition (units_shown s)
+monitor_text n monitor.Snro s = snro_text n s.condition (ranges_shown s)
 monitor_text n monitor.Audit s = audit_text n s.condition (units_shown s) (marks_shown s) (numbers_shown s)

@@ -6,7 +6,7 @@ use Rattle.hall.specs.Devices.{AllWell}
 use Rattle.hall.specs.State.{State}
 use Rattle.io_edge.specs.Lines.{lines_of, IsLine}
 use Rattle.script_runner.specs.declared.runner.Why.{Why}
-use Rattle.script_runner.specs.declared.runner.Why.TheVariants.{Done, BadWords, BadLine, SourceFault, SinkFault}
+use Rattle.script_runner.specs.declared.runner.Why.TheVariants.{Done, BadWords, BadLandscape, BadLine, SourceFault, SinkFault}
 use Rattle.script_runner.specs.declared.runner.Why.TheVariants.{LongLine, ManyLines, StoreFault, BadStore, NoStart, NoMemory}
 use Rattle.script_runner.specs.Lines.{line_in}
 use Rattle.script_runner.specs.Replay.{doubt_of}
@@ -44,6 +44,7 @@ IsComplete before after bytes old new (StoreFault k) =
     (doubt_of before.hall ≡ Some k) × IsAllDone before after bytes old new
 IsComplete before after bytes old new NoMemory = Unit {0}
 IsComplete before after bytes old new BadWords = ⊥
+IsComplete before after bytes old new (BadLandscape rule place) = ⊥
 IsComplete before after bytes old new (BadLine n) = ⊥
 IsComplete before after bytes old new SourceFault = ⊥
 IsComplete before after bytes old new SinkFault = ⊥

@@ -29,6 +29,7 @@ pub(crate) fn is_built(line: &ScriptLine) -> bool
         ScriptLine::Blank
             | ScriptLine::Sm12
             | ScriptLine::Sm13
+            | ScriptLine::Snro
             | ScriptLine::Audit
             | ScriptLine::Logon { .. }
             | ScriptLine::Logoff { .. }

@@ -9,15 +9,16 @@ use hall::Hall;
 use io_edge::{Sink, put_all};
 use keeper_api::Keeper;
 use lock_entry::LockStore;
-use monitors::{Bytes, ServerView, audit, sm12, sm13};
+use monitors::{Bytes, ServerView, audit, sm12, sm13, snro};
 use script_lang::ScriptLine;
 use std::alloc::Global;
 
-/// A monitor: SM12 shows the lock table, SM13 the update records, AUDIT the counts.
+/// A monitor: SM12 shows the lock table, SM13 the update records, SNRO the number ranges, AUDIT the counts.
 #[derive(Clone, Copy, Debug, PartialEq, Eq)]
 pub(crate) enum Monitor {
     Sm12,
     Sm13,
+    Snro,
     Audit,
 }
 
@@ -39,6 +40,7 @@ pub(crate) fn line_kind(line: &ScriptLine) -> LineKind
         ScriptLine::Blank => LineKind::Blank,
         ScriptLine::Sm12 => LineKind::Shown(Monitor::Sm12),
         ScriptLine::Sm13 => LineKind::Shown(Monitor::Sm13),
+        ScriptLine::Snro => LineKind::Shown(Monitor::Snro),
         ScriptLine::Audit => LineKind::Shown(Monitor::Audit),
         _ => LineKind::Replied,
     }
@@ -78,6 +80,10 @@ fn text_of<T: LockStore, K: Keeper>(
         Monitor::Sm13 => {
             let units = hall.units(alloc)?;
             sm13(alloc, number, hall.condition(), units.as_slice())
+        }
+        Monitor::Snro => {
+            let ranges = hall.ranges(alloc)?;
+            snro(alloc, number, hall.condition(), ranges.as_slice())
         }
         Monitor::Audit => counts_text(alloc, number, hall),
     }

@@ -1,7 +1,6 @@
-use crate::runs::{empty_store, run_over, run_words, word};
+use crate::runs::{LANDSCAPE, empty_store, run_over, run_words, source_of, word};
 use enq_base::Items;
 use enq_cmd::Why;
-use io_edge::MemSource;
 use std::alloc::Global;
 use std::process::Abort;
 use std::test::*;
@@ -15,7 +14,7 @@ struct Row {
     status: u8,
 }
 
-const ROWS: [Row; 10] = [
+const ROWS: [Row; 9] = [
     Row {
         script: b"",
         replies: b"",
@@ -46,12 +45,6 @@ const ROWS: [Row; 10] = [
         replies: b"2 OK\n5 OK\n",
         why: Why::Done,
         status: 0,
-    },
-    Row {
-        script: b"A LOGON MILLER\n? SNRO\n",
-        replies: b"1 OK\n",
-        why: Why::BadLine(2),
-        status: 4,
     },
     // A second exclusive lock is refused with the holder's user, table and argument.
     Row {
@@ -122,10 +115,18 @@ fn scripts_are_answered_line_by_line(rt: HostRuntime) -> Result<(), Fail> {
     Ok(())
 }
 
-// Tests that a run ended at once by its words.
+// Tests that a run ended at once by its words: the landscape, which can't be read, isn't asked for.
 fn has_bad_words(rt: &impl Abort, alloc: Global, words: &[Items<u8>]) -> Result<(), Fail> {
-    let source = MemSource::new(b"A LOGON MILLER\n".to_vec(alloc)?, Vec::new(alloc))?;
-    let run = run_words(alloc, words, source, Vec::new(alloc), empty_store(alloc)?)?;
+    let landscape = source_of(alloc, b"", &[1])?;
+    let script = source_of(alloc, b"A LOGON MILLER\n", &[])?;
+    let run = run_words(
+        alloc,
+        words,
+        landscape,
+        script,
+        Vec::new(alloc),
+        empty_store(alloc)?,
+    )?;
     assert_eq!(rt; run.why, Why::BadWords);
     assert_eq!(rt; run.status, 2);
     assert_eq!(rt; run.replies.len(), 0);
@@ -165,10 +166,17 @@ fn a_fault_ends_the_run(rt: HostRuntime) -> Result<(), Fail> {
     let alloc = rt.alloc();
     for (reads, writes, why, status, calls) in FAULTS {
         let words = word(alloc, b"replay")?;
-        let script = b"A LOGON MILLER\nA LOGOFF\n".to_vec(alloc)?;
-        let source = MemSource::new(script, reads.to_vec(alloc)?)?;
-        let writes = writes.to_vec(alloc)?;
-        let run = run_words(alloc, words.as_slice(), source, writes, empty_store(alloc)?)?;
+        let landscape = source_of(alloc, LANDSCAPE.as_bytes(), &[])?;
+        let script = source_of(alloc, b"A LOGON MILLER\nA LOGOFF\n", reads)?;
+        let keeper = empty_store(alloc)?;
+        let run = run_words(
+            alloc,
+            words.as_slice(),
+            landscape,
+            script,
+            writes.to_vec(alloc)?,
+            keeper,
+        )?;
         assert_eq!(rt; run.why, why);
         assert_eq!(rt; run.status, status);
         assert_eq!(rt; run.calls, calls);

@@ -1,4 +1,5 @@
-//! Tests of scripts, from their words and first line to what they leave and the starts that come after.
+//! Tests of scripts, from their words, landscape and first line to what they leave and the starts that come after, and of
+//! the texts around them.
 #![tactic(auto)]
 
 #[cfg(test)]
@@ -11,6 +12,8 @@ mod effects;
 mod ends;
 #[cfg(test)]
 mod faults;
+#[cfg(test)]
+mod landscapes;
 #[cfg(test)]
 mod limits;
 #[cfg(test)]
@@ -27,5 +30,7 @@ mod shown;
 mod starts;
 #[cfg(test)]
 mod stops;
+#[cfg(test)]
+mod texts;
 #[cfg(test)]
 mod units;

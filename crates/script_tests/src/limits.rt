@@ -74,7 +74,7 @@ fn orders(alloc: Global) -> Result<LockObject, Fail> {
 }
 
 fn small_hall(alloc: Global) -> Result<Hall<ListTable, MemKeeper>, Fail> {
-    match Hall::open(alloc, empty_store(alloc)?, 1, 2) {
+    match Hall::open(alloc, empty_store(alloc)?, 1, 2, Vec::new(alloc)) {
         Ok(hall) => Ok(hall),
         Err(_) => Err(Fail::from("no hall")),
     }

@@ -7,6 +7,36 @@ use std::alloc::Global;
 use std::process::Abort;
 use std::test::*;
 
+// The landscape of most scripts.
+pub(crate) const LANDSCAPE: &str = "max_locks = 1000\n\
+[[object]]\n\
+name = \"EZORDER\"\n\
+fields = [{ name = \"MANDT\", width = 3 }, { name = \"ORDNR\", width = 10 }]\n\
+[[object.table]]\n\
+name = \"ZORDER\"\n\
+keys = [\"MANDT\", \"ORDNR\"]\n\
+[[range]]\n\
+object = \"ZORDNR\"\n\
+nr = \"01\"\n\
+from = 1\n\
+to = 9999999999\n\
+buffer = 0\n\
+percent = 10\n\
+[[range]]\n\
+object = \"ZSMALL\"\n\
+nr = \"01\"\n\
+from = 98\n\
+to = 100\n\
+buffer = 0\n\
+percent = 40\n\
+[[range]]\n\
+object = \"ZBUF\"\n\
+nr = \"01\"\n\
+from = 1\n\
+to = 1000\n\
+buffer = 10\n\
+percent = 0\n";
+
 // A script, and what it is answered.
 pub(crate) type Script = (&'static [u8], &'static [u8]);
 
@@ -27,17 +57,25 @@ pub(crate) fn empty_store(alloc: Global) -> Result<MemKeeper, Fail> {
     Ok(MemKeeper::new(alloc, Vec::new(alloc), Vec::new(alloc))?)
 }
 
+// A source of these bytes, in which the calls of these numbers fail.
+pub(crate) fn source_of(alloc: Global, bytes: &[u8], fails: &[u64]) -> Result<MemSource, Fail> {
+    Ok(MemSource::new(bytes.to_vec(alloc)?, fails.to_vec(alloc)?)?)
+}
+
 // Does these words over these devices.
 pub(crate) fn run_words(
     alloc: Global,
     words: &[Items<u8>],
-    source: MemSource,
+    landscape: MemSource,
+    script: MemSource,
     writes: Vec<u64>,
     keeper: MemKeeper,
 ) -> Result<Run, Fail> {
-    let mut source = source;
+    let mut landscape = landscape;
+    let mut script = script;
     let mut sink = MemSink::new(alloc, writes)?;
-    let ended = enqueue_main(alloc, words, &mut source, &mut sink, Site { keeper });
+    let site = Site { keeper };
+    let ended = enqueue_main(alloc, words, &mut landscape, &mut script, &mut sink, site);
     let replies = sink.bytes().to_vec(alloc)?;
     Ok(Run {
         replies,
@@ -52,11 +90,29 @@ pub(crate) fn word(alloc: Global, word: &[u8]) -> Result<Vec<Items<u8>>, Fail> {
     Ok(vec![in alloc; Items::from_vec(word.to_vec(alloc)?)]?)
 }
 
+// Replays a script with a landscape over a store.
+pub(crate) fn run_with(
+    alloc: Global,
+    document: &[u8],
+    script: &[u8],
+    keeper: MemKeeper,
+) -> Result<Run, Fail> {
+    let words = word(alloc, b"replay")?;
+    let landscape = source_of(alloc, document, &[])?;
+    let script = source_of(alloc, script, &[])?;
+    run_words(
+        alloc,
+        words.as_slice(),
+        landscape,
+        script,
+        Vec::new(alloc),
+        keeper,
+    )
+}
+
 // Replays a script over a store.
 pub(crate) fn run_over(alloc: Global, script: &[u8], keeper: MemKeeper) -> Result<Run, Fail> {
-    let words = word(alloc, b"replay")?;
-    let source = MemSource::new(script.to_vec(alloc)?, Vec::new(alloc))?;
-    run_words(alloc, words.as_slice(), source, Vec::new(alloc), keeper)
+    run_with(alloc, LANDSCAPE.as_bytes(), script, keeper)
 }
 
 // Replays scripts, each over an empty store and in order to its end.

@@ -1,7 +1,7 @@
 use crate::runs::{Script, are_answered};
 use std::test::*;
 
-const SCRIPTS: [Script; 3] = [
+const SCRIPTS: [Script; 4] = [
     // Nothing stands, and nothing is recorded.
     (
         b"? SM12\n? SM13\n? AUDIT\n",
@@ -10,6 +10,14 @@ const SCRIPTS: [Script; 3] = [
             2 END\n\
             3 UNITS 0 OPEN 0 POSTED 0 BAD 0 CLOSED 0 BAD2 0 CANCELLED 0 MARKS 0 NUMBERS 0\n\
             3 END\n",
+    ),
+    // The intervals stand in the order of the landscape. Nothing was drawn from them.
+    (
+        b"? SNRO\n",
+        b"1 ZORDNR 01 1 9999999999 LEVEL 0 BUFFER 0 PERCENT 10\n\
+            1 ZSMALL 01 98 100 LEVEL 97 BUFFER 0 PERCENT 40\n\
+            1 ZBUF 01 1 1000 LEVEL 0 BUFFER 10 PERCENT 0\n\
+            1 END\n",
     ),
     // A lock of both owners is two entries: that of the unit is handed over, and goes with the post.
     (
@@ -102,6 +110,6 @@ const SCRIPTS: [Script; 3] = [
 ];
 
 #[test]
-fn monitors_show_locks_units_and_counts(rt: HostRuntime) -> Result<(), Fail> {
+fn monitors_show_locks_units_intervals_and_counts(rt: HostRuntime) -> Result<(), Fail> {
     are_answered(&rt, rt.alloc(), &SCRIPTS)
 }

@@ -80,7 +80,7 @@ fn what_was_recorded_waits_at_the_next_start(rt: HostRuntime) -> Result<(), Fail
     Ok(())
 }
 
-fn put_row(
+pub(crate) fn put_row(
     alloc: Global,
     keeper: &mut MemKeeper,
     table: u8,

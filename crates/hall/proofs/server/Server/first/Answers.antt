@@ -14,7 +14,7 @@ invariant_of-result g c = (
 
 pub returns-clause-state : goal.returns-clause-state
 returns-clause-state g c =
-    λ i. state_of (is_some (g.K.Keeper.held c.args.books.keeper)) Up (c.new.ensures i) 1 (c.requires.orders i) (c.requires.locks i) c.args.max_locks c.args.max_marks c.args.books.ledger None []
+    λ i. state_of (is_some (g.K.Keeper.held c.args.books.keeper)) Up (c.new.ensures i) 1 (c.requires.orders i) (c.requires.locks i) c.args.max_locks c.args.max_marks (c.requires.levels i) c.args.books.ledger None []
 
 pub returns-clause-left : goal.returns-clause-left
 returns-clause-left g c =

@@ -13,11 +13,11 @@ returns g c =
     let table = g.T.LockStore.table in
     let told = is_some (g.K.Keeper.held old.books.keeper) in
     let before : Condition → View g.row.K.Denot = λ k. record {
-      state = state_with told k old.sessions old.next_session old.orders.items (table old.locks) old.max_locks old.max_marks old.books.ledger old.pending [];
+      state = state_with told k old.sessions old.next_session old.orders.items (table old.locks) old.max_locks old.max_marks old.ranges old.books.ledger old.pending [];
       keeper = old.books.keeper;
     } in
     let after : Condition → View g.row.K.Denot = λ k. record {
-      state = state_with told k c.log_on.new.sessions c.log_on.new.next old.orders.items (table old.locks) old.max_locks old.max_marks old.books.ledger old.pending [];
+      state = state_with told k c.log_on.new.sessions c.log_on.new.next old.orders.items (table old.locks) old.max_locks old.max_marks old.ranges old.books.ledger old.pending [];
       keeper = old.books.keeper;
     } in
     serves_beside g.K.Keeper.held g.K.Keeper.may_leave g.K.Keeper.faults before after old.condition c.args.self.now c.args.past.now.items (command.Logon c.args.session c.args.user) _ _

@@ -30,12 +30,12 @@ returns g c =
     let ended = c.ended in
     let past = c.args.past.now.items in
     let due = subst (λ v. IsDue v.state past) (sym c.self.view_is) c.requires in
-    let before : Condition → State = λ k. state_with (is_some (held old.books.keeper)) k old.sessions old.next_session old.orders.items (table old.locks) old.max_locks old.max_marks old.books.ledger old.pending past in
-    let new : State = state_with (is_some (held called.new.books.keeper)) ended.new.condition old.sessions old.next_session old.orders.items (table old.locks) old.max_locks old.max_marks called.new.books.ledger ended.new.pending [] in
+    let before : Condition → State = λ k. state_with (is_some (held old.books.keeper)) k old.sessions old.next_session old.orders.items (table old.locks) old.max_locks old.max_marks old.ranges old.books.ledger old.pending past in
+    let new : State = state_with (is_some (held called.new.books.keeper)) ended.new.condition old.sessions old.next_session old.orders.items (table old.locks) old.max_locks old.max_marks old.ranges called.new.books.ledger ended.new.pending [] in
     subst (λ v. Serves held may_leave faults v (record { state = new; keeper = called.new.books.keeper }) past (command.Read c.args.session.now c.args.table.now c.args.key.now) ended.result) c.self.view_is
     (record {
       call =
-          written_call (is_some (held old.books.keeper)) (is_some (held called.new.books.keeper)) old.condition ended.new.condition old.sessions old.sessions old.next_session old.orders.items old.orders.items (table old.locks) (table old.locks) old.max_locks old.max_marks old.books.ledger called.new.books.ledger
+          written_call (is_some (held old.books.keeper)) (is_some (held called.new.books.keeper)) old.condition ended.new.condition old.sessions old.sessions old.next_session old.orders.items old.orders.items (table old.locks) (table old.locks) old.max_locks old.max_marks old.ranges old.books.ledger called.new.books.ledger
           old.pending ended.new.pending past called.result (command.Read c.args.session.now c.args.table.now c.args.key.now) ended.result due
           called.ensures.told ended.ensures.condition ended.ensures.pending ended.ensures.reply refl (also_failed _ called.result refl) (also_failed _ called.result refl) (also_failed _ called.result called.ensures.ledger)
           (λ none room. called.ensures.act (before Up) refl refl refl none room);

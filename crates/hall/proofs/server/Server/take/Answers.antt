@@ -16,8 +16,8 @@ returns g c =
     let faults = g.K.Keeper.faults in
     let past = c.args.past.now.items in
     let due = subst (λ v. IsDue v.state past) (sym c.self.view_is) c.requires.due in
-    let s : State = state_with (is_some (held old.books.keeper)) old.condition old.sessions old.next_session old.orders.items (table old.locks) old.max_locks old.max_marks old.books.ledger old.pending past in
-    let new : State = state_with (is_some (held old.books.keeper)) old.condition old.sessions old.next_session c.take.new.orders.items (table old.locks) old.max_locks old.max_marks old.books.ledger old.pending [] in
+    let s : State = state_with (is_some (held old.books.keeper)) old.condition old.sessions old.next_session old.orders.items (table old.locks) old.max_locks old.max_marks old.ranges old.books.ledger old.pending past in
+    let new : State = state_with (is_some (held old.books.keeper)) old.condition old.sessions old.next_session c.take.new.orders.items (table old.locks) old.max_locks old.max_marks old.ranges old.books.ledger old.pending [] in
     subst (λ v. Serves held may_leave faults v (record { state = new; keeper = old.books.keeper }) past (take_of c.args.part c.args.worker) c.take.result) c.self.view_is
     (record {
       call = taken_call c.args.part s c.args.worker (with_calls new past) c.take.result c.requires.part due.admits (c.take.ensures.verdict s refl refl);

@@ -1,15 +1,18 @@
-use enq_cmd::Why;
+use script_runner::Why;
 use std::fmt;
 
 /// The line on standard error that tells why the program ended. There is none for an end in order.
 #[derive(Clone, Copy, Debug)]
-pub(crate) struct EndLine(pub(crate) Why);
+pub struct EndLine(pub Why);
 
 impl fmt::Display for EndLine {
     fn fmt<W: fmt::Write>(&self, f: &mut fmt::Formatter<W>) -> fmt::Result {
         match self.0 {
             Why::Done => Ok(()),
             Why::BadWords => f.write_str("enqd: bad words"),
+            Why::BadLandscape { rule, place } => {
+                write!(f, "enqd: bad landscape, rule {rule} at {place}")
+            }
             Why::BadLine(number) => write!(f, "enqd: bad line {number}"),
             Why::SourceFault => f.write_str("enqd: cannot read"),
             Why::SinkFault => f.write_str("enqd: cannot write"),

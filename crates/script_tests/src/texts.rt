@@ -1,4 +1,5 @@
-use super::*;
+use enq_cmd::Why;
+use enqd_texts::{EndLine, help_text, usage_text, version_text};
 use std::test::*;
 
 #[test]
@@ -6,6 +7,10 @@ fn each_end_has_its_line(rt: HostRuntime) -> Result<(), Fail> {
     for (why, line) in [
         (Why::Done, ""),
         (Why::BadWords, "enqd: bad words"),
+        (
+            Why::BadLandscape { rule: 14, place: 3 },
+            "enqd: bad landscape, rule 14 at 3",
+        ),
         (Why::BadLine(2), "enqd: bad line 2"),
         (Why::SourceFault, "enqd: cannot read"),
         (Why::SinkFault, "enqd: cannot write"),
@@ -26,10 +31,13 @@ fn each_end_has_its_line(rt: HostRuntime) -> Result<(), Fail> {
 }
 
 #[test]
-fn texts_name_program_and_command(rt: HostRuntime) -> Result<(), Fail> {
+fn texts_name_program_command_and_files(rt: HostRuntime) -> Result<(), Fail> {
     let alloc = rt.alloc();
-    assert!(rt; help_text(alloc)?.contains("replay"));
-    assert!(rt; !help_text(alloc)?.contains("Print this message"));
+    let help = help_text(alloc)?;
+    for word in ["replay", "landscape.toml", "enq.db"] {
+        assert!(rt; help.contains(word), "{word}");
+    }
+    assert!(rt; !help.contains("Print this message"));
     assert!(rt; usage_text(alloc)?.contains("enqd"));
     assert_eq!(rt; version_text(alloc)?.as_str(), "enqd 0.1.0\n");
     Ok(())

@@ -2,24 +2,25 @@ use clap::Command;
 use std::alloc::{AllocError, Global};
 
 /// How the program is called, as a line.
-pub(crate) fn usage_text(alloc: Global) -> Result<String, AllocError> {
+pub fn usage_text(alloc: Global) -> Result<String, AllocError> {
     command(alloc)?.render_usage()
 }
 
 /// What the program does, and its commands.
-pub(crate) fn help_text(alloc: Global) -> Result<String, AllocError> {
+pub fn help_text(alloc: Global) -> Result<String, AllocError> {
     command(alloc)?.render_help()
 }
 
 /// The program's name and version, as a line.
-pub(crate) fn version_text(alloc: Global) -> Result<String, AllocError> {
+pub fn version_text(alloc: Global) -> Result<String, AllocError> {
     command(alloc)?.render_version()
 }
 
 /// The words of the command line, of which `clap` renders the texts. They are compared elsewhere.
 fn command(alloc: Global) -> Result<Command<'static>, AllocError> {
     let replay = Command::new(alloc, "replay").about(
-        "Reads a script from standard input, does it line by line, and writes each reply",
+        "Reads the landscape from landscape.toml and opens the store in enq.db, both in the current folder; then reads a \
+         script from standard input, does it line by line, and writes each reply",
     );
     Command::new(alloc, "enqd")
         .version("0.1.0")

@@ -1,0 +1,12 @@
+pub mod Names
+pub mod Lookups
+pub mod Fits
+pub mod Started
+pub mod Counting
+pub mod Owning
+pub mod Settling
+pub mod Storing
+pub mod Sessions
+pub mod Drawing
+pub mod Recording
+pub mod Owners

@@ -1,0 +1,66 @@
+ghost use Rattle.std.specs.Prelude.{◌≡◌, OnOk, IfOk, Some, List, ℕ, if◌then◌else◌, slice_get};
+ghost use Rattle.std.specs.HashMap.{get};
+ghost use Rattle.std.specs.Option.{option_copied};
+ghost use Rattle.number_ranges.specs.Intervals.{is_named};
+ghost use Rattle.range_list.specs.Levels.{intervals_of, range_at};
+ghost use Rattle.range_list.specs.Places.{ArePlaces, range_id, same_range};
+
+use crate::range::NumberRange;
+use crate::range_id::{RangeId, range_id};
+use enq_base::{Name, NoMemory};
+use number_ranges::Interval;
+use std::alloc::Global;
+use std::collections::HashMap;
+
+/// Where the interval of each name stands.
+pub fn places_of(alloc: Global, intervals: &[Interval]) -> Result<HashMap<RangeId, usize>, NoMemory>
+    ensures { IfOk result (λ places. ArePlaces places intervals.now) }
+{
+    let mut places = HashMap::new(alloc);
+    let mut left = intervals.len();
+    while left > 0 {
+        left -= 1;
+        put(&mut places, &intervals[left], left)?;
+    }
+    Ok(places)
+}
+
+fn put(
+    places: &mut HashMap<RangeId, usize>,
+    interval: &Interval,
+    place: usize,
+) -> Result<(), NoMemory>
+    ensures { OnOk result ((object nr : List ℕ) → get same_range places.new (range_id object nr)
+        ≡ (if is_named object nr interval.now then Some place else get same_range places.old (range_id object nr))) }
+{
+    places.insert(range_id(&interval.object, interval.nr), place)?;
+    Ok(())
+}
+
+fn place_of(places: &HashMap<RangeId, usize>, object: &Name, nr: [u8; 2]) -> Option<usize>
+    ensures { result ≡ get same_range places.now (range_id object.now nr) }
+{
+    places.get(&range_id(object, nr)).copied()
+}
+
+/// The range of this name, found by its place.
+pub fn find_range<'a>(
+    ranges: &'a [NumberRange],
+    places: &HashMap<RangeId, usize>,
+    object: &Name,
+    nr: [u8; 2],
+) -> Option<&'a NumberRange>
+    requires { ArePlaces places.now (intervals_of ranges.now) }
+    ensures { option_copied result ≡ range_at ranges.now object.now nr }
+{
+    match place_of(places, object, nr) {
+        Some(place) => range_in(ranges, place),
+        None => None,
+    }
+}
+
+fn range_in(ranges: &[NumberRange], place: usize) -> Option<&NumberRange>
+    ensures { option_copied result ≡ slice_get ranges.now place }
+{
+    ranges.get(place)
+}

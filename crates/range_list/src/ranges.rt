@@ -1,0 +1,107 @@
+ghost use Rattle.std.specs.Prelude.{◌≡◌, ◌<◌, IfErr, IfOk, IfSome, OnOk, length, not, true};
+ghost use Rattle.std.specs.List.{list_all, position};
+ghost use Rattle.std.specs.Option.{option_copied};
+ghost use Rattle.posting.specs.Intervals.{in_row_order};
+ghost use Rattle.range_list.specs.Levels.{AreIntervals, FitRows, IsLevelFault, first_ranges, fits, intervals_of, range_at};
+ghost use Rattle.update_records.specs.declared.stored.StoredInterval.{StoredInterval};
+
+use crate::places::{find_range, places_of};
+use crate::range::{LevelFault, NumberRange};
+use crate::range_id::RangeId;
+use crate::starting::{fresh_ranges, is_row_of, start_all};
+use enq_base::{Name, NoMemory};
+use keeper_api::Keeper;
+use number_ranges::Interval;
+use posting::Books;
+use std::alloc::Global;
+use std::collections::HashMap;
+use std::marker::Model;
+use update_records::StoredInterval;
+
+/// Intervals in the order of the landscape, each with the number that memory hands out next.
+#[derive(Drop)]
+pub struct Ranges {
+    list: Vec<NumberRange>,
+    places: HashMap<RangeId, usize>,
+}
+
+impl Model for Ranges {
+    ghost use Rattle.std.specs.Prelude.{List};
+    ghost use Rattle.range_list.specs.Levels.{AreIntervals, intervals_of};
+    ghost use Rattle.range_list.specs.Places.{ArePlaces};
+    ghost use Rattle.range_list.specs.declared.range.NumberRange.{NumberRange};
+
+    ghost Value = { List NumberRange };
+
+    ghost view = { λ r. r.list.items };
+
+    ghost invariant = { λ r. AreIntervals (intervals_of r.list.items) × ArePlaces r.places (intervals_of r.list.items) };
+}
+
+impl Ranges {
+    /// The intervals of a landscape, over a store that has no levels.
+    pub fn new(alloc: Global, intervals: &[Interval]) -> Result<Ranges, NoMemory>
+        requires { AreIntervals intervals.now }
+        ensures { IfOk result (λ ranges. intervals_of ranges ≡ intervals.now) }
+    {
+        let list = fresh_ranges(alloc, intervals)?;
+        let places = places_of(alloc, intervals)?;
+        Ok(Ranges { list, places })
+    }
+
+    /// Takes over the levels that a store has, each of which has to be one of these intervals'.
+    pub fn take_levels<K: Keeper>(&mut self, books: &Books<K>) -> Result<(), LevelFault>
+        ensures ranges { OnOk result (self.new ≡ first_ranges books.now.ledger.levels (intervals_of self.old)) }
+        ensures fits { OnOk result (FitRows (intervals_of self.old) books.now.ledger.levels) }
+        ensures fault { IfErr result (IsLevelFault (intervals_of self.old) (in_row_order books.now.ledger.levels)) }
+        ensures intervals { intervals_of self.new ≡ intervals_of self.old }
+    {
+        self.fit(books.intervals())?;
+        start_all(self.list.as_mut_slice(), books);
+        Ok(())
+    }
+
+    /// The intervals in the order of the landscape.
+    pub fn as_slice(&self) -> &[NumberRange]
+        ensures { result.now ≡ self.now }
+    {
+        self.list.as_slice()
+    }
+
+    /// The interval of this object and these two digits.
+    pub fn find(&self, object: &Name, nr: [u8; 2]) -> Option<&NumberRange>
+        ensures { option_copied result ≡ range_at self.now object.now nr }
+    {
+        find_range(self.list.as_slice(), &self.places, object, nr)
+    }
+
+    /// Whether each stored row is that of an interval, and where it isn't, the first such row.
+    fn fit(&self, rows: &[StoredInterval]) -> Result<(), LevelFault>
+        ensures fits { OnOk result (list_all (fits (intervals_of self.now)) rows.now ≡ true) }
+        ensures fault { IfErr result (IsLevelFault (intervals_of self.now) rows.now) }
+    {
+        match self.first_unfit(rows) {
+            None => Ok(()),
+            Some(before) => Err(LevelFault::Unfit {
+                row: before as u64 + 1,
+            }),
+        }
+    }
+
+    fn first_unfit(&self, rows: &[StoredInterval]) -> Option<usize>
+        ensures place { result ≡ position (λ (row : StoredInterval). not (fits (intervals_of self.now) row)) rows.now }
+        ensures within { IfSome result (λ before. before < length rows.now) }
+    {
+        rows.iter().position(|row| !self.has_row(row))
+    }
+
+    fn has_row(&self, row: &StoredInterval) -> bool
+        ensures { result ≡ fits (intervals_of self.now) row.now }
+    {
+        let _ = &self.list;
+        match self.find(&row.object, row.nr) {
+            Some(range) => is_row_of(row, &range.interval),
+            None => false,
+        }
+    }
+}
