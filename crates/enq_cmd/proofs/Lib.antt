@@ -1,3 +1,4 @@
 pub mod Lands
+pub mod Numbers
 pub mod Openings
 pub mod Tellings

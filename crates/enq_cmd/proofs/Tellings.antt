@@ -28,6 +28,7 @@ use Rattle.script_runner.specs.Replay.{doubt_of}
 use Rattle.script_runner.specs.Whole.{IsComplete, IsScript}
 use Rattle.enq_cmd.specs.Main.{EndsComplete, IsFaultless, IsNextOf, IsServed, Ran, SurvivesStop, first_state}
 use Rattle.enq_cmd.proofs.Lands.{landed_intervals}
+use Rattle.enq_cmd.proofs.Numbers.{numbers_right}
 use Rattle.ledger_laws.proofs.Books.{books_right, holds_books}
 use Rattle.ledger_laws.proofs.OneLedger.{one_ledger}
 use Rattle.update_records.specs.Growing.{with_start}
@@ -171,6 +172,7 @@ served_as land t l may_be may_leave before after objects old new past why limits
       sound = stays_sound first made (first_sound land.max_locks land.max_marks land.ranges t l few good);
       stand = locks_stand land.max_locks land.max_marks land.ranges t l made few limits.marks agree good answers;
       back = locks_return land.max_locks land.max_marks land.ranges t l made few limits.marks agree good answers;
+      numbers = λ earlier later whole. numbers_right land.max_locks land.max_marks land.ranges t l earlier few limits.marks agree good;
       left = λ tells rows may. left_after tells rows may;
       next = λ tells. follows_on may_leave (state_after first made) (left_after tells);
     }

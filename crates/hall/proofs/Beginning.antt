@@ -4,19 +4,17 @@ use Rattle.std.specs.Prelude.{nat_eq, nat_le}
 use Rattle.std.specs.List.{AllByRecursion, filter, list_all}
 use Rattle.std.proofs.lemmas.Bool.{and_from}
 use Rattle.std.proofs.lemmas.Bool.Decides.{nat_tests}
-use Rattle.std.proofs.lemmas.List.Elements.{recursion_from_All}
+use Rattle.std.proofs.lemmas.List.Elements.{All-from_recursion, recursion_from_All}
 use Rattle.enq_base.specs.declared.condition.Condition.TheVariants as condition
 use Rattle.enq_base.specs.declared.owner.UnitKey.{UnitKey}
-use Rattle.std.specs.FinMap.{get, get-empty}
-use Rattle.std.specs.Prelude.{Contains}
-use Rattle.enq_base.specs.declared.unit.Num.{Num as Number}
+use Rattle.std.specs.FinMap.{empty, get-empty}
 use Rattle.keeper_api.specs.Rows.{Rows}
-use Rattle.module_effects.specs.Rows.{RowName}
-use Rattle.number_ranges.specs.Intervals.{IsInterval}
 use Rattle.number_ranges.specs.declared.interval.Interval.{Interval}
-use Rattle.range_list.proofs.Fits.{present_good}
-use Rattle.range_list.proofs.Names.{contains_first, contains_more}
-use Rattle.range_list.specs.Levels.{AreIntervals, FitRows, first_ranges, present}
+use Rattle.posting.proofs.Lawful.{not_there}
+use Rattle.range_list.proofs.Fits.{fit_levels}
+use Rattle.range_list.proofs.Sessions.{first_drawn}
+use Rattle.range_list.specs.Drawn.{AreDrawnRight}
+use Rattle.range_list.specs.Levels.{AreIntervals, FitRows, first_ranges}
 use Rattle.enq_base.specs.Owners.{same_owner}
 use Rattle.enq_base.specs.declared.owner.Owner.TheVariants.{Upd}
 use Rattle.lock_entry.proofs.Naming.{same_owner-refl}
@@ -29,15 +27,15 @@ use Rattle.mode_rules.specs.declared.Mode.TheVariants.{S, E, X, O}
 use Rattle.mode_rules.specs.Modes.{same_mode}
 use Rattle.posting.specs.Reopening.{IsRaised}
 use Rattle.store_reading.specs.Good.{IsSound}
-use Rattle.update_records.proofs.Status.{NoneOf, no_status}
+use Rattle.update_records.proofs.Status.{NoneOf, no_status, none_of}
 use Rattle.update_records.specs.Grammar.{IsEntryOf, IsUnit, is_optimistic}
 use Rattle.update_records.specs.Business.{numbers_of}
-use Rattle.update_records.specs.Ledger.{IsMarkUnder, IsRightLevel, Ledger, Levels, StandFor, recorded}
-use Rattle.update_records.specs.RecordRows.{Level}
+use Rattle.update_records.specs.Growing.{with_start}
+use Rattle.update_records.specs.Ledger.{IsMarkUnder, Ledger, LevelsAgree, StandFor, recorded}
 use Rattle.update_records.specs.Marks.{draws_alone, has_no_v2, is_rec, status_of}
 use Rattle.update_records.specs.declared.records.Mark.{Mark}
 use Rattle.update_records.specs.declared.records.Unit.{Unit as UnitOfWork}
-use Rattle.hall.specs.Kept.{AreOrders, HasFew, HasGoodLocks, HasItsUser, HasSoundLocks, IsAtLevel, IsKept, IsKnown, IsSteady, IsUnheard, OfLock, OfStored, is_firm}
+use Rattle.hall.specs.Kept.{AreOrders, HasFew, HasGoodLocks, HasItsUser, HasSoundLocks, HaveMarks, IsKept, IsKnown, IsSteady, IsUnheard, OfLock, OfStored, is_firm}
 use Rattle.hall.specs.Leaving.{StandForPending}
 use Rattle.hall.specs.State.{opened, state_of}
 use Rattle.hall.specs.declared.command.PastEntry.{PastEntry}
@@ -199,24 +197,28 @@ pub record AgreeWith (intervals : List Interval) (ledger : Ledger) : Type 0 wher
   pub good : AreIntervals intervals
   pub fit : FitRows intervals ledger.levels
 
--- no stored level stands before the one below its first number
-levels_begun : (ledger : Ledger) → IsSound ledger → (name : RowName) → IfSome (get ledger.levels name) (λ l. l.from ≤ l.level + 1)
-levels_begun ledger (inl none) name = subst (λ (x : Ledger). IfSome (get x.levels name) (λ l. l.from ≤ l.level + 1)) (sym none) (simp get-empty tt)
-levels_begun ledger (inr law) name = right_begun name (numbers_of ledger.units ledger.marks) (get ledger.levels name) (law.levels.right name)
-  where
-    right_begun : (name : RowName) (numbers : List Number) (o : Option Level) → IfSome o (IsRightLevel name numbers) → IfSome o (λ l. l.from ≤ l.level + 1)
-    right_begun name numbers None h = tt
-    right_begun name numbers (Some l) h = h.begun
+nothing_agrees : LevelsAgree empty []
+nothing_agrees = record { right = λ name. simp get-empty tt; stored = All-from_recursion _ [] tt }
 
-each_at_level : (levels : Levels) (intervals : List Interval) → ((i : Interval) → Contains intervals i → IsInterval (present levels i)) → AllByRecursion (IsAtLevel levels) (first_ranges levels intervals)
-each_at_level levels [] good = tt
-each_at_level levels (i ∷ is) good = (record { interval = good i (contains_first is i); next = refl }, each_at_level levels is (λ j among. good j (contains_more is i j among)))
+-- what the store has of levels agrees with the numbers that are committed
+first_agree : (ledger : Ledger) → IsSound ledger → LevelsAgree ledger.levels (numbers_of ledger.units ledger.marks)
+first_agree ledger (inl none) = subst (λ (l : Ledger). LevelsAgree l.levels (numbers_of l.units l.marks)) (sym none) nothing_agrees
+first_agree ledger (inr law) = law.levels
 
-first_levels : (ledger : Ledger) (intervals : List Interval) → AgreeWith intervals ledger → IsFirst ledger → AllByRecursion (IsAtLevel ledger.levels) (first_ranges ledger.levels intervals)
-first_levels ledger intervals agree first =
+-- no session has drawn a number
+nothing_drawn : (ledger : Ledger) (intervals : List Interval) → AgreeWith intervals ledger → IsFirst ledger → AreDrawnRight (first_ranges ledger.levels intervals) ledger.levels [] (numbers_of ledger.units ledger.marks)
+nothing_drawn ledger intervals agree first =
     let before = first.0 in
-    let begun : (name : RowName) → IfSome (get ledger.levels name) (λ l. l.from ≤ l.level + 1) = subst (λ (x : Ledger). (name : RowName) → IfSome (get x.levels name) (λ l. l.from ≤ l.level + 1)) (sym first.2) (levels_begun before first.1) in
-    each_at_level ledger.levels intervals (λ i among. present_good intervals ledger.levels i agree.good agree.fit begun among)
+    first_drawn intervals ledger.levels [] (numbers_of ledger.units ledger.marks) agree.good (fit_levels intervals ledger.levels agree.fit)
+    (subst (λ (l : Ledger). LevelsAgree l.levels (numbers_of l.units l.marks)) (sym first.2) (first_agree before first.1)) tt
+
+-- a unit that is stored has a status
+marks_before : (ledger : Ledger) → IsSound ledger → HaveMarks (with_start ledger (ledger.start + 1))
+marks_before ledger (inl none) = subst (λ (l : Ledger). HaveMarks (with_start l (l.start + 1))) (sym none) (λ key h. refl)
+marks_before ledger (inr law) = λ key none. not_there ledger key law.recorded (none_of (has_no_v2 ledger.units key) key ledger.marks none)
+
+first_marks : (ledger : Ledger) → IsFirst ledger → HaveMarks ledger
+first_marks ledger first = subst HaveMarks (sym first.2) (marks_before first.0 first.1)
 
 pub first_sound : (limit mark_limit : ℕ) (intervals : List Interval) (told : Bool) (ledger : Ledger) → limit < 2 ^ 32 → IsFirst ledger → HasSoundLocks (opened limit mark_limit intervals told ledger)
 first_sound limit mark_limit intervals told ledger fits first = record { table = none_stands limit fits; stored = first_stored ledger first }
@@ -229,8 +231,9 @@ first_steady limit mark_limit intervals told ledger limited agree first = record
   limited = limited;
   server = tt;
   whole = tt;
-  undrawn = tt;
-  ranges = first_levels ledger intervals agree first;
+  named = λ name. omega arith;
+  drawn = nothing_drawn ledger intervals agree first;
+  marked = first_marks ledger first;
   settled = refl;
   fresh = record { numbered = tt; ahead = tt; later = λ session luw from. first_unheard ledger first session luw };
   places = idle 256;

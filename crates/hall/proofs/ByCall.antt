@@ -1,6 +1,6 @@
 -- What holds of the verdict of each call holds of any call.
 use Rattle.std.proofs.Common.{◌≡◌, ℕ, Bool, true, false, cond, List, length, map, refl}
-use Rattle.std.specs.Prelude.{if◌then◌else◌, nat_eq, nat_le, nat_lt, Option, Some, None, Result, Ok, Err, is_some}
+use Rattle.std.specs.Prelude.{◌&&◌, ◌||◌, not, if◌then◌else◌, nat_eq, nat_le, nat_lt, Option, Some, None, Result, Ok, Err, is_some}
 use Rattle.enq_base.specs.declared.condition.Condition.{Condition}
 use Rattle.enq_base.specs.declared.condition.Condition.TheVariants as condition
 use Rattle.enq_base.specs.declared.owner.UnitKey.{UnitKey}
@@ -22,13 +22,17 @@ use Rattle.posting.specs.Posts.{entries_of, kind_for}
 use Rattle.posting.specs.Steps.{waiting_for}
 use Rattle.update_records.specs.Marks.{status_of}
 use Rattle.hall.specs.Calls.{Call, LogsOn, OfSession, OfWorker, OfAdmin, Cancels, Resubmits, Takes, Posts, Drops}
-use Rattle.hall.specs.Calls.{SessionCall, LogsOff, Asks, Frees, FreesAll, Converts, Reads, Commits, RollsBack, call_of, wants_server}
+use Rattle.hall.specs.Calls.{SessionCall, LogsOff, Asks, Frees, FreesAll, Converts, Draws, Reserves, Reads, Commits, RollsBack, call_of, wants_server}
 use Rattle.hall.specs.Devices.{DeviceOutcome, AllWell, Wanting, StoreFails, found_by}
 use Rattle.hall.specs.History.{Served, doubted, ends_in, judged, pending_after, refused, served}
 use Rattle.hall.specs.Orders.{first_unclaimed, order_for, order_of, without_order}
 use Rattle.hall.specs.Sessions.{owners_of, pair_of, session_at, unit_key}
+use Rattle.hall.specs.Numbers.{drawn, next_number, other_holder, raised_to}
 use Rattle.hall.specs.State.{State}
-use Rattle.hall.specs.Step.{Found, Verdict, Refuses, Leaves, ask_refusal, barred, called, caller_refusal, call_verdict, cancelled, commit, committed, converting, effects_in, entered, freed_all, granting, logged_off, logon, lowered, marked, or_else, own_verdict, posted_reply, posting, reopened, reposted, rolled_back, session_call, session_refusal, taken, taking, unavailable, unless_refused, verdict, with_room}
+use Rattle.number_ranges.specs.Intervals.{block_level, code_of, is_buffered}
+use Rattle.range_list.specs.Levels.{present, range_at}
+use Rattle.range_list.specs.declared.range.NumberRange.{NumberRange}
+use Rattle.hall.specs.Step.{Found, Verdict, Refuses, Leaves, ask_refusal, barred, called, caller_refusal, call_verdict, cancelled, commit, committed, converting, drawing, effects_in, entered, freed_all, giving, granting, logged_off, logon, lowered, marked, numbered, or_else, own_verdict, posted_reply, posting, reopened, reposted, reserving, rolled_back, session_call, session_refusal, taken, taking, unavailable, unless_refused, verdict, with_room}
 use Rattle.hall.specs.declared.command.Command.{Command}
 use Rattle.hall.specs.declared.command.Reply.TheVariants as reply
 use Rattle.hall.specs.declared.command.Session.{Session}
@@ -36,6 +40,19 @@ use Rattle.update_records.specs.Ledger.{Ledger}
 use Rattle.hall.proofs.Cancels.{CanBeCancelled, by_cancel}
 use Rattle.hall.proofs.Plain.{IsOfRule, IsPlain}
 use Rattle.hall.proofs.Resubmissions.{by_resubmit, table_in}
+
+-- a number may be drawn from this range
+pub record CanDraw (s : State) (x : Session) (object nr : List ℕ) (r : NumberRange) : Type 0 where
+  pub range : range_at s.ranges object nr ≡ Some r
+  pub few : nat_le 64 (length x.draws) ≡ false
+  pub free : other_holder s.sessions x.name (present s.stored.levels r.interval) ≡ None
+  pub within : nat_lt r.interval.to (next_number r (present s.stored.levels r.interval) x) ≡ false
+
+-- numbers up to this one may be reserved of this range
+pub record CanReserve (s : State) (object nr : List ℕ) (upto : ℕ) (r : NumberRange) : Type 0 where
+  pub range : range_at s.ranges object nr ≡ Some r
+  pub buffered : not (is_buffered r.interval) ≡ false
+  pub within : nat_lt r.interval.to upto ≡ false
 
 -- What each call comes to, by the cases that there are: a property is shown for each of them once. The refusals of all
 -- calls are one case.
@@ -47,9 +64,12 @@ pub record OfEach (P : Call → Verdict → Type 0) (found : Found) (s : State) 
   pub lowers : (name : List ℕ) (x : Session) (rs : List Request) → session_at s.sessions name ≡ Some x → P (OfSession name (Frees rs)) (Leaves (lowered s x rs) reply.Done)
   pub frees : (name : List ℕ) (x : Session) → session_at s.sessions name ≡ Some x → P (OfSession name FreesAll) (Leaves (freed_all s x) reply.Done)
   pub converts : (name : List ℕ) (x : Session) (wanted : List Asked) (c : Conversion) → session_at s.sessions name ≡ Some x → converted s.locks (pair_of s.stored.start x) wanted ≡ Ok c → P (OfSession name (Converts wanted)) (Leaves (record s { locks = c.entries }) reply.Done)
+  pub draws : (name : List ℕ) (x : Session) (object nr : List ℕ) (r : NumberRange) → session_at s.sessions name ≡ Some x → CanDraw s x object nr r → P (OfSession name (Draws object nr)) (Leaves (drawn s x (present s.stored.levels r.interval) (next_number r (present s.stored.levels r.interval) x)) (reply.Number (next_number r (present s.stored.levels r.interval) x) (code_of (present s.stored.levels r.interval) (next_number r (present s.stored.levels r.interval) x))))
+  pub reserves : (name : List ℕ) (x : Session) (object nr : List ℕ) (upto : ℕ) (r : NumberRange) → session_at s.sessions name ≡ Some x → CanReserve s object nr upto r → P (OfSession name (Reserves object nr upto)) (Leaves (record s { stored = raised_to (present s.stored.levels r.interval) upto s.stored }) (reply.Level (block_level (present s.stored.levels r.interval) upto)))
   pub reads : (name : List ℕ) (x : Session) (table key : List ℕ) → session_at s.sessions name ≡ Some x → P (OfSession name (Reads table key)) (Leaves s (reply.Row (found.row table key)))
   pub commits_nothing : (name : List ℕ) (x : Session) (parts : Parts) → session_at s.sessions name ≡ Some x → P (OfSession name (Commits parts)) (Leaves s reply.Done)
-  pub commits : (name : List ℕ) (x : Session) (parts : Parts) → session_at s.sessions name ≡ Some x → P (OfSession name (Commits parts)) (Leaves (committed s x parts) (reply.Unit (unit_key s.stored.start x)))
+  pub commits_numbers : (name : List ℕ) (x : Session) (parts : Parts) → session_at s.sessions name ≡ Some x → P (OfSession name (Commits parts)) (Leaves (numbered s x x.draws) reply.Done)
+  pub commits : (name : List ℕ) (x : Session) (parts : Parts) → session_at s.sessions name ≡ Some x → P (OfSession name (Commits parts)) (Leaves (committed s x parts x.draws) (reply.Unit (unit_key s.stored.start x)))
   pub rolls_back : (name : List ℕ) (x : Session) → session_at s.sessions name ≡ Some x → P (OfSession name RollsBack) (Leaves (rolled_back s x) reply.Done)
   pub takes : (worker part : ℕ) (unit : UnitKey) → order_of s.orders worker ≡ None → first_unclaimed s.orders (waiting_for part s.stored) ≡ Some unit → P (OfWorker worker (Takes part)) (Leaves (taken s worker unit) (reply.Unit unit))
   pub posts : (worker part : ℕ) (unit : UnitKey) → order_for part s.stored s.orders worker ≡ Some unit → P (OfWorker worker (Posts part)) (Leaves (marked part s worker unit (kind_for part (found.part part unit))) (posted_reply part unit (found.part part unit)))
@@ -102,9 +122,37 @@ module _ (P : Call → Verdict → Type 0) (found : Found) (s : State) (each : O
   commit-holds : (name : List ℕ) (x : Session) (parts : Parts) → session_at s.sessions name ≡ Some x → P (OfSession name (Commits parts)) (commit s x parts)
   commit-holds name x parts at =
       let Q = P (OfSession name (Commits parts)) in
-      one_of Q (nat_lt 200 (effects_in parts)) _ _ (λ e. each.refuses _ _ refl)
-      (λ e. one_of Q (nat_eq (effects_in parts) 0) _ _ (λ f. each.commits_nothing name x parts at)
-      (λ f. by_room Q s _ (each.refuses _ _ refl) (each.commits name x parts at)))
+      one_of Q (nat_lt 64 (length x.draws) || nat_lt 200 (effects_in parts)) _ _ (λ e. each.refuses _ _ refl)
+      (λ e. one_of Q (nat_eq (effects_in parts) 0 && nat_eq (length x.draws) 0) _ _ (λ f. each.commits_nothing name x parts at)
+      (λ f. by_room Q s _ (each.refuses _ _ refl)
+      (one_of Q (nat_eq (effects_in parts) 0) _ _ (λ g. each.commits_numbers name x parts at) (λ g. each.commits name x parts at))))
+
+  giving-holds : (name : List ℕ) (x : Session) (object nr : List ℕ) (r : NumberRange) → session_at s.sessions name ≡ Some x → range_at s.ranges object nr ≡ Some r → nat_le 64 (length x.draws) ≡ false → other_holder s.sessions x.name (present s.stored.levels r.interval) ≡ None
+      → P (OfSession name (Draws object nr)) (giving s x (present s.stored.levels r.interval) (next_number r (present s.stored.levels r.interval) x))
+  giving-holds name x object nr r at range few free =
+      one_of (P (OfSession name (Draws object nr))) (nat_lt r.interval.to (next_number r (present s.stored.levels r.interval) x)) _ _ (λ e. each.refuses _ _ refl)
+      (λ e. each.draws name x object nr r at (record { range = range; few = few; free = free; within = e }))
+
+  holder-holds : (name : List ℕ) (x : Session) (object nr : List ℕ) (r : NumberRange) (o : Option Session) → session_at s.sessions name ≡ Some x → range_at s.ranges object nr ≡ Some r → nat_le 64 (length x.draws) ≡ false → other_holder s.sessions x.name (present s.stored.levels r.interval) ≡ o
+      → P (OfSession name (Draws object nr)) (elim o [ Some y ↦ Refuses (refusal.IntervalBusy y.name) | None ↦ giving s x (present s.stored.levels r.interval) (next_number r (present s.stored.levels r.interval) x) ])
+  holder-holds name x object nr r None at range few free = giving-holds name x object nr r at range few free
+  holder-holds name x object nr r (Some y) at range few busy = each.refuses _ _ refl
+
+  drawing-holds : (name : List ℕ) (x : Session) (object nr : List ℕ) (o : Option NumberRange) → session_at s.sessions name ≡ Some x → range_at s.ranges object nr ≡ o
+      → P (OfSession name (Draws object nr)) (elim o [ None ↦ Refuses refusal.IntervalNotFound | Some r ↦ drawing s x r (present s.stored.levels r.interval) ])
+  drawing-holds name x object nr None at range = each.refuses _ _ refl
+  drawing-holds name x object nr (Some r) at range =
+      one_of (P (OfSession name (Draws object nr))) (nat_le 64 (length x.draws)) _ _ (λ e. each.refuses _ _ refl)
+      (λ few. holder-holds name x object nr r (other_holder s.sessions x.name (present s.stored.levels r.interval)) at range few refl)
+
+  reserving-holds : (name : List ℕ) (x : Session) (object nr : List ℕ) (upto : ℕ) (o : Option NumberRange) → session_at s.sessions name ≡ Some x → range_at s.ranges object nr ≡ o
+      → P (OfSession name (Reserves object nr upto)) (elim o [ None ↦ Refuses refusal.IntervalNotFound | Some r ↦ reserving s (present s.stored.levels r.interval) upto ])
+  reserving-holds name x object nr upto None at range = each.refuses _ _ refl
+  reserving-holds name x object nr upto (Some r) at range =
+      let Q = P (OfSession name (Reserves object nr upto)) in
+      one_of Q (not (is_buffered r.interval)) _ _ (λ e. each.refuses _ _ refl)
+      (λ buffered. one_of Q (nat_lt r.interval.to upto) _ _ (λ e. each.refuses _ _ refl)
+      (λ within. each.reserves name x object nr upto r at (record { range = range; buffered = buffered; within = within })))
 
   session-holds : (name : List ℕ) (x : Session) (call : SessionCall) → session_at s.sessions name ≡ Some x → P (OfSession name call) (session_call found s x call)
   session-holds name x LogsOff at = each.logs_off name x at
@@ -114,6 +162,8 @@ module _ (P : Call → Verdict → Type 0) (found : Found) (s : State) (each : O
   session-holds name x FreesAll at = each.frees name x at
   session-holds name x (Converts wanted) at =
       by_conversion (P (OfSession name (Converts wanted))) s _ (converted-of_rule s.locks (pair_of s.stored.start x) wanted) (each.refuses _) (λ c e. each.converts name x wanted c at e)
+  session-holds name x (Draws object nr) at = drawing-holds name x object nr (range_at s.ranges object nr) at refl
+  session-holds name x (Reserves object nr upto) at = reserving-holds name x object nr upto (range_at s.ranges object nr) at refl
   session-holds name x (Reads table key) at = each.reads name x table key at
   session-holds name x (Commits parts) at = commit-holds name x parts at
   session-holds name x RollsBack at = each.rolls_back name x at

@@ -99,7 +99,7 @@ pub is_wanting : (s : State) (c : Command) → unavailable s (call_of c) ≡ Non
 is_wanting s c free may = record { outcome = only Wanting; allowed = record { reading = tt; event = (free, may) }; same = refl }
 
 -- the store failed
-pub fails : (s : State) (c : Command) (after : State) (r : Reply) → Admits s → own_verdict (found_in s) s (call_of c) ≡ Leaves after r → IsTrue (uses_store (call_of c)) → only_reads (call_of c) ≡ false → IsAct s c (doubted s (Some after.stored)) (reply.Refused refusal.StoreFault)
+pub fails : (s : State) (c : Command) (after : State) (r : Reply) → Admits s → own_verdict (found_in s) s (call_of c) ≡ Leaves after r → IsTrue (uses_store s (call_of c)) → only_reads (call_of c) ≡ false → IsAct s c (doubted s (Some after.stored)) (reply.Refused refusal.StoreFault)
 fails s c after r h e uses writes =
     let v = admitted (found_in s) s (call_of c) h ∙ e in
     record {

@@ -15,7 +15,7 @@ use Rattle.enq_base.specs.declared.refusal.Refusal.{Refusal}
 use Rattle.enq_base.specs.declared.refusal.Refusal.TheVariants as refusal
 use Rattle.keeper_api.specs.Rows.{Rows}
 use Rattle.hall.specs.Acts.{Admits, IsAct, IsWritten, OnFailure, written_condition, written_pending, written_reply}
-use Rattle.hall.specs.Calls.{Call, LogsOn, OfSession, OfWorker, OfAdmin, SessionCall, LogsOff, Asks, Frees, FreesAll, Converts, Reads, Commits, RollsBack, Takes, Posts, Drops, call_of, session_touches_store, touches_store}
+use Rattle.hall.specs.Calls.{Call, LogsOn, OfSession, OfWorker, OfAdmin, SessionCall, LogsOff, Asks, Frees, FreesAll, Converts, Draws, Reserves, Reads, Commits, RollsBack, Takes, Posts, Drops, call_of, session_touches_store, touches_store}
 use Rattle.hall.specs.Devices.{all_well, session_uses_store, uses_store}
 use Rattle.hall.specs.History.{IsGiven, Served, is_unrecorded, judged}
 use Rattle.hall.specs.Kept.{HasServer, IsKept}
@@ -48,8 +48,9 @@ true_not_false : true ≡ false → ⊥
 true_not_false e = cc
 
 -- what the call leaves where the store doesn't fail
-abbrev pub rewritten : State → List Session → List (Option UnitKey) → Table → Ledger → State
-rewritten s sessions orders table ledger = record s { sessions = sessions; orders = orders; locks = table.entries; stored = ledger }
+abbrev pub rewritten : State → List Session → List (Option UnitKey) → Table → List NumberRange → Ledger → State
+rewritten s sessions orders table ranges ledger =
+    record s { sessions = sessions; orders = orders; locks = table.entries; ranges = ranges; stored = ledger }
 
 -- ---- a call apart from its place in the history
 
@@ -77,27 +78,27 @@ same_past s after (Answered r) h = λ i. record after { past = sym h i }
 same_past s after (Failed change) h = refl
 
 -- a call that uses the store, where it fails too
-pub written_call : (told told' : Bool) (k k' : Condition) (ss ss' : List Session) (n : ℕ) (os os' : List (Option UnitKey)) (t t' : Table) (x m : ℕ) (rs : List NumberRange) (l l' : Ledger) (p p' : Option InFlight) (past : List PastEntry) (w : Written) (c : Command) (said : Reply)
+pub written_call : (told told' : Bool) (k k' : Condition) (ss ss' : List Session) (n : ℕ) (os os' : List (Option UnitKey)) (t t' : Table) (x m : ℕ) (rs rs' : List NumberRange) (l l' : Ledger) (p p' : Option InFlight) (past : List PastEntry) (w : Written) (c : Command) (said : Reply)
     → IsDue (state_with told k ss n os t x m rs l p []) past
     → told' ≡ told → k' ≡ written_condition k (length past) w → p' ≡ written_pending p w → said ≡ written_reply w
-    → t'.limit ≡ t.limit → OnFailure w (ss' ≡ ss) → OnFailure w (os' ≡ os) → OnFailure w (l' ≡ l)
-    → (option_map (landed l) p ≡ None → Admits (state_with told Up ss n os t x m rs l p past) → IsWritten (state_with told Up ss n os t x m rs l p past) c (rewritten (state_with told Up ss n os t x m rs l p past) ss' os' t' l') w)
-    → IsAct (state_with told k ss n os t x m rs l p past) c (state_with told' k' ss' n os' t' x m rs l' p' past) said
-written_call told told' k k' ss ss' n os os' t t' x m rs l l' p p' past w c said due tells condition pending reply limit a b d written =
+    → t'.limit ≡ t.limit → OnFailure w (ss' ≡ ss) → OnFailure w (os' ≡ os) → OnFailure w (l' ≡ l) → OnFailure w (rs' ≡ rs)
+    → (option_map (landed l) p ≡ None → Admits (state_with told Up ss n os t x m rs l p past) → IsWritten (state_with told Up ss n os t x m rs l p past) c (rewritten (state_with told Up ss n os t x m rs l p past) ss' os' t' rs' l') w)
+    → IsAct (state_with told k ss n os t x m rs l p past) c (state_with told' k' ss' n os' t' x m rs' l' p' past) said
+written_call told told' k k' ss ss' n os os' t t' x m rs rs' l l' p p' past w c said due tells condition pending reply limit a b d e written =
     let before : Condition → State = λ q. state_with told q ss n os t x m rs l p past in
     let s : State = before Up in
     let up : k ≡ Up = due_up (state_with told k ss n os t x m rs l p []) past due in
     let room : Admits s = subst (λ q. Admits (before q)) up due.admits in
     let held : IsKept s = subst (λ q. IsKept (before q)) up due.kept in
-    let after : State = written_state s (rewritten s ss' os' t' l') w in
-    let act : IsAct s c after (written_reply w) = written_act s c (rewritten s ss' os' t' l') w (written held.steady.settled room) in
+    let after : State = written_state s (rewritten s ss' os' t' rs' l') w in
+    let act : IsAct s c after (written_reply w) = written_act s c (rewritten s ss' os' t' rs' l') w (written held.steady.settled room) in
     let condition' : k' ≡ written_condition Up (length past) w = condition ∙ ap (λ q. written_condition q (length past) w) up in
-    let is : state_with told' k' ss' n os' t' x m rs l' p' past ≡ after =
-    (λ i. state_with told' (condition' i) ss' n os' t' x m rs l' (pending i) past)
-    ∙ ends_as told told' ss ss' n os os' t t' x m rs l l' p past past w tells held.steady.settled limit a b d
-    ∙ same_past s (rewritten s ss' os' t' l') w refl in
-    subst (λ q. IsAct (before q) c (state_with told' k' ss' n os' t' x m rs l' p' past) said) (sym up)
-    (acts_as s c after (state_with told' k' ss' n os' t' x m rs l' p' past) (written_reply w) said act is reply)
+    let is : state_with told' k' ss' n os' t' x m rs' l' p' past ≡ after =
+    (λ i. state_with told' (condition' i) ss' n os' t' x m rs' l' (pending i) past)
+    ∙ ends_as told told' ss ss' n os os' t t' x m rs rs' l l' p past past w tells held.steady.settled limit a b d e
+    ∙ same_past s (rewritten s ss' os' t' rs' l') w refl in
+    subst (λ q. IsAct (before q) c (state_with told' k' ss' n os' t' x m rs' l' p' past) said) (sym up)
+    (acts_as s c after (state_with told' k' ss' n os' t' x m rs' l' p' past) (written_reply w) said act is reply)
 
 -- ---- a call that is barred
 
@@ -122,24 +123,26 @@ barred_store held may_leave faults keeper s r shut =
 
 -- ---- what a call does to the store
 
-session_touches : (call : SessionCall) → IsTrue (session_uses_store call) → session_touches_store call ≡ true
-session_touches (Reads table key) uses = refl
-session_touches (Commits parts) uses = refl
-session_touches LogsOff uses = cc
-session_touches (Asks rs) uses = cc
-session_touches (Frees rs) uses = cc
-session_touches FreesAll uses = cc
-session_touches (Converts wanted) uses = cc
-session_touches RollsBack uses = cc
+session_touches : (s : State) (name : List ℕ) (call : SessionCall) → IsTrue (session_uses_store s name call) → session_touches_store call ≡ true
+session_touches s name (Draws object nr) uses = refl
+session_touches s name (Reserves object nr upto) uses = refl
+session_touches s name (Reads table key) uses = refl
+session_touches s name (Commits parts) uses = refl
+session_touches s name LogsOff uses = cc
+session_touches s name (Asks rs) uses = cc
+session_touches s name (Frees rs) uses = cc
+session_touches s name FreesAll uses = cc
+session_touches s name (Converts wanted) uses = cc
+session_touches s name RollsBack uses = cc
 
 -- a call that uses the store is one that touches it
-uses_touches : (call : Call) → IsTrue (uses_store call) → touches_store call ≡ true
-uses_touches (LogsOn name user) uses = cc
-uses_touches (OfSession name call) uses = session_touches call uses
-uses_touches (OfWorker worker (Takes part)) uses = cc
-uses_touches (OfWorker worker (Posts part)) uses = refl
-uses_touches (OfWorker worker Drops) uses = cc
-uses_touches (OfAdmin call) uses = refl
+uses_touches : (s : State) (call : Call) → IsTrue (uses_store s call) → touches_store call ≡ true
+uses_touches s (LogsOn name user) uses = cc
+uses_touches s (OfSession name call) uses = session_touches s name call uses
+uses_touches s (OfWorker worker (Takes part)) uses = cc
+uses_touches s (OfWorker worker (Posts part)) uses = refl
+uses_touches s (OfWorker worker Drops) uses = cc
+uses_touches s (OfAdmin call) uses = refl
 
 untouched : (b : Bool) → b ≡ true → b ≡ false → ⊥
 untouched true e f = cc
@@ -148,7 +151,7 @@ untouched false e f = cc
 -- a call that doesn't touch the store is not answered that it failed
 quiet_counts : (s : State) (c : Command) (after : State) (r : Reply) (f g : ℕ) → touches_store (call_of c) ≡ false → IsAct s c after r → g ≡ f → HasStoreCause f g r
 quiet_counts s c after (reply.Refused refusal.StoreFault) f g off act e =
-    absurd (untouched _ (uses_touches (call_of c) (fault_uses_store s c after act)) off)
+    absurd (untouched _ (uses_touches s (call_of c) (fault_uses_store s c after act)) off)
 quiet_counts s c after _ f g off act e = e
 
 store_by : {K : Type 0} (held : K → Option Rows) (may_leave : K → Rows → Type 0) (faults : K → ℕ) (old new : K) (s : State) (c : Command) (after : State) (r : Reply) (b : Bool) → touches_store (call_of c) ≡ b → IsAct s c after r → DoesStore held may_leave faults b old new r → MayWrite held may_leave faults old new r

@@ -36,15 +36,15 @@ none_before None l h = refl
 none_before (Some step) l h = cc
 
 -- what the fields are behind it
-pub ends_as : (told told' : Bool) (ss ss' : List Session) (n : ℕ) (os os' : List (Option UnitKey)) (t t' : Table) (k m : ℕ) (rs : List NumberRange) (l l' : Ledger) (p : Option InFlight) (past past' : List PastEntry) (w : Written)
-    → told' ≡ told → option_map (landed l) p ≡ None → t'.limit ≡ t.limit → OnFailure w (ss' ≡ ss) → OnFailure w (os' ≡ os) → OnFailure w (l' ≡ l)
-    → state_of told' (written_condition Up (length past) w) ss' n os' t' k m rs l' (option_map (landed l') (written_pending p w)) past'
-    ≡ record (written_state (state_of told Up ss n os t k m rs l (option_map (landed l) p) past) (record (state_of told Up ss n os t k m rs l (option_map (landed l) p) past) { sessions = ss'; orders = os'; locks = t'.entries; stored = l' }) w) { past = past' }
-ends_as told told' ss ss' n os os' t t' k m rs l l' p past past' (Answered r) tells none limit a b c =
+pub ends_as : (told told' : Bool) (ss ss' : List Session) (n : ℕ) (os os' : List (Option UnitKey)) (t t' : Table) (k m : ℕ) (rs rs' : List NumberRange) (l l' : Ledger) (p : Option InFlight) (past past' : List PastEntry) (w : Written)
+    → told' ≡ told → option_map (landed l) p ≡ None → t'.limit ≡ t.limit → OnFailure w (ss' ≡ ss) → OnFailure w (os' ≡ os) → OnFailure w (l' ≡ l) → OnFailure w (rs' ≡ rs)
+    → state_of told' (written_condition Up (length past) w) ss' n os' t' k m rs' l' (option_map (landed l') (written_pending p w)) past'
+    ≡ record (written_state (state_of told Up ss n os t k m rs l (option_map (landed l) p) past) (record (state_of told Up ss n os t k m rs l (option_map (landed l) p) past) { sessions = ss'; orders = os'; locks = t'.entries; ranges = rs'; stored = l' }) w) { past = past' }
+ends_as told told' ss ss' n os os' t t' k m rs rs' l l' p past past' (Answered r) tells none limit a b c d =
     let same : option_map (landed l') p ≡ option_map (landed l) p = ap (option_map (landed l')) (none_before p l none) ∙ sym none in
-    λ i. record (state_of (tells i) Up ss' n os' t' k m rs l' (same i) past') { limit = limit i }
-ends_as told told' ss ss' n os os' t t' k m rs l l' p past past' (Failed change) tells none limit a b c =
-    λ i. record (doubted (state_of (tells i) Up (a i) n (b i) t k m rs (c i) None past) (option_map (landed (c i)) change)) { limit = limit i; past = past' }
+    λ i. record (state_of (tells i) Up ss' n os' t' k m rs' l' (same i) past') { limit = limit i }
+ends_as told told' ss ss' n os os' t t' k m rs rs' l l' p past past' (Failed change) tells none limit a b c d =
+    λ i. record (doubted (state_of (tells i) Up (a i) n (b i) t k m (d i) (c i) None past) (option_map (landed (c i)) change)) { limit = limit i; past = past' }
 
 -- one of the two parts of a unit
 abbrev pub IsPart : ℕ → Type 0

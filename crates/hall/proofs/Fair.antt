@@ -1,6 +1,6 @@
 -- Each call keeps the locks sound.
 use Rattle.std.proofs.Common.{ℕ, ◌<◌, ◌^◌, arith, Bool, true, false, List, [], ◌∷◌, fold, refl}
-use Rattle.std.specs.Prelude.{if◌then◌else◌, nat_eq}
+use Rattle.std.specs.Prelude.{if◌then◌else◌, nat_eq, nat_le}
 use Rattle.std.specs.List.{AllByRecursion}
 use Rattle.std.proofs.lemmas.Bool.{and_from, eq-eqb}
 use Rattle.enq_base.specs.declared.owner.Owner.TheVariants.{Upd}
@@ -22,8 +22,15 @@ use Rattle.hall.specs.declared.command.Session.{Session}
 use Rattle.hall.specs.Devices.{DeviceOutcome}
 use Rattle.hall.specs.History.{judged, served, step}
 use Rattle.hall.specs.Kept.{HasGoodLocks, HasSoundLocks}
-use Rattle.hall.specs.Sessions.{owners_of, pair_of, unit_key}
+use Rattle.hall.specs.Sessions.{owners_of, pair_of, unit_key, with_draw, with_session}
+use Rattle.hall.specs.Numbers.{drawn, raised_to}
+use Rattle.range_list.specs.Drawn.{handed_out}
 use Rattle.hall.specs.State.{State}
+use Rattle.number_ranges.specs.Intervals.{block_level, is_buffered, with_level}
+use Rattle.number_ranges.specs.declared.interval.Interval.{Interval}
+use Rattle.posting.specs.Intervals.{with_intervals}
+use Rattle.range_list.specs.Drawn.{num_of, stored_as}
+use Rattle.range_list.specs.Levels.{present}
 use Rattle.hall.specs.Step.{Found, cancelled, unit_of}
 use Rattle.hall.proofs.ByCall.{OfEach, by_call, by_event}
 use Rattle.hall.proofs.Frames.{by_noting}
@@ -64,6 +71,22 @@ both_freed s x good =
     let pair = pair_of s.stored.start x in
     IsTable-freed_owner (with_entries (table_in s) (freed_owner s.locks pair.dialogue)) pair.update (IsTable-freed_owner (table_in s) pair.dialogue good)
 
+-- a level that is raised leaves locks and units
+raised-sound : (s : State) (i : Interval) (upto : ℕ) → HasSoundLocks s → HasSoundLocks (record s { stored = raised_to i upto s.stored })
+raised-sound s i upto good =
+    elim (nat_le upto i.level) as (λ b. HasSoundLocks (record s { stored = if b then s.stored else with_intervals (stored_as (with_level (block_level i upto) i) ∷ []) s.stored })) [
+      | true ↦ over_table good.stored good.table
+      | false ↦ over_table good.stored good.table
+    ]
+
+drawn-sound : (s : State) (x : Session) (i : Interval) (number : ℕ) → HasSoundLocks s → HasSoundLocks (drawn s x i number)
+drawn-sound s x i number good =
+    let t : State = record s { sessions = with_session x.name (with_draw (num_of i number)) s.sessions } in
+    elim (is_buffered i) as (λ b. HasSoundLocks (if b then record t { ranges = handed_out i t.ranges; stored = raised_to i number t.stored } else t)) [
+      | true ↦ let r = raised-sound s i number good in over_table r.stored r.table
+      | false ↦ over_table good.stored good.table
+    ]
+
 sound : (found : Found) (s : State) → HasSoundLocks s → OfEach (λ call v. HasSoundLocks (judged s v).state) found s
 sound found s good = record {
   refuses = λ call r plain. good;
@@ -75,11 +98,14 @@ sound found s good = record {
   frees = λ name x at. over_table good.stored (both_freed s x good.table);
   converts = λ name x wanted c at e.
       over_table good.stored (IsTable-converted (table_in s) (pair_of s.stored.start x) wanted c good.table (pair_of-IsPair s.stored.start x) e);
+  draws = λ name x object nr r at can. drawn-sound s x (present s.stored.levels r.interval) _ good;
+  reserves = λ name x object nr upto r at can. raised-sound s (present s.stored.levels r.interval) upto good;
   reads = λ name x table key at. good;
   commits_nothing = λ name x parts at. good;
+  commits_numbers = λ name x parts at. over_table good.stored good.table;
   commits = λ name x parts at. record {
     table = IsTable-handed_over (table_in s) (unit_key s.stored.start x) good.table;
-    stored = every_append HasGoodLocks s.stored.units (unit_of s.stored.start s.locks x parts ∷ []) good.stored (handed_good (table_in s) s.stored.start x parts good.table, tt);
+    stored = every_append HasGoodLocks s.stored.units (unit_of s.stored.start s.locks x parts x.draws ∷ []) good.stored (handed_good (table_in s) s.stored.start x parts x.draws good.table, tt);
   };
   rolls_back = λ name x at. over_table good.stored (IsTable-freed_owner (table_in s) (pair_of s.stored.start x).update good.table);
   takes = λ worker part unit free e. over_table good.stored good.table;

@@ -1,6 +1,6 @@
 -- What each call keeps.
 use Rattle.std.proofs.Common.{◌≡◌, ℕ, ◌+◌, ◌≤◌, ◌<◌, Bool, true, false, List, [], ◌∷◌, ◌++◌, length, fold, set, refl, sym, ap, ◌∙◌, subst, arith, cond}
-use Rattle.std.specs.Prelude.{if◌then◌else◌, nat_eq, nat_le, not, Option, Some, None, Result, Ok}
+use Rattle.std.specs.Prelude.{if◌then◌else◌, is_some, nat_eq, nat_le, nat_lt, not, Option, Some, None, Result, Ok}
 use Rattle.std.specs.List.{AllByRecursion, filter, find}
 use Rattle.std.proofs.lemmas.List.{length-append, length-set}
 use Rattle.std.proofs.lemmas.Bool.{or_from}
@@ -24,9 +24,11 @@ use Rattle.lock_entry.specs.Granting.{asked, readmitted}
 use Rattle.lock_entry.specs.Names.{halves}
 use Rattle.posting.specs.Posts.{entries_of, kind_for, status_for}
 use Rattle.update_records.specs.Growing.{with_mark, with_unit}
-use Rattle.update_records.specs.Ledger.{Ledger}
+use Rattle.update_records.specs.Business.{numbers_of}
+use Rattle.update_records.specs.Ledger.{Ledger, Levels}
+use Rattle.update_records.specs.declared.records.Mark.{Mark}
 use Rattle.update_records.specs.declared.records.MarkKind.{MarkKind}
-use Rattle.update_records.specs.declared.records.MarkKind.TheVariants.{Again1, Again2, Gone}
+use Rattle.update_records.specs.declared.records.MarkKind.TheVariants.{Again1, Again2, Gone, Num}
 use Rattle.posting.specs.Steps.{waiting_for}
 use Rattle.hall.specs.declared.command.Command.{Command}
 use Rattle.hall.specs.declared.command.PastEntry.{PastEntry}
@@ -35,18 +37,28 @@ use Rattle.hall.specs.declared.command.Session.{Session}
 use Rattle.hall.specs.Acts.{IsAct}
 use Rattle.hall.specs.Devices.{DeviceOutcome}
 use Rattle.hall.specs.History.{doubted, judged, served, with_entry}
-use Rattle.hall.specs.Kept.{AreOrders, HasFew, HasGoodLocks, HasItsUser, HasSoundLocks, IsKept, IsKnown, IsOwned, IsSteady, IsWaiting, IsYoung, MayHold, NoneLost, OfLock, OfStored, may_hold}
+use Rattle.number_ranges.specs.Intervals.{block_level, is_buffered, with_level}
+use Rattle.number_ranges.specs.declared.interval.Interval.{Interval}
+use Rattle.posting.specs.Intervals.{with_levels}
+use Rattle.range_list.proofs.Drawing.{interval_among, range_found}
+use Rattle.range_list.specs.Drawn.{AreDrawnRight, handed_out, num_of, settled_rows, stored_as}
+use Rattle.range_list.specs.Levels.{present}
+use Rattle.range_list.specs.declared.range.NumberRange.{NumberRange}
+use Rattle.hall.specs.Numbers.{drawn, next_number, raised_to}
+use Rattle.hall.specs.Kept.{draws_in, AreOrders, HasFew, HasGoodLocks, HasItsUser, HasSoundLocks, IsKept, IsKnown, IsOwned, IsSteady, IsWaiting, IsYoung, MayHold, NoneLost, OfLock, OfStored, may_hold}
 use Rattle.hall.specs.Orders.{first_unclaimed, is_claimed, order_for, order_of, without_order}
-use Rattle.hall.specs.Sessions.{begun, is_called, owners_of, pair_of, session_at, unit_key, with_fresh_unit, with_next_unit, with_session, without_session}
+use Rattle.hall.specs.Sessions.{begun, is_called, owners_of, pair_of, session_at, unit_key, with_draw, with_fresh_unit, with_next_unit, with_session, without_draws, without_session}
 use Rattle.hall.specs.State.{State}
-use Rattle.hall.specs.Step.{Found, barred, cancelled, committed, entered, is_full, locks_behind, locks_without, marked, reopened, reposted, taken, unit_of}
-use Rattle.hall.proofs.ByCall.{OfEach, by_call, by_event}
+use Rattle.hall.specs.Step.{Found, barred, cancelled, committed, entered, is_full, locks_behind, locks_without, marked, numbered, reopened, reposted, taken, unit_of}
+use Rattle.hall.proofs.Alike.{AreAlike, HaveOneStatus, ahead_alike, alike_all, alike_with, count_alike, lost_alike, numbered_alike, orders_alike, owned_alike, with_others, young_alike}
+use Rattle.hall.proofs.ByCall.{CanDraw, CanReserve, OfEach, by_call, by_event}
 use Rattle.hall.proofs.Cancels.{CanBeCancelled, unclaimed}
 use Rattle.hall.proofs.Claims.{found_all, held_for, orders_marked, orders_posted, orders_recorded, orders_with, orders_without}
+use Rattle.hall.proofs.Drawn.{AreRightIn, CommitsNone, drawn_back, drawn_buffered, drawn_entered, drawn_left, drawn_marked, drawn_numbered, drawn_plain, drawn_raised, drawn_recorded, marks_marked, marks_recorded, named_filter, named_push, named_with, post_commits_none}
 use Rattle.hall.proofs.Fair.{over_table, served-sound}
 use Rattle.hall.proofs.Frames.{served-past, shut_by_history}
 use Rattle.hall.proofs.Fresh.{found_name, fresh_committed, fresh_entered, fresh_left, fresh_marked, fresh_next, number_below, open_unheard}
-use Rattle.hall.proofs.Heard.{all_waiting, apart_from_waiting, status_in}
+use Rattle.hall.proofs.Heard.{all_waiting, apart_from_waiting, numbers_leave, status_in}
 use Rattle.hall.proofs.LockLists.{Allows, asked_allows, converted_allows}
 use Rattle.hall.proofs.Owned.{owned_back, owned_beside, owned_by_none, owned_entered, owned_freed, owned_left, owned_locks, owned_next, owned_recorded}
 use Rattle.hall.proofs.Resubmissions.{readmitted_is, table_in}
@@ -94,9 +106,6 @@ each_with Q change keeps name (x ∷ xs) k =
 abbrev WasKept : Session → Type 0
 WasKept x = x.lost ≡ false
 
-abbrev WasIdle : Session → Type 0
-WasIdle x = x.draws ≡ []
-
 -- what is kept, but for the length of the history
 pub record Holds (n : ℕ) (s : State) : Type 0 where
   pub few : HasFew n s
@@ -128,8 +137,9 @@ holds_locks n s locks own h =
         limited = steady.limited;
         server = steady.server;
         whole = steady.whole;
-        undrawn = steady.undrawn;
-        ranges = steady.ranges;
+        named = steady.named;
+        drawn = steady.drawn;
+        marked = steady.marked;
         settled = steady.settled;
         fresh = record { numbered = steady.fresh.numbered; ahead = steady.fresh.ahead; later = steady.fresh.later };
         places = steady.places;
@@ -151,8 +161,9 @@ left-holds n s name locks own h =
         limited = steady.limited;
         server = steady.server;
         whole = each_filter WasKept p s.sessions steady.whole;
-        undrawn = each_filter WasIdle p s.sessions steady.undrawn;
-        ranges = steady.ranges;
+        named = named_filter p s.sessions steady.named;
+        drawn = drawn_left s p steady.drawn;
+        marked = steady.marked;
         settled = steady.settled;
         fresh = record { numbered = fresh.numbered; ahead = fresh.ahead; later = fresh.later };
         places = steady.places;
@@ -170,8 +181,8 @@ fresh_is_next name (x ∷ xs) k =
       | false ↦ ap (λ ys. x ∷ ys) (fresh_is_next name xs k.1)
     ]
 
-next-holds : (n : ℕ) (s : State) (name : List ℕ) (locks : List Entry) → AreOwned s locks → Holds n s → Holds (n + 1) (record s { sessions = with_session name with_next_unit s.sessions; locks = locks })
-next-holds n s name locks own h =
+next-holds : (n : ℕ) (s : State) (name : List ℕ) (x : Session) (locks : List Entry) → session_at s.sessions name ≡ Some x → AreOwned s locks → Holds n s → Holds (n + 1) (record s { sessions = with_session name with_next_unit s.sessions; locks = locks })
+next-holds n s name x locks at own h =
     let few = few_more n s h.few in
     let steady = h.steady in
     let fresh = fresh_next s name steady.fresh in
@@ -182,8 +193,9 @@ next-holds n s name locks own h =
         limited = steady.limited;
         server = steady.server;
         whole = each_with WasKept with_next_unit (λ x k. k) name s.sessions steady.whole;
-        undrawn = each_with WasIdle with_next_unit (λ x k. refl) name s.sessions steady.undrawn;
-        ranges = steady.ranges;
+        named = named_with with_next_unit (λ x. refl) name s.sessions steady.named;
+        drawn = drawn_back s name x with_next_unit at refl steady.drawn;
+        marked = steady.marked;
         settled = steady.settled;
         fresh = record { numbered = fresh.numbered; ahead = fresh.ahead; later = fresh.later };
         places = steady.places;
@@ -192,25 +204,28 @@ next-holds n s name locks own h =
       };
     }
 
-rolled-holds : (n : ℕ) (s : State) (name : List ℕ) (locks : List Entry) → AreOwned s locks → Holds n s → Holds (n + 1) (record s { sessions = with_session name with_fresh_unit s.sessions; locks = locks })
-rolled-holds n s name locks own h =
-    subst (λ xs. Holds (n + 1) (record s { sessions = xs; locks = locks })) (sym (fresh_is_next name s.sessions h.steady.whole)) (next-holds n s name locks own h)
+rolled-holds : (n : ℕ) (s : State) (name : List ℕ) (x : Session) (locks : List Entry) → session_at s.sessions name ≡ Some x → AreOwned s locks → Holds n s → Holds (n + 1) (record s { sessions = with_session name with_fresh_unit s.sessions; locks = locks })
+rolled-holds n s name x locks at own h =
+    subst (λ xs. Holds (n + 1) (record s { sessions = xs; locks = locks })) (sym (fresh_is_next name s.sessions h.steady.whole)) (next-holds n s name x locks at own h)
 
 -- the session that commits is the one of that name
-commit-holds : (n : ℕ) (s : State) (name : List ℕ) (x : Session) (parts : Parts) → find (is_called name) s.sessions ≡ Some x → name ≡ x.name → Holds n s → Holds (n + 1) (committed s x parts)
-commit-holds n s name x parts found same h =
+commit-holds : (n : ℕ) (s : State) (x : Session) (parts : Parts) → session_at s.sessions x.name ≡ Some x → Holds n s → Holds (n + 1) (committed s x parts x.draws)
+commit-holds n s x parts at h =
     let few = few_more n s h.few in
     let steady = h.steady in
     let key = unit_key s.stored.start x in
-    let unit = unit_of s.stored.start s.locks x parts in
-    let found' : find (is_called x.name) s.sessions ≡ Some x = subst (λ m. find (is_called m) s.sessions ≡ Some x) same found in
+    let unit = unit_of s.stored.start s.locks x parts x.draws in
+    let recorded_ledger = with_unit s.stored unit in
+    let levels = with_levels (settled_rows s.stored.levels s.ranges x.draws) s.stored.levels in
+    let sessions = with_session x.name with_next_unit s.sessions in
+    let unheard = open_unheard s x.name x at steady.fresh in
     let own = steady.owned in
     let its : (Q : Owner → List ℕ → Type 0) → AllByRecursion (OfLock Q) s.locks → OfStored Q unit = λ Q k. every_of Q (handed_over s.locks key) (Upd key) (every_handed Q s.locks key k) in
     let recorded =
-    owned_recorded s.stored s.next_session s.sessions (handed_over s.locks key) unit (open_unheard s x.name x found' steady.fresh)
+    owned_recorded s.stored s.next_session s.sessions (handed_over s.locks key) unit unheard
     (its (λ owner user. IsKnown s.stored.start s.next_session owner) own.known) (its (HasItsUser s.stored.start s.sessions) own.users)
     (owned_by s (handed_over s.locks key) (λ Q k. every_handed Q s.locks key k) steady) in
-    let fresh = fresh_committed s unit x.name x found' refl steady.fresh in
+    let fresh = fresh_committed s unit x.name x at refl steady.fresh in
     record {
       few = record { sessions = few.sessions; units = young_next with_next_unit (λ x. refl) (n + 1) x.name s.sessions h.few.units };
       steady = record {
@@ -218,13 +233,15 @@ commit-holds n s name x parts found same h =
         limited = steady.limited;
         server = steady.server;
         whole = each_with WasKept with_next_unit (λ x k. k) x.name s.sessions steady.whole;
-        undrawn = each_with WasIdle with_next_unit (λ x k. refl) x.name s.sessions steady.undrawn;
-        ranges = steady.ranges;
+        named = named_with with_next_unit (λ x. refl) x.name s.sessions steady.named;
+        drawn = drawn_recorded s x with_next_unit unit at refl refl unheard steady.marked steady.drawn;
+        marked = marks_recorded s.stored unit unheard steady.marked;
         settled = steady.settled;
         fresh = record { numbered = fresh.numbered; ahead = fresh.ahead; later = fresh.later };
         places = steady.places;
-        orders = orders_recorded s.stored unit s.orders (open_unheard s x.name x found' steady.fresh) steady.orders;
-        owned = owned_next (with_unit s.stored unit) s.next_session x.name s.sessions (handed_over s.locks key) recorded;
+        orders = orders_alike recorded_ledger levels recorded_ledger.marks (λ other. refl) s.orders (orders_recorded s.stored unit s.orders unheard steady.orders);
+        owned = owned_alike recorded_ledger levels recorded_ledger.marks (λ other. refl) s.next_session sessions sessions (handed_over s.locks key) (alike_all sessions)
+            (owned_next recorded_ledger s.next_session x.name s.sessions (handed_over s.locks key) recorded);
       };
     }
 
@@ -262,11 +279,12 @@ both-owned s x steady =
     owned_by s (freed_owner (freed_owner s.locks pair.dialogue) pair.update)
     (λ Q k. every_freed_owner Q (freed_owner s.locks pair.dialogue) pair.update (every_freed_owner Q s.locks pair.dialogue k)) steady
 
-named : (s : State) (name : List ℕ) (x : Session) → session_at s.sessions name ≡ Some x → name ≡ x.name
-named s name x at = sym (bytes_eq-same _ _ (found_name name s.sessions x at))
+-- a session is found by its own name
+own_name : (s : State) (name : List ℕ) (x : Session) → session_at s.sessions name ≡ Some x → session_at s.sessions x.name ≡ Some x
+own_name s name x at = subst (λ m. session_at s.sessions m ≡ Some x) (sym (bytes_eq-same _ _ (found_name name s.sessions x at))) at
 
-entered-holds : (n : ℕ) (s : State) (name user : List ℕ) → Holds n s → Holds (n + 1) (entered s name user)
-entered-holds n s name user h =
+entered-holds : (n : ℕ) (s : State) (name user : List ℕ) → is_some (session_at s.sessions name) ≡ false → Holds n s → Holds (n + 1) (entered s name user)
+entered-holds n s name user free h =
     let few = few_more n s h.few in
     let steady = h.steady in
     let y : Session = begun name user s.next_session in
@@ -278,8 +296,9 @@ entered-holds n s name user h =
         limited = steady.limited;
         server = steady.server;
         whole = each_push WasKept s.sessions y steady.whole refl;
-        undrawn = each_push WasIdle s.sessions y steady.undrawn refl;
-        ranges = steady.ranges;
+        named = named_push name s.sessions y refl free steady.named;
+        drawn = drawn_entered s y refl steady.drawn;
+        marked = steady.marked;
         settled = steady.settled;
         fresh = record { numbered = fresh.numbered; ahead = fresh.ahead; later = fresh.later };
         places = steady.places;
@@ -299,6 +318,13 @@ not_yes : (b : Bool) → not b ≡ true → b ≡ false
 not_yes true h = cc
 not_yes false h = refl
 
+not_no : (b : Bool) → not b ≡ false → b ≡ true
+not_no true h = refl
+not_no false h = cc
+
+not_past : (m n : ℕ) → nat_lt m n ≡ false → n ≤ m
+not_past m n h = grind (arith, nat_tests)
+
 taken-holds : (n part : ℕ) (s : State) (worker : ℕ) (unit : UnitKey) → first_unclaimed s.orders (waiting_for part s.stored) ≡ Some unit → Holds n s → Holds (n + 1) (taken s worker unit)
 taken-holds n part s worker unit e h =
     let steady = h.steady in
@@ -308,8 +334,9 @@ taken-holds n part s worker unit e h =
       limited = steady.limited;
       server = steady.server;
       whole = steady.whole;
-      undrawn = steady.undrawn;
-      ranges = steady.ranges;
+      named = steady.named;
+      drawn = steady.drawn;
+      marked = steady.marked;
       settled = steady.settled;
       fresh = record { numbered = steady.fresh.numbered; ahead = steady.fresh.ahead; later = steady.fresh.later };
       places = length-set s.orders worker (Some unit) ∙ steady.places;
@@ -325,8 +352,9 @@ dropped-holds n s worker h =
       limited = steady.limited;
       server = steady.server;
       whole = steady.whole;
-      undrawn = steady.undrawn;
-      ranges = steady.ranges;
+      named = steady.named;
+      drawn = steady.drawn;
+      marked = steady.marked;
       settled = steady.settled;
       fresh = record { numbered = steady.fresh.numbered; ahead = steady.fresh.ahead; later = steady.fresh.later };
       places = length-set s.orders worker None ∙ steady.places;
@@ -342,8 +370,8 @@ behind_marked s part unit kind waits own =
       | false ↦ λ w. owned_beside s.stored s.next_session s.sessions s.locks unit kind Posted w refl own
     ] waits
 
-marked-holds : (n part : ℕ) (s : State) (worker : ℕ) (unit : UnitKey) (kind : MarkKind) → order_for part s.stored s.orders worker ≡ Some unit → Holds n s → Holds (n + 1) (marked part s worker unit kind)
-marked-holds n part s worker unit kind e h =
+marked-holds : (n part : ℕ) (s : State) (worker : ℕ) (unit : UnitKey) (kind : MarkKind) → CommitsNone kind → order_for part s.stored s.orders worker ≡ Some unit → Holds n s → Holds (n + 1) (marked part s worker unit kind)
+marked-holds n part s worker unit kind none e h =
     let held = held_for part s.stored (order_of s.orders worker) unit e in
     let few = few_more n s h.few in
     let steady = h.steady in
@@ -355,8 +383,9 @@ marked-holds n part s worker unit kind e h =
         limited = steady.limited;
         server = steady.server;
         whole = steady.whole;
-        undrawn = steady.undrawn;
-        ranges = steady.ranges;
+        named = steady.named;
+        drawn = drawn_marked s unit kind none steady.drawn;
+        marked = marks_marked s.stored unit kind steady.marked;
         settled = steady.settled;
         fresh = record { numbered = fresh.numbered; ahead = fresh.ahead; later = fresh.later };
         places = length-set s.orders worker None ∙ steady.places;
@@ -387,8 +416,9 @@ cancelled-holds n s unit status can h =
         limited = steady.limited;
         server = steady.server;
         whole = steady.whole;
-        undrawn = steady.undrawn;
-        ranges = steady.ranges;
+        named = steady.named;
+        drawn = drawn_marked s unit Gone (λ us seq key. refl) steady.drawn;
+        marked = marks_marked s.stored unit Gone steady.marked;
         settled = steady.settled;
         fresh = record { numbered = fresh.numbered; ahead = fresh.ahead; later = fresh.later };
         places = steady.places;
@@ -420,8 +450,9 @@ reopened-holds n s unit es here own h =
         limited = steady.limited;
         server = steady.server;
         whole = steady.whole;
-        undrawn = steady.undrawn;
-        ranges = steady.ranges;
+        named = steady.named;
+        drawn = drawn_marked s unit Again1 (λ us seq key. refl) steady.drawn;
+        marked = marks_marked s.stored unit Again1 steady.marked;
         settled = steady.settled;
         fresh = record { numbered = fresh.numbered; ahead = fresh.ahead; later = fresh.later };
         places = steady.places;
@@ -442,8 +473,9 @@ reposted-holds n s unit here h =
         limited = steady.limited;
         server = steady.server;
         whole = steady.whole;
-        undrawn = steady.undrawn;
-        ranges = steady.ranges;
+        named = steady.named;
+        drawn = drawn_marked s unit Again2 (λ us seq key. refl) steady.drawn;
+        marked = marks_marked s.stored unit Again2 steady.marked;
         settled = steady.settled;
         fresh = record { numbered = fresh.numbered; ahead = fresh.ahead; later = fresh.later };
         places = steady.places;
@@ -458,12 +490,78 @@ back-owned s unit es good stand own =
     subst (IsOwned (with_mark s.stored unit Again1) s.next_session s.sessions) (sym (readmitted_is (table_in s) (owners_of unit) (entries_of s.stored.units unit) es stand))
     (owned_back s.stored s.next_session s.sessions s.locks unit good own)
 
+-- ---- numbers
+
+-- sessions that differ in their draws alone, over other levels and marks by which each unit has the same status
+beside-holds : (n : ℕ) (s : State) (sessions : List Session) (ranges : List NumberRange) (levels : Levels) (marks : List Mark) → AreAlike s.sessions sessions → HaveOneStatus s.stored marks → AreDrawnRight ranges levels (draws_in sessions) (numbers_of s.stored.units marks) → Holds n s
+    → Holds (n + 1) (record s { sessions = sessions; ranges = ranges; stored = with_others s.stored levels marks })
+beside-holds n s sessions ranges levels marks alike same drawn h =
+    let few = few_more n s h.few in
+    let steady = h.steady in
+    record {
+      few = record { sessions = few.sessions; units = young_alike (n + 1 + 1) s.sessions sessions alike few.units };
+      steady = record {
+        started = steady.started;
+        limited = steady.limited;
+        server = steady.server;
+        whole = lost_alike s.sessions sessions alike steady.whole;
+        named = λ name. subst (λ k. k ≤ 1) (sym (count_alike name s.sessions sessions alike)) (steady.named name);
+        drawn = drawn;
+        marked = λ key none. steady.marked key (sym (same key) ∙ none);
+        settled = steady.settled;
+        fresh = record {
+          numbered = numbered_alike s.next_session s.sessions sessions alike steady.fresh.numbered;
+          ahead = ahead_alike s.stored levels marks same s.sessions sessions alike steady.fresh.ahead;
+          later = λ session luw from. same (record { start = s.stored.start; session = session; luw = luw }) ∙ steady.fresh.later session luw from;
+        };
+        places = steady.places;
+        orders = orders_alike s.stored levels marks same s.orders steady.orders;
+        owned = owned_alike s.stored levels marks same s.next_session s.sessions sessions s.locks alike steady.owned;
+      };
+    }
+
+-- the same with a level that is raised
+raised-holds : (n : ℕ) (s : State) (sessions : List Session) (ranges : List NumberRange) (i : Interval) (upto : ℕ) → AreAlike s.sessions sessions → AreRightIn ranges sessions (raised_to i upto s.stored) → Holds n s
+    → Holds (n + 1) (record s { sessions = sessions; ranges = ranges; stored = raised_to i upto s.stored })
+raised-holds n s sessions ranges i upto alike drawn h =
+    let levels = with_levels (stored_as (with_level (block_level i upto) i) ∷ []) s.stored.levels in
+    let with_ledger : Ledger → State = λ ledger. record s { sessions = sessions; ranges = ranges; stored = ledger } in
+    elim (nat_le upto i.level) as (λ b. AreRightIn ranges sessions (if b then s.stored else with_others s.stored levels s.stored.marks) → Holds (n + 1) (with_ledger (if b then s.stored else with_others s.stored levels s.stored.marks))) [
+      | true ↦ λ d. beside-holds n s sessions ranges s.stored.levels s.stored.marks alike (λ key. refl) d h
+      | false ↦ λ d. beside-holds n s sessions ranges levels s.stored.marks alike (λ key. refl) d h
+    ] drawn
+
+draws-holds : (n : ℕ) (s : State) (x : Session) (object nr : List ℕ) (r : NumberRange) → session_at s.sessions x.name ≡ Some x → CanDraw s x object nr r → Holds n s
+    → Holds (n + 1) (drawn s x (present s.stored.levels r.interval) (next_number r (present s.stored.levels r.interval) x))
+draws-holds n s x object nr r at can h =
+    let i = present s.stored.levels r.interval in
+    let number = next_number r i x in
+    let draw = with_draw (num_of i number) in
+    let sessions = with_session x.name draw s.sessions in
+    let alike = alike_with draw (λ y. record { name = refl; user = refl; number = refl; luw = refl; lost = refl }) x.name s.sessions in
+    let t : State = record s { sessions = sessions } in
+    elim (is_buffered i) as (λ b. is_buffered r.interval ≡ b → Holds (n + 1) (if b then record t { ranges = handed_out i t.ranges; stored = raised_to i number t.stored } else t)) [
+      | true ↦ λ is. raised-holds n s sessions (handed_out i s.ranges) i number alike (drawn_buffered s x object nr r number at can refl is h.steady.drawn) h
+      | false ↦ λ is. beside-holds n s sessions s.ranges s.stored.levels s.stored.marks alike (λ key. refl) (drawn_plain s x object nr r number at can refl is h.steady.named h.steady.drawn) h
+    ] refl
+
+reserves-holds : (n : ℕ) (s : State) (object nr : List ℕ) (upto : ℕ) (r : NumberRange) → CanReserve s object nr upto r → Holds n s → Holds (n + 1) (record s { stored = raised_to (present s.stored.levels r.interval) upto s.stored })
+reserves-holds n s object nr upto r can h =
+    raised-holds n s s.sessions s.ranges (present s.stored.levels r.interval) upto (alike_all s.sessions)
+    (drawn_raised s r.interval upto (interval_among s.ranges r (range_found s.ranges object nr r can.range).among) (not_no (is_buffered r.interval) can.buffered) (not_past r.interval.to upto can.within) h.steady.drawn) h
+
+numbered-holds : (n : ℕ) (s : State) (x : Session) → session_at s.sessions x.name ≡ Some x → Holds n s → Holds (n + 1) (numbered s x x.draws)
+numbered-holds n s x at h =
+    let key = unit_key s.stored.start x in
+    beside-holds n s (with_session x.name without_draws s.sessions) s.ranges (with_levels (settled_rows s.stored.levels s.ranges x.draws) s.stored.levels) (with_mark s.stored key (Num x.draws)).marks
+    (alike_with without_draws (λ y. record { name = refl; user = refl; number = refl; luw = refl; lost = refl }) x.name s.sessions) (λ other. numbers_leave s.stored key other x.draws) (drawn_numbered s x at h.steady.drawn) h
+
 -- ---- all calls
 
 each-holds : (n : ℕ) (found : Found) (s : State) → HasSoundLocks s → Holds n s → OfEach (λ call v. Holds (n + 1) (judged s v).state) found s
 each-holds n found s sound h = record {
   refuses = λ call r plain. holds_more n s h;
-  enters = λ name user free. entered-holds n s name user h;
+  enters = λ name user free. entered-holds n s name user free h;
   logs_off = λ name x at. left-holds n s x.name _ (both-owned s x h.steady) h;
   grants = λ name x rs locks at e. holds_locks n s locks (allowed (AreOwned s) _ locks (granted-owned s name x rs at h.steady) e) h;
   lowers = λ name x rs at.
@@ -473,12 +571,15 @@ each-holds n found s sound h = record {
   converts = λ name x wanted c at e. holds_locks n s c.entries (allowed (λ (c : Conversion). AreOwned s c.entries) _ c (converted-owned s x wanted h.steady) e) h;
   reads = λ name x table key at. holds_more n s h;
   commits_nothing = λ name x parts at. holds_more n s h;
-  commits = λ name x parts at. commit-holds n s name x parts at (named s name x at) h;
+  draws = λ name x object nr r at can. draws-holds n s x object nr r (own_name s name x at) can h;
+  reserves = λ name x object nr upto r at can. reserves-holds n s object nr upto r can h;
+  commits_numbers = λ name x parts at. numbered-holds n s x (own_name s name x at) h;
+  commits = λ name x parts at. commit-holds n s x parts (own_name s name x at) h;
   rolls_back = λ name x at.
       let update = (pair_of s.stored.start x).update in
-      rolled-holds n s x.name _ (owned_by s (freed_owner s.locks update) (λ Q k. every_freed_owner Q s.locks update k) h.steady) h;
+      rolled-holds n s x.name x _ (own_name s name x at) (owned_by s (freed_owner s.locks update) (λ Q k. every_freed_owner Q s.locks update k) h.steady) h;
   takes = λ worker part unit free e. taken-holds n part s worker unit e h;
-  posts = λ worker part unit e. marked-holds n part s worker unit (kind_for part (found.part part unit)) e h;
+  posts = λ worker part unit e. marked-holds n part s worker unit (kind_for part (found.part part unit)) (post_commits_none part (found.part part unit)) e h;
   drops = λ worker unit e. dropped-holds n s worker h;
   cancels = λ unit status can. cancelled-holds n s unit status can h;
   reopens = λ unit es here stand. reopened-holds n s unit es here (back-owned s unit es sound.stored stand h.steady.owned) h;
@@ -496,8 +597,9 @@ doubted-holds n s pending h =
         limited = steady.limited;
         server = tt;
         whole = steady.whole;
-        undrawn = steady.undrawn;
-        ranges = steady.ranges;
+        named = steady.named;
+        drawn = steady.drawn;
+        marked = steady.marked;
         settled = tt;
         fresh = record { numbered = steady.fresh.numbered; ahead = steady.fresh.ahead; later = steady.fresh.later };
         places = steady.places;
@@ -545,8 +647,9 @@ with_past n s past h =
         limited = steady.limited;
         server = steady.server;
         whole = steady.whole;
-        undrawn = steady.undrawn;
-        ranges = steady.ranges;
+        named = steady.named;
+        drawn = steady.drawn;
+        marked = steady.marked;
         settled = steady.settled;
         fresh = record { numbered = steady.fresh.numbered; ahead = steady.fresh.ahead; later = steady.fresh.later };
         places = steady.places;

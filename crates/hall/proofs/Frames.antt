@@ -10,7 +10,15 @@ use Rattle.hall.specs.Acts.{IsAct}
 use Rattle.hall.specs.Devices.{DeviceOutcome, AllWell, Wanting, StoreFails, is_store_failure}
 use Rattle.hall.specs.History.{IsStep, Served, is_unrecorded, judged, noted, past_entry, served, step, with_entry}
 use Rattle.hall.specs.Recall.{HasBegun}
+use Rattle.hall.specs.Numbers.{drawn, raised_to}
+use Rattle.range_list.specs.Drawn.{handed_out}
+use Rattle.hall.specs.Sessions.{with_draw, with_session}
 use Rattle.hall.specs.State.{State}
+use Rattle.hall.specs.declared.command.Session.{Session}
+use Rattle.number_ranges.specs.Intervals.{is_buffered}
+use Rattle.number_ranges.specs.declared.interval.Interval.{Interval}
+use Rattle.range_list.specs.Drawn.{num_of}
+use Rattle.range_list.specs.Levels.{present}
 use Rattle.hall.specs.Step.{Found, barred, is_full, verdict}
 use Rattle.hall.specs.declared.command.Command.{Command}
 use Rattle.hall.specs.declared.command.Reply.{Reply}
@@ -28,6 +36,14 @@ pub record IsFramed (s t : State) : Type 0 where
 stays : (s : State) → IsFramed s s
 stays s = record { condition = refl; limit = refl; mark_limit = refl; past = refl }
 
+drawn_frame : (s : State) (x : Session) (i : Interval) (number : ℕ) → IsFramed s (drawn s x i number)
+drawn_frame s x i number =
+    let t : State = record s { sessions = with_session x.name (with_draw (num_of i number)) s.sessions } in
+    elim (is_buffered i) as (λ b. IsFramed s (if b then record t { ranges = handed_out i t.ranges; stored = raised_to i number t.stored } else t)) [
+      | true ↦ record { condition = refl; limit = refl; mark_limit = refl; past = refl }
+      | false ↦ record { condition = refl; limit = refl; mark_limit = refl; past = refl }
+    ]
+
 framed : (found : Found) (s : State) → OfEach (λ call v. IsFramed s (judged s v).state) found s
 framed found s = record {
   refuses = λ call r plain. stays s;
@@ -37,8 +53,11 @@ framed found s = record {
   lowers = λ name x rs at. record { condition = refl; limit = refl; mark_limit = refl; past = refl };
   frees = λ name x at. record { condition = refl; limit = refl; mark_limit = refl; past = refl };
   converts = λ name x wanted c at e. record { condition = refl; limit = refl; mark_limit = refl; past = refl };
+  draws = λ name x object nr r at can. drawn_frame s x (present s.stored.levels r.interval) _;
+  reserves = λ name x object nr upto r at can. record { condition = refl; limit = refl; mark_limit = refl; past = refl };
   reads = λ name x table key at. stays s;
   commits_nothing = λ name x parts at. stays s;
+  commits_numbers = λ name x parts at. record { condition = refl; limit = refl; mark_limit = refl; past = refl };
   commits = λ name x parts at. record { condition = refl; limit = refl; mark_limit = refl; past = refl };
   rolls_back = λ name x at. record { condition = refl; limit = refl; mark_limit = refl; past = refl };
   takes = λ worker part unit free e. record { condition = refl; limit = refl; mark_limit = refl; past = refl };

@@ -7,6 +7,7 @@ use Rattle.std.proofs.lemmas.Bool.{and_from, and_parts, eq-eqb}
 use Rattle.std.proofs.lemmas.List.Elements.{All-from_recursion}
 use Rattle.enq_base.specs.declared.owner.Owner.TheVariants.{Upd}
 use Rattle.enq_base.specs.declared.owner.UnitKey.{UnitKey}
+use Rattle.enq_base.specs.declared.unit.Num.{Num}
 use Rattle.enq_base.specs.declared.unit.Parts.{Parts}
 use Rattle.lock_entry.proofs.Frees.{IsTable-filter, IsTable-handed_over}
 use Rattle.lock_entry.proofs.Lists.{list_all-filter_self}
@@ -50,8 +51,8 @@ handed_table t start x good =
     let key = unit_key start x in
     IsTable-filter (with_entries t (handed_over t.entries key)) (is_of (Upd key)) (IsTable-handed_over t key good)
 
-held_by : (t : Table) (sessions : List Session) (name : List ℕ) (start : ℕ) (x : Session) (parts : Parts) (e : Entry) → session_at sessions name ≡ Some x → AllByRecursion (OfLock (HasItsUser start sessions)) t.entries → IsTable t → Among (handed_locks t.entries (unit_key start x)) e → IsHeldBy (unit_of start t.entries x parts) e
-held_by t sessions name start x parts e found users good k =
+held_by : (t : Table) (sessions : List Session) (name : List ℕ) (start : ℕ) (x : Session) (parts : Parts) (numbers : List Num) (e : Entry) → session_at sessions name ≡ Some x → AllByRecursion (OfLock (HasItsUser start sessions)) t.entries → IsTable t → Among (handed_locks t.entries (unit_key start x)) e → IsHeldBy (unit_of start t.entries x parts numbers) e
+held_by t sessions name start x parts numbers e found users good k =
     let key = unit_key start x in
     let stood = filter_source (is_of (Upd key)) (handed_over t.entries key) e k in
     let own : e.owner ≡ Upd key = same_owner-same e.owner (Upd key) stood.1 in
@@ -68,10 +69,10 @@ held_by t sessions name start x parts e found users good k =
       handed = ap (λ (z : Entry). z.handed) source.4;
     }
 
-pub all_held : (t : Table) (sessions : List Session) (name : List ℕ) (start : ℕ) (x : Session) (parts : Parts) → session_at sessions name ≡ Some x → AllByRecursion (OfLock (HasItsUser start sessions)) t.entries → IsTable t → All (IsHeldBy (unit_of start t.entries x parts)) (handed_locks t.entries (unit_key start x))
-all_held t sessions name start x parts found users good =
-    All-from_recursion (IsHeldBy (unit_of start t.entries x parts)) (handed_locks t.entries (unit_key start x))
-    (every_by (IsHeldBy (unit_of start t.entries x parts)) (handed_locks t.entries (unit_key start x)) (λ e k. held_by t sessions name start x parts e found users good k))
+pub all_held : (t : Table) (sessions : List Session) (name : List ℕ) (start : ℕ) (x : Session) (parts : Parts) (numbers : List Num) → session_at sessions name ≡ Some x → AllByRecursion (OfLock (HasItsUser start sessions)) t.entries → IsTable t → All (IsHeldBy (unit_of start t.entries x parts numbers)) (handed_locks t.entries (unit_key start x))
+all_held t sessions name start x parts numbers found users good =
+    All-from_recursion (IsHeldBy (unit_of start t.entries x parts numbers)) (handed_locks t.entries (unit_key start x))
+    (every_by (IsHeldBy (unit_of start t.entries x parts numbers)) (handed_locks t.entries (unit_key start x)) (λ e k. held_by t sessions name start x parts numbers e found users good k))
 
 all_by : {A : Type 0} (p : A → Bool) (xs : List A) → ((x : A) → Among xs x → p x ≡ true) → list_all p xs ≡ true
 all_by p [] h = refl
@@ -85,8 +86,8 @@ firm_by es key e k =
     (ap (λ (z : Entry). not (same_mode z.mode O)) source.4 ∙ ap not source.3)
 
 -- they can stand again as they are
-pub handed_good : (t : Table) (start : ℕ) (x : Session) (parts : Parts) → IsTable t → HasGoodLocks (unit_of start t.entries x parts)
-handed_good t start x parts good =
+pub handed_good : (t : Table) (start : ℕ) (x : Session) (parts : Parts) (numbers : List Num) → IsTable t → HasGoodLocks (unit_of start t.entries x parts numbers)
+handed_good t start x parts numbers good =
     let key = unit_key start x in
     let table = handed_table t start x good in
     record {

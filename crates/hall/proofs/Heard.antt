@@ -4,6 +4,7 @@ use Rattle.std.specs.Prelude.{if◌then◌else◌, nat_eq, Option, Some, None}
 use Rattle.std.specs.List.{AllByRecursion, list_any}
 use Rattle.enq_base.specs.Owners.{same_unit}
 use Rattle.enq_base.specs.declared.owner.UnitKey.{UnitKey}
+use Rattle.enq_base.specs.declared.unit.Num.{Num as Number}
 use Rattle.enq_base.specs.declared.unit.Status.{Status}
 use Rattle.enq_base.specs.declared.unit.Status.TheVariants.{Open, Posted, Bad, Closed, Bad2, Cancelled}
 use Rattle.update_records.proofs.Status.{none_of, one_unit, status_grows, status_push, unit_refl}
@@ -103,6 +104,14 @@ recorded_waiting ledger unit other fresh (inr here) = inr (recorded_status ledge
 pub marked_waiting : (ledger : Ledger) (key other : UnitKey) (kind : MarkKind) → same_unit key other ≡ false → IsWaiting ledger other → IsWaiting (with_mark ledger key kind) other
 marked_waiting ledger key other kind apart (inl here) = inl (marked_other ledger key other kind apart ∙ here)
 marked_waiting ledger key other kind apart (inr here) = inr (marked_other ledger key other kind apart ∙ here)
+
+-- numbers that are recorded alone leave every unit's status
+pub numbers_leave : (ledger : Ledger) (key other : UnitKey) (numbers : List Number) → status_in (with_mark ledger key (Num numbers)) other ≡ status_in ledger other
+numbers_leave ledger key other numbers =
+    let b = has_no_v2 ledger.units other in
+    let before = status_after b other None ledger.marks in
+    status_push b other None ledger.marks (next_mark ledger key (Num numbers))
+    ∙ elim (same_unit key other) as (λ t. (if t then given b (Num numbers) before else before) ≡ before) [ true ↦ refl | false ↦ refl ]
 
 -- ---- those that wait
 

@@ -1,6 +1,6 @@
 -- Who is logged on: a call leaves the sessions logged on, but for the one that it logs off.
 use Rattle.std.proofs.Common.{◌≡◌, inl, inr, ℕ, Bool, true, false, true≢false, cond, List, [], ◌∷◌, ◌++◌, refl, sym, ap, ◌∙◌, subst}
-use Rattle.std.specs.Prelude.{IsTrue, Some, is_some}
+use Rattle.std.specs.Prelude.{IsTrue, Some, if◌then◌else◌, is_some}
 use Rattle.std.specs.Cmp.Lexicographic.{bytes_decides}
 use Rattle.std.specs.Str.{bytes_eq}
 use Rattle.std.proofs.lemmas.Bool.{cases_Bool}
@@ -15,8 +15,14 @@ use Rattle.hall.specs.declared.command.Session.{Session}
 use Rattle.hall.specs.Calls.{Call, LogsOn, OfSession, OfWorker, OfAdmin, LogsOff, call_of}
 use Rattle.hall.specs.Devices.{DeviceOutcome}
 use Rattle.hall.specs.History.{IsStep, Served, judged, served, step}
-use Rattle.hall.specs.Sessions.{begun, is_called, session_at, with_fresh_unit, with_next_unit, with_session, without_session}
+use Rattle.hall.specs.Sessions.{begun, is_called, session_at, with_draw, with_fresh_unit, with_next_unit, with_session, without_draws, without_session}
+use Rattle.hall.specs.Numbers.{drawn, raised_to}
+use Rattle.range_list.specs.Drawn.{handed_out}
 use Rattle.hall.specs.State.{State}
+use Rattle.number_ranges.specs.Intervals.{is_buffered}
+use Rattle.number_ranges.specs.declared.interval.Interval.{Interval}
+use Rattle.range_list.specs.Drawn.{num_of}
+use Rattle.range_list.specs.Levels.{present}
 use Rattle.hall.specs.Step.{Found, Leaves, logged_off}
 
 abbrev pub IsLoggedOn : List Session → List ℕ → Type 0
@@ -96,6 +102,14 @@ left_keeps s name x found n off h =
     let own : x.name ≡ name = (bytes_decides x.name name).0 (found_name name s.sessions x found) in
     logged_without x.name s.sessions n (ap (bytes_eq n) own ∙ off) h
 
+drawn_keeps : (s : State) (x : Session) (i : Interval) (number : ℕ) (n : List ℕ) → IsLoggedOn s.sessions n → IsLoggedOn (drawn s x i number).sessions n
+drawn_keeps s x i number n h =
+    let t : State = record s { sessions = with_session x.name (with_draw (num_of i number)) s.sessions } in
+    elim (is_buffered i) as (λ b. IsLoggedOn (if b then record t { ranges = handed_out i t.ranges; stored = raised_to i number t.stored } else t).sessions n) [
+      | true ↦ logged_with (with_draw (num_of i number)) (λ m y. refl) x.name s.sessions n h
+      | false ↦ logged_with (with_draw (num_of i number)) (λ m y. refl) x.name s.sessions n h
+    ]
+
 keeps : (found : Found) (s : State) → OfEach (λ call v. KeepsSessions s call (judged s v)) found s
 keeps found s = record {
   refuses = λ call r plain n off h. h;
@@ -105,8 +119,11 @@ keeps found s = record {
   lowers = λ name x rs at n off h. h;
   frees = λ name x at n off h. h;
   converts = λ name x wanted c at e n off h. h;
+  draws = λ name x object nr r at can n off h. drawn_keeps s x (present s.stored.levels r.interval) _ n h;
+  reserves = λ name x object nr upto r at can n off h. h;
   reads = λ name x table key at n off h. h;
   commits_nothing = λ name x parts at n off h. h;
+  commits_numbers = λ name x parts at n off h. logged_with without_draws (λ m y. refl) x.name s.sessions n h;
   commits = λ name x parts at n off h. logged_with with_next_unit (λ m y. refl) x.name s.sessions n h;
   rolls_back = λ name x at n off h. logged_with with_fresh_unit (λ m y. refl) x.name s.sessions n h;
   takes = λ worker part unit free e n off h. h;
@@ -155,8 +172,11 @@ enters found s = record {
   lowers = λ name x rs at. tt;
   frees = λ name x at. tt;
   converts = λ name x wanted c at e. tt;
+  draws = λ name x object nr r at can. tt;
+  reserves = λ name x object nr upto r at can. tt;
   reads = λ name x table key at. tt;
   commits_nothing = λ name x parts at. tt;
+  commits_numbers = λ name x parts at. tt;
   commits = λ name x parts at. tt;
   rolls_back = λ name x at. tt;
   takes = λ worker part unit free e. tt;

@@ -105,7 +105,7 @@ owned_by_none ledger next sessions es h = record { known = tt; users = tt; holde
 opened_holds : (o : Option Status) → o ≡ Some Open → may_hold o ≡ true
 opened_holds o h = ap may_hold h
 
-recorded_here : (ledger : Ledger) (unit : UnitOfWork) → status_in (with_unit ledger unit) unit.key ≡ Some Open
+pub recorded_here : (ledger : Ledger) (unit : UnitOfWork) → status_in (with_unit ledger unit) unit.key ≡ Some Open
 recorded_here ledger unit =
     let b = has_no_v2 (ledger.units ++ unit ∷ []) unit.key in
     status_push b unit.key None ledger.marks (next_mark ledger unit.key mark.Rec)

@@ -70,8 +70,11 @@ answered found s = record {
   lowers = λ name x rs at. plainly s _ _ _ done;
   frees = λ name x at. plainly s _ _ _ done;
   converts = λ name x wanted c at e. plainly s _ _ _ done;
+  draws = λ name x object nr r at can. plainly s _ _ _ (record { own = refl; noted = refl; no_row = refl });
+  reserves = λ name x object nr upto r at can. plainly s _ _ _ (record { own = refl; noted = refl; no_row = refl });
   reads = λ name x table key at. record { own = refl; quiet = λ e. refl; row = λ e. (refl, refl) };
   commits_nothing = λ name x parts at. plainly s _ _ _ done;
+  commits_numbers = λ name x parts at. plainly s _ _ _ done;
   commits = λ name x parts at. plainly s _ _ _ (of_unit _);
   rolls_back = λ name x at. plainly s _ _ _ done;
   takes = λ worker part unit free e. plainly s _ _ _ (of_unit unit);
@@ -106,10 +109,10 @@ not_wanting : IsStoreFault (reply.Refused refusal.NoMemory) → ⊥
 not_wanting e = cc
 
 -- that the store failed is answered only in a call that uses it
-pub fault_uses_store : (s : State) (c : Command) (after : State) → IsAct s c after (reply.Refused refusal.StoreFault) → IsTrue (uses_store (call_of c))
+pub fault_uses_store : (s : State) (c : Command) (after : State) → IsAct s c after (reply.Refused refusal.StoreFault) → IsTrue (uses_store s (call_of c))
 fault_uses_store s c after act =
     let o = act.outcome in
-    elim o.event as (λ e. MayHappen e s (call_of c) (call_verdict (found_by o.reading s) s (call_of c)) → IsStoreFault (served (record { event = e; reading = o.reading }) s c).reply → IsTrue (uses_store (call_of c))) [
+    elim o.event as (λ e. MayHappen e s (call_of c) (call_verdict (found_by o.reading s) s (call_of c)) → IsStoreFault (served (record { event = e; reading = o.reading }) s c).reply → IsTrue (uses_store s (call_of c))) [
       | AllWell ↦ λ may is. absurd (no_fault _ (verdict_answered _ s _).own is)
       | Wanting ↦ λ may is. absurd (not_wanting is)
       | StoreFails ↦ λ may is. may.1

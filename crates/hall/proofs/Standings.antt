@@ -1,6 +1,6 @@
 -- The locks of a unit that was committed stand as long as it waits for its V1 part.
 use Rattle.std.proofs.Common.{◌⊎◌, inl, inr, ◌<◌, ◌^◌, ◌≤◌, ◌≡◌, ◌≢◌, ℕ, ◌+◌, Bool, true, false, not, ◌&&◌, List, [], ◌∷◌, ◌++◌, refl, sym, ap, ◌∙◌, subst}
-use Rattle.std.specs.Prelude.{Contains, if◌then◌else◌, nat_eq, Option, Some, None, Ok}
+use Rattle.std.specs.Prelude.{Contains, if◌then◌else◌, nat_eq, nat_le, Option, Some, None, Ok}
 use Rattle.std.specs.List.{AllByRecursion, list_all}
 use Rattle.std.proofs.lemmas.Bool.{and_from, or_parts}
 use Rattle.std.proofs.lemmas.List.Folds.{list_all-append}
@@ -46,10 +46,17 @@ use Rattle.hall.specs.History.{Served, doubted, judged, served}
 use Rattle.hall.specs.Kept.{HasGoodLocks, HasServer, HasSoundLocks, IsOwned, IsSteady, is_firm}
 use Rattle.hall.specs.Orders.{order_of, without_order}
 use Rattle.hall.specs.Recall.{AreModelAnswers, IsModelAnswer, Made, again, recalled, state_after}
-use Rattle.hall.specs.Sessions.{owners_of, pair_of, unit_key}
+use Rattle.hall.specs.Sessions.{owners_of, pair_of, unit_key, with_draw, with_session}
 use Rattle.hall.specs.Standing.{CallKeepsLocks, CallsKeepLocks, HandsOver, IsCommitOf, IsFirm, IsHandedTo, IsResubmissionOf, LocksAreBack, LocksReturn, LocksStand, NoneEndsWait, ReturnsLocked, StillWaits, WaitsLocked, WasFirm, ends_wait, is_commit, is_resubmission_of, with_handed}
+use Rattle.hall.specs.Numbers.{drawn, raised_to}
+use Rattle.range_list.specs.Drawn.{handed_out}
 use Rattle.hall.specs.State.{State, opened}
-use Rattle.hall.specs.Step.{Found, Leaves, call_verdict, cancelled, caller_refusal, committed, freed_all, is_full, lowered, or_else, locks_without, marked, own_verdict, posted_reply, reopened, reposted, rolled_back, server_refusal, unit_of, unless_refused}
+use Rattle.enq_base.specs.declared.unit.Num.{Num}
+use Rattle.number_ranges.specs.Intervals.{block_level, is_buffered, with_level}
+use Rattle.posting.specs.Intervals.{with_intervals}
+use Rattle.range_list.specs.Drawn.{num_of, stored_as}
+use Rattle.range_list.specs.Levels.{present}
+use Rattle.hall.specs.Step.{Found, Leaves, call_verdict, cancelled, caller_refusal, committed, freed_all, is_full, lowered, or_else, locks_without, marked, numbered, own_verdict, posted_reply, reopened, reposted, rolled_back, server_refusal, unit_of, unless_refused}
 use Rattle.hall.proofs.Beginning.{AgreeWith, IsFirst, first_few, first_sound, first_steady}
 use Rattle.number_ranges.specs.declared.interval.Interval.{Interval}
 use Rattle.hall.proofs.ByCall.{OfEach, by_call, by_event}
@@ -58,7 +65,7 @@ use Rattle.hall.proofs.Fair.{step-sound}
 use Rattle.hall.proofs.Few.{Holds, allowed, served-holds, with_past}
 use Rattle.hall.proofs.Frames.{by_noting, in_doubt}
 use Rattle.hall.proofs.Fresh.{open_unheard}
-use Rattle.hall.proofs.Heard.{apart_by, apart_by_status, apart_from_open, marked_other, recorded_open, status_in}
+use Rattle.hall.proofs.Heard.{apart_by, apart_by_status, apart_from_open, marked_other, numbers_leave, recorded_open, status_in}
 use Rattle.hall.proofs.LockLists.{Among, AreSure, IsOutside, all_among, among_from, asked_allows, contains_from, converted_allows, handed_source, hands_over, is_sure, kept_both, kept_conversion, kept_freed, kept_granted, kept_handed, kept_left, kept_right, kept_unit, kept_update, sure_conversion, sure_freed, sure_freed_owner, sure_granted, sure_handed_over, unnamed}
 use Rattle.hall.proofs.Owned.{none_held, stored_firm, stored_owner}
 use Rattle.hall.proofs.Recalls.{AnswersFrom, answers_behind}
@@ -131,13 +138,13 @@ converted-stands {c} s x wanted turned new e =
     (λ h. sure_conversion s.locks pair wanted h)
     (λ unit e h own waits k. kept_conversion s.locks pair wanted e (outside s x unit e new waits own) (firm_of s.locks e h k own.handed) k))) e
 
-committed-stands : {c : Call} (s : State) (x : Session) (parts : Parts) (r : Reply) → IsNew s x → Stands c s (record { state = committed s x parts; reply = r })
-committed-stands s x parts r new =
+committed-stands : {c : Call} (s : State) (x : Session) (parts : Parts) (numbers : List Num) (r : Reply) → IsNew s x → Stands c s (record { state = committed s x parts numbers; reply = r })
+committed-stands s x parts numbers r new =
     let key = unit_key s.stored.start x in
     record {
       sure = λ h. sure_handed_over s.locks key h;
       kept = λ h u e own w k. kept_handed s.locks key e own.handed (firm_of s.locks e h k own.handed) k;
-      waits = λ u on w. record { up = w.up; waits = recorded_open s.stored (unit_of s.stored.start s.locks x parts) u new w.waits };
+      waits = λ u on w. record { up = w.up; waits = recorded_open s.stored (unit_of s.stored.start s.locks x parts numbers) u new w.waits };
     }
 
 lowered-stands : {c : Call} (s : State) (x : Session) (rs : List Request) → IsNew s x → Stands c s (judged s (Leaves (lowered s x rs) reply.Done))
@@ -160,6 +167,34 @@ rolled-stands s x new =
     stands_over s _ _ refl refl
     (λ h. sure_freed_owner s.locks pair.update h)
     (λ unit e h own waits k. kept_update s.locks pair e (outside s x unit e new waits own) k)
+
+-- numbers that are recorded alone leave the units that wait
+numbered-stands : {c : Call} (s : State) (x : Session) (numbers : List Num) (r : Reply) → IsNew s x → Stands c s (record { state = numbered s x numbers; reply = r })
+numbered-stands s x numbers r new = record {
+  sure = λ h. h;
+  kept = λ h u e own w k. k;
+  waits = λ u on w. record { up = w.up; waits = numbers_leave s.stored (unit_key s.stored.start x) u numbers ∙ w.waits };
+}
+
+-- a level that is raised leaves locks and units
+raised-stands : {c : Call} (s : State) (i : Interval) (upto : ℕ) (r : Reply) → Stands c s (record { state = record s { stored = raised_to i upto s.stored }; reply = r })
+raised-stands {c} s i upto r =
+    elim (nat_le upto i.level) as (λ b. Stands c s (record { state = record s { stored = if b then s.stored else with_intervals (stored_as (with_level (block_level i upto) i) ∷ []) s.stored }; reply = r })) [
+      | true ↦ record { sure = λ h. h; kept = λ h u e own w k. k; waits = λ u on w. w }
+      | false ↦ record { sure = λ h. h; kept = λ h u e own w k. k; waits = λ u on w. record { up = w.up; waits = w.waits } }
+    ]
+
+drawn-stands : {c : Call} (s : State) (x : Session) (i : Interval) (number : ℕ) (r : Reply) → Stands c s (record { state = drawn s x i number; reply = r })
+drawn-stands {c} s x i number r =
+    let t : State = record s { sessions = with_session x.name (with_draw (num_of i number)) s.sessions } in
+    elim (is_buffered i) as (λ b. Stands c s (record { state = if b then record t { ranges = handed_out i t.ranges; stored = raised_to i number t.stored } else t; reply = r })) [
+      | true ↦ let k = raised-stands {c = c} s i number r in record {
+        sure = λ h. k.sure h;
+        kept = λ h u e own w on. on;
+        waits = λ u on w. let now = k.waits u on w in record { up = now.up; waits = now.waits };
+      }
+      | false ↦ stands_beside s t r refl refl refl
+    ]
 
 -- ---- calls of a worker
 
@@ -298,9 +333,12 @@ each-stands found s steady sound = record {
   lowers = λ name x rs at. lowered-stands s x rs (open_unheard s name x at steady.fresh);
   frees = λ name x at. freed-stands s _ x _ refl refl refl (open_unheard s name x at steady.fresh);
   converts = λ name x wanted turned at e. converted-stands s x wanted turned (open_unheard s name x at steady.fresh) e;
+  draws = λ name x object nr r at can. drawn-stands s x (present s.stored.levels r.interval) _ _;
+  reserves = λ name x object nr upto r at can. raised-stands s (present s.stored.levels r.interval) upto _;
   reads = λ name x table key at. stands_still s _;
   commits_nothing = λ name x parts at. stands_still s _;
-  commits = λ name x parts at. committed-stands s x parts _ (open_unheard s name x at steady.fresh);
+  commits_numbers = λ name x parts at. numbered-stands s x x.draws _ (open_unheard s name x at steady.fresh);
+  commits = λ name x parts at. committed-stands s x parts x.draws _ (open_unheard s name x at steady.fresh);
   rolls_back = λ name x at. rolled-stands s x (open_unheard s name x at steady.fresh);
   takes = λ worker part unit free e. stands_beside s _ _ refl refl refl;
   posts = λ worker part unit e. posted-stands part s worker unit (found.part part unit) (held_for part s.stored (order_of s.orders worker) unit e).1;
@@ -372,12 +410,12 @@ recorded_here ledger unit =
     status_push b unit.key None ledger.marks (next_mark ledger unit.key mark.Rec)
     ∙ ap (λ t. if t then given b mark.Rec (status_after b unit.key None ledger.marks) else status_after b unit.key None ledger.marks) (unit_refl unit.key)
 
-committed-hands : (unit : UnitKey) (s : State) (x : Session) (parts : Parts) → s.condition ≡ condition.Up → reply.Unit (unit_key s.stored.start x) ≡ reply.Unit unit → Hands unit s (committed s x parts)
+committed-hands : (unit : UnitKey) (s : State) (x : Session) (parts : Parts) → s.condition ≡ condition.Up → reply.Unit (unit_key s.stored.start x) ≡ reply.Unit unit → Hands unit s (committed s x parts x.draws)
 committed-hands unit s x parts up e =
     let same : unit_key s.stored.start x ≡ unit = cc in
     record {
       locks = ap (handed_over s.locks) same;
-      waits = record { up = up; waits = subst (IsOpenUnit (committed s x parts).stored) same (recorded_here s.stored (unit_of s.stored.start s.locks x parts)) };
+      waits = record { up = up; waits = subst (IsOpenUnit (committed s x parts x.draws).stored) same (recorded_here s.stored (unit_of s.stored.start s.locks x parts x.draws)) };
     }
 
 no_unit : (unit : UnitKey) (r : Refusal) → reply.Refused r ≡ reply.Unit unit → ⊥
@@ -398,8 +436,11 @@ each-hands unit found s up = record {
   lowers = λ name x rs at is told. absurd (no_commit is);
   frees = λ name x at is told. absurd (no_commit is);
   converts = λ name x wanted c at e is told. absurd (no_commit is);
+  draws = λ name x object nr r at can is told. absurd (no_commit is);
+  reserves = λ name x object nr upto r at can is told. absurd (no_commit is);
   reads = λ name x table key at is told. absurd (no_commit is);
   commits_nothing = λ name x parts at is told. absurd (not_done unit told);
+  commits_numbers = λ name x parts at is told. absurd (not_done unit told);
   commits = λ name x parts at is told. committed-hands unit s x parts up told;
   rolls_back = λ name x at is told. absurd (no_commit is);
   takes = λ worker part other free e is told. absurd (no_commit is);
@@ -504,8 +545,11 @@ each-back unit found s = record {
   lowers = λ name x rs at is told. absurd (no_commit is);
   frees = λ name x at is told. absurd (no_commit is);
   converts = λ name x wanted c at e is told. absurd (no_commit is);
+  draws = λ name x object nr r at can is told. absurd (no_commit is);
+  reserves = λ name x object nr upto r at can is told. absurd (no_commit is);
   reads = λ name x table key at is told. absurd (no_commit is);
   commits_nothing = λ name x parts at is told. absurd (no_commit is);
+  commits_numbers = λ name x parts at is told. absurd (no_commit is);
   commits = λ name x parts at is told. absurd (no_commit is);
   rolls_back = λ name x at is told. absurd (no_commit is);
   takes = λ worker part other free e is told. absurd (no_commit is);

@@ -1,10 +1,10 @@
 -- Commits, orders and posts come to what their commands' verdicts say.
 use Rattle.std.proofs.Common.{◌≡◌, ℕ, zero, suc, ◌+◌, ◌-◌, ◌≤◌, ◌<◌, Bool, true, false, cond, not, List, [], ◌∷◌, length, drop, set, refl, sym, ap, ◌∙◌, subst, arith}
-use Rattle.std.specs.Prelude.{Option, Some, None, Result, Ok, Err, IfSome, is_ok, is_some, nat_eq, nat_le, nat_lt, slice_get, if◌then◌else◌}
+use Rattle.std.specs.Prelude.{◌&&◌, ◌||◌, IsTrue, Option, Some, None, Result, Ok, Err, IfSome, is_ok, is_some, nat_eq, nat_le, nat_lt, slice_get, if◌then◌else◌}
 use Rattle.std.specs.FinMap.{get}
-use Rattle.std.specs.List.{AllByRecursion, find}
+use Rattle.std.specs.List.{All, AllByRecursion, find}
+use Rattle.std.specs.Option.{option_map_or}
 use Rattle.std.proofs.lemmas.Bool.Decides.{nat_tests}
-use Rattle.std.proofs.lemmas.List.Elements.{All-nil}
 use Rattle.enq_base.specs.declared.owner.UnitKey.{UnitKey}
 use Rattle.enq_base.specs.declared.refusal.Refusal.{Refusal}
 use Rattle.enq_base.specs.declared.refusal.Refusal.TheVariants as refusal
@@ -24,17 +24,21 @@ use Rattle.module_effects.specs.Rows.{RowName, Tables, row_of, with_row}
 use Rattle.module_effects.specs.declared.fault.EffectFault.{EffectFault}
 use Rattle.module_effects.specs.declared.fault.EffectFault.TheVariants as effect
 use Rattle.keeper_api.specs.Rows.{Rows}
+use Rattle.posting.specs.Intervals.{with_intervals}
 use Rattle.posting.specs.Posts.{MayCome, effects_of, entries_of, kind_for}
 use Rattle.posting.specs.Steps.{IsNewUnit, IsOutcome, after_step, at_place, waiting_for}
 use Rattle.posting.specs.declared.prepared.Step.{Step}
 use Rattle.posting.specs.declared.prepared.Step.TheVariants.{Note}
 use Rattle.posting.specs.declared.prepared.Outcome.{Outcome}
+use Rattle.range_list.specs.Drawn.{settled_rows}
+use Rattle.range_list.specs.declared.range.NumberRange.{NumberRange}
 use Rattle.update_records.specs.Business.{tables_of}
 use Rattle.update_records.specs.Grammar.{HasDigits}
 use Rattle.update_records.specs.Growing.{with_mark, with_unit}
 use Rattle.update_records.specs.Ledger.{Ledger}
-use Rattle.update_records.specs.declared.records.MarkKind.TheVariants.{Again1, Again2, Gone}
+use Rattle.update_records.specs.declared.records.MarkKind.TheVariants.{Again1, Again2, Gone, Num}
 use Rattle.update_records.specs.declared.records.Unit.{Unit as UnitOfWork}
+use Rattle.update_records.specs.declared.stored.StoredInterval.{StoredInterval}
 use Rattle.hall.specs.declared.command.Command.{Command}
 use Rattle.hall.specs.declared.command.Command.TheVariants as command
 use Rattle.hall.specs.declared.command.Reply.{Reply}
@@ -49,9 +53,10 @@ use Rattle.hall.specs.Flights.{landed}
 use Rattle.hall.specs.History.{Served, doubted, judged, pending_after, refused}
 use Rattle.hall.specs.Kept.{HasItsUser, IsAhead, OfLock}
 use Rattle.hall.specs.Orders.{first_unclaimed, is_claimed, order_for, order_of}
-use Rattle.hall.specs.Sessions.{is_called, owners_of, session_at, unit_key, with_next_unit, with_session}
+use Rattle.hall.specs.Sessions.{is_called, owners_of, session_at, unit_key, with_next_unit, with_session, without_draws}
+use Rattle.hall.specs.Numbers.{with_numbers}
 use Rattle.hall.specs.State.{State}
-use Rattle.hall.specs.Step.{Found, Verdict, Refuses, Leaves, ask_refusal, called, cancel, cancelled, cancelling, commit, committed, effects_in, found_in, leaves, locks_behind, locks_without, marked, own_verdict, posted_reply, posting, reopened, reopening, reposted, resubmit, resubmitting, row_in, take, taking, to_cancel, to_resubmit, unavailable, unit_of, with_room}
+use Rattle.hall.specs.Step.{Found, Verdict, Refuses, Leaves, ask_refusal, called, cancel, cancelled, cancelling, commit, committed, effects_in, found_in, leaves, locks_behind, locks_without, marked, numbered, own_verdict, posted_reply, posting, reopened, reopening, reposted, resubmit, resubmitting, row_in, take, taking, to_cancel, to_resubmit, unavailable, unit_of, with_room}
 use Rattle.hall.proofs.Calls.{admitted, at_state, fails, found_at, free_admin, free_worker, free_session, is_done, is_wanting, leaves_as, refuses}
 use Rattle.hall.proofs.Ends.{IsPart, posts_part}
 use Rattle.hall.proofs.Fresh.{found_in as found_all_in}
@@ -265,7 +270,7 @@ posts_in_doubt part s orders ledger limit worker unit is e g m room found space 
     let by = posts_part part worker is in
     fails s c (marked part s worker unit (kind_for part o)) (posted_reply part unit o) room
     (own_post part c (found_in s) s worker (Some unit) by (held part s ledger orders worker (Some unit) g e found) ∙ fits s _ (full_as s limit ledger false m g space))
-    (ap uses_store by) (ap only_reads by)
+    (ap (uses_store s) by) (ap only_reads by)
 
 pub posts_wanting : (part : ℕ) (s : State) (orders : List (Option UnitKey)) (entries : List Entry) (ledger new : Ledger) (worker : ℕ) (unit : UnitKey) → IsPart part → s.orders ≡ orders → s.locks ≡ entries → s.stored ≡ ledger → new ≡ ledger → Admits s → order_for part ledger orders worker ≡ Some unit → IsAct s (post_of part worker) (record s { orders = orders; locks = entries; stored = new }) (reply.Refused refusal.NoMemory)
 posts_wanting part s orders entries ledger new worker unit is e f g kept room found =
@@ -420,11 +425,22 @@ commits_unknown s sessions entries ledger name parts r e f g room none is =
     (at_state _ _ s _ _ (λ i. record s { sessions = e i; locks = f i; stored = g i })
     (refuses s (command.Commit name parts) refusal.UnknownSession room (ap (called (found_in s) s (Commits parts)) (found_at s sessions name None e none))))
 
-abbrev committing : State → Session → Parts → Bool → Bool → Verdict
-committing s x parts large none = if large then Refuses refusal.UnitTooLarge else (if none then Leaves s reply.Done else with_room s (Leaves (committed s x parts) (reply.Unit (unit_key s.stored.start x))))
+-- the same with the tests decided
+abbrev decided : State → Session → Parts → Bool → Bool → Bool → Verdict
+decided s x parts large none alone =
+    if large then Refuses refusal.UnitTooLarge
+    else if none then Leaves s reply.Done
+    else with_room s (if alone then Leaves (numbered s x x.draws) reply.Done else Leaves (committed s x parts x.draws) (reply.Unit (unit_key s.stored.start x)))
 
-tested : (s : State) (x : Session) (parts : Parts) (large none : Bool) → nat_lt 200 (effects_in parts) ≡ large → nat_eq (effects_in parts) 0 ≡ none → commit s x parts ≡ committing s x parts large none
-tested s x parts large none a b = λ i. committing s x parts (a i) (b i)
+-- how much there is to record
+abbrev pub is_too_much : Session → Parts → Bool
+is_too_much x parts = nat_lt 64 (length x.draws) || nat_lt 200 (effects_in parts)
+
+abbrev pub is_nothing : Session → Parts → Bool
+is_nothing x parts = nat_eq (effects_in parts) 0 && nat_eq (length x.draws) 0
+
+tested : (s : State) (x : Session) (parts : Parts) (large none alone : Bool) → is_too_much x parts ≡ large → is_nothing x parts ≡ none → nat_eq (effects_in parts) 0 ≡ alone → commit s x parts ≡ decided s x parts large none alone
+tested s x parts large none alone a b c = λ i. decided s x parts (a i) (b i) (c i)
 
 over : (n : ℕ) → 200 < n → nat_lt 200 n ≡ true
 over n h = grind (arith, nat_tests)
@@ -438,63 +454,126 @@ is_some_effect n h = grind (arith, nat_tests)
 pub is_written : (n : ℕ) → 1 ≤ n → nat_lt 0 n ≡ true
 is_written n h = grind (arith, nat_tests)
 
-pub commits_too_much : (s : State) (sessions : List Session) (entries : List Entry) (ledger : Ledger) (name : List ℕ) (x : Session) (parts : Parts) → s.sessions ≡ sessions → s.locks ≡ entries → s.stored ≡ ledger → Admits s → session_at sessions name ≡ Some x → 200 < effects_in parts → IsAct s (command.Commit name parts) (record s { sessions = sessions; locks = entries; stored = ledger }) (reply.Refused refusal.UnitTooLarge)
-commits_too_much s sessions entries ledger name x parts e f g room found large =
-    at_state _ _ s _ _ (λ i. record s { sessions = e i; locks = f i; stored = g i })
-    (refuses s (command.Commit name parts) refusal.UnitTooLarge room (own_commit s sessions name x parts e found ∙ tested s x parts true _ (over _ large) refl))
+-- a session that commits: what the hall holds is the state's
+pub record IsCommitAt (s : State) (sessions : List Session) (ranges : List NumberRange) (entries : List Entry) (ledger : Ledger) (limit : ℕ) (name : List ℕ) (x : Session) : Type 0 where
+  pub own_sessions : s.sessions ≡ sessions
+  pub own_ranges : s.ranges ≡ ranges
+  pub own_locks : s.locks ≡ entries
+  pub own_ledger : s.stored ≡ ledger
+  pub own_limit : s.mark_limit ≡ limit
+  pub admits : Admits s
+  pub found : session_at sessions name ≡ Some x
 
-pub commits_nothing : (s : State) (sessions : List Session) (entries : List Entry) (ledger : Ledger) (name : List ℕ) (x : Session) (parts : Parts) → s.sessions ≡ sessions → s.locks ≡ entries → s.stored ≡ ledger → Admits s → session_at sessions name ≡ Some x → effects_in parts ≡ 0 → IsAct s (command.Commit name parts) (record s { sessions = sessions; locks = entries; stored = ledger }) reply.Done
-commits_nothing s sessions entries ledger name x parts e f g room found none =
-    at_state _ _ s _ _ (λ i. record s { sessions = e i; locks = f i; stored = g i })
-    (is_done s (command.Commit name parts) s room
-    (own_commit s sessions name x parts e found ∙ tested s x parts false true (ap (nat_lt 200) none) (ap (λ n. nat_eq n 0) none)))
+module _ (s : State) (sessions : List Session) (ranges : List NumberRange) (entries : List Entry) (ledger : Ledger) (limit : ℕ) (name : List ℕ) (x : Session) (parts : Parts) (at : IsCommitAt s sessions ranges entries ledger limit name x) where
+  abbrev same_state : State
+  same_state = record s { sessions = sessions; locks = entries; stored = ledger }
 
-pub commits_wanting : (s : State) (sessions : List Session) (entries : List Entry) (ledger new : Ledger) (name : List ℕ) (x : Session) (parts : Parts) → s.sessions ≡ sessions → s.locks ≡ entries → s.stored ≡ ledger → Admits s → session_at sessions name ≡ Some x → new ≡ ledger → IsAct s (command.Commit name parts) (record s { sessions = sessions; locks = entries; stored = new }) (reply.Refused refusal.NoMemory)
-commits_wanting s sessions entries ledger new name x parts e f g room found kept =
-    let g' : s.stored ≡ new = g ∙ sym kept in
-    at_state _ _ s _ _ (λ i. record s { sessions = e i; locks = f i; stored = g' i })
-    (is_wanting s (command.Commit name parts) (free_session s name (Commits parts) x room (found_at s sessions name (Some x) e found)) refl)
+  own : own_verdict (found_in s) s (OfSession name (Commits parts)) ≡ commit s x parts
+  own = own_commit s sessions name x parts at.own_sessions at.found
 
-pub commits_full : (s : State) (sessions : List Session) (entries : List Entry) (ledger : Ledger) (limit : ℕ) (name : List ℕ) (x : Session) (parts : Parts) → s.sessions ≡ sessions → s.locks ≡ entries → s.stored ≡ ledger → s.mark_limit ≡ limit → Admits s → session_at sessions name ≡ Some x → 1 ≤ effects_in parts → effects_in parts ≤ 200 → nat_le limit (length ledger.marks) ≡ true → IsAct s (command.Commit name parts) (record s { sessions = sessions; locks = entries; stored = ledger }) (reply.Refused (refusal.StoreFull limit))
-commits_full s sessions entries ledger limit name x parts e f g m room found some few full =
-    subst (λ n. IsAct s (command.Commit name parts) (record s { sessions = sessions; locks = entries; stored = ledger }) (reply.Refused (refusal.StoreFull n))) m
-    (at_state _ _ s _ _ (λ i. record s { sessions = e i; locks = f i; stored = g i })
-    (refuses s (command.Commit name parts) (refusal.StoreFull s.mark_limit) room
-    (own_commit s sessions name x parts e found ∙ tested s x parts false false (not_over _ few) (is_some_effect _ some) ∙ overflows s _ (full_as s limit ledger true m g full))))
+  here : (r : Reply) → IsAct s (command.Commit name parts) s r → IsAct s (command.Commit name parts) same_state r
+  here r = at_state _ _ s _ _ (λ i. record s { sessions = at.own_sessions i; locks = at.own_locks i; stored = at.own_ledger i })
 
-leaves_unit : (s : State) (sessions : List Session) (name : List ℕ) (x : Session) (parts : Parts) → s.sessions ≡ sessions → session_at sessions name ≡ Some x → 1 ≤ effects_in parts → effects_in parts ≤ 200 → is_store_full s ≡ false → own_verdict (found_in s) s (OfSession name (Commits parts)) ≡ Leaves (committed s x parts) (reply.Unit (unit_key s.stored.start x))
-leaves_unit s sessions name x parts e found some few space =
-    own_commit s sessions name x parts e found ∙ tested s x parts false false (not_over _ few) (is_some_effect _ some) ∙ fits s _ space
+  pub commits_too_much : is_too_much x parts ≡ true → IsAct s (command.Commit name parts) same_state (reply.Refused refusal.UnitTooLarge)
+  commits_too_much large = here _ (refuses s (command.Commit name parts) refusal.UnitTooLarge at.admits (own ∙ tested s x parts true _ _ large refl refl))
 
-pub commits : (s : State) (sessions after : List Session) (entries left : List Entry) (ledger new : Ledger) (limit : ℕ) (name : List ℕ) (x : Session) (parts : Parts) (key : UnitKey) → s.sessions ≡ sessions → s.locks ≡ entries → s.stored ≡ ledger → s.mark_limit ≡ limit → Admits s → session_at sessions name ≡ Some x → 1 ≤ effects_in parts → effects_in parts ≤ 200 → nat_le limit (length ledger.marks) ≡ false → key ≡ unit_key ledger.start x → after ≡ with_session x.name with_next_unit sessions → left ≡ handed_over entries key → new ≡ with_unit ledger (unit_of ledger.start entries x parts) → IsAct s (command.Commit name parts) (record s { sessions = after; locks = left; stored = new }) (reply.Unit key)
-commits s sessions after entries left ledger new limit name x parts key e f g m room found some few space k a b c =
-    let k' : unit_key s.stored.start x ≡ key = ap (λ (l : Ledger). unit_key l.start x) g ∙ sym k in
-    let e' : with_session x.name with_next_unit s.sessions ≡ after = ap (with_session x.name with_next_unit) e ∙ sym a in
-    let f' : handed_over s.locks (unit_key s.stored.start x) ≡ left = (λ i. handed_over (f i) (k' i)) ∙ sym b in
-    let g' : with_unit s.stored (unit_of s.stored.start s.locks x parts) ≡ new = (λ i. with_unit (g i) (unit_of (g i).start (f i) x parts)) ∙ sym c in
-    subst (λ u. IsAct s (command.Commit name parts) (record s { sessions = after; locks = left; stored = new }) (reply.Unit u)) k'
-    (at_state _ _ (committed s x parts) _ _ (λ i. record s { sessions = e' i; locks = f' i; stored = g' i })
-    (leaves_as s (command.Commit name parts) (committed s x parts) _ room (leaves_unit s sessions name x parts e found some few (full_as s limit ledger false m g space))))
+  pub commits_nothing : is_too_much x parts ≡ false → is_nothing x parts ≡ true → IsAct s (command.Commit name parts) same_state reply.Done
+  commits_nothing few none = here _ (is_done s (command.Commit name parts) s at.admits (own ∙ tested s x parts false true _ few none refl))
 
-pub commits_in_doubt : (s : State) (sessions : List Session) (entries : List Entry) (ledger : Ledger) (limit : ℕ) (name : List ℕ) (x : Session) (parts : Parts) (unit : UnitOfWork) → s.sessions ≡ sessions → s.locks ≡ entries → s.stored ≡ ledger → s.mark_limit ≡ limit → Admits s → session_at sessions name ≡ Some x → 1 ≤ effects_in parts → effects_in parts ≤ 200 → nat_le limit (length ledger.marks) ≡ false → unit ≡ unit_of ledger.start entries x parts → IsAct s (command.Commit name parts) (doubted s (Some (with_unit s.stored unit))) (reply.Refused refusal.StoreFault)
-commits_in_doubt s sessions entries ledger limit name x parts unit e f g m room found some few space is =
-    let same : unit_of s.stored.start s.locks x parts ≡ unit = (λ i. unit_of (g i).start (f i) x parts) ∙ sym is in
-    subst (λ u. IsAct s (command.Commit name parts) (doubted s (Some (with_unit s.stored u))) (reply.Refused refusal.StoreFault)) same
-    (fails s (command.Commit name parts) (committed s x parts) _ room (leaves_unit s sessions name x parts e found some few (full_as s limit ledger false m g space)) (is_written _ some) refl)
+  pub commits_wanting : (new : Ledger) → new ≡ ledger → IsAct s (command.Commit name parts) (record s { sessions = sessions; locks = entries; stored = new }) (reply.Refused refusal.NoMemory)
+  commits_wanting new kept =
+      subst (λ l. IsAct s (command.Commit name parts) (record s { sessions = sessions; locks = entries; stored = l }) (reply.Refused refusal.NoMemory)) (sym kept)
+      (here _ (is_wanting s (command.Commit name parts) (free_session s name (Commits parts) x at.admits (found_at s sessions name (Some x) at.own_sessions at.found)) refl))
+
+  pub commits_full : is_too_much x parts ≡ false → is_nothing x parts ≡ false → nat_le limit (length ledger.marks) ≡ true → IsAct s (command.Commit name parts) same_state (reply.Refused (refusal.StoreFull limit))
+  commits_full few some full =
+      subst (λ n. IsAct s (command.Commit name parts) same_state (reply.Refused (refusal.StoreFull n))) at.own_limit
+      (here _ (refuses s (command.Commit name parts) (refusal.StoreFull s.mark_limit) at.admits
+      (own ∙ tested s x parts false false _ few some refl ∙ overflows s _ (full_as s limit ledger true at.own_limit at.own_ledger full))))
+
+  -- ---- a unit
+
+  leaves_unit : is_too_much x parts ≡ false → nat_eq (effects_in parts) 0 ≡ false → is_nothing x parts ≡ false → nat_le limit (length ledger.marks) ≡ false
+      → own_verdict (found_in s) s (OfSession name (Commits parts)) ≡ Leaves (committed s x parts x.draws) (reply.Unit (unit_key s.stored.start x))
+  leaves_unit few effects some space = own ∙ tested s x parts false false false few some effects ∙ fits s _ (full_as s limit ledger false at.own_limit at.own_ledger space)
+
+  -- what is written of it
+  abbrev the_unit : UnitOfWork
+  the_unit = unit_of ledger.start entries x parts x.draws
+
+  abbrev the_levels : List StoredInterval
+  the_levels = settled_rows ledger.levels ranges x.draws
+
+  pub commits : is_too_much x parts ≡ false → nat_eq (effects_in parts) 0 ≡ false → is_nothing x parts ≡ false → nat_le limit (length ledger.marks) ≡ false
+      → (after : List Session) (left : List Entry) (new : Ledger) (key : UnitKey) → key ≡ unit_key ledger.start x → after ≡ with_session x.name with_next_unit sessions → left ≡ handed_over entries key
+      → new ≡ with_intervals the_levels (with_unit ledger the_unit) → IsAct s (command.Commit name parts) (record s { sessions = after; locks = left; stored = new }) (reply.Unit key)
+  commits few effects some space after left new key k a b c =
+      let k' : unit_key s.stored.start x ≡ key = ap (λ (l : Ledger). unit_key l.start x) at.own_ledger ∙ sym k in
+      let e' : with_session x.name with_next_unit s.sessions ≡ after = ap (with_session x.name with_next_unit) at.own_sessions ∙ sym a in
+      let f' : handed_over s.locks (unit_key s.stored.start x) ≡ left = (λ i. handed_over (at.own_locks i) (k' i)) ∙ sym b in
+      let g' : with_numbers s x.draws (with_unit s.stored (unit_of s.stored.start s.locks x parts x.draws)) ≡ new =
+      (λ i. let l : Ledger = at.own_ledger i in with_intervals (settled_rows l.levels (at.own_ranges i) x.draws) (with_unit l (unit_of l.start (at.own_locks i) x parts x.draws))) ∙ sym c in
+      subst (λ u. IsAct s (command.Commit name parts) (record s { sessions = after; locks = left; stored = new }) (reply.Unit u)) k'
+      (at_state _ _ (committed s x parts x.draws) _ _ (λ i. record s { sessions = e' i; locks = f' i; stored = g' i })
+      (leaves_as s (command.Commit name parts) (committed s x parts x.draws) _ at.admits (leaves_unit few effects some space)))
+
+  -- the call uses the store
+  pub uses_to_commit : is_nothing x parts ≡ false → IsTrue (uses_store s (OfSession name (Commits parts)))
+  uses_to_commit some =
+      subst (λ o. IsTrue (nat_lt 0 (effects_in parts) || option_map_or (λ (y : Session). nat_lt 0 (length y.draws)) o false)) (sym (ap (λ ss. session_at ss name) at.own_sessions ∙ at.found))
+      (some_of (effects_in parts) (length x.draws) some)
+    where
+      some_of : (m n : ℕ) → (nat_eq m 0 && nat_eq n 0) ≡ false → IsTrue (nat_lt 0 m || nat_lt 0 n)
+      some_of (suc m) n h = ap (λ b. b || nat_lt 0 n) (is_written (suc m) (omega arith))
+      some_of zero (suc n) h = is_written (suc n) (omega arith)
+      some_of zero zero h = cc
+
+  pub commits_in_doubt : is_too_much x parts ≡ false → nat_eq (effects_in parts) 0 ≡ false → is_nothing x parts ≡ false → nat_le limit (length ledger.marks) ≡ false
+      → (unit : UnitOfWork) (levels : List StoredInterval) → unit ≡ the_unit → levels ≡ the_levels
+      → IsAct s (command.Commit name parts) (doubted s (Some (with_intervals levels (with_unit s.stored unit)))) (reply.Refused refusal.StoreFault)
+  commits_in_doubt few effects some space unit levels is rows =
+      let same : unit_of s.stored.start s.locks x parts x.draws ≡ unit = (λ i. let l : Ledger = at.own_ledger i in unit_of l.start (at.own_locks i) x parts x.draws) ∙ sym is in
+      let same_rows : settled_rows s.stored.levels s.ranges x.draws ≡ levels = (λ i. let l : Ledger = at.own_ledger i in settled_rows l.levels (at.own_ranges i) x.draws) ∙ sym rows in
+      subst (λ (w : Ledger). IsAct s (command.Commit name parts) (doubted s (Some w)) (reply.Refused refusal.StoreFault)) (λ i. with_intervals (same_rows i) (with_unit s.stored (same i)))
+      (fails s (command.Commit name parts) (committed s x parts x.draws) _ at.admits (leaves_unit few effects some space) (uses_to_commit some) refl)
+
+  -- ---- numbers alone
+
+  leaves_numbers : is_too_much x parts ≡ false → nat_eq (effects_in parts) 0 ≡ true → is_nothing x parts ≡ false → nat_le limit (length ledger.marks) ≡ false
+      → own_verdict (found_in s) s (OfSession name (Commits parts)) ≡ Leaves (numbered s x x.draws) reply.Done
+  leaves_numbers few alone some space = own ∙ tested s x parts false false true few some alone ∙ fits s _ (full_as s limit ledger false at.own_limit at.own_ledger space)
+
+  pub commits_numbers : is_too_much x parts ≡ false → nat_eq (effects_in parts) 0 ≡ true → is_nothing x parts ≡ false → nat_le limit (length ledger.marks) ≡ false
+      → (after : List Session) (new : Ledger) → after ≡ with_session x.name without_draws sessions → new ≡ with_intervals the_levels (with_mark ledger (unit_key ledger.start x) (Num x.draws))
+      → IsAct s (command.Commit name parts) (record s { sessions = after; locks = entries; stored = new }) reply.Done
+  commits_numbers few alone some space after new a c =
+      let e' : with_session x.name without_draws s.sessions ≡ after = ap (with_session x.name without_draws) at.own_sessions ∙ sym a in
+      let g' : with_numbers s x.draws (with_mark s.stored (unit_key s.stored.start x) (Num x.draws)) ≡ new =
+      (λ i. let l : Ledger = at.own_ledger i in with_intervals (settled_rows l.levels (at.own_ranges i) x.draws) (with_mark l (unit_key l.start x) (Num x.draws))) ∙ sym c in
+      at_state _ _ (numbered s x x.draws) _ _ (λ i. record s { sessions = e' i; locks = at.own_locks i; stored = g' i })
+      (leaves_as s (command.Commit name parts) (numbered s x x.draws) _ at.admits (leaves_numbers few alone some space))
+
+  pub numbers_in_doubt : is_too_much x parts ≡ false → nat_eq (effects_in parts) 0 ≡ true → is_nothing x parts ≡ false → nat_le limit (length ledger.marks) ≡ false
+      → (levels : List StoredInterval) → levels ≡ the_levels
+      → IsAct s (command.Commit name parts) (doubted s (Some (with_intervals levels (with_mark s.stored (unit_key s.stored.start x) (Num x.draws))))) (reply.Refused refusal.StoreFault)
+  numbers_in_doubt few alone some space levels rows =
+      let same_rows : settled_rows s.stored.levels s.ranges x.draws ≡ levels = (λ i. let l : Ledger = at.own_ledger i in settled_rows l.levels (at.own_ranges i) x.draws) ∙ sym rows in
+      subst (λ (ls : List StoredInterval). IsAct s (command.Commit name parts) (doubted s (Some (with_intervals ls (with_mark s.stored (unit_key s.stored.start x) (Num x.draws))))) (reply.Refused refusal.StoreFault)) same_rows
+      (fails s (command.Commit name parts) (numbered s x x.draws) _ at.admits (leaves_numbers few alone some space) (uses_to_commit some) refl)
 
 -- the unit of a session that is logged on may be recorded
-pub may_record : (ledger : Ledger) (sessions : List Session) (name : List ℕ) (x : Session) (parts : Parts) (start : ℕ) (t : Table) (unit : UnitOfWork) → start ≡ ledger.start → unit ≡ unit_of start t.entries x parts → session_at sessions name ≡ Some x → AllByRecursion (IsAhead ledger) sessions → AllByRecursion (OfLock (HasItsUser ledger.start sessions)) t.entries → IsTable t → 1 ≤ ledger.start → 1 ≤ effects_in parts → effects_in parts ≤ 200 → IsNewUnit ledger unit
-may_record ledger sessions name x parts start t unit same is found ahead users good started some few =
+pub may_record : (ledger : Ledger) (sessions : List Session) (name : List ℕ) (x : Session) (parts : Parts) (start : ℕ) (t : Table) (unit : UnitOfWork) → start ≡ ledger.start → unit ≡ unit_of start t.entries x parts x.draws → All HasDigits x.draws → length x.draws ≤ 64 → session_at sessions name ≡ Some x → AllByRecursion (IsAhead ledger) sessions → AllByRecursion (OfLock (HasItsUser ledger.start sessions)) t.entries → IsTable t → 1 ≤ ledger.start → 1 ≤ effects_in parts → effects_in parts ≤ 200 → IsNewUnit ledger unit
+may_record ledger sessions name x parts start t unit same is digits few_draws found ahead users good started some few =
     let held = handed_table t ledger.start x good in
-    subst (IsNewUnit ledger) (sym (is ∙ ap (λ n. unit_of n t.entries x parts) same)) (record {
+    subst (IsNewUnit ledger) (sym (is ∙ ap (λ n. unit_of n t.entries x parts x.draws) same)) (record {
       fresh = found_all_in (IsAhead ledger) (is_called name) sessions x found ahead x.luw (omega arith);
       first = started;
       last = omega arith;
       some = some;
       few = few;
-      few_numbers = omega arith;
-      digits = All-nil HasDigits;
+      few_numbers = few_draws;
+      digits = digits;
       few_entries = omega (arith, held.within, held.limit_fits);
-      held = all_held t sessions name ledger.start x parts found users good;
+      held = all_held t sessions name ledger.start x parts x.draws found users good;
       distinct = held.sound.names;
     })

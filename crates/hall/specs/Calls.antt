@@ -16,9 +16,13 @@ pub data SessionCall : Type 0 where
   Frees : List Request → SessionCall
   FreesAll : SessionCall
   Converts : List Asked → SessionCall
+  -- a number of this object and these two digits
+  Draws : List ℕ → List ℕ → SessionCall
+  -- and whole blocks of them, up to this number
+  Reserves : List ℕ → List ℕ → ℕ → SessionCall
   -- the row of this table and this key
   Reads : List ℕ → List ℕ → SessionCall
-  -- a unit with these effects
+  -- a unit with these effects, and what the session has drawn
   Commits : Parts → SessionCall
   RollsBack : SessionCall
 
@@ -47,6 +51,8 @@ call_of (command.Ask session requests) = OfSession session (Asks requests)
 call_of (command.Free session requests) = OfSession session (Frees requests)
 call_of (command.FreeAll session) = OfSession session FreesAll
 call_of (command.Convert session asked) = OfSession session (Converts asked)
+call_of (command.Number session object nr) = OfSession session (Draws object nr)
+call_of (command.Reserve session object nr upto) = OfSession session (Reserves object nr upto)
 call_of (command.Read session table key) = OfSession session (Reads table key)
 call_of (command.Commit session parts) = OfSession session (Commits parts)
 call_of (command.Rollback session) = OfSession session RollsBack
@@ -69,8 +75,10 @@ who_of c = who_calls (call_of c)
 
 -- ---- what calls want
 
--- the calls of a session that want a lock server: all but the reading of a row
+-- the calls of a session that want a lock server: all but those for numbers and rows
 abbrev pub session_wants_server : SessionCall → Bool
+session_wants_server (Draws object nr) = false
+session_wants_server (Reserves object nr upto) = false
 session_wants_server (Reads table key) = false
 session_wants_server call = true
 
@@ -99,6 +107,8 @@ only_reads call = false
 -- ---- what calls do to the store
 
 abbrev pub session_touches_store : SessionCall → Bool
+session_touches_store (Draws object nr) = true
+session_touches_store (Reserves object nr upto) = true
 session_touches_store (Reads table key) = true
 session_touches_store (Commits parts) = true
 session_touches_store call = false

@@ -1,9 +1,15 @@
 -- What the devices do in a call, and which of it may be.
-use Rattle.std.specs.Prelude.{◌≡◌, ℕ, Bool, true, false, nat_lt, List, Option, None, IfSome, IsTrue, is_ok, is_some}
+use Rattle.std.specs.Prelude.{◌≡◌, ℕ, Bool, true, false, ◌&&◌, ◌||◌, nat_lt, length, List, Option, None, IfSome, IsTrue, is_ok, is_some}
 use Rattle.posting.specs.declared.prepared.Outcome.{Outcome}
 use Rattle.hall.specs.declared.command.Command.{Command}
 use Rattle.hall.specs.Calls.{AdminCall, Cancels, Resubmits, Call, LogsOn, OfSession, OfWorker, OfAdmin, WorkerCall, Posts}
-use Rattle.hall.specs.Calls.{SessionCall, LogsOff, Frees, FreesAll, Reads, Commits, RollsBack, call_of}
+use Rattle.hall.specs.Calls.{SessionCall, LogsOff, Frees, FreesAll, Draws, Reserves, Reads, Commits, RollsBack, call_of}
+use Rattle.hall.specs.declared.command.Session.{Session}
+use Rattle.hall.specs.Sessions.{session_at}
+use Rattle.number_ranges.specs.Intervals.{is_buffered}
+use Rattle.range_list.specs.Levels.{present, range_at}
+use Rattle.range_list.specs.declared.range.NumberRange.{NumberRange}
+use Rattle.std.specs.Option.{option_map_or}
 use Rattle.hall.specs.Coming.{MayComeTo}
 use Rattle.hall.specs.Orders.{order_for}
 use Rattle.hall.specs.State.{State}
@@ -67,21 +73,38 @@ MayRead reading s call = ⊥
 
 -- ---- what may have gone wrong
 
-abbrev pub session_uses_store : SessionCall → Bool
-session_uses_store (Reads table key) = true
-session_uses_store (Commits parts) = nat_lt 0 (effects_in parts)
-session_uses_store call = false
+-- a number or a reservation that the level doesn't reach
+abbrev pub is_past_level : State → NumberRange → ℕ → Bool
+is_past_level s r number = nat_lt (present s.stored.levels r.interval).level number
+
+abbrev pub raises_level : State → SessionCall → Bool
+raises_level s (Draws object nr) =
+    option_map_or (λ (r : NumberRange). is_buffered r.interval && is_past_level s r r.next) (range_at s.ranges object nr) false
+raises_level s (Reserves object nr upto) =
+    option_map_or (λ r. is_past_level s r upto) (range_at s.ranges object nr) false
+raises_level s call = false
+
+-- there are numbers to record
+abbrev pub has_numbers : State → List ℕ → Bool
+has_numbers s session =
+    option_map_or (λ (x : Session). nat_lt 0 (length x.draws)) (session_at s.sessions session) false
+
+abbrev pub session_uses_store : State → List ℕ → SessionCall → Bool
+session_uses_store s session (Reads table key) = true
+session_uses_store s session (Commits parts) = nat_lt 0 (effects_in parts) || has_numbers s session
+session_uses_store s session call = raises_level s call
 
 abbrev pub worker_uses_store : WorkerCall → Bool
 worker_uses_store (Posts part) = true
 worker_uses_store call = false
 
--- the calls that write the store or read it: a row, a unit with effects, a part of one, and all that is done to one
-abbrev pub uses_store : Call → Bool
-uses_store (LogsOn session user) = false
-uses_store (OfSession session call) = session_uses_store call
-uses_store (OfWorker worker call) = worker_uses_store call
-uses_store (OfAdmin call) = true
+-- the calls that write the store or read it: a block of numbers, a row, a unit with effects, numbers that are recorded, a
+-- part of a unit, and all that is done to one
+abbrev pub uses_store : State → Call → Bool
+uses_store s (LogsOn session user) = false
+uses_store s (OfSession session call) = session_uses_store s session call
+uses_store s (OfWorker worker call) = worker_uses_store call
+uses_store s (OfAdmin call) = true
 
 abbrev pub session_may_want : SessionCall → Bool
 session_may_want LogsOff = false
@@ -109,7 +132,7 @@ may_want s v (OfAdmin call) = admin_may_want s v call
 abbrev pub MayHappen : Event → State → Call → Verdict → Type 0
 MayHappen AllWell s call v = Unit {0}
 MayHappen Wanting s call v = (unavailable s call ≡ None) × IsTrue (may_want s v call)
-MayHappen StoreFails s call v = IsTrue (leaves v) × IsTrue (uses_store call)
+MayHappen StoreFails s call v = IsTrue (leaves v) × IsTrue (uses_store s call)
 
 -- a call may have this outcome
 pub record IsAllowed (o : DeviceOutcome) (s : State) (c : Command) : Type 0 where

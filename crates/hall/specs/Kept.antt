@@ -1,6 +1,6 @@
 -- What a state that calls lead to keeps.
 use Rattle.std.specs.Prelude.{◌≡◌, ◌⊎◌, ℕ, ◌+◌, ◌≤◌, ◌<◌, Bool, true, false, not, ◌&&◌, nat_eq}
-use Rattle.std.specs.Prelude.{List, [], ◌∷◌, length, Option, Some, None}
+use Rattle.std.specs.Prelude.{List, [], ◌∷◌, length, map, count_by, Option, Some, None}
 use Rattle.std.specs.List.{AllByRecursion, list_all}
 use Rattle.enq_base.specs.declared.condition.Condition.{Condition}
 use Rattle.enq_base.specs.declared.condition.Condition.TheVariants as condition
@@ -15,15 +15,15 @@ use Rattle.lock_entry.specs.Table.{IsTable}
 use Rattle.mode_rules.specs.declared.Mode.TheVariants.{O}
 use Rattle.mode_rules.specs.Modes.{same_mode}
 use Rattle.posting.specs.Steps.{IsOpenUnit, IsPostedUnit}
-use Rattle.number_ranges.specs.Intervals.{IsInterval}
-use Rattle.range_list.specs.Levels.{level_in, present}
-use Rattle.range_list.specs.declared.range.NumberRange.{NumberRange}
-use Rattle.update_records.specs.Ledger.{Ledger, Levels}
-use Rattle.update_records.specs.Marks.{status_of}
+use Rattle.enq_base.specs.declared.unit.Num.{Num}
+use Rattle.range_list.specs.Drawn.{AreDrawnRight}
+use Rattle.update_records.specs.Business.{numbers_of}
+use Rattle.update_records.specs.Ledger.{Ledger}
+use Rattle.update_records.specs.Marks.{status_of, unit_at}
 use Rattle.update_records.specs.declared.records.Unit.{Unit as UnitOfWork}
 use Rattle.hall.specs.declared.command.Session.{Session}
 use Rattle.hall.specs.Orders.{is_claimed}
-use Rattle.hall.specs.Sessions.{owners_of}
+use Rattle.hall.specs.Sessions.{is_called, owners_of}
 use Rattle.hall.specs.State.{State}
 
 -- the session's open unit has at most this number
@@ -45,14 +45,21 @@ AreNumbered next (x ∷ xs) =
 abbrev pub NoneLost : List Session → Type 0
 NoneLost sessions = AllByRecursion (λ (x : Session). x.lost ≡ false) sessions
 
--- no session has drawn a number
-abbrev pub NoneDrawn : List Session → Type 0
-NoneDrawn sessions = AllByRecursion (λ (x : Session). x.draws ≡ []) sessions
+-- no two sessions have one name
+abbrev pub HaveOwnNames : List Session → Type 0
+HaveOwnNames sessions = (name : List ℕ) → count_by (is_called name) sessions ≤ 1
 
--- the level of the range is one that its interval may have, and memory hands out the number behind it
-pub record IsAtLevel (levels : Levels) (r : NumberRange) : Type 0 where
-  pub interval : IsInterval (present levels r.interval)
-  pub next : r.next ≡ level_in levels r.interval + 1
+-- what each session has drawn and not recorded
+abbrev pub draws_in : List Session → List (List Num)
+draws_in sessions = map (λ (x : Session). x.draws) sessions
+
+-- what the sessions have drawn goes with the intervals, their levels, and the numbers that are recorded
+abbrev pub IsDrawn : State → Type 0
+IsDrawn s = AreDrawnRight s.ranges s.stored.levels (draws_in s.sessions) (numbers_of s.stored.units s.stored.marks)
+
+-- a unit that is stored has a status
+abbrev pub HaveMarks : Ledger → Type 0
+HaveMarks ledger = (key : UnitKey) → status_of ledger.units ledger.marks key ≡ None → unit_at ledger.units key ≡ None
 
 -- nothing is recorded of a unit of this start
 abbrev pub IsUnheard : Ledger → ℕ → ℕ → Type 0
@@ -155,8 +162,9 @@ pub record IsSteady (s : State) : Type 0 where
   pub limited : s.mark_limit ≤ 1048576
   pub server : HasServer s.condition
   pub whole : NoneLost s.sessions
-  pub undrawn : NoneDrawn s.sessions
-  pub ranges : AllByRecursion (IsAtLevel s.stored.levels) s.ranges
+  pub named : HaveOwnNames s.sessions
+  pub drawn : IsDrawn s
+  pub marked : HaveMarks s.stored
   -- nothing is pending while the server is up
   pub settled : WhileUp s.condition (s.pending ≡ None)
   pub fresh : HasFreshKeys s

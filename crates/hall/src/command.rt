@@ -5,6 +5,7 @@ ghost use Rattle.hall.specs.Step.{answer_of};
 
 use enq_base::{Condition, Items, Key, Name, NoMemory, Num, Parts, Reason, Refusal, Text, UnitKey};
 use lock_entry::{Asked, Request};
+use number_ranges::Code;
 use std::alloc::Global;
 
 /// Who makes a call.
@@ -25,7 +26,7 @@ pub struct Session {
     pub number: u32,
     /// The number of the open unit of work, from 1.
     pub luw: u32,
-    /// The numbers that the open unit has drawn, in order. There are none yet.
+    /// The numbers that the open unit has drawn and not recorded, in order.
     pub draws: Items<Num>,
     /// Whether the session lost a lock with a lock server, and has to roll back first. None has yet.
     pub lost: bool,
@@ -58,6 +59,19 @@ pub enum Command {
     },
     Rollback {
         session: Name,
+    },
+    /// Draws a number of an interval.
+    Number {
+        session: Name,
+        object: Name,
+        nr: [u8; 2],
+    },
+    /// Reserves the numbers of a buffered interval up to this one, in whole blocks.
+    Reserve {
+        session: Name,
+        object: Name,
+        nr: [u8; 2],
+        upto: u64,
     },
     /// Asks for the text of a business row.
     Read {
@@ -105,6 +119,8 @@ impl Command {
             | Command::FreeAll { session }
             | Command::Convert { session, .. }
             | Command::Rollback { session }
+            | Command::Number { session, .. }
+            | Command::Reserve { session, .. }
             | Command::Read { session, .. }
             | Command::Commit { session, .. } => Who::Session(*session),
             Command::Take1 { worker }
@@ -139,6 +155,13 @@ pub enum Reply {
         index: u32,
         reason: Reason,
     },
+    /// A number was drawn, and how near it is to the end of its interval.
+    Number {
+        number: u64,
+        code: Code,
+    },
+    /// The level up to which numbers are reserved.
+    Level(u64),
     /// The text of a row, where it is there.
     Row(Option<Text>),
     Refused(Refusal),
@@ -203,6 +226,11 @@ impl Reply {
                 index: *index,
                 reason: *reason,
             },
+            Reply::Number { number, code } => Reply::Number {
+                number: *number,
+                code: *code,
+            },
+            Reply::Level(level) => Reply::Level(*level),
             Reply::Row(None) => Reply::Row(None),
             Reply::Row(Some(text)) => Reply::Row(Some(text.copy(alloc)?)),
             Reply::Refused(refusal) => Reply::Refused(*refusal),

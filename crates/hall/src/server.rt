@@ -1,7 +1,7 @@
 ghost use Rattle.std.specs.Prelude.{◌≡◌, ◌⊎◌, [], false, length, replicate, None, IfOk, is_some};
 ghost use Rattle.hall.specs.declared.command.Command.TheVariants as command;
 ghost use Rattle.hall.specs.Acts.{IsAct, post_of, take_of, written_condition, written_pending, written_reply};
-ghost use Rattle.hall.specs.Kept.{IsAtLevel, IsKept, NoneDrawn};
+ghost use Rattle.hall.specs.Kept.{IsDrawn, IsKept};
 ghost use Rattle.range_list.specs.Levels.{first_ranges, intervals_of};
 ghost use Rattle.std.specs.List.{AllByRecursion};
 ghost use Rattle.hall.specs.Leaving.{LeavesState};
@@ -15,10 +15,11 @@ ghost use Rattle.posting.specs.Shelf.{IsUsable};
 
 use crate::command::{After, Command, PastEntry, Reply};
 use crate::locks::{ask, convert, free, free_all, log_off, roll_back};
+use crate::numbers::{draw, reserve};
 use crate::opening::HISTORY_LIMIT;
 use crate::orders::{drop_order, take};
-use crate::ranges::undrawn_ranges;
 use crate::sessions::{Sessions, log_on};
+use crate::shown::shown_ranges;
 use crate::units::{InFlight, Written, cancel, commit, post, read, resubmit};
 use enq_base::{Condition, Key, Name, NoMemory, Parts, Refusal, UnitKey};
 use keeper_api::Keeper;
@@ -154,13 +155,12 @@ impl<T: LockStore, K: Keeper> Server<T, K> {
         }
     }
 
-    /// The number ranges, none of which has numbers drawn.
+    /// The number ranges in the order of the landscape, each as it stands.
     pub(crate) fn ranges(&self, alloc: Global) -> Result<Vec<Range>, NoMemory>
-        requires undrawn { NoneDrawn self.now.state.sessions }
-        requires levels { AllByRecursion (IsAtLevel self.now.state.stored.levels) self.now.state.ranges }
+        requires drawn { IsDrawn self.now.state }
         ensures { IfOk result (λ ranges. ranges.items ≡ ranges_shown self.now.state) }
     {
-        undrawn_ranges(alloc, self.ranges.as_slice(), &self.books)
+        shown_ranges(alloc, &self.sessions, self.ranges.as_slice(), &self.books)
     }
 
     /// How many marks there are: none where the server is in doubt.
@@ -247,6 +247,17 @@ impl<T: LockStore, K: Keeper> Server<T, K> {
                 table,
                 key,
             } => self.read(alloc, past, session, table, key),
+            Command::Number {
+                session,
+                object,
+                nr,
+            } => self.draw(alloc, past, session, object, *nr),
+            Command::Reserve {
+                session,
+                object,
+                nr,
+                upto,
+            } => self.reserve(alloc, past, session, object, *nr, *upto),
             Command::Commit { session, parts } => self.commit(alloc, past, session, parts),
             Command::Take1 { worker } => self.take(past, *worker, 1),
             Command::Do1 { worker } => self.post(alloc, past, *worker, 1),
@@ -361,6 +372,56 @@ impl<T: LockStore, K: Keeper> Server<T, K> {
         ended(&mut self.condition, &mut self.pending, past, written)
     }
 
+    /// Draws a number of an interval.
+    fn draw(
+        &mut self,
+        alloc: Global,
+        past: &Vec<PastEntry>,
+        session: &Name,
+        object: &Name,
+        nr: [u8; 2],
+    ) -> Reply
+        requires { IsDue self.old.state past.now.items }
+        ensures { Serves K.held K.may_leave K.faults self.old self.new past.now.items (command.Number session.now object.now nr) result }
+    {
+        let written = draw(
+            alloc,
+            &mut self.sessions,
+            &mut self.ranges,
+            &mut self.books,
+            session,
+            object,
+            nr,
+        );
+        ended(&mut self.condition, &mut self.pending, past, written)
+    }
+
+    /// Reserves numbers of a buffered interval.
+    fn reserve(
+        &mut self,
+        alloc: Global,
+        past: &Vec<PastEntry>,
+        session: &Name,
+        object: &Name,
+        nr: [u8; 2],
+        upto: u64,
+    ) -> Reply
+        requires { IsDue self.old.state past.now.items }
+        ensures { Serves K.held K.may_leave K.faults self.old self.new past.now.items (command.Reserve session.now object.now nr upto) result }
+    {
+        let written = reserve(
+            alloc,
+            &self.sessions,
+            &self.ranges,
+            &mut self.books,
+            session,
+            object,
+            nr,
+            upto,
+        );
+        ended(&mut self.condition, &mut self.pending, past, written)
+    }
+
     fn commit(
         &mut self,
         alloc: Global,
@@ -374,6 +435,7 @@ impl<T: LockStore, K: Keeper> Server<T, K> {
         let written = commit(
             alloc,
             &mut self.sessions,
+            &self.ranges,
             &mut self.locks,
             &mut self.books,
             session,

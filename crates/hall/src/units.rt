@@ -1,32 +1,39 @@
-ghost use Rattle.std.specs.Prelude.{◌≡◌, ◌⊎◌, ◌≤◌, ◌<◌, None, Ok, IfOk, IfSome, IsTrue, is_some, length, nat_le};
+ghost use Rattle.std.specs.Prelude.{◌≡◌, ◌⊎◌, ◌≤◌, ◌<◌, None, Ok, IfOk, IfSome, is_some, length, nat_le};
 ghost use Rattle.std.specs.List.{AllByRecursion};
 ghost use Rattle.hall.specs.declared.command.Command.TheVariants as command;
 ghost use Rattle.hall.specs.Acts.{Admits, IsWritten, OnAnswer, OnFailure, post_of, written_reply};
-ghost use Rattle.hall.specs.Kept.{HasGoodLocks, HasItsUser, IsAhead, IsYoung, OfLock};
+ghost use Rattle.hall.specs.Commits.{RecordsNumbers, RecordsUnit};
+ghost use Rattle.hall.specs.Kept.{HasGoodLocks, HasItsUser, IsAhead, IsYoung, OfLock, draws_in};
 ghost use Rattle.hall.specs.Leaving.{HasStoreCause, KeepsStore, LeavesWritten};
 ghost use Rattle.hall.specs.Sessions.{owners_of};
 ghost use Rattle.hall.specs.State.{State};
 ghost use Rattle.hall.specs.Step as step;
+ghost use Rattle.hall.specs.Storing.{EndsAs};
 ghost use Rattle.keeper_api.specs.Keeping.{HasFaultCause, IsWithin, UnlessFailed};
 ghost use Rattle.module_effects.specs.Effects.{applied};
 ghost use Rattle.lock_entry.specs.Table.{IsTable, with_entries};
 ghost use Rattle.posting.specs.Posts.{MayCome, WaitsFor, effects_of, kind_for};
 ghost use Rattle.posting.specs.Shelf.{IsReady, IsUnmoved, IsUsable};
-ghost use Rattle.posting.specs.Steps.{HasMarksLeft, IsOutcome, MayGet};
+ghost use Rattle.posting.specs.Intervals.{MayStore};
+ghost use Rattle.posting.specs.Steps.{HasMarksLeft, IsDrawing, IsNewUnit, IsOutcome, MayGet};
+ghost use Rattle.range_list.specs.Drawn.{AreDrawnRight};
 ghost use Rattle.posting.specs.declared.prepared.Step.TheVariants.{Note};
-ghost use Rattle.update_records.specs.Business.{tables_of};
+ghost use Rattle.update_records.specs.Business.{numbers_of, tables_of};
 ghost use Rattle.update_records.specs.declared.records.MarkKind.TheVariants.{Again1, Again2};
 
 use crate::command::{Reply, Session};
 use crate::locks::refusal_of;
+use crate::numbers::{DRAWS_LIMIT, settled_rows};
 use crate::orders::{order_for, worker_of};
 use crate::sessions::{Sessions, session_of, unit_key};
-use enq_base::{Items, Key, Name, NoMemory, Owner, Parts, Refusal, Status, UnitKey};
+use crate::writing::{write_numbers, write_unit};
+use enq_base::{Items, Key, Name, NoMemory, Num, Owner, Parts, Refusal, Status, UnitKey};
 use keeper_api::{KeepFault, Keeper};
 use lock_entry::{Asker, Entry, LockStore, hand_over};
 use posting::{Books, Outcome, Prepared};
+use range_list::Ranges;
 use std::alloc::Global;
-use update_records::{MarkKind, Unit};
+use update_records::{MarkKind, StoredInterval, Unit};
 
 const EFFECTS_LIMIT: usize = 200;
 
@@ -41,14 +48,31 @@ pub(crate) enum Written {
 /// A change of the store.
 #[derive(Drop)]
 pub(crate) enum InFlight {
-    /// One more unit.
-    Unit(Unit),
+    /// One more unit, with the levels of the intervals that its numbers are of.
+    Unit {
+        unit: Unit,
+        levels: Items<StoredInterval>,
+    },
+    /// Numbers of a unit alone, with the levels of their intervals.
+    Numbers {
+        unit: UnitKey,
+        numbers: Items<Num>,
+        levels: Items<StoredInterval>,
+    },
+    /// The level of an interval.
+    Level(StoredInterval),
     /// A part of a unit, 1 for V1 and 2 for V2, or the mark of its refusal.
-    Post { unit: UnitKey, part: u8 },
+    Post {
+        unit: UnitKey,
+        part: u8,
+    },
     /// The mark by which a unit is cancelled.
     Cancel(UnitKey),
     /// The mark by which a part of a unit is tried again, 1 for V1 and 2 for V2.
-    Again { unit: UnitKey, part: u8 },
+    Again {
+        unit: UnitKey,
+        part: u8,
+    },
 }
 
 /// Posts a part of the unit that a worker has an order for, or records where it is refused. The order goes, and then
@@ -157,11 +181,13 @@ fn posted(unit: UnitKey, part: u8, outcome: Outcome) -> Reply
     }
 }
 
-/// Records a unit of a session with the effects of its two parts. Its locks are handed over to
-/// the update, and the session's next unit is open. Without effects nothing changes.
+/// Records a unit of a session with the effects of its two parts and the numbers that the session has drawn, or such
+/// numbers alone. A unit's locks are handed over to the update, and the session's next unit is open. Without effects and
+/// numbers nothing changes.
 pub(crate) fn commit<T: LockStore, K: Keeper>(
     alloc: Global,
     sessions: &mut Sessions,
+    ranges: &Ranges,
     locks: &mut T,
     books: &mut Books<K>,
     name: &Name,
@@ -174,51 +200,111 @@ pub(crate) fn commit<T: LockStore, K: Keeper>(
     requires young { AllByRecursion (IsYoung 262145) sessions.old }
     requires fresh { AllByRecursion (IsAhead books.old.ledger) sessions.old }
     requires users { AllByRecursion (OfLock (HasItsUser books.old.ledger.start sessions.old)) (T.table locks.old).entries }
-    ensures act { (s : State) → s.sessions ≡ sessions.old → s.locks ≡ (T.table locks.old).entries
+    requires drawn { AreDrawnRight ranges.now books.old.ledger.levels (draws_in sessions.old) (numbers_of books.old.ledger.units books.old.ledger.marks) }
+    ensures act { (s : State) → s.sessions ≡ sessions.old → s.ranges ≡ ranges.now → s.locks ≡ (T.table locks.old).entries
         → s.stored ≡ books.old.ledger → s.mark_limit ≡ max_marks → Admits s
         → IsWritten s (command.Commit name.now parts.now)
         (record s { sessions = sessions.new; locks = (T.table locks.new).entries; stored = books.new.ledger })
         result }
     ensures limit { (T.table locks.new).limit ≡ (T.table locks.old).limit }
     ensures sessions { OnFailure result (sessions.new ≡ sessions.old) }
-    ensures ledger { OnFailure result (books.new.ledger ≡ books.old.ledger) }
-    ensures usable { OnAnswer result (IsUsable K.held K.is_open books.new) }
-    ensures told { is_some (K.held books.new.keeper) ≡ is_some (K.held books.old.keeper) }
-    ensures left { LeavesWritten K.held K.may_leave books.new result }
-    ensures cause { HasStoreCause (K.faults books.old.keeper) (K.faults books.new.keeper) (written_reply result) }
-    ensures kept { KeepsStore K.held K.may_leave books.old.keeper books.new.keeper (written_reply result) }
+    ensures store { EndsAs K.held K.is_open K.may_leave K.faults books.old books.new result }
 {
     let session = match session_of(sessions, name) {
         Ok(session) => session,
         Err(refusal) => return Written::Answered(Reply::Refused(refusal)),
     };
     let effects = effects_in(parts);
-    if effects > EFFECTS_LIMIT {
+    let numbers = session.draws.as_slice().len();
+    if numbers > DRAWS_LIMIT || effects > EFFECTS_LIMIT {
         return Written::Answered(Reply::Refused(Refusal::UnitTooLarge));
     }
-    if effects == 0 {
+    if effects == 0 && numbers == 0 {
         return Written::Answered(Reply::Done);
     }
     if is_full(books, max_marks) {
         return Written::Answered(Reply::Refused(Refusal::StoreFull(max_marks)));
     }
-    let own_name = session.name;
+    let Ok(levels) = settled_rows(alloc, ranges, books, session.draws.as_slice()) else {
+        return Written::Answered(Reply::Refused(Refusal::NoMemory));
+    };
+    if effects == 0 {
+        let key = unit_key(books.start(), session);
+        let Ok(numbers) = Vec::from_slice(alloc, session.draws.as_slice()) else {
+            return Written::Answered(Reply::Refused(Refusal::NoMemory));
+        };
+        return record_numbers(alloc, sessions, books, name, key, numbers, levels);
+    }
     let Ok(unit) = unit_of(alloc, books.start(), locks, session, parts) else {
         return Written::Answered(Reply::Refused(Refusal::NoMemory));
     };
-    let Ok(recorded) = unit.copy(alloc) else {
-        return Written::Answered(Reply::Refused(Refusal::NoMemory));
-    };
-    let Ok(prepared) = books.prepare_unit(alloc, recorded, &[]) else {
-        return Written::Answered(Reply::Refused(Refusal::NoMemory));
-    };
-    match books.write(prepared) {
+    record_unit(alloc, sessions, locks, books, name, unit, levels)
+}
+
+/// Records a unit, and hands its locks over.
+fn record_unit<T: LockStore, K: Keeper>(
+    alloc: Global,
+    sessions: &mut Sessions,
+    locks: &mut T,
+    books: &mut Books<K>,
+    name: &Name,
+    unit: Unit,
+    levels: Vec<StoredInterval>,
+) -> Written
+    requires usable { IsUsable K.held K.is_open books.old }
+    requires marks { HasMarksLeft books.old.ledger }
+    requires new { IsNewUnit books.old.ledger unit }
+    requires store { MayStore books.old.ledger levels.items unit.numbers }
+    requires young { AllByRecursion (IsYoung 262145) sessions.old }
+    ensures outcome { RecordsUnit sessions.old sessions.new (T.table locks.old).entries (T.table locks.new).entries books.old.ledger books.new.ledger
+        name.now unit levels.items result }
+    ensures limit { (T.table locks.new).limit ≡ (T.table locks.old).limit }
+    ensures sessions { OnFailure result (sessions.new ≡ sessions.old) }
+    ensures store { EndsAs K.held K.is_open K.may_leave K.faults books.old books.new result }
+{
+    match write_unit(alloc, books, &unit, levels.as_slice()) {
         Ok(()) => {
             locks.hand(&unit.key);
-            sessions.begin_unit(alloc, &own_name);
+            sessions.begin_unit(alloc, name);
             Written::Answered(Reply::Unit(unit.key))
         }
-        Err(_) => Written::Failed(Some(InFlight::Unit(unit))),
+        Err(KeepFault::NoMemory) => Written::Answered(Reply::Refused(Refusal::NoMemory)),
+        Err(KeepFault::Failed) => {
+            let levels = Items::from_vec(levels);
+            Written::Failed(Some(InFlight::Unit { unit, levels }))
+        }
+    }
+}
+
+/// Records numbers alone, and the session has none drawn.
+fn record_numbers<K: Keeper>(
+    alloc: Global,
+    sessions: &mut Sessions,
+    books: &mut Books<K>,
+    name: &Name,
+    unit: UnitKey,
+    numbers: Vec<Num>,
+    levels: Vec<StoredInterval>,
+) -> Written
+    requires usable { IsUsable K.held K.is_open books.old }
+    requires marks { HasMarksLeft books.old.ledger }
+    requires drawing { IsDrawing books.old.ledger unit numbers.items }
+    requires store { MayStore books.old.ledger levels.items numbers.items }
+    ensures outcome { RecordsNumbers sessions.old sessions.new books.old.ledger books.new.ledger name.now unit numbers.items levels.items result }
+    ensures sessions { OnFailure result (sessions.new ≡ sessions.old) }
+    ensures store { EndsAs K.held K.is_open K.may_leave K.faults books.old books.new result }
+{
+    match write_numbers(alloc, books, &unit, numbers.as_slice(), levels.as_slice()) {
+        Ok(()) => {
+            sessions.settle_draws(alloc, name);
+            Written::Answered(Reply::Done)
+        }
+        Err(KeepFault::NoMemory) => Written::Answered(Reply::Refused(Refusal::NoMemory)),
+        Err(KeepFault::Failed) => Written::Failed(Some(InFlight::Numbers {
+            unit,
+            numbers: Items::from_vec(numbers),
+            levels: Items::from_vec(levels),
+        })),
     }
 }
 
@@ -497,14 +583,14 @@ fn unit_of<T: LockStore>(
     session: &Session,
     parts: &Parts,
 ) -> Result<Unit, NoMemory>
-    ensures unit { IfOk result (λ unit. unit ≡ step.unit_of start (T.table locks.now).entries session.now parts.now) }
+    ensures unit { IfOk result (λ unit. unit ≡ step.unit_of start (T.table locks.now).entries session.now parts.now session.now.draws) }
     ensures good { IfOk result (λ _. IsTable (T.table locks.now)) }
 {
     let key = unit_key(start, session);
     Ok(Unit {
         key,
         user: session.user,
-        numbers: Items::from_vec(Vec::new(alloc)),
+        numbers: Items::from_vec(Vec::from_slice(alloc, session.draws.as_slice())?),
         parts: parts.copy(alloc)?,
         entries: Items::from_vec(handed_locks(alloc, locks, &key)?),
     })

@@ -1,14 +1,14 @@
-ghost use Rattle.range_list.specs.Levels.{AreIntervals};
-ghost use Rattle.std.specs.Prelude.{◌≤◌};
+ghost use Rattle.range_list.specs.Levels.{AreIntervals, IsUnused};
+ghost use Rattle.std.specs.Prelude.{◌≤◌, IfOk};
 
 use enq_base::{
-    Deed, Effect, Items, Key, Owner, Parts, Pattern, Refusal, Text, UnitKey, read_name,
+    Deed, Effect, Items, Key, Name, Owner, Parts, Pattern, Refusal, Text, UnitKey, read_name,
 };
 use hall::{Hall, Reply};
 use keeper_mem::MemKeeper;
 use lock_entry::{Asked, Entry, Mode, Request};
 use lock_table::ListTable;
-use number_ranges::Interval;
+use number_ranges::{Code, Interval};
 use std::alloc::Global;
 use std::test::*;
 
@@ -34,6 +34,9 @@ enum Call {
     Cancel,
     // Of the row that commits are to put.
     Read,
+    // Of the buffered interval.
+    Number,
+    Reserve { upto: u64 },
 }
 
 // What a call is to be answered, where a unit is the first one.
@@ -44,6 +47,8 @@ enum Answer {
     Posted,
     Row(&'static [u8]),
     NoRow,
+    Number(u64, Code),
+    Level(u64),
     Refused(Refusal),
 }
 
@@ -54,6 +59,10 @@ fn is_answer(reply: &Reply, answer: &Answer) -> bool {
             *unit == FIRST_UNIT
         }
         (Reply::Row(Some(text)), Answer::Row(row)) => text.bytes() == *row,
+        (Reply::Number { number, code }, Answer::Number(next, expected)) => {
+            number == next && code == expected
+        }
+        (Reply::Level(level), Answer::Level(reached)) => level == reached,
         (Reply::Refused(refusal), Answer::Refused(expected)) => refusal == expected,
         _ => false,
     }
@@ -75,6 +84,10 @@ fn parts_of(alloc: Global, effects: usize) -> Result<Parts, Fail> {
         v1: Items::from_vec(v1),
         v2: Items::from_vec(Vec::new(alloc)),
     })
+}
+
+fn buffered_object() -> Result<Name, Fail> {
+    Ok(read_name(b"ZBUF").ok_or("a name")?)
 }
 
 fn make(alloc: Global, hall: &mut MemHall, call: Call) -> Result<Reply, Fail> {
@@ -112,6 +125,10 @@ fn make(alloc: Global, hall: &mut MemHall, call: Call) -> Result<Reply, Fail> {
             let key = Key::new(b"1").ok_or("a key")?;
             Ok(hall.read(alloc, 1, session, table, key))
         }
+        Call::Number => Ok(hall.number(alloc, 1, session, buffered_object()?, *b"01")),
+        Call::Reserve { upto } => {
+            Ok(hall.reserve(alloc, 1, session, buffered_object()?, *b"01", upto))
+        }
     }
 }
 
@@ -132,6 +149,30 @@ fn make_all(
     Ok(())
 }
 
+// The numbers 1 to 1,000, in blocks of 10.
+fn buffered_interval(object: Name) -> Interval
+    ensures { IsUnused result }
+{
+    Interval {
+        object,
+        nr: *b"01",
+        from: 1,
+        to: 1_000,
+        level: 0,
+        buffer: 10,
+        percent: 0,
+    }
+}
+
+fn one_interval(alloc: Global) -> Result<Vec<Interval>, Fail>
+    ensures { IfOk result (λ intervals. AreIntervals intervals.items) }
+{
+    let interval = buffered_interval(buffered_object()?);
+    let mut intervals = Vec::new(alloc);
+    intervals.push(interval)?;
+    Ok(intervals)
+}
+
 // A landscape without number ranges.
 fn no_intervals(alloc: Global) -> Vec<Interval>
     ensures { AreIntervals result.items }
@@ -142,8 +183,20 @@ fn no_intervals(alloc: Global) -> Vec<Interval>
 fn opened(alloc: Global, max_locks: u32, max_marks: u32) -> Result<MemHall, Fail>
     requires { max_marks ≤ 1048576 }
 {
+    opened_over(alloc, max_locks, max_marks, no_intervals(alloc))
+}
+
+fn opened_over(
+    alloc: Global,
+    max_locks: u32,
+    max_marks: u32,
+    intervals: Vec<Interval>,
+) -> Result<MemHall, Fail>
+    requires marks { max_marks ≤ 1048576 }
+    requires intervals { AreIntervals intervals.items }
+{
     let keeper = MemKeeper::new(alloc, Vec::new(alloc), Vec::new(alloc))?;
-    match MemHall::open(alloc, keeper, max_locks, max_marks, no_intervals(alloc)) {
+    match MemHall::open(alloc, keeper, max_locks, max_marks, intervals) {
         Ok(hall) => Ok(hall),
         Err(_) => Err(Fail::from("a hall")),
     }
@@ -340,5 +393,39 @@ fn a_row_is_read_as_it_was_posted(rt: HostRuntime) -> Result<(), Fail> {
         ],
     )?;
     assert!(rt; shows(alloc, &hall, 1, 2)?);
+    Ok(())
+}
+
+// Blocks of ten: a number or a reservation past the level raises it by whole blocks, and one that it reaches leaves it. A
+// store that takes no mark leaves the numbers that are drawn with the session.
+#[test]
+fn numbers_come_in_blocks(rt: HostRuntime) -> Result<(), Fail> {
+    let alloc = rt.alloc();
+    let mut hall = opened_over(alloc, 1, 1, one_interval(alloc)?)?;
+    make_all(
+        alloc,
+        &mut hall,
+        &[
+            (Call::Number, Answer::Refused(Refusal::UnknownSession), 0),
+            (Call::Logon, Answer::Done, 0),
+            (Call::Number, Answer::Number(1, Code::Blank), 0),
+            (Call::Reserve { upto: 10 }, Answer::Level(10), 0),
+            (Call::Reserve { upto: 25 }, Answer::Level(30), 0),
+            (
+                Call::Reserve { upto: 1_001 },
+                Answer::Refused(Refusal::IntervalOverflow(1_000)),
+                0,
+            ),
+            (Call::Commit { effects: 1 }, Answer::Unit, 0),
+            (Call::Number, Answer::Number(2, Code::Blank), 0),
+            (
+                Call::Commit { effects: 0 },
+                Answer::Refused(Refusal::StoreFull(1)),
+                0,
+            ),
+            (Call::Number, Answer::Number(3, Code::Blank), 0),
+        ],
+    )?;
+    assert_eq!(rt; (hall.marks(), hall.numbers()), (1, 1));
     Ok(())
 }

@@ -40,6 +40,20 @@ impl Range {
         }
     }
 
+    /// An interval as it stands: the session that it belongs to, how many numbers that session has drawn of it, and the
+    /// number that memory hands out next.
+    pub fn of(interval: Interval, holder: Option<Name>, drawn: u64, next: u64) -> Range
+        requires { draw.IsRange (record { interval = interval; holder = holder; drawn = drawn; next = next }) }
+        ensures { result ≡ record { interval = interval; holder = holder; drawn = drawn; next = next } }
+    {
+        Range {
+            interval,
+            holder,
+            drawn,
+            next,
+        }
+    }
+
     /// The interval with its present level.
     pub fn interval(&self) -> Interval
         ensures same { result ≡ self.now.interval }

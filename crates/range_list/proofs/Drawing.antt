@@ -15,6 +15,7 @@ use Rattle.range_list.specs.Drawn.{AreDrawnRight, AreOfOne, IsDrawnAs, IsDrawnBu
 use Rattle.range_list.specs.Levels.{AreApart, AreIntervals, FitLevels, intervals_of, level_in, name_of, present, range_at}
 use Rattle.range_list.specs.declared.range.NumberRange.{NumberRange}
 use Rattle.range_list.proofs.Counting.{all_append, bit, count_append, count_cons, run_append}
+use Rattle.range_list.proofs.HandedOut.{handed_intervals}
 use Rattle.range_list.proofs.Names.{contains_cases, contains_first, contains_more, contains_none, is_named_so, named_is, none_named, one_interval}
 use Rattle.range_list.proofs.Owning.{drawn_length, same_drawn, from_own, of_one, others_same, own_more, times_append}
 
@@ -94,6 +95,7 @@ same_as false i next before x y after committed same h =
     let c : bit (has_drawn i x) ≡ bit (has_drawn i y) = ap (λ n. bit (nat_lt 0 n)) many in
     let most = h.sole in
     record {
+      begun = h.begun;
       sole = omega (arith, a, b, c, most);
       runs = all_with (IsRun i) before x y after (λ run. record {
         follows = sym same ∙ run.follows ∙ ap (range_with_len (i.level + 1)) many;
@@ -155,7 +157,7 @@ plain_more i before x after number front back is within h =
     let a = none_of_these (has_drawn i) before front in
     let b = none_of_these (has_drawn i) after back in
     let c = at_most_one (has_drawn i y) in
-    record { sole = omega (arith, whole, a, b, c); runs = all_with (IsRun i) before x y after (run_more i x number is within) h.runs }
+    record { begun = h.begun; sole = omega (arith, whole, a, b, c); runs = all_with (IsRun i) before x y after (run_more i x number is within) h.runs }
 
 known_more : (intervals : List Interval) (i : Interval) (x : List Num) (number : ℕ) → Contains intervals i → AreOfOne intervals x → AreOfOne intervals (x ++ num_of i number ∷ [])
 known_more intervals i x number among h = all_append (IsOfOne intervals) x (num_of i number ∷ []) h (of_one intervals i (num_of i number) among refl, tt)
@@ -241,14 +243,6 @@ buffered_more i next before x after committed reserved h =
         let high = at.1 in
         (at.0, omega (arith, high))
 
--- memory that handed out a number has the same intervals
-pub same_intervals : (i : Interval) (ranges : List NumberRange) → intervals_of (handed_out i ranges) ≡ intervals_of ranges
-same_intervals i [] = refl
-same_intervals i (r ∷ ranges) = elim (is_named i.object i.nr r.interval) as (λ b. (if b then record r { next = r.next + 1 } else r).interval ∷ intervals_of (handed_out i ranges) ≡ r.interval ∷ intervals_of ranges) [
-  | true ↦ ap (λ is. r.interval ∷ is) (same_intervals i ranges)
-  | false ↦ ap (λ is. r.interval ∷ is) (same_intervals i ranges)
-]
-
 module _ (ranges : List NumberRange) (levels : Levels) (before : List (List Num)) (x : List Num) (after : List (List Num)) (committed : List Num) (r : NumberRange)
     (among : Contains ranges r) (is : is_buffered r.interval ≡ true) (reserved : r.next ≤ level_in levels r.interval) (h : AreDrawnRight ranges levels (before ++ x ∷ after) committed) where
   abbrev taken : List (List Num)
@@ -277,7 +271,7 @@ module _ (ranges : List NumberRange) (levels : Levels) (before : List (List Num)
   -- a session takes the next number out of memory, up to the level
   pub buffered_drawn : AreDrawnRight (handed_out r.interval ranges) levels (before ++ (x ++ num_of r.interval r.next ∷ []) ∷ after) committed
   buffered_drawn =
-      let same = sym (same_intervals r.interval ranges) in
+      let same = sym (handed_intervals r.interval.object r.interval.nr ranges) in
       record {
         intervals = subst AreIntervals same h.intervals;
         fit = subst (λ is. FitLevels is levels) same h.fit;

@@ -7,6 +7,8 @@ pub mod Owning
 pub mod Settling
 pub mod Storing
 pub mod Sessions
+pub mod HandedOut
 pub mod Drawing
 pub mod Recording
 pub mod Owners
+pub mod Presents

@@ -116,6 +116,7 @@ module _ (ranges : List NumberRange) (levels : Levels) (before : List (List Num)
       let b : count_by (has_drawn i) (before ++ [] ∷ after) ≡ count_by (has_drawn i) before + (0 + count_by (has_drawn i) after) = count_split (has_drawn i) before [] after in
       let most = d.sole in
       record {
+        begun = d.begun;
         sole = omega (arith, a, b, most);
         runs = all_with (IsRun i) before nums [] after (λ _. record { follows = refl; within = omega (arith, inside) }) d.runs;
       }
@@ -132,11 +133,13 @@ module _ (ranges : List NumberRange) (levels : Levels) (before : List (List Num)
       let front : count_by (has_drawn i) before ≡ 0 = omega (arith, whole, one, most) in
       let back : count_by (has_drawn i) after ≡ 0 = omega (arith, whole, one, most) in
       let now : count_by (has_drawn i) (before ++ [] ∷ after) ≡ count_by (has_drawn i) before + (0 + count_by (has_drawn i) after) = count_split (has_drawn i) before [] after in
+      let begins = d.begun in
       let run = (all_right (IsRun i) before (nums ∷ after) d.runs).0 in
       let inside = run.within in
       let high : level ≤ i.to = omega (arith, is, inside) in
       let without = λ (x : List Num). drawn_of i x ≡ 0 in
       record {
+        begun = omega (arith, is, begins);
         sole = omega (arith, now, front, back);
         runs = all_of without (IsRun (with_level level i)) (idle high) (before ++ [] ∷ after)
             (all_append without before ([] ∷ after) (no_draws i before front) (refl, no_draws i after back));

@@ -102,7 +102,7 @@ fewer_as : (buffered : Bool) (i : Interval) (next : ℕ) (old new : List (List N
 fewer_as false i next old new committed within f h =
     let few = f.holders i in
     let most = h.sole in
-    record { sole = omega (arith, few, most); runs = f.runs i within h.runs }
+    record { begun = h.begun; sole = omega (arith, few, most); runs = f.runs i within h.runs }
 fewer_as true i next old new committed within f h = record {
   once = λ n. let few = f.given i n in let most = h.once n in omega (arith, few, most);
   inside = λ n some. let few = f.given i n in h.inside n (omega (arith, few, some));
@@ -185,7 +185,8 @@ module _ (intervals : List Interval) (levels : Levels) (draws : List (List Num))
   first_as : (i : Interval) → Contains intervals i → (b : Bool) → is_buffered i ≡ b → IsDrawnAs b (present levels i) (level_in levels i + 1) draws committed
   first_as i among false is =
       let none_of = none_hold i draws none in
-      record { sole = omega (arith, none_of); runs = none_run (present levels i) draws (level_fits intervals levels i are fit among) none }
+      let row = if_row intervals levels i are.apart fit among (get levels (name_of i)) refl in
+      record { begun = low_of i (unused_in intervals i are among).first (get levels (name_of i)) refl row (agree.right (name_of i)); sole = omega (arith, none_of); runs = none_run (present levels i) draws (level_fits intervals levels i are fit among) none }
   first_as i among true is =
       let row = if_row intervals levels i are.apart fit among (get levels (name_of i)) refl in
       let inside = inside_of i is (get levels (name_of i)) refl row (agree.right (name_of i)) in

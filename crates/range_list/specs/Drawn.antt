@@ -32,8 +32,9 @@ pub record IsRun (i : Interval) (draws : List Num) : Type 0 where
   pub follows : drawn_from i draws ≡ range_with_len (i.level + 1) (drawn_of i draws)
   pub within : i.level + drawn_of i draws ≤ i.to
 
--- at most one session has drawn from it, and what it has drawn is such a run
+-- at most one session has drawn from it, and what it has drawn is such a run behind a level of the interval
 pub record IsDrawnPlain (i : Interval) (draws : List (List Num)) : Type 0 where
+  pub begun : i.from ≤ i.level + 1
   pub sole : count_by (has_drawn i) draws ≤ 1
   pub runs : AllByRecursion (IsRun i) draws
 
@@ -77,10 +78,12 @@ pub record AreDrawnRight (ranges : List NumberRange) (levels : Levels) (draws : 
   pub each : AllByRecursion (IsDrawnRight levels draws committed) ranges
   pub known : AllByRecursion (AreOfOne (intervals_of ranges)) draws
 
--- memory of the interval hands out the next number
+-- memory hands out the next number of the interval of this name
+abbrev pub handed_out_of : List ℕ → List ℕ → NumberRange → NumberRange
+handed_out_of object nr r = if is_named object nr r.interval then record r { next = r.next + 1 } else r
+
 abbrev pub handed_out : Interval → List NumberRange → List NumberRange
-handed_out i ranges =
-    map (λ (r : NumberRange). if is_named i.object i.nr r.interval then record r { next = r.next + 1 } else r) ranges
+handed_out i ranges = map (handed_out_of i.object i.nr) ranges
 
 -- ---- rows that are written
 

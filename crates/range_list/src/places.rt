@@ -1,9 +1,11 @@
-ghost use Rattle.std.specs.Prelude.{◌≡◌, OnOk, IfOk, Some, List, ℕ, if◌then◌else◌, slice_get};
+ghost use Rattle.std.specs.Prelude.{◌≡◌, ◌<◌, ◌+◌, ◌^◌, OnOk, IfOk, IfSome, Some, List, ℕ, if◌then◌else◌, length, map, slice_get, slice_set};
 ghost use Rattle.std.specs.HashMap.{get};
 ghost use Rattle.std.specs.Option.{option_copied};
 ghost use Rattle.number_ranges.specs.Intervals.{is_named};
-ghost use Rattle.range_list.specs.Levels.{intervals_of, range_at};
+ghost use Rattle.range_list.specs.Drawn.{handed_out_of};
+ghost use Rattle.range_list.specs.Levels.{AreApart, intervals_of, range_at};
 ghost use Rattle.range_list.specs.Places.{ArePlaces, range_id, same_range};
+ghost use Rattle.range_list.specs.declared.range.NumberRange.{NumberRange};
 
 use crate::range::NumberRange;
 use crate::range_id::{RangeId, range_id};
@@ -57,6 +59,32 @@ pub fn find_range<'a>(
         Some(place) => range_in(ranges, place),
         None => None,
     }
+}
+
+/// The range of this name hands out its next number.
+pub fn hand_out(
+    ranges: &mut [NumberRange],
+    places: &HashMap<RangeId, usize>,
+    object: &Name,
+    nr: [u8; 2],
+)
+    requires places { ArePlaces places.now (intervals_of ranges.old) }
+    requires apart { AreApart (intervals_of ranges.old) }
+    requires room { IfSome (range_at ranges.old object.now nr) (λ r. r.next + 1 < 2 ^ 64) }
+    ensures { ranges.new ≡ map (handed_out_of object.now nr) ranges.old }
+{
+    if let Some(place) = place_of(places, object, nr) {
+        hand_out_at(ranges, place);
+    }
+}
+
+fn hand_out_at(ranges: &mut [NumberRange], place: usize)
+    requires within { place < length ranges.old }
+    requires room { IfSome (slice_get ranges.old place) (λ r. r.next + 1 < 2 ^ 64) }
+    ensures { (r : NumberRange) → slice_get ranges.old place ≡ Some r → ranges.new ≡ slice_set ranges.old place (record r { next = r.next + 1 }) }
+{
+    let range = &mut ranges[place];
+    range.next += 1;
 }
 
 fn range_in(ranges: &[NumberRange], place: usize) -> Option<&NumberRange>

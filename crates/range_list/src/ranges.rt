@@ -1,11 +1,12 @@
-ghost use Rattle.std.specs.Prelude.{◌≡◌, ◌<◌, IfErr, IfOk, IfSome, OnOk, length, not, true};
+ghost use Rattle.std.specs.Prelude.{◌≡◌, ◌<◌, ◌+◌, ◌^◌, IfErr, IfOk, IfSome, OnOk, length, map, not, true};
 ghost use Rattle.std.specs.List.{list_all, position};
 ghost use Rattle.std.specs.Option.{option_copied};
 ghost use Rattle.posting.specs.Intervals.{in_row_order};
+ghost use Rattle.range_list.specs.Drawn.{handed_out_of};
 ghost use Rattle.range_list.specs.Levels.{AreIntervals, FitRows, IsLevelFault, first_ranges, fits, intervals_of, range_at};
 ghost use Rattle.update_records.specs.declared.stored.StoredInterval.{StoredInterval};
 
-use crate::places::{find_range, places_of};
+use crate::places::{find_range, hand_out, places_of};
 use crate::range::{LevelFault, NumberRange};
 use crate::range_id::RangeId;
 use crate::starting::{fresh_ranges, is_row_of, start_all};
@@ -73,6 +74,14 @@ impl Ranges {
         ensures { option_copied result ≡ range_at self.now object.now nr }
     {
         find_range(self.list.as_slice(), &self.places, object, nr)
+    }
+
+    /// Memory hands out the next number of the interval of this name.
+    pub fn hand_out(&mut self, object: &Name, nr: [u8; 2])
+        requires { IfSome (range_at self.old object.now nr) (λ r. r.next + 1 < 2 ^ 64) }
+        ensures { self.new ≡ map (handed_out_of object.now nr) self.old }
+    {
+        hand_out(self.list.as_mut_slice(), &self.places, object, nr);
     }
 
     /// Whether each stored row is that of an interval, and where it isn't, the first such row.

@@ -1,6 +1,6 @@
 -- The session of each private side is logged on, whatever the lines do.
 use Rattle.std.proofs.Common.{◌≡◌, ℕ, ◌+◌, Bool, true, false, true≢false, cond, inl, inr, List, [], ◌∷◌, ◌++◌, refl, sym, ap, ◌∙◌, subst}
-use Rattle.std.specs.Prelude.{nat_eq, nat_le, nat_lt, length, if◌then◌else◌, fold, Option, Some, None, Result, Ok, Err, is_some}
+use Rattle.std.specs.Prelude.{decimal, nat_eq, nat_le, nat_lt, length, if◌then◌else◌, fold, Option, Some, None, Result, Ok, Err, is_some}
 use Rattle.std.specs.Cmp.Lexicographic.{bytes_decides}
 use Rattle.std.specs.Str.{bytes_eq}
 use Rattle.std.proofs.lemmas.Bool.{cases_Bool}
@@ -89,6 +89,7 @@ settled_logged (line.Flush s) reply.Done before after sides keeps enters h = cha
 settled_logged (line.Rollback s) reply.Done before after sides keeps enters h = changed after s (λ p. without_requests (without_effects p)) (λ p. refl) sides (kept before after sides (λ n. keeps n refl) h)
 settled_logged (line.Commit s) reply.Done before after sides keeps enters h = changed after s without_effects (λ p. refl) sides (kept before after sides (λ n. keeps n refl) h)
 settled_logged (line.Commit s) (reply.Unit unit) before after sides keeps enters h = changed after s without_effects (λ p. refl) sides (kept before after sides (λ n. keeps n refl) h)
+settled_logged (line.Num s object nr variable) (reply.Number number code) before after sides keeps enters h = changed after s (with_variable variable (decimal number)) (λ p. refl) sides (kept before after sides (λ n. keeps n refl) h)
 settled_logged (line.Read s table key variable) (reply.Row (Some text)) before after sides keeps enters h = changed after s (with_variable variable text) (λ p. refl) sides (kept before after sides (λ n. keeps n refl) h)
 settled_logged _ _ before after sides keeps enters h = kept before after sides (λ n. keeps n refl) h
 
@@ -147,6 +148,9 @@ meaning_logged w (line.Collect s object m scope values) h =
 meaning_logged w (line.Convert s object values) h =
     let l = line.Convert s object values in
     session_logged w l s _ (unless_logged w l (asking (variables_of w.sides s) w.objects object _ values) (λ asked. Calls (command.Convert s asked)) (λ asked d n. settled_logged l (step d w.hall n (command.Convert s asked)).reply w.hall.sessions _ w.sides (λ m off. step_keeps d w.hall n (command.Convert s asked) m refl) tt h))
+meaning_logged w (line.Num s object nr variable) h =
+    let l = line.Num s object nr variable in
+    session_logged w l s (Calls (command.Number s object nr)) (λ d n. settled_logged l (step d w.hall n (command.Number s object nr)).reply w.hall.sessions _ w.sides (λ m off. step_keeps d w.hall n (command.Number s object nr) m refl) tt h)
 meaning_logged w (line.Read s table key variable) h =
     let l = line.Read s table key variable in
     session_logged w l s _ (unless_logged w l (key_with (variables_of w.sides s) key) (λ k. Calls (command.Read s table k)) (λ k d n. settled_logged l (step d w.hall n (command.Read s table k)).reply w.hall.sessions _ w.sides (λ m off. step_keeps d w.hall n (command.Read s table k) m refl) tt h))

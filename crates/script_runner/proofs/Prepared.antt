@@ -37,5 +37,6 @@ pub may_enter : (w : World) (t : State) (n : ℕ) (l : ScriptLine) (c : Command)
 may_enter w t n (line.Logon s user) c reply.Done made sides logged is step room same =
     let logon : IsStep w.hall t n (command.Logon s user) reply.Done = subst (λ x. IsStep w.hall t n x reply.Done) (sym (same_call (command.Logon s user) c is)) step in
     (room, ap (λ xs. is_some (side_of xs s)) same ∙ no_side w.hall.sessions w.sides s logged (logon_enters w.hall t n s user logon).free)
+may_enter w t n (line.Num s object nr variable) c (reply.Number number code) made sides logged is step room same = room
 may_enter w t n (line.Read s table key variable) c (reply.Row (Some text)) made sides logged is step room same = room
 may_enter w t n _ c _ made sides logged is step room same = tt

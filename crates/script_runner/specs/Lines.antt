@@ -1,5 +1,5 @@
 -- What a line of a script comes to.
-use Rattle.std.specs.Prelude.{ℕ, ℤ, ◌+◌, Bool, true, false, ◌&&◌, ◌||◌, nat_eq, nat_le, nat_lt, List, [], ◌∷◌, map, length, cond, if◌then◌else◌, Option, Some, None, is_some, option_and_then, Result, Ok, Err}
+use Rattle.std.specs.Prelude.{ℕ, ℤ, ◌+◌, Bool, true, false, ◌&&◌, ◌||◌, nat_eq, nat_le, nat_lt, List, [], ◌∷◌, map, length, decimal, cond, if◌then◌else◌, Option, Some, None, is_some, option_and_then, Result, Ok, Err}
 use Rattle.std.specs.List.{find, list_all}
 use Rattle.std.specs.Str.{bytes_eq}
 use Rattle.enq_base.specs.Grammar.{is_key_byte, is_short, is_text_byte}
@@ -67,6 +67,7 @@ is_built (line.Enq s object m scope values) = true
 is_built (line.Deq s object m scope values) = true
 is_built (line.Collect s object m scope values) = true
 is_built (line.Convert s object values) = true
+is_built (line.Num s object nr variable) = true
 is_built (line.Read s table key variable) = true
 is_built (line.Put s part table key text) = is_part part
 is_built (line.Ins s part table key text) = is_part part
@@ -279,6 +280,10 @@ abbrev pub reading : World → List ℕ → List ℕ → List ℕ → Meaning
 reading w s table key =
     of_session w.sides s (unless_refused (key_with (variables_of w.sides s) key) (λ k. Calls (command.Read s table k)))
 
+-- the line of a session that draws a number
+abbrev pub numbering : World → List ℕ → List ℕ → List ℕ → Meaning
+numbering w s object nr = of_session w.sides s (Calls (command.Number s object nr))
+
 abbrev pub meaning : World → ScriptLine → Meaning
 meaning w line.Blank = Silent
 meaning w line.Sm12 = Shows monitor.Sm12
@@ -297,6 +302,7 @@ meaning w (line.Deq s object m scope values) =
     with_requested w s object m scope values (λ rs. Calls (command.Free s rs))
 meaning w (line.Collect s object m scope values) = with_requested w s object m scope values (collecting w.sides s)
 meaning w (line.Convert s object values) = with_asked w s object mode.O values (λ asked. Calls (command.Convert s asked))
+meaning w (line.Num s object nr variable) = numbering w s object nr
 meaning w (line.Read s table key variable) = reading w s table key
 meaning w (line.Put s part table key text) = effecting w s part verb.Put table key text
 meaning w (line.Ins s part table key text) = effecting w s part verb.Ins table key text
@@ -320,6 +326,7 @@ settled (line.Flush s) reply.Done sides = with_side s without_requests sides
 settled (line.Rollback s) reply.Done sides = with_side s (λ p. without_requests (without_effects p)) sides
 settled (line.Commit s) reply.Done sides = with_side s without_effects sides
 settled (line.Commit s) (reply.Unit unit) sides = with_side s without_effects sides
+settled (line.Num s object nr variable) (reply.Number number code) sides = with_side s (with_variable variable (decimal number)) sides
 settled (line.Read s table key variable) (reply.Row (Some text)) sides = with_side s (with_variable variable text) sides
 settled _ _ sides = sides
 
@@ -336,6 +343,7 @@ grows (line.Enq s object m scope values) = true
 grows (line.Deq s object m scope values) = true
 grows (line.Collect s object m scope values) = true
 grows (line.Convert s object values) = true
+grows (line.Num s object nr variable) = true
 grows (line.Read s table key variable) = true
 grows (line.Put s part table key text) = true
 grows (line.Ins s part table key text) = true

@@ -41,6 +41,7 @@ pub(crate) fn is_built(line: &ScriptLine) -> bool
             | ScriptLine::Deq { .. }
             | ScriptLine::Collect { .. }
             | ScriptLine::Convert { .. }
+            | ScriptLine::Num { .. }
             | ScriptLine::Read { .. }
             | ScriptLine::Put { part: 1 | 2, .. }
             | ScriptLine::Ins { part: 1 | 2, .. }

@@ -2,7 +2,7 @@ ghost use Rattle.std.specs.Prelude.{◌≡◌, ◌⊎◌, ◌≤◌, [], List, O
 ghost use Rattle.hall.specs.State.{State};
 ghost use Rattle.lock_objects.specs.Objects.{Object};
 ghost use Rattle.script_lang.specs.declared.script_line.ScriptLine.TheVariants as line;
-ghost use Rattle.script_runner.specs.Lines.{effect_line, grows, is_built, line_kind, meaning, reading, settled};
+ghost use Rattle.script_runner.specs.Lines.{effect_line, grows, is_built, line_kind, meaning, numbering, reading, settled};
 ghost use Rattle.script_runner.specs.Preparing.{HasRoomFor, IsPrepared, MayEnter, is_other_effect_line, is_other_lock_line, is_request_line, is_text_line};
 ghost use Rattle.script_runner.specs.Sides.{variable_room};
 ghost use Rattle.script_runner.specs.World.{world};
@@ -11,6 +11,7 @@ use crate::effects::{Verb, effect_with, key_with};
 use crate::monitor::LineKind;
 use crate::requests::{asked_of, requests_of};
 use crate::sides::Sides;
+use crate::words::digits;
 use enq_base::{Items, Name, Refusal, Scope};
 use hall::{Command, Reply};
 use lock_objects::LockObject;
@@ -53,6 +54,12 @@ pub(crate) fn prepare(
         ScriptLine::Collect { .. } | ScriptLine::Convert { .. } => {
             prepare_other_locks(alloc, objects, line, sides)
         }
+        ScriptLine::Num {
+            session,
+            object,
+            nr,
+            ..
+        } => draw(sides, *session, *object, *nr),
         ScriptLine::Read {
             session,
             table,
@@ -276,6 +283,24 @@ fn commit(alloc: Global, sides: &Sides, session: Name) -> Result<Prepared, Refus
     Ok(Prepared::Call(Command::Commit { session, parts }))
 }
 
+/// A call for a number of an interval, with the memory for the variable that it is for.
+fn draw(sides: &mut Sides, session: Name, object: Name, nr: [u8; 2]) -> Result<Prepared, Refusal>
+    ensures prepared { (objects : List Object) (hall : State) → IsPrepared (numbering (world objects hall sides.old.items) session object nr) true sides.old.items sides.new.items result }
+    ensures room { OnOk result (1 ≤ variable_room sides.new session) }
+{
+    if !sides.has_side(&session) {
+        return Err(Refusal::UnknownSession);
+    }
+    if sides.make_variable_room(&session).is_err() {
+        return Err(Refusal::NoMemory);
+    }
+    Ok(Prepared::Call(Command::Number {
+        session,
+        object,
+        nr,
+    }))
+}
+
 /// A call for the text of a row, with the memory for the variable that it is for.
 fn read(
     alloc: Global,
@@ -455,6 +480,14 @@ pub(crate) fn settle(alloc: Global, line: &ScriptLine, reply: &Reply, sides: &mu
         (ScriptLine::Commit { session }, Reply::Done | Reply::Unit(_)) => {
             sides.drop_effects(session)
         }
+        (
+            ScriptLine::Num {
+                session,
+                variable,
+                ..
+            },
+            Reply::Number { number, .. },
+        ) => sides.set_variable(session, *variable, digits(*number).as_slice()),
         (
             ScriptLine::Read {
                 session,

@@ -28,7 +28,7 @@ const ROWS: [Row; 9] = [
         status: 0,
     },
     Row {
-        script: b"A LOGON MILLER\nA NUM ZORDNR 01 N\n",
+        script: b"A LOGON MILLER\n! ATTACH\n",
         replies: b"1 OK\n",
         why: Why::BadLine(2),
         status: 4,

@@ -19,6 +19,8 @@ mod limits;
 #[cfg(test)]
 mod locks;
 #[cfg(test)]
+mod numbers;
+#[cfg(test)]
 mod reads;
 #[cfg(test)]
 mod runs;

@@ -280,6 +280,13 @@ fn the_201st_effect_is_refused(rt: HostRuntime) -> Result<(), Fail> {
 }
 
 #[test]
+fn the_65th_number_is_refused(rt: HostRuntime) -> Result<(), Fail> {
+    let lines: [&[u8]; 2] = [b"A NUM ZORDNR 01 N\n", b"A COMMIT\n"];
+    let end = b"65 OK 64 -\n66 UNIT_TOO_LARGE\n67 OK\n";
+    repeats(&rt, rt.alloc(), 65, lines, end)
+}
+
+#[test]
 fn the_10000th_time_is_refused(rt: HostRuntime) -> Result<(), Fail> {
     let lines: [&[u8]; 2] = [b"A ENQ EZORDER E 1 MANDT=100\n", b""];
     repeats(

@@ -1,166 +1,165 @@
-use Rattle.std.proofs.Common.{◌≤◌, sym, refl, ap, ◌∙◌, subst, arith}
-use Rattle.std.specs.Prelude.{is_some}
-use Rattle.enq_base.specs.Causes.{Rose}
-use Rattle.posting.proofs.LevelRows.{nothing_stored}
-use Rattle.posting.specs.Steps.{IsNewUnit, after_step}
-use Rattle.update_records.specs.Growing.{with_unit}
+use Rattle.std.proofs.Common.{◌+◌, ◌≤◌, sym, refl, ap, ◌∙◌, length, subst, arith}
+use Rattle.range_list.specs.Drawn.{drawn_of, settled_rows}
+use Rattle.range_list.specs.Levels.{level_in, present}
 use Rattle.update_records.specs.declared.records.Unit.{Unit as UnitOfWork}
-use Rattle.hall.proofs.Writes.{below_limit, commits, commits_full, commits_in_doubt, commits_nothing, commits_too_much, commits_unknown, commits_wanting, may_record}
-use Rattle.hall.proofs.Leaves.{answered_leaves, failed_leaves, untouched_keeps, where_told}
-use Rattle.hall.specs.Leaving.{HasStoreCause}
+use Rattle.hall.specs.Sessions.{unit_key}
 use Rattle.hall.specs.Step.{unit_of}
-use Rattle.hall.specs.declared.command.Reply.TheVariants as reply
-use Rattle.hall.specs.declared.units.InFlight.TheVariants as flight
+use Rattle.hall.proofs.Writes.{commits_full, commits_nothing, commits_too_much, commits_unknown, commits_wanting, may_record}
+use Rattle.hall.proofs.Commits.{draws_digits, draws_stored, may_draw, numbers_recorded, rows_fit, unit_recorded}
+use Rattle.hall.proofs.Commits.{few_enough, no_effects, nothing_there, some_effects, some_numbers, too_large, too_many, with_effects}
+use Rattle.hall.proofs.units.commit.Goals.{else-effects-eq0-via-then-effects-eq0+else-numbers-eq0, else-effects-eq0-via-else-effects-eq0}
+use Rattle.hall.proofs.units.commit.Goals.{then-numbers-gt-DRAWS_LIMIT-via-then-numbers-gt-DRAWS_LIMIT}
+use Rattle.hall.proofs.units.commit.Goals.{then-numbers-gt-DRAWS_LIMIT-via-else-numbers-gt-DRAWS_LIMIT+then-effects-gt-EFFECTS_LIMIT}
 use Rattle.hall.proofs.units.commit.Goals as goal
 
 pub returns-in-Err-clause-act : goal.returns-in-Err-clause-act
-returns-in-Err-clause-act g c s e f l m room =
+returns-in-Err-clause-act g c s e r f l m room =
     commits_unknown s c.args.sessions.now (g.T.LockStore.table c.args.locks.now).entries c.args.books.now.ledger c.args.name.now c.args.parts.now c.in-Err.refusal e f l room
     c.in-Err.ensures.unknown.0 c.in-Err.ensures.unknown.1
 
-pub returns-then-effects-gt-EFFECTS_LIMIT-clause-act : goal.returns-then-effects-gt-EFFECTS_LIMIT-clause-act
-returns-then-effects-gt-EFFECTS_LIMIT-clause-act g c s e f l m room =
-    commits_too_much s c.args.sessions.now (g.T.LockStore.table c.args.locks.now).entries c.args.books.now.ledger c.args.name.now c.in-Ok.session.now c.args.parts.now e f l room
-    c.in-Ok.ensures.found
-    (omega (arith, c.if-effects-gt-EFFECTS_LIMIT.true, c.effects_in-effects.ensures))
+pub returns-then-numbers-gt-DRAWS_LIMIT-clause-act : goal.returns-then-numbers-gt-DRAWS_LIMIT-clause-act
+returns-then-numbers-gt-DRAWS_LIMIT-clause-act g c s e r f l m room =
+    commits_too_much s c.args.sessions.now c.args.ranges.now (g.T.LockStore.table c.args.locks.now).entries
+    c.args.books.now.ledger c.args.max_marks c.args.name.now c.in-Ok.session.now c.args.parts.now
+    (record { own_sessions = e; own_ranges = r; own_locks = f; own_ledger = l; own_limit = m; admits = room; found = c.in-Ok.ensures.found })
+    (elim c.then-numbers-gt-DRAWS_LIMIT.branch [
+      | then-numbers-gt-DRAWS_LIMIT-via-then-numbers-gt-DRAWS_LIMIT w ↦ too_many c.in-Ok.session.now c.args.parts.now (length c.as_slice-numbers.result.now)
+          (ap length c.as_slice-numbers.ensures) (omega (arith, w.if-numbers-gt-DRAWS_LIMIT.true))
+      | then-numbers-gt-DRAWS_LIMIT-via-else-numbers-gt-DRAWS_LIMIT+then-effects-gt-EFFECTS_LIMIT w ↦ too_large c.in-Ok.session.now c.args.parts.now c.effects_in-effects.result c.effects_in-effects.ensures (omega (arith, w.if-effects-gt-EFFECTS_LIMIT.true))
+    ])
 
-pub returns-then-effects-eq0-clause-act : goal.returns-then-effects-eq0-clause-act
-returns-then-effects-eq0-clause-act g c s e f l m room =
-    commits_nothing s c.args.sessions.now (g.T.LockStore.table c.args.locks.now).entries c.args.books.now.ledger c.args.name.now c.in-Ok.session.now c.args.parts.now e f l room
-    c.in-Ok.ensures.found
-    (sym c.effects_in-effects.ensures ∙ c.if-effects-eq0.true)
+pub returns-then-numbers-eq0-clause-act : goal.returns-then-numbers-eq0-clause-act
+returns-then-numbers-eq0-clause-act g c s e r f l m room =
+    commits_nothing s c.args.sessions.now c.args.ranges.now (g.T.LockStore.table c.args.locks.now).entries
+    c.args.books.now.ledger c.args.max_marks c.args.name.now c.in-Ok.session.now c.args.parts.now
+    (record { own_sessions = e; own_ranges = r; own_locks = f; own_ledger = l; own_limit = m; admits = room; found = c.in-Ok.ensures.found })
+    (few_enough c.in-Ok.session.now c.args.parts.now (length c.as_slice-numbers.result.now) c.effects_in-effects.result
+    (ap length c.as_slice-numbers.ensures) c.effects_in-effects.ensures
+    (omega (arith, c.if-numbers-gt-DRAWS_LIMIT.false)) (omega (arith, c.if-effects-gt-EFFECTS_LIMIT.false)))
+    (nothing_there c.in-Ok.session.now c.args.parts.now (length c.as_slice-numbers.result.now) c.effects_in-effects.result
+    (ap length c.as_slice-numbers.ensures) c.effects_in-effects.ensures
+    (omega (arith, c.if-numbers-eq0.true)) (omega (arith, c.if-effects-eq0.true)))
 
 pub returns-then-is_full-clause-act : goal.returns-then-is_full-clause-act
-returns-then-is_full-clause-act g c s e f l m room =
-    commits_full s c.args.sessions.now (g.T.LockStore.table c.args.locks.now).entries c.args.books.now.ledger c.args.max_marks c.args.name.now c.in-Ok.session.now c.args.parts.now e f l m room
-    c.in-Ok.ensures.found
-    (omega (arith, c.if-effects-eq0.false, c.effects_in-effects.ensures)) (omega (arith, c.if-effects-gt-EFFECTS_LIMIT.false, c.effects_in-effects.ensures))
+returns-then-is_full-clause-act g c s e r f l m room =
+    commits_full s c.args.sessions.now c.args.ranges.now (g.T.LockStore.table c.args.locks.now).entries
+    c.args.books.now.ledger c.args.max_marks c.args.name.now c.in-Ok.session.now c.args.parts.now
+    (record { own_sessions = e; own_ranges = r; own_locks = f; own_ledger = l; own_limit = m; admits = room; found = c.in-Ok.ensures.found })
+    (few_enough c.in-Ok.session.now c.args.parts.now (length c.as_slice-numbers.result.now) c.effects_in-effects.result
+    (ap length c.as_slice-numbers.ensures) c.effects_in-effects.ensures
+    (omega (arith, c.if-numbers-gt-DRAWS_LIMIT.false)) (omega (arith, c.if-effects-gt-EFFECTS_LIMIT.false)))
+    (elim c.else-effects-eq0.branch [
+      | else-effects-eq0-via-then-effects-eq0+else-numbers-eq0 w ↦ some_numbers c.in-Ok.session.now c.args.parts.now (length c.as_slice-numbers.result.now)
+          (ap length c.as_slice-numbers.ensures) (omega (arith, w.if-numbers-eq0.false))
+      | else-effects-eq0-via-else-effects-eq0 w ↦ some_effects c.in-Ok.session.now c.args.parts.now c.effects_in-effects.result c.effects_in-effects.ensures (omega (arith, w.if-effects-eq0.false))
+    ])
     (sym c.is_full.ensures ∙ c.if-is_full.true)
 
-pub returns-then-is_full-clause-told : goal.returns-then-is_full-clause-told
-returns-then-is_full-clause-told g c = refl
-
-pub returns-then-is_full-clause-left : goal.returns-then-is_full-clause-left
-returns-then-is_full-clause-left g c = answered_leaves g.K.Keeper.held g.K.Keeper.is_open g.K.Keeper.may_leave c.args.books.now g.met.K.Keeper.settled c.requires.usable
-
-pub returns-then-is_full-clause-cause : goal.returns-then-is_full-clause-cause
-returns-then-is_full-clause-cause g c = refl
-
-pub prepare_unit-requires-clause-marks : goal.prepare_unit-requires-clause-marks
-prepare_unit-requires-clause-marks g c = below_limit _ _ (sym c.is_full.ensures ∙ c.if-is_full.false) c.requires.limited
-
-pub prepare_unit-requires-clause-unit : goal.prepare_unit-requires-clause-unit
-prepare_unit-requires-clause-unit g c =
-    subst (IsNewUnit c.args.books.now.ledger) (sym c.in-Ok-copy.ensures)
-    (may_record c.args.books.now.ledger c.args.sessions.now c.args.name.now c.in-Ok.session.now c.args.parts.now c.start.result (g.T.LockStore.table c.args.locks.now) c.in-Ok-unit_of.unit c.start.ensures c.in-Ok-unit_of.ensures.unit
-    c.in-Ok.ensures.found
-    c.requires.fresh c.requires.users c.in-Ok-unit_of.ensures.good c.requires.started (omega (arith, c.if-effects-eq0.false, c.effects_in-effects.ensures)) (omega (arith, c.if-effects-gt-EFFECTS_LIMIT.false, c.effects_in-effects.ensures)))
-
-pub prepare_unit-requires-clause-store : goal.prepare_unit-requires-clause-store
-prepare_unit-requires-clause-store g c =
-    nothing_stored c.args.books.now.ledger c.in-Ok-copy.recorded.numbers (ap (λ (u : UnitOfWork). u.numbers) (c.in-Ok-copy.ensures ∙ c.in-Ok-unit_of.ensures.unit))
-
-pub returns-in-Ok-write-clause-act : goal.returns-in-Ok-write-clause-act
-returns-in-Ok-write-clause-act g c s e f l m room =
-    let table = g.T.LockStore.table in
-    let x = c.in-Ok.session.now in
-    let unit_is = c.in-Ok-unit_of.ensures.unit ∙ ap (λ n. unit_of n (table c.args.locks.now).entries x c.args.parts.now) c.start.ensures in
-    let new =
-    c.in-Ok-write.ensures.done ∙ ap (after_step c.prepare_unit.new.self.ledger) c.in-Ok-prepare_unit.ensures.step ∙ ap (λ ledger. with_unit ledger c.in-Ok-copy.recorded) c.prepare_unit.ensures.unmoved.ledger
-    ∙ ap (with_unit c.args.books.now.ledger) (c.in-Ok-copy.ensures ∙ unit_is) in
-    commits s c.args.sessions.now c.begin_unit.new.self (table c.args.locks.now).entries (table c.hand.new.self).entries c.args.books.now.ledger c.write.new.self.ledger c.args.max_marks c.args.name.now x c.args.parts.now c.in-Ok-unit_of.unit.key e f l m room
-    c.in-Ok.ensures.found
-    (omega (arith, c.if-effects-eq0.false, c.effects_in-effects.ensures)) (omega (arith, c.if-effects-gt-EFFECTS_LIMIT.false, c.effects_in-effects.ensures)) (sym c.is_full.ensures ∙ c.if-is_full.false)
-    (ap (λ (u : UnitOfWork). u.key) unit_is) c.begin_unit.ensures (ap (λ t. t.entries) c.hand.ensures.after) new
-
-pub returns-in-Err-write-clause-act : goal.returns-in-Err-write-clause-act
-returns-in-Err-write-clause-act g c s e f l m room =
-    commits_in_doubt s c.args.sessions.now (g.T.LockStore.table c.args.locks.now).entries c.args.books.now.ledger c.args.max_marks c.args.name.now c.in-Ok.session.now c.args.parts.now c.in-Ok-unit_of.unit e f l m room
-    c.in-Ok.ensures.found
-    (omega (arith, c.if-effects-eq0.false, c.effects_in-effects.ensures)) (omega (arith, c.if-effects-gt-EFFECTS_LIMIT.false, c.effects_in-effects.ensures)) (sym c.is_full.ensures ∙ c.if-is_full.false)
-    (c.in-Ok-unit_of.ensures.unit ∙ ap (λ n. unit_of n (g.T.LockStore.table c.args.locks.now).entries c.in-Ok.session.now c.args.parts.now) c.start.ensures)
-
-pub returns-in-Err-clause-told : goal.returns-in-Err-clause-told
-returns-in-Err-clause-told g c = refl
-
-pub returns-in-Err-clause-left : goal.returns-in-Err-clause-left
-returns-in-Err-clause-left g c = answered_leaves g.K.Keeper.held g.K.Keeper.is_open g.K.Keeper.may_leave c.args.books.now g.met.K.Keeper.settled c.requires.usable
-
-pub returns-in-Err-clause-cause : goal.returns-in-Err-clause-cause
-returns-in-Err-clause-cause g c = subst (λ r. HasStoreCause (g.K.Keeper.faults c.args.books.now.keeper) (g.K.Keeper.faults c.args.books.now.keeper) (reply.Refused r)) (sym c.in-Err.ensures.unknown.1) refl
-
-pub returns-then-effects-gt-EFFECTS_LIMIT-clause-told : goal.returns-then-effects-gt-EFFECTS_LIMIT-clause-told
-returns-then-effects-gt-EFFECTS_LIMIT-clause-told g c = refl
-
-pub returns-then-effects-gt-EFFECTS_LIMIT-clause-left : goal.returns-then-effects-gt-EFFECTS_LIMIT-clause-left
-returns-then-effects-gt-EFFECTS_LIMIT-clause-left g c = answered_leaves g.K.Keeper.held g.K.Keeper.is_open g.K.Keeper.may_leave c.args.books.now g.met.K.Keeper.settled c.requires.usable
-
-pub returns-then-effects-gt-EFFECTS_LIMIT-clause-cause : goal.returns-then-effects-gt-EFFECTS_LIMIT-clause-cause
-returns-then-effects-gt-EFFECTS_LIMIT-clause-cause g c = refl
-
-pub returns-then-effects-eq0-clause-told : goal.returns-then-effects-eq0-clause-told
-returns-then-effects-eq0-clause-told g c = refl
-
-pub returns-then-effects-eq0-clause-left : goal.returns-then-effects-eq0-clause-left
-returns-then-effects-eq0-clause-left g c = answered_leaves g.K.Keeper.held g.K.Keeper.is_open g.K.Keeper.may_leave c.args.books.now g.met.K.Keeper.settled c.requires.usable
-
-pub returns-then-effects-eq0-clause-cause : goal.returns-then-effects-eq0-clause-cause
-returns-then-effects-eq0-clause-cause g c = refl
-
-pub returns-in-Ok-write-clause-told : goal.returns-in-Ok-write-clause-told
-returns-in-Ok-write-clause-told g c = c.write.ensures.told ∙ ap is_some c.prepare_unit.ensures.unmoved.rows
-
-pub returns-in-Ok-write-clause-left : goal.returns-in-Ok-write-clause-left
-returns-in-Ok-write-clause-left g c = answered_leaves g.K.Keeper.held g.K.Keeper.is_open g.K.Keeper.may_leave c.write.new.self g.met.K.Keeper.settled c.in-Ok-write.ensures.usable
-
-pub returns-in-Ok-write-clause-cause : goal.returns-in-Ok-write-clause-cause
-returns-in-Ok-write-clause-cause g c = c.in-Ok-write.ensures.cause.quiet ∙ c.prepare_unit.ensures.unmoved.count
-
-pub returns-in-Err-write-clause-told : goal.returns-in-Err-write-clause-told
-returns-in-Err-write-clause-told g c = c.write.ensures.told ∙ ap is_some c.prepare_unit.ensures.unmoved.rows
-
-pub returns-in-Err-write-clause-left : goal.returns-in-Err-write-clause-left
-returns-in-Err-write-clause-left g c =
-    let held = g.K.Keeper.held in
-    failed_leaves (held c.write.new.self.keeper) (held c.prepare_unit.new.self.keeper) (g.K.Keeper.may_leave c.write.new.self.keeper)
-    c.write.new.self.ledger c.prepare_unit.new.self.ledger c.in-Ok-prepare_unit.prepared.step (flight.Unit c.in-Ok-unit_of.unit)
-    c.write.ensures.told c.in-Err-write.ensures.kept
-    (where_told (held c.prepare_unit.new.self.keeper) _ (ap (after_step c.prepare_unit.new.self.ledger) c.in-Ok-prepare_unit.ensures.step ∙ ap (with_unit c.prepare_unit.new.self.ledger) c.in-Ok-copy.ensures)) c.write.ensures.left
-
-pub returns-in-Err-write-clause-cause : goal.returns-in-Err-write-clause-cause
-returns-in-Err-write-clause-cause g c =
-    let now = g.K.Keeper.faults c.write.new.self.keeper in
-    subst (λ before. (before ≤ now) × Rose before now) c.prepare_unit.ensures.unmoved.count (c.write.ensures.cause.later, c.in-Err-write.ensures.cause.failed)
-
-pub returns-in-Err-clause-kept : goal.returns-in-Err-clause-kept
-returns-in-Err-clause-kept g c = untouched_keeps g.K.Keeper.held g.K.Keeper.may_leave c.args.books.now.keeper c.in-Err.refusal
-
-pub returns-then-effects-gt-EFFECTS_LIMIT-clause-kept : goal.returns-then-effects-gt-EFFECTS_LIMIT-clause-kept
-returns-then-effects-gt-EFFECTS_LIMIT-clause-kept g c = (refl, λ rows may. may)
-
-pub returns-then-effects-eq0-clause-kept : goal.returns-then-effects-eq0-clause-kept
-returns-then-effects-eq0-clause-kept g c = tt
-
-pub returns-then-is_full-clause-kept : goal.returns-then-is_full-clause-kept
-returns-then-is_full-clause-kept g c = (refl, λ rows may. may)
-
-pub returns-in-Ok-write-clause-kept : goal.returns-in-Ok-write-clause-kept
-returns-in-Ok-write-clause-kept g c = tt
-
-pub returns-in-Err-write-clause-kept : goal.returns-in-Err-write-clause-kept
-returns-in-Err-write-clause-kept g c = tt
+pub settled_rows-requires : goal.settled_rows-requires
+settled_rows-requires g c =
+    record {
+      fit = λ x among plain.
+          subst (λ nums. level_in c.args.books.now.ledger.levels x.interval + drawn_of (present c.args.books.now.ledger.levels x.interval) nums ≤ x.interval.to)
+          (sym c.as_slice.ensures)
+          (rows_fit c.args.sessions.now c.args.name.now c.in-Ok.session.now c.in-Ok.ensures.found c.args.books.now.ledger
+          c.args.ranges.now c.requires.drawn x among plain);
+    }
 
 pub returns-in_default-clause-act : goal.returns-in_default-clause-act
-returns-in_default-clause-act g c s e f l m room =
-    commits_wanting s c.args.sessions.now (g.T.LockStore.table c.args.locks.now).entries c.args.books.now.ledger c.args.books.now.ledger c.args.name.now c.in-Ok.session.now c.args.parts.now e f l room
-    c.in-Ok.ensures.found refl
+returns-in_default-clause-act g c s e r f l m room =
+    commits_wanting s c.args.sessions.now c.args.ranges.now (g.T.LockStore.table c.args.locks.now).entries
+    c.args.books.now.ledger c.args.max_marks c.args.name.now c.in-Ok.session.now c.args.parts.now
+    (record { own_sessions = e; own_ranges = r; own_locks = f; own_ledger = l; own_limit = m; admits = room; found = c.in-Ok.ensures.found })
+    c.args.books.now.ledger refl
 
-pub returns-in_default-prepare_unit-clause-act : goal.returns-in_default-prepare_unit-clause-act
-returns-in_default-prepare_unit-clause-act g c s e f l m room =
-    commits_wanting s c.args.sessions.now (g.T.LockStore.table c.args.locks.now).entries c.args.books.now.ledger c.prepare_unit.new.self.ledger c.args.name.now c.in-Ok.session.now c.args.parts.now e f l room
-    c.in-Ok.ensures.found c.prepare_unit.ensures.unmoved.ledger
+pub returns-in_default-from_slice-clause-act : goal.returns-in_default-from_slice-clause-act
+returns-in_default-from_slice-clause-act g c s e r f l m room =
+    commits_wanting s c.args.sessions.now c.args.ranges.now (g.T.LockStore.table c.args.locks.now).entries
+    c.args.books.now.ledger c.args.max_marks c.args.name.now c.in-Ok.session.now c.args.parts.now
+    (record { own_sessions = e; own_ranges = r; own_locks = f; own_ledger = l; own_limit = m; admits = room; found = c.in-Ok.ensures.found })
+    c.args.books.now.ledger refl
 
-pub returns-in_default-copy-clause-act : goal.returns-in_default-copy-clause-act
-returns-in_default-copy-clause-act g c s e f l m room =
-    commits_wanting s c.args.sessions.now (g.T.LockStore.table c.args.locks.now).entries c.args.books.now.ledger c.args.books.now.ledger c.args.name.now c.in-Ok.session.now c.args.parts.now e f l room
-    c.in-Ok.ensures.found refl
+pub returns-in_default-unit_of-clause-act : goal.returns-in_default-unit_of-clause-act
+returns-in_default-unit_of-clause-act g c s e r f l m room =
+    commits_wanting s c.args.sessions.now c.args.ranges.now (g.T.LockStore.table c.args.locks.now).entries
+    c.args.books.now.ledger c.args.max_marks c.args.name.now c.in-Ok.session.now c.args.parts.now
+    (record { own_sessions = e; own_ranges = r; own_locks = f; own_ledger = l; own_limit = m; admits = room; found = c.in-Ok.ensures.found })
+    c.args.books.now.ledger refl
+
+pub record_numbers-requires-clause-drawing : goal.record_numbers-requires-clause-drawing
+record_numbers-requires-clause-drawing g c =
+    may_draw c.args.sessions.now c.args.name.now c.in-Ok.session.now c.in-Ok.ensures.found c.args.books.now.ledger
+    c.args.ranges.now c.requires.drawn
+    c.start.result c.unit_key-key.result c.in-Ok-from_slice.numbers.items c.start.ensures c.unit_key-key.ensures
+    (c.in-Ok-from_slice.ensures.items ∙ c.as_slice-then-effects-eq0-2.ensures) c.requires.started c.requires.fresh
+    (elim c.else-effects-eq0.branch [
+      | else-effects-eq0-via-then-effects-eq0+else-numbers-eq0 w ↦ let same = ap length c.as_slice-numbers.ensures in omega (arith, w.if-numbers-eq0.false, same)
+      | else-effects-eq0-via-else-effects-eq0 w ↦ absurd (omega (arith, w.if-effects-eq0.false, c.if-effects-eq0-2.true))
+    ])
+    (let same = ap length c.as_slice-numbers.ensures in omega (arith, c.if-numbers-gt-DRAWS_LIMIT.false, same))
+
+pub record_numbers-requires-clause-store : goal.record_numbers-requires-clause-store
+record_numbers-requires-clause-store g c =
+    draws_stored c.args.sessions.now c.args.name.now c.in-Ok.session.now c.in-Ok.ensures.found c.args.books.now.ledger
+    c.args.ranges.now c.requires.drawn
+    c.in-Ok-settled_rows.levels.items c.in-Ok-from_slice.numbers.items
+    (c.in-Ok-settled_rows.ensures ∙ ap (settled_rows c.args.books.now.ledger.levels c.args.ranges.now) c.as_slice.ensures)
+    (c.in-Ok-from_slice.ensures.items ∙ c.as_slice-then-effects-eq0-2.ensures)
+
+pub returns-then-effects-eq0-2-clause-act : goal.returns-then-effects-eq0-2-clause-act
+returns-then-effects-eq0-2-clause-act g c s e r f l m room =
+    numbers_recorded s c.args.sessions.now c.args.ranges.now (g.T.LockStore.table c.args.locks.now).entries
+    c.args.books.now.ledger c.args.max_marks c.args.name.now c.in-Ok.session.now c.args.parts.now
+    (record { own_sessions = e; own_ranges = r; own_locks = f; own_ledger = l; own_limit = m; admits = room; found = c.in-Ok.ensures.found })
+    (few_enough c.in-Ok.session.now c.args.parts.now (length c.as_slice-numbers.result.now) c.effects_in-effects.result
+    (ap length c.as_slice-numbers.ensures) c.effects_in-effects.ensures
+    (omega (arith, c.if-numbers-gt-DRAWS_LIMIT.false)) (omega (arith, c.if-effects-gt-EFFECTS_LIMIT.false)))
+    (elim c.else-effects-eq0.branch [
+      | else-effects-eq0-via-then-effects-eq0+else-numbers-eq0 w ↦ some_numbers c.in-Ok.session.now c.args.parts.now (length c.as_slice-numbers.result.now)
+          (ap length c.as_slice-numbers.ensures) (omega (arith, w.if-numbers-eq0.false))
+      | else-effects-eq0-via-else-effects-eq0 w ↦ some_effects c.in-Ok.session.now c.args.parts.now c.effects_in-effects.result c.effects_in-effects.ensures (omega (arith, w.if-effects-eq0.false))
+    ])
+    (sym c.is_full.ensures ∙ c.if-is_full.false) (no_effects c.args.parts.now c.effects_in-effects.result c.effects_in-effects.ensures c.if-effects-eq0-2.true)
+    c.unit_key-key.result c.in-Ok-from_slice.numbers.items c.in-Ok-settled_rows.levels.items
+    (c.unit_key-key.ensures ∙ ap (λ n. unit_key n c.in-Ok.session.now) c.start.ensures)
+    (c.in-Ok-from_slice.ensures.items ∙ c.as_slice-then-effects-eq0-2.ensures)
+    (c.in-Ok-settled_rows.ensures ∙ ap (settled_rows c.args.books.now.ledger.levels c.args.ranges.now) c.as_slice.ensures)
+    c.record_numbers.new.sessions c.record_numbers.new.books.ledger c.record_numbers.result c.record_numbers.ensures.outcome
+
+pub record_unit-requires-clause-new : goal.record_unit-requires-clause-new
+record_unit-requires-clause-new g c =
+    may_record c.args.books.now.ledger c.args.sessions.now c.args.name.now c.in-Ok.session.now c.args.parts.now c.start-2.result (g.T.LockStore.table c.args.locks.now)
+    c.in-Ok-unit_of.unit c.start-2.ensures c.in-Ok-unit_of.ensures.unit
+    (draws_digits c.args.sessions.now c.args.name.now c.in-Ok.session.now c.in-Ok.ensures.found c.args.books.now.ledger
+    c.args.ranges.now c.requires.drawn)
+    (let same = ap length c.as_slice-numbers.ensures in omega (arith, c.if-numbers-gt-DRAWS_LIMIT.false, same))
+    c.in-Ok.ensures.found c.requires.fresh c.requires.users c.in-Ok-unit_of.ensures.good c.requires.started (omega (arith, c.if-effects-eq0-2.false, c.effects_in-effects.ensures))
+    (omega (arith, c.if-effects-gt-EFFECTS_LIMIT.false, c.effects_in-effects.ensures))
+
+pub record_unit-requires-clause-store : goal.record_unit-requires-clause-store
+record_unit-requires-clause-store g c =
+    draws_stored c.args.sessions.now c.args.name.now c.in-Ok.session.now c.in-Ok.ensures.found c.args.books.now.ledger
+    c.args.ranges.now c.requires.drawn
+    c.in-Ok-settled_rows.levels.items c.in-Ok-unit_of.unit.numbers
+    (c.in-Ok-settled_rows.ensures ∙ ap (settled_rows c.args.books.now.ledger.levels c.args.ranges.now) c.as_slice.ensures)
+    (ap (λ (u : UnitOfWork). u.numbers) c.in-Ok-unit_of.ensures.unit)
+
+pub returns-clause-act : goal.returns-clause-act
+returns-clause-act g c s e r f l m room =
+    unit_recorded s c.args.sessions.now c.args.ranges.now (g.T.LockStore.table c.args.locks.now).entries
+    c.args.books.now.ledger c.args.max_marks c.args.name.now c.in-Ok.session.now c.args.parts.now
+    (record { own_sessions = e; own_ranges = r; own_locks = f; own_ledger = l; own_limit = m; admits = room; found = c.in-Ok.ensures.found })
+    (few_enough c.in-Ok.session.now c.args.parts.now (length c.as_slice-numbers.result.now) c.effects_in-effects.result
+    (ap length c.as_slice-numbers.ensures) c.effects_in-effects.ensures
+    (omega (arith, c.if-numbers-gt-DRAWS_LIMIT.false)) (omega (arith, c.if-effects-gt-EFFECTS_LIMIT.false)))
+    (elim c.else-effects-eq0.branch [
+      | else-effects-eq0-via-then-effects-eq0+else-numbers-eq0 w ↦ some_numbers c.in-Ok.session.now c.args.parts.now (length c.as_slice-numbers.result.now)
+          (ap length c.as_slice-numbers.ensures) (omega (arith, w.if-numbers-eq0.false))
+      | else-effects-eq0-via-else-effects-eq0 w ↦ some_effects c.in-Ok.session.now c.args.parts.now c.effects_in-effects.result c.effects_in-effects.ensures (omega (arith, w.if-effects-eq0.false))
+    ])
+    (sym c.is_full.ensures ∙ c.if-is_full.false) (with_effects c.args.parts.now c.effects_in-effects.result c.effects_in-effects.ensures (omega (arith, c.if-effects-eq0-2.false)))
+    c.in-Ok-unit_of.unit c.in-Ok-settled_rows.levels.items
+    (c.in-Ok-unit_of.ensures.unit ∙ ap (λ n. unit_of n (g.T.LockStore.table c.args.locks.now).entries c.in-Ok.session.now c.args.parts.now c.in-Ok.session.now.draws) c.start-2.ensures)
+    (c.in-Ok-settled_rows.ensures ∙ ap (settled_rows c.args.books.now.ledger.levels c.args.ranges.now) c.as_slice.ensures)
+    c.record_unit.new.sessions
+    (g.T.LockStore.table c.record_unit.new.locks).entries c.record_unit.new.books.ledger c.record_unit.result c.record_unit.ensures.outcome

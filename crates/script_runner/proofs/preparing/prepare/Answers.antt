@@ -31,6 +31,9 @@ returns-in-Put-clause-prepared c = λ hall. c.prepare_text.ensures c.args.object
 pub returns-in-Del-clause-prepared : goal.returns-in-Del-clause-prepared
 returns-in-Del-clause-prepared c = λ hall. c.prepare_other_effect.ensures c.args.objects.now hall
 
+pub returns-in-Num-clause-prepared : goal.returns-in-Num-clause-prepared
+returns-in-Num-clause-prepared c = λ hall. rw c.in-Num.is (c.draw.ensures.prepared c.args.objects.now hall)
+
 pub returns-in-Read-clause-prepared : goal.returns-in-Read-clause-prepared
 returns-in-Read-clause-prepared c = λ hall.
     let w = world c.args.objects.now hall c.args.sides.now.items in

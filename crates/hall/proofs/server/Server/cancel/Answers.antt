@@ -35,9 +35,10 @@ returns g c =
     subst (λ v. Serves held may_leave faults v (record { state = new; keeper = called.new.books.keeper }) past (command.Cancel c.args.unit) ended.result) c.self.view_is
     (record {
       call =
-          written_call (is_some (held old.books.keeper)) (is_some (held called.new.books.keeper)) old.condition ended.new.condition old.sessions old.sessions old.next_session old.orders.items old.orders.items (table old.locks) (table called.new.locks) old.max_locks old.max_marks old.ranges old.books.ledger called.new.books.ledger
+          written_call (is_some (held old.books.keeper)) (is_some (held called.new.books.keeper)) old.condition ended.new.condition old.sessions old.sessions old.next_session old.orders.items old.orders.items (table old.locks) (table called.new.locks) old.max_locks old.max_marks old.ranges old.ranges old.books.ledger called.new.books.ledger
           old.pending ended.new.pending past called.result (command.Cancel c.args.unit) ended.result due
           called.ensures.told ended.ensures.condition ended.ensures.pending ended.ensures.reply called.ensures.limit (also_failed _ called.result refl) (also_failed _ called.result refl) called.ensures.ledger
+          (also_failed _ called.result refl)
           (λ none room. called.ensures.act (before Up) (sym c.as_slice.ensures.value) refl refl refl room);
       store = record {
         told = called.ensures.told;

@@ -15,8 +15,8 @@ invariant_of-self g c =
     let called = c.commit-written in
     let ended = c.ended in
     let due = subst (λ v. IsDue v.state c.args.past.now.items) (sym c.self.view_is) c.requires in (
-      usable_after _ old.condition ended.new.condition _ called.result (due_up _ _ due) ended.ensures.condition called.ensures.usable,
-      leaves_after g.K.Keeper.held g.K.Keeper.may_leave called.new.books old.pending ended.new.pending called.result ended.ensures.pending called.ensures.left,
+      usable_after _ old.condition ended.new.condition _ called.result (due_up _ _ due) ended.ensures.condition called.ensures.store.usable,
+      leaves_after g.K.Keeper.held g.K.Keeper.may_leave called.new.books old.pending ended.new.pending called.result ended.ensures.pending called.ensures.store.left,
     )
 
 pub returns : goal.returns
@@ -35,13 +35,14 @@ returns g c =
     subst (λ v. Serves held may_leave faults v (record { state = new; keeper = called.new.books.keeper }) past (command.Commit c.args.session.now c.args.parts.now) ended.result) c.self.view_is
     (record {
       call =
-          written_call (is_some (held old.books.keeper)) (is_some (held called.new.books.keeper)) old.condition ended.new.condition old.sessions called.new.sessions old.next_session old.orders.items old.orders.items (table old.locks) (table called.new.locks) old.max_locks old.max_marks old.ranges old.books.ledger called.new.books.ledger
+          written_call (is_some (held old.books.keeper)) (is_some (held called.new.books.keeper)) old.condition ended.new.condition old.sessions called.new.sessions old.next_session old.orders.items old.orders.items (table old.locks) (table called.new.locks) old.max_locks old.max_marks old.ranges old.ranges old.books.ledger called.new.books.ledger
           old.pending ended.new.pending past called.result (command.Commit c.args.session.now c.args.parts.now) ended.result due
-          called.ensures.told ended.ensures.condition ended.ensures.pending ended.ensures.reply called.ensures.limit called.ensures.sessions (also_failed _ called.result refl) called.ensures.ledger
-          (λ none room. called.ensures.act (before Up) refl refl refl refl room);
+          called.ensures.store.told ended.ensures.condition ended.ensures.pending ended.ensures.reply called.ensures.limit called.ensures.sessions (also_failed _ called.result refl) called.ensures.store.ledger
+          (also_failed _ called.result refl)
+          (λ none room. called.ensures.act (before Up) refl refl refl refl refl room);
       store = record {
-        told = called.ensures.told;
-        cause = subst (HasStoreCause (faults old.books.keeper) (faults called.new.books.keeper)) (sym ended.ensures.reply) called.ensures.cause;
-        kept = subst (KeepsStore held may_leave old.books.keeper called.new.books.keeper) (sym ended.ensures.reply) called.ensures.kept;
+        told = called.ensures.store.told;
+        cause = subst (HasStoreCause (faults old.books.keeper) (faults called.new.books.keeper)) (sym ended.ensures.reply) called.ensures.store.cause;
+        kept = subst (KeepsStore held may_leave old.books.keeper called.new.books.keeper) (sym ended.ensures.reply) called.ensures.store.kept;
       };
     })

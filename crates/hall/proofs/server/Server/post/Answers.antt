@@ -37,9 +37,10 @@ returns g c =
     subst (λ v. Serves held may_leave faults v (record { state = new; keeper = called.new.books.keeper }) past (post_of c.args.part c.args.worker) ended.result) c.self.view_is
     (record {
       call =
-          written_call (is_some (held old.books.keeper)) (is_some (held called.new.books.keeper)) old.condition ended.new.condition old.sessions old.sessions old.next_session old.orders.items called.new.orders.items (table old.locks) (table called.new.locks) old.max_locks old.max_marks old.ranges old.books.ledger called.new.books.ledger
+          written_call (is_some (held old.books.keeper)) (is_some (held called.new.books.keeper)) old.condition ended.new.condition old.sessions old.sessions old.next_session old.orders.items called.new.orders.items (table old.locks) (table called.new.locks) old.max_locks old.max_marks old.ranges old.ranges old.books.ledger called.new.books.ledger
           old.pending ended.new.pending past called.result (post_of c.args.part c.args.worker) ended.result due
           called.ensures.told ended.ensures.condition ended.ensures.pending ended.ensures.reply called.ensures.limit (also_failed _ called.result refl) called.ensures.orders called.ensures.ledger
+          (also_failed _ called.result refl)
           (λ none room. called.ensures.act (before Up) refl refl refl refl refl room);
       store = subst (λ call. DoesStore held may_leave faults (touches_store call) old.books.keeper called.new.books.keeper ended.result) (sym (posts_part c.args.part c.args.worker c.requires.part)) (record {
         told = called.ensures.told;

@@ -35,9 +35,10 @@ returns g c =
     subst (λ v. Serves held may_leave faults v (record { state = new; keeper = called.new.books.keeper }) past (command.Read c.args.session.now c.args.table.now c.args.key.now) ended.result) c.self.view_is
     (record {
       call =
-          written_call (is_some (held old.books.keeper)) (is_some (held called.new.books.keeper)) old.condition ended.new.condition old.sessions old.sessions old.next_session old.orders.items old.orders.items (table old.locks) (table old.locks) old.max_locks old.max_marks old.ranges old.books.ledger called.new.books.ledger
+          written_call (is_some (held old.books.keeper)) (is_some (held called.new.books.keeper)) old.condition ended.new.condition old.sessions old.sessions old.next_session old.orders.items old.orders.items (table old.locks) (table old.locks) old.max_locks old.max_marks old.ranges old.ranges old.books.ledger called.new.books.ledger
           old.pending ended.new.pending past called.result (command.Read c.args.session.now c.args.table.now c.args.key.now) ended.result due
           called.ensures.told ended.ensures.condition ended.ensures.pending ended.ensures.reply refl (also_failed _ called.result refl) (also_failed _ called.result refl) (also_failed _ called.result called.ensures.ledger)
+          (also_failed _ called.result refl)
           (λ none room. called.ensures.act (before Up) refl refl refl none room);
       store = record {
         told = called.ensures.told;

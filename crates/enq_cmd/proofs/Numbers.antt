@@ -1,0 +1,252 @@
+-- The numbers that are committed stay right, whatever is called.
+use Rattle.std.proofs.Common.{◌≡◌, inl, inr, ◌^◌, ℕ, zero, suc, ◌+◌, ◌-◌, ◌≤◌, ◌<◌, Bool, true, false, not, nat_eq, List, [], ◌∷◌, Option, Some, None, refl, sym, subst, arith, append-nil}
+use Rattle.std.specs.Prelude.{Contains, IfSome, if◌then◌else◌, nat_le, nat_lt}
+use Rattle.std.specs.FinMap.{empty, get, get-empty}
+use Rattle.std.specs.List.{All, AllByRecursion, IsDistinct, range_with_len}
+use Rattle.std.proofs.lemmas.Bool.{eqb-true}
+use Rattle.std.proofs.lemmas.Bool.Decides.{nat_tests}
+use Rattle.std.proofs.lemmas.List.Elements.{All-from_recursion}
+use Rattle.std.proofs.lemmas.Map.Keys.{IsDistinct-cons}
+use Rattle.enq_base.specs.declared.owner.UnitKey.{UnitKey}
+use Rattle.enq_base.specs.declared.unit.Num.{Num as Number}
+use Rattle.enq_base.specs.declared.unit.Parts.{Parts}
+use Rattle.number_ranges.specs.Intervals.{block_level, is_buffered, with_level}
+use Rattle.number_ranges.specs.declared.interval.Interval.{Interval}
+use Rattle.posting.proofs.Numbered.{numbers_push, numbers_recorded, numbers_same}
+use Rattle.posting.specs.Intervals.{with_intervals, with_levels}
+use Rattle.posting.specs.Numbers.{AreNumbersRight, committed}
+use Rattle.posting.specs.Posts.{kind_for}
+use Rattle.range_list.proofs.Drawing.{interval_among, range_found}
+use Rattle.range_list.proofs.Fits.{level_fits}
+use Rattle.range_list.proofs.Owners.{session_may_commit}
+use Rattle.range_list.proofs.Storing.{may_raise, none_committed}
+use Rattle.range_list.specs.Drawn.{handed_out, num_of, settled_rows, stored_as}
+use Rattle.range_list.specs.Levels.{intervals_of, present}
+use Rattle.range_list.specs.declared.range.NumberRange.{NumberRange}
+use Rattle.store_reading.specs.Good.{IsSound}
+use Rattle.update_records.proofs.Status.{none_of}
+use Rattle.update_records.specs.Business.{numbers_from}
+use Rattle.update_records.specs.Growing.{next_mark, with_mark}
+use Rattle.update_records.specs.Ledger.{AreDrawn, IsRightLevel, Ledger, Levels, LevelsAgree}
+use Rattle.update_records.specs.Marks.{has_no_v2}
+use Rattle.update_records.specs.RecordRows.{Level}
+use Rattle.update_records.specs.declared.records.MarkKind.{MarkKind}
+use Rattle.update_records.specs.declared.records.MarkKind.TheVariants as mark
+use Rattle.hall.specs.declared.command.Command.{Command}
+use Rattle.hall.specs.declared.command.Session.{Session}
+use Rattle.hall.specs.Devices.{DeviceOutcome}
+use Rattle.hall.specs.History.{judged, served}
+use Rattle.hall.specs.Kept.{HasSoundLocks, IsDrawn, IsSteady}
+use Rattle.hall.specs.Numbers.{drawn, next_number, raised_to}
+use Rattle.hall.specs.Recall.{Made, recalled, state_after}
+use Rattle.hall.specs.Sessions.{is_called, session_at, unit_key, with_draw, with_session, without_draws}
+use Rattle.hall.specs.State.{State, opened}
+use Rattle.hall.specs.Step.{Found, committed as recorded, numbered, unit_of}
+use Rattle.hall.proofs.Beginning.{AgreeWith, IsFirst, first_few, first_sound, first_steady}
+use Rattle.hall.proofs.ByCall.{CanDraw, OfEach, by_call, by_event}
+use Rattle.hall.proofs.Drawn.{CommitsNone, blocks, post_commits_none}
+use Rattle.hall.proofs.Fair.{step-sound}
+use Rattle.hall.proofs.Few.{Holds, served-holds, with_past}
+use Rattle.hall.proofs.Frames.{by_noting}
+use Rattle.hall.proofs.Fresh.{open_unheard}
+
+-- the levels of a ledger agree with the numbers that are committed
+abbrev Agrees : Ledger → Type 0
+Agrees ledger = LevelsAgree ledger.levels (committed ledger)
+
+-- ---- what one call leaves
+
+not_past : (m n : ℕ) → nat_lt m n ≡ false → n ≤ m
+not_past m n h = grind (arith, nat_tests)
+
+not_no : (b : Bool) → not b ≡ false → b ≡ true
+not_no true h = refl
+not_no false h = cc
+
+-- a mark that commits no number
+agreed_marked : (ledger : Ledger) (key : UnitKey) (kind : MarkKind) → CommitsNone kind → Agrees ledger → Agrees (with_mark ledger key kind)
+agreed_marked ledger key kind none h =
+    let m = next_mark ledger key kind in
+    subst (LevelsAgree ledger.levels) (sym (numbers_same ledger.units ledger.marks m (none ledger.units m.seq key))) h
+
+-- a level that is raised to a number
+agreed_raised : (s : State) (i : Interval) (upto : ℕ) → Contains (intervals_of s.ranges) i → is_buffered i ≡ true → upto ≤ i.to → IsDrawn s → Agrees s.stored → Agrees (raised_to (present s.stored.levels i) upto s.stored)
+agreed_raised s i upto among is within draws h =
+    let levels = s.stored.levels in
+    let j = present levels i in
+    let level = block_level j upto in
+    let row = stored_as (with_level level i) in
+    let block = blocks j upto is (level_fits (intervals_of s.ranges) levels i draws.intervals draws.fit among) within in
+    elim (nat_le upto j.level) as (λ b. Agrees (if b then s.stored else with_intervals (row ∷ []) s.stored)) [
+      | true ↦ h
+      | false ↦
+          subst (LevelsAgree (with_levels (row ∷ []) levels)) (append-nil (committed s.stored))
+          ((may_raise s.stored (intervals_of s.ranges) i level draws.intervals draws.fit among is block.risen block.within).agree h)
+    ]
+
+-- a number that is drawn
+agreed_drawn : (s : State) (x : Session) (object nr : List ℕ) (r : NumberRange) → CanDraw s x object nr r → IsDrawn s → Agrees s.stored → Agrees (drawn s x (present s.stored.levels r.interval) (next_number r (present s.stored.levels r.interval) x)).stored
+agreed_drawn s x object nr r can draws h =
+    let i = present s.stored.levels r.interval in
+    let number = next_number r i x in
+    let t : State = record s { sessions = with_session x.name (with_draw (num_of i number)) s.sessions } in
+    elim (is_buffered i) as (λ b. is_buffered r.interval ≡ b → Agrees (if b then record t { ranges = handed_out i t.ranges; stored = raised_to i number t.stored } else t).stored) [
+      | true ↦ λ is. agreed_raised s r.interval number (interval_among s.ranges r (range_found s.ranges object nr r can.range).among) is (not_past r.interval.to number can.within) draws h
+      | false ↦ λ is. h
+    ] refl
+
+abbrev draws_of : Session → List Number
+draws_of x = x.draws
+
+-- numbers that are committed alone
+agreed_numbered : (s : State) (name : List ℕ) (x : Session) → session_at s.sessions name ≡ Some x → IsDrawn s → Agrees s.stored → Agrees (numbered s x x.draws).stored
+agreed_numbered s name x at draws h =
+    let may = session_may_commit draws_of (is_called name) without_draws s.sessions x at s.stored s.ranges draws in
+    subst (LevelsAgree (with_levels (settled_rows s.stored.levels s.ranges x.draws) s.stored.levels))
+    (sym (numbers_push s.stored.units s.stored.marks (next_mark s.stored (unit_key s.stored.start x) (mark.Num x.draws)))) (may.agree h)
+
+-- and with a unit
+agreed_recorded : (s : State) (name : List ℕ) (x : Session) (parts : Parts) → session_at s.sessions name ≡ Some x → IsSteady s → Agrees s.stored → Agrees (recorded s x parts x.draws).stored
+agreed_recorded s name x parts at steady h =
+    let units = s.stored.units in
+    let old = s.stored.marks in
+    let unit = unit_of s.stored.start s.locks x parts x.draws in
+    let fresh = open_unheard s name x at steady.fresh in
+    let may = session_may_commit draws_of (is_called name) without_draws s.sessions x at s.stored s.ranges steady.drawn in
+    subst (LevelsAgree (with_levels (settled_rows s.stored.levels s.ranges x.draws) s.stored.levels))
+    (sym (numbers_recorded units unit old (next_mark s.stored unit.key mark.Rec).seq (none_of (has_no_v2 units unit.key) unit.key old fresh) (steady.marked unit.key fresh)))
+    (may.agree h)
+
+each-agreed : (found : Found) (s : State) → IsSteady s → Agrees s.stored → OfEach (λ call v. Agrees (judged s v).state.stored) found s
+each-agreed found s steady h = record {
+  refuses = λ call r plain. h;
+  enters = λ name user free. h;
+  logs_off = λ name x at. h;
+  grants = λ name x rs locks at e. h;
+  lowers = λ name x rs at. h;
+  frees = λ name x at. h;
+  converts = λ name x wanted c at e. h;
+  draws = λ name x object nr r at can. agreed_drawn s x object nr r can steady.drawn h;
+  reserves = λ name x object nr upto r at can.
+      agreed_raised s r.interval upto (interval_among s.ranges r (range_found s.ranges object nr r can.range).among) (not_no (is_buffered r.interval) can.buffered) (not_past r.interval.to upto can.within) steady.drawn h;
+  reads = λ name x table key at. h;
+  commits_nothing = λ name x parts at. h;
+  commits_numbers = λ name x parts at. agreed_numbered s name x at steady.drawn h;
+  commits = λ name x parts at. agreed_recorded s name x parts at steady h;
+  rolls_back = λ name x at. h;
+  takes = λ worker part unit free e. h;
+  posts = λ worker part unit e. agreed_marked s.stored unit (kind_for part (found.part part unit)) (post_commits_none part (found.part part unit)) h;
+  drops = λ worker unit e. h;
+  cancels = λ unit status can. agreed_marked s.stored unit mark.Gone (λ units seq key. refl) h;
+  reopens = λ unit es here stand. agreed_marked s.stored unit mark.Again1 (λ units seq key. refl) h;
+  reposts = λ unit here. agreed_marked s.stored unit mark.Again2 (λ units seq key. refl) h;
+}
+
+served-agreed : (o : DeviceOutcome) (s : State) (c : Command) → IsSteady s → Agrees s.stored → Agrees (served o s c).state.stored
+served-agreed o s c steady h =
+    by_event (λ r. Agrees r.state.stored) o s c
+    (λ found. by_call (λ call v. Agrees (judged s v).state.stored) found s (each-agreed found s steady h) _) h (λ pending. h)
+
+-- ---- states that calls lead to
+
+record IsReached (s : State) : Type 0 where
+  calls : ℕ
+  holds : Holds calls s
+  sound : HasSoundLocks s
+  agreed : Agrees s.stored
+
+reached_next : (s : State) (m : Made) → IsReached s → IsReached (recalled s m)
+reached_next s m h =
+    let c = m.call.command in
+    let r = served m.outcome s c in
+    let holds = served-holds h.calls m.outcome s c h.sound h.holds in
+    let agreed = served-agreed m.outcome s c h.holds.steady h.agreed in
+    record {
+      calls = h.calls + 1;
+      holds = by_noting (λ x. Holds (h.calls + 1) x.state) m.call.line c r holds (with_past (h.calls + 1) r.state _ holds);
+      sound = step-sound m.outcome s m.call.line c h.sound;
+      agreed = by_noting (λ x. Agrees x.state.stored) m.call.line c r agreed agreed;
+    }
+
+reached_after : (s : State) (ms : List Made) → IsReached s → IsReached (state_after s ms)
+reached_after s [] h = h
+reached_after s (m ∷ ms) h = reached_after (recalled s m) ms (reached_next s m h)
+
+nothing_agrees : LevelsAgree empty []
+nothing_agrees = record { right = λ name. simp get-empty tt; stored = All-from_recursion _ [] tt }
+
+sound_agrees : (ledger : Ledger) → IsSound ledger → Agrees ledger
+sound_agrees ledger (inl none) = subst Agrees (sym none) nothing_agrees
+sound_agrees ledger (inr law) = law.levels
+
+first_agrees : (ledger : Ledger) → IsFirst ledger → Agrees ledger
+first_agrees ledger first = subst Agrees (sym first.2) (sound_agrees first.0 first.1)
+
+-- ---- what agreeing levels say
+
+differ : (n k : ℕ) → n < k → nat_eq n k ≡ false
+differ n k less = elim (nat_eq n k) as (λ b. nat_eq n k ≡ b → b ≡ false) [ true ↦ λ e. let same = eqb-true n k e in absurd (omega (arith, same, less)) | false ↦ λ e. refl ] refl
+
+all_past : (n a len : ℕ) → n < a → AllByRecursion (λ k. nat_eq n k ≡ false) (range_with_len a len)
+all_past n a zero less = tt
+all_past n a (suc len) less = (differ n a less, all_past n (a + 1) len (omega (arith, less)))
+
+range_once : (a len : ℕ) → IsDistinct nat_eq (range_with_len a len)
+unfolding IsDistinct
+range_once a zero = tt
+range_once a (suc len) = IsDistinct-cons nat_eq a (range_with_len (a + 1) len) (all_past a (a + 1) len (omega arith)) (range_once (a + 1) len)
+
+range_inside : (low high a len : ℕ) → low ≤ a → a + len ≤ high + 1 → AllByRecursion (λ n. (low ≤ n) × (n ≤ high)) (range_with_len a len)
+range_inside low high a zero from to = tt
+range_inside low high a (suc len) from to = ((from, omega (arith, to)), range_inside low high (a + 1) len (omega (arith, from)) (omega (arith, to)))
+
+drawn_once : (buffered : Bool) (level : Level) (numbers : List ℕ) → AreDrawn buffered level numbers → IsDistinct nat_eq numbers
+drawn_once false level numbers draws = subst (IsDistinct nat_eq) (sym draws) (range_once level.from (level.level + 1 - level.from))
+drawn_once true level numbers draws = draws.0
+
+drawn_inside : (buffered : Bool) (level : Level) (numbers : List ℕ) → level.from ≤ level.level + 1 → AreDrawn buffered level numbers → All (λ n. (level.from ≤ n) × (n ≤ level.level)) numbers
+drawn_inside false level numbers begun draws =
+    subst (All (λ n. (level.from ≤ n) × (n ≤ level.level))) (sym draws)
+    (All-from_recursion (λ n. (level.from ≤ n) × (n ≤ level.level)) (range_with_len level.from (level.level + 1 - level.from))
+    (range_inside level.from level.level level.from (level.level + 1 - level.from) (omega arith) (omega (arith, begun))))
+drawn_inside true level numbers begun draws = draws.1
+
+drawn_run : (level : Level) (numbers : List ℕ) (buffered : Bool) → level.buffered ≡ buffered → AreDrawn level.buffered level numbers → buffered ≡ false → numbers ≡ range_with_len level.from (level.level + 1 - level.from)
+drawn_run level numbers false is draws h = subst (λ b. AreDrawn b level numbers) is draws
+drawn_run level numbers true is draws h = cc
+
+once_by : (levels : Levels) (numbers : List Number) (name : List ℕ × List ℕ) (found : Option Level) → LevelsAgree levels numbers → get levels name ≡ found → IfSome found (IsRightLevel name numbers) → IsDistinct nat_eq (numbers_from name numbers)
+unfolding IsDistinct
+once_by levels numbers name None agree is right = subst (IsDistinct nat_eq) (sym (none_committed levels numbers name agree is)) tt
+once_by levels numbers name (Some level) agree is right = drawn_once level.buffered level (numbers_from name numbers) right.drawn
+
+run_by : (name : List ℕ × List ℕ) (numbers : List Number) (found : Option Level) → IfSome found (IsRightLevel name numbers)
+    → IfSome found (λ level. level.buffered ≡ false → numbers_from name numbers ≡ range_with_len level.from (level.level + 1 - level.from))
+run_by name numbers None right = tt
+run_by name numbers (Some level) right = λ h. drawn_run level (numbers_from name numbers) level.buffered refl right.drawn h
+
+inside_by : (name : List ℕ × List ℕ) (numbers : List Number) (found : Option Level) → IfSome found (IsRightLevel name numbers) → IfSome found (λ level. All (λ n. (level.from ≤ n) × (n ≤ level.level)) (numbers_from name numbers))
+inside_by name numbers None right = tt
+inside_by name numbers (Some level) right = drawn_inside level.buffered level (numbers_from name numbers) right.begun right.drawn
+
+agreed_right : (ledger : Ledger) → Agrees ledger → AreNumbersRight ledger
+agreed_right ledger agree = record {
+  once = λ name. once_by ledger.levels (committed ledger) name (get ledger.levels name) agree refl (agree.right name);
+  consecutive = λ name. run_by name (committed ledger) (get ledger.levels name) (agree.right name);
+  within = λ name. inside_by name (committed ledger) (get ledger.levels name) (agree.right name);
+  stored = agree.stored;
+}
+
+-- ---- whole histories
+
+-- in each state to which calls lead the committed numbers are right
+pub numbers_right : (limit mark_limit : ℕ) (intervals : List Interval) (told : Bool) (ledger : Ledger) (made : List Made) → limit < 2 ^ 32 → mark_limit ≤ 1048576 → AgreeWith intervals ledger → IsFirst ledger → AreNumbersRight (state_after (opened limit mark_limit intervals told ledger) made).stored
+numbers_right limit mark_limit intervals told ledger made fits limited agree first =
+    let start = opened limit mark_limit intervals told ledger in
+    let reached : IsReached start = record {
+      calls = 0;
+      holds = record { few = first_few limit mark_limit intervals told ledger; steady = first_steady limit mark_limit intervals told ledger limited agree first };
+      sound = first_sound limit mark_limit intervals told ledger fits first;
+      agreed = first_agrees ledger first;
+    } in
+    agreed_right (state_after start made).stored (reached_after start made reached).agreed

@@ -1,0 +1,135 @@
+-- How calls end that use the store, and what a step that was tried leaves of it.
+use Rattle.std.proofs.Common.{◌≡◌, ◌⊎◌, inl, inr, ℕ, refl, sym, ap, ◌∙◌, subst, arith}
+use Rattle.std.specs.Prelude.{Option, Some, None, Result, Ok, Err, IfSome, OnErr, OnOk, is_some}
+use Rattle.enq_base.specs.declared.refusal.Refusal.{Refusal}
+use Rattle.enq_base.specs.declared.refusal.Refusal.TheVariants as refusal
+use Rattle.keeper_api.specs.Keeping.{HasFaultCause, IsOnly, IsWithin, OnNoMemory}
+use Rattle.keeper_api.specs.Rows.{Rows}
+use Rattle.keeper_api.specs.declared.fault.KeepFault.{KeepFault}
+use Rattle.keeper_api.specs.declared.fault.KeepFault.TheVariants as fault
+use Rattle.posting.specs.Shelf.{IsUnmoved, IsUsable, Shelf, StandForEither}
+use Rattle.posting.specs.Steps.{after_step}
+use Rattle.posting.specs.declared.prepared.Step.{Step}
+use Rattle.update_records.specs.Ledger.{Ledger, StandFor}
+use Rattle.hall.specs.Flights.{landed}
+use Rattle.hall.specs.Leaving.{HasStoreCause, KeepsStore}
+use Rattle.hall.specs.Storing.{EndsAs, StaysAsItWas, TriesStep}
+use Rattle.hall.specs.declared.command.Reply.{Reply}
+use Rattle.hall.specs.declared.command.Reply.TheVariants as reply
+use Rattle.hall.specs.declared.units.InFlight.{InFlight}
+use Rattle.hall.specs.declared.units.Written.TheVariants.{Answered, Failed}
+use Rattle.hall.proofs.Leaves.{answered_leaves, failed_leaves, plain_quiet, untouched_keeps, where_told}
+use Rattle.hall.proofs.Plain.{IsPlain}
+
+module _ {K : Type 0} (held : K → Option Rows) (is_open : K → Type 0) (may_leave : K → Rows → Type 0) (faults : K → ℕ) where
+  -- while calls are allowed, a stop leaves the rows that are held
+  abbrev pub IsSettled : Type 0
+  IsSettled = (keeper : K) → is_open keeper → IfSome (held keeper) (λ rows. IsOnly rows (may_leave keeper))
+
+  -- ---- the books are as before
+
+  -- the answer tells of no failure, and asks nothing of a store that is the same
+  pub quiet_ends : IsSettled → (shelf : Shelf K) → IsUsable held is_open shelf → (r : Reply) → ((n : ℕ) → HasStoreCause n n r) → ((k : K) → KeepsStore held may_leave k k r)
+      → EndsAs held is_open may_leave faults shelf shelf (Answered r)
+  quiet_ends settled shelf usable r quiet keeps = record {
+    ledger = tt;
+    usable = usable;
+    told = refl;
+    left = answered_leaves held is_open may_leave shelf settled usable;
+    cause = quiet (faults shelf.keeper);
+    kept = keeps shelf.keeper;
+  }
+
+  quiet_refusal : (r : Refusal) → (IsPlain r ⊎ (r ≡ refusal.NoMemory)) → (n : ℕ) → HasStoreCause n n (reply.Refused r)
+  quiet_refusal r (inl plain) n = plain_quiet r n n refl plain
+  quiet_refusal r (inr is) n = subst (λ x. HasStoreCause n n (reply.Refused x)) (sym is) refl
+
+  -- a refusal that isn't the store's
+  pub refused_ends : IsSettled → (shelf : Shelf K) → IsUsable held is_open shelf → (r : Refusal) → (IsPlain r ⊎ (r ≡ refusal.NoMemory))
+      → EndsAs held is_open may_leave faults shelf shelf (Answered (reply.Refused r))
+  refused_ends settled shelf usable r why =
+      quiet_ends settled shelf usable (reply.Refused r) (quiet_refusal r why) (λ k. untouched_keeps held may_leave k r)
+
+  -- ---- a step was tried
+
+  -- memory was wanting before it
+  pub wanting_ends : IsSettled → (old new : Shelf K) (step : Step) → TriesStep held is_open may_leave faults old new step (Err fault.NoMemory)
+      → EndsAs held is_open may_leave faults old new (Answered (reply.Refused refusal.NoMemory))
+  wanting_ends settled old new step tried = record {
+    ledger = tt;
+    usable = tried.usable;
+    told = tried.told;
+    left = answered_leaves held is_open may_leave new settled tried.usable;
+    cause = tried.cause.quiet;
+    kept = (tried.untouched.rows, tried.untouched.crash);
+  }
+
+  -- it was written
+  pub done_ends : IsSettled → (old new : Shelf K) (step : Step) → TriesStep held is_open may_leave faults old new step (Ok tt)
+      → (r : Reply) → ((n m : ℕ) → m ≡ n → HasStoreCause n m r) → KeepsStore held may_leave old.keeper new.keeper r
+      → EndsAs held is_open may_leave faults old new (Answered r)
+  done_ends settled old new step tried r quiet keeps = record {
+    ledger = tt;
+    usable = tried.usable;
+    told = tried.told;
+    left = answered_leaves held is_open may_leave new settled tried.usable;
+    cause = quiet (faults old.keeper) (faults new.keeper) tried.cause.quiet;
+    kept = keeps;
+  }
+
+  -- the store failed, with a change in flight that is the step
+  pub failed_ends : (old new : Shelf K) (step : Step) (change : InFlight) → TriesStep held is_open may_leave faults old new step (Err fault.Failed)
+      → after_step old.ledger step ≡ landed old.ledger change → EndsAs held is_open may_leave faults old new (Failed (Some change))
+  failed_ends old new step change tried is = record {
+    ledger = tried.kept;
+    usable = tt;
+    told = tried.told;
+    left = failed_leaves (held new.keeper) (held new.keeper) (may_leave new.keeper) new.ledger old.ledger step change refl tried.kept
+        (where_told (held new.keeper) _ is) tried.left;
+    cause = (tried.cause.later, tried.cause.failed);
+    kept = tt;
+  }
+
+  -- ---- how a step is tried
+
+  either_stays : (o : Option Rows) (P : Rows → Type 0) (ledger old : Ledger) (step : Step) → ledger ≡ old → IfSome o (λ _. (left : Rows) → P left → StandFor left ledger)
+      → IfSome o (λ _. (left : Rows) → P left → StandForEither left old step)
+  either_stays None P ledger old step same h = tt
+  either_stays (Some rows) P ledger old step same h = λ left may. inl (subst (StandFor left) same (h left may))
+
+  -- memory was wanting while it was made ready
+  pub wanting_tries : IsSettled → (old new : Shelf K) (step : Step) → IsUsable held is_open new → IsUnmoved held may_leave faults old new
+      → TriesStep held is_open may_leave faults old new step (Err fault.NoMemory)
+  wanting_tries settled old new step usable same = record {
+    done = tt;
+    kept = same.ledger;
+    usable = usable;
+    told = ap is_some same.rows;
+    left = either_stays (held new.keeper) (may_leave new.keeper) new.ledger old.ledger step same.ledger (answered_leaves held is_open may_leave new settled usable);
+    cause = let count = same.count in record { later = omega (arith, count); failed = tt; quiet = count };
+    untouched = record { rows = same.rows; crash = same.crash };
+  }
+
+  -- nothing was done yet
+  pub unmoved : (shelf : Shelf K) → IsUnmoved held may_leave faults shelf shelf
+  unmoved shelf = record { ledger = refl; rows = refl; crash = λ left may. may; count = refl }
+
+  untouched_more : (old mid new : K) (result : Result Unit KeepFault) → held mid ≡ held old → IsWithin (may_leave mid) (may_leave old)
+      → OnNoMemory result (StaysAsItWas held may_leave mid new) → OnNoMemory result (StaysAsItWas held may_leave old new)
+  untouched_more old mid new (Ok x) rows crash h = tt
+  untouched_more old mid new (Err fault.Failed) rows crash h = tt
+  untouched_more old mid new (Err fault.NoMemory) rows crash h = record { rows = h.rows ∙ rows; crash = λ left may. crash left (h.crash left may) }
+
+  -- it was made ready and then tried
+  pub ready_tries : (old mid new : Shelf K) (ready step : Step) (result : Result Unit KeepFault) → ready ≡ step → IsUnmoved held may_leave faults old mid
+      → TriesStep held is_open may_leave faults mid new ready result → TriesStep held is_open may_leave faults old new step result
+  ready_tries old mid new ready step result is same tried = record {
+    done = subst (λ s. OnOk result (new.ledger ≡ after_step old.ledger s)) is (subst (λ l. OnOk result (new.ledger ≡ after_step l ready)) same.ledger tried.done);
+    kept = subst (λ l. OnErr result (new.ledger ≡ l)) same.ledger tried.kept;
+    usable = tried.usable;
+    told = tried.told ∙ ap is_some same.rows;
+    left = subst (λ s. IfSome (held new.keeper) (λ _. (left : Rows) → may_leave new.keeper left → StandForEither left old.ledger s)) is
+        (subst (λ l. IfSome (held new.keeper) (λ _. (left : Rows) → may_leave new.keeper left → StandForEither left l ready)) same.ledger tried.left);
+    cause = subst (λ n. HasFaultCause n (faults new.keeper) result) same.count tried.cause;
+    untouched = untouched_more old.keeper mid.keeper new.keeper result same.rows same.crash tried.untouched;
+  }
