@@ -52,7 +52,7 @@ draws() {
 
 # The seconds that enqd takes for the script in its folder.
 served() {
-    rm -f "$folder"/run/enq.db*
+    rm -f "$folder"/run/enq.db* "$folder"/run/ENQBCK
     begun=$(date +%s.%N)
     (cd "$folder/run" && "$enqd" replay < script > replies)
     ended=$(date +%s.%N)

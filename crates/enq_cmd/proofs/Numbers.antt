@@ -1,5 +1,5 @@
 -- The numbers that are committed stay right, whatever is called.
-use Rattle.std.proofs.Common.{◌≡◌, inl, inr, ◌^◌, ℕ, zero, suc, ◌+◌, ◌-◌, ◌≤◌, ◌<◌, Bool, true, false, not, nat_eq, List, [], ◌∷◌, Option, Some, None, refl, sym, subst, arith, append-nil}
+use Rattle.std.proofs.Common.{◌≡◌, inl, inr, ◌^◌, ℕ, zero, suc, ◌+◌, ◌-◌, ◌≤◌, ◌<◌, Bool, true, false, not, nat_eq, List, [], ◌∷◌, ◌++◌, Option, Some, None, refl, sym, subst, arith, append-nil}
 use Rattle.std.specs.Prelude.{Contains, IfSome, if◌then◌else◌, nat_le, nat_lt}
 use Rattle.std.specs.FinMap.{empty, get, get-empty}
 use Rattle.std.specs.List.{All, AllByRecursion, IsDistinct, range_with_len}
@@ -18,7 +18,7 @@ use Rattle.posting.specs.Numbers.{AreNumbersRight, committed}
 use Rattle.posting.specs.Posts.{kind_for}
 use Rattle.range_list.proofs.Drawing.{interval_among, range_found}
 use Rattle.range_list.proofs.Fits.{level_fits}
-use Rattle.range_list.proofs.Owners.{session_may_commit}
+use Rattle.range_list.proofs.Owners.{session_may_commit_stock}
 use Rattle.range_list.proofs.Storing.{may_raise, none_committed}
 use Rattle.range_list.specs.Drawn.{handed_out, num_of, settled_rows, stored_as}
 use Rattle.range_list.specs.Levels.{intervals_of, present}
@@ -36,19 +36,25 @@ use Rattle.hall.specs.declared.command.Command.{Command}
 use Rattle.hall.specs.declared.command.Session.{Session}
 use Rattle.hall.specs.Devices.{DeviceOutcome}
 use Rattle.hall.specs.History.{judged, served}
-use Rattle.hall.specs.Kept.{HasSoundLocks, IsDrawn, IsSteady}
+use Rattle.hall.specs.Kept.{HasOpenUnits, HasSoundLocks, IsDrawn, IsSteady}
 use Rattle.hall.specs.Numbers.{drawn, next_number, raised_to}
-use Rattle.hall.specs.Recall.{Made, recalled, state_after}
+use Rattle.hall.specs.Calls.{call_of}
+use Rattle.hall.specs.Recall.{IsModelAnswer, Made, recalled, state_after}
 use Rattle.hall.specs.Sessions.{is_called, session_at, unit_key, with_draw, with_session, without_draws}
 use Rattle.hall.specs.State.{State, opened}
+use Rattle.hall.specs.Stocks.{IsStockIn, MayCall}
 use Rattle.hall.specs.Step.{Found, committed as recorded, numbered, unit_of}
-use Rattle.hall.proofs.Beginning.{AgreeWith, IsFirst, first_few, first_sound, first_steady}
-use Rattle.hall.proofs.ByCall.{CanDraw, OfEach, by_call, by_event}
+use Rattle.hall.proofs.Beginning.{AgreeWith, IsFirst}
+use Rattle.hall.proofs.ByCall.{CanDraw, OfEach, by_event, by_filing, by_made}
 use Rattle.hall.proofs.Drawn.{CommitsNone, blocks, post_commits_none}
 use Rattle.hall.proofs.Fair.{step-sound}
+use Rattle.hall.proofs.FirstState.{IsFirstTable, first_few, first_open, first_sound, first_steady}
 use Rattle.hall.proofs.Few.{Holds, served-holds, with_past}
 use Rattle.hall.proofs.Frames.{by_noting}
 use Rattle.hall.proofs.Fresh.{open_unheard}
+use Rattle.hall.proofs.OpenKept.{served-open}
+use Rattle.enq_cmd.specs.Main.{HandedAreOpen}
+use Rattle.hall.proofs.Recalls.{AnswersFrom}
 
 -- the levels of a ledger agree with the numbers that are committed
 abbrev Agrees : Ledger → Type 0
@@ -99,53 +105,58 @@ abbrev draws_of : Session → List Number
 draws_of x = x.draws
 
 -- numbers that are committed alone
-agreed_numbered : (s : State) (name : List ℕ) (x : Session) → session_at s.sessions name ≡ Some x → IsDrawn s → Agrees s.stored → Agrees (numbered s x x.draws).stored
-agreed_numbered s name x at draws h =
-    let may = session_may_commit draws_of (is_called name) without_draws s.sessions x at s.stored s.ranges draws in
-    subst (LevelsAgree (with_levels (settled_rows s.stored.levels s.ranges x.draws) s.stored.levels))
-    (sym (numbers_push s.stored.units s.stored.marks (next_mark s.stored (unit_key s.stored.start x) (mark.Num x.draws)))) (may.agree h)
+agreed_numbered : (s : State) (name : List ℕ) (x : Session) (stock : List Number) → session_at s.sessions name ≡ Some x → IsStockIn s stock → IsDrawn s → Agrees s.stored → Agrees (numbered s x (x.draws ++ stock)).stored
+agreed_numbered s name x stock at fits draws h =
+    let numbers = x.draws ++ stock in
+    let may = session_may_commit_stock draws_of (is_called name) without_draws s.sessions x at s.stored s.ranges stock fits draws in
+    subst (LevelsAgree (with_levels (settled_rows s.stored.levels s.ranges numbers) s.stored.levels))
+    (sym (numbers_push s.stored.units s.stored.marks (next_mark s.stored (unit_key s.stored.start x) (mark.Num numbers)))) (may.agree h)
 
 -- and with a unit
-agreed_recorded : (s : State) (name : List ℕ) (x : Session) (parts : Parts) → session_at s.sessions name ≡ Some x → IsSteady s → Agrees s.stored → Agrees (recorded s x parts x.draws).stored
-agreed_recorded s name x parts at steady h =
+agreed_recorded : (s : State) (name : List ℕ) (x : Session) (parts : Parts) (stock : List Number) → session_at s.sessions name ≡ Some x → IsStockIn s stock → IsSteady s → Agrees s.stored → Agrees (recorded s x parts (x.draws ++ stock)).stored
+agreed_recorded s name x parts stock at fits steady h =
+    let numbers = x.draws ++ stock in
     let units = s.stored.units in
     let old = s.stored.marks in
-    let unit = unit_of s.stored.start s.locks x parts x.draws in
+    let unit = unit_of s.stored.start s.locks x parts numbers in
     let fresh = open_unheard s name x at steady.fresh in
-    let may = session_may_commit draws_of (is_called name) without_draws s.sessions x at s.stored s.ranges steady.drawn in
-    subst (LevelsAgree (with_levels (settled_rows s.stored.levels s.ranges x.draws) s.stored.levels))
+    let may = session_may_commit_stock draws_of (is_called name) without_draws s.sessions x at s.stored s.ranges stock fits steady.drawn in
+    subst (LevelsAgree (with_levels (settled_rows s.stored.levels s.ranges numbers) s.stored.levels))
     (sym (numbers_recorded units unit old (next_mark s.stored unit.key mark.Rec).seq (none_of (has_no_v2 units unit.key) unit.key old fresh) (steady.marked unit.key fresh)))
     (may.agree h)
 
-each-agreed : (found : Found) (s : State) → IsSteady s → Agrees s.stored → OfEach (λ call v. Agrees (judged s v).state.stored) found s
+each-agreed : (found : Found) (s : State) → IsSteady s → Agrees s.stored → OfEach (λ call v. MayCall s call → Agrees (judged s v).state.stored) found s
 each-agreed found s steady h = record {
-  refuses = λ call r plain. h;
-  enters = λ name user free. h;
-  logs_off = λ name x at. h;
-  grants = λ name x rs locks at e. h;
-  lowers = λ name x rs at. h;
-  frees = λ name x at. h;
-  converts = λ name x wanted c at e. h;
-  draws = λ name x object nr r at can. agreed_drawn s x object nr r can steady.drawn h;
-  reserves = λ name x object nr upto r at can.
+  refuses = λ call r plain may. h;
+  enters = λ name user free may. h;
+  logs_off = λ name x at may. h;
+  grants = λ name x rs locks at e may. h;
+  lowers = λ name x rs at may. h;
+  frees = λ name x at may. h;
+  converts = λ name x wanted c at e may. h;
+  draws = λ name x object nr r at can may. agreed_drawn s x object nr r can steady.drawn h;
+  reserves = λ name x object nr upto r at can may.
       agreed_raised s r.interval upto (interval_among s.ranges r (range_found s.ranges object nr r can.range).among) (not_no (is_buffered r.interval) can.buffered) (not_past r.interval.to upto can.within) steady.drawn h;
-  reads = λ name x table key at. h;
-  commits_nothing = λ name x parts at. h;
-  commits_numbers = λ name x parts at. agreed_numbered s name x at steady.drawn h;
-  commits = λ name x parts at. agreed_recorded s name x parts at steady h;
-  rolls_back = λ name x at. h;
-  takes = λ worker part unit free e. h;
-  posts = λ worker part unit e. agreed_marked s.stored unit (kind_for part (found.part part unit)) (post_commits_none part (found.part part unit)) h;
-  drops = λ worker unit e. h;
-  cancels = λ unit status can. agreed_marked s.stored unit mark.Gone (λ units seq key. refl) h;
-  reopens = λ unit es here stand. agreed_marked s.stored unit mark.Again1 (λ units seq key. refl) h;
-  reposts = λ unit here. agreed_marked s.stored unit mark.Again2 (λ units seq key. refl) h;
+  reads = λ name x table key at may. h;
+  commits_nothing = λ name x parts stock at may. h;
+  commits_numbers = λ name x parts stock at may. agreed_numbered s name x stock at may steady.drawn h;
+  commits = λ name x parts stock at may. agreed_recorded s name x parts stock at may steady h;
+  rolls_back = λ name x at may. h;
+  takes = λ worker part unit free e may. h;
+  posts = λ worker part unit e may. agreed_marked s.stored unit (kind_for part (found.part part unit)) (post_commits_none part (found.part part unit)) h;
+  drops = λ worker unit e may. h;
+  cancels = λ unit status can may. agreed_marked s.stored unit mark.Gone (λ units seq key. refl) h;
+  reopens = λ unit es here stand may. agreed_marked s.stored unit mark.Again1 (λ units seq key. refl) h;
+  reposts = λ unit here may. agreed_marked s.stored unit mark.Again2 (λ units seq key. refl) h;
 }
 
-served-agreed : (o : DeviceOutcome) (s : State) (c : Command) → IsSteady s → Agrees s.stored → Agrees (served o s c).state.stored
-served-agreed o s c steady h =
+served-agreed : (o : DeviceOutcome) (s : State) (c : Command) → MayCall s (call_of c) → IsSteady s → Agrees s.stored → Agrees (served o s c).state.stored
+served-agreed o s c may steady h =
     by_event (λ r. Agrees r.state.stored) o s c
-    (λ found. by_call (λ call v. Agrees (judged s v).state.stored) found s (each-agreed found s steady h) _) h (λ pending. h)
+    (λ found. by_made (λ call v. Agrees (judged s v).state.stored) found s (each-agreed found s steady h) (call_of c) may) h (λ found. h)
+    (λ found. by_filing Agrees found s c h
+    (λ worker part unit e. agreed_marked s.stored unit (kind_for part (found.part part unit)) (post_commits_none part (found.part part unit)) h)
+    (λ unit status can. agreed_marked s.stored unit mark.Gone (λ units seq key. refl) h))
 
 -- ---- states that calls lead to
 
@@ -153,24 +164,28 @@ record IsReached (s : State) : Type 0 where
   calls : ℕ
   holds : Holds calls s
   sound : HasSoundLocks s
+  units : HasOpenUnits s
   agreed : Agrees s.stored
 
-reached_next : (s : State) (m : Made) → IsReached s → IsReached (recalled s m)
-reached_next s m h =
+reached_next : (s : State) (m : Made) → IsModelAnswer s m → IsReached s → IsReached (recalled s m)
+reached_next s m answer h =
     let c = m.call.command in
+    let may = answer.allowed.call in
     let r = served m.outcome s c in
-    let holds = served-holds h.calls m.outcome s c h.sound h.holds in
-    let agreed = served-agreed m.outcome s c h.holds.steady h.agreed in
+    let holds = served-holds h.calls m.outcome s c may h.sound h.holds in
+    let units = served-open m.outcome s c h.holds.steady h.sound h.units in
+    let agreed = served-agreed m.outcome s c may h.holds.steady h.agreed in
     record {
       calls = h.calls + 1;
       holds = by_noting (λ x. Holds (h.calls + 1) x.state) m.call.line c r holds (with_past (h.calls + 1) r.state _ holds);
-      sound = step-sound m.outcome s m.call.line c h.sound;
+      sound = step-sound m.outcome s m.call.line c h.holds.steady.owned.users h.sound;
+      units = by_noting (λ x. HasOpenUnits x.state) m.call.line c r units (record { held = units.held; stored = units.stored; pending = units.pending });
       agreed = by_noting (λ x. Agrees x.state.stored) m.call.line c r agreed agreed;
     }
 
-reached_after : (s : State) (ms : List Made) → IsReached s → IsReached (state_after s ms)
-reached_after s [] h = h
-reached_after s (m ∷ ms) h = reached_after (recalled s m) ms (reached_next s m h)
+reached_after : (s : State) (ms : List Made) → AnswersFrom s ms → IsReached s → IsReached (state_after s ms)
+reached_after s [] answers h = h
+reached_after s (m ∷ ms) answers h = reached_after (recalled s m) ms answers.1 (reached_next s m answers.0 h)
 
 nothing_agrees : LevelsAgree empty []
 nothing_agrees = record { right = λ name. simp get-empty tt; stored = All-from_recursion _ [] tt }
@@ -239,14 +254,23 @@ agreed_right ledger agree = record {
 
 -- ---- whole histories
 
--- in each state to which calls lead the committed numbers are right
-pub numbers_right : (limit mark_limit : ℕ) (intervals : List Interval) (told : Bool) (ledger : Ledger) (made : List Made) → limit < 2 ^ 32 → mark_limit ≤ 1048576 → AgreeWith intervals ledger → IsFirst ledger → AreNumbersRight (state_after (opened limit mark_limit intervals told ledger) made).stored
-numbers_right limit mark_limit intervals told ledger made fits limited agree first =
+reached : (limit mark_limit : ℕ) (intervals : List Interval) (told : Bool) (ledger : Ledger) (made : List Made) → IsFirstTable limit ledger → mark_limit ≤ 1048576 → AgreeWith intervals ledger → IsFirst ledger → AnswersFrom (opened limit mark_limit intervals told ledger) made → IsReached (state_after (opened limit mark_limit intervals told ledger) made)
+reached limit mark_limit intervals told ledger made fits limited agree first answers =
     let start = opened limit mark_limit intervals told ledger in
-    let reached : IsReached start = record {
+    reached_after start made answers (record {
       calls = 0;
       holds = record { few = first_few limit mark_limit intervals told ledger; steady = first_steady limit mark_limit intervals told ledger limited agree first };
       sound = first_sound limit mark_limit intervals told ledger fits first;
+      units = first_open limit mark_limit intervals told ledger fits first;
       agreed = first_agrees ledger first;
-    } in
-    agreed_right (state_after start made).stored (reached_after start made reached).agreed
+    })
+
+-- in each state to which calls lead that are answered as the model answers them the committed numbers are right
+pub numbers_right : (limit mark_limit : ℕ) (intervals : List Interval) (told : Bool) (ledger : Ledger) (made : List Made) → IsFirstTable limit ledger → mark_limit ≤ 1048576 → AgreeWith intervals ledger → IsFirst ledger → AnswersFrom (opened limit mark_limit intervals told ledger) made → AreNumbersRight (state_after (opened limit mark_limit intervals told ledger) made).stored
+numbers_right limit mark_limit intervals told ledger made fits limited agree first answers =
+    agreed_right (state_after (opened limit mark_limit intervals told ledger) made).stored (reached limit mark_limit intervals told ledger made fits limited agree first answers).agreed
+
+-- and while the server is up the locks that were handed over are just those of the units that wait
+pub handed_held : (limit mark_limit : ℕ) (intervals : List Interval) (told : Bool) (ledger : Ledger) (made : List Made) → IsFirstTable limit ledger → mark_limit ≤ 1048576 → AgreeWith intervals ledger → IsFirst ledger → AnswersFrom (opened limit mark_limit intervals told ledger) made → HandedAreOpen (state_after (opened limit mark_limit intervals told ledger) made)
+handed_held limit mark_limit intervals told ledger made fits limited agree first answers =
+    (reached limit mark_limit intervals told ledger made fits limited agree first answers).units.held

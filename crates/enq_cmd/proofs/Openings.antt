@@ -1,34 +1,54 @@
 -- What a program leaves that didn't open its store, and why it didn't.
-use Rattle.std.proofs.Common.{◌≡◌, inl, inr, ℕ, ◌+◌, Bool, true, false, ◌&&◌, not, cond, List, [], ◌∷◌, Option, Some, None, IfSome, IsTrue, refl, sym, ◌∙◌, subst, arith}
+use Rattle.std.proofs.Common.{◌≡◌, inl, inr, ℕ, ◌+◌, Bool, true, false, ◌&&◌, not, cond, List, [], ◌∷◌, ◌++◌, Option, Some, None, IfSome, IsTrue, refl, sym, ap, ◌∙◌, subst, arith}
 use Rattle.std.specs.Prelude.{is_some}
-use Rattle.std.specs.List.{list_all, position, position_from}
+use Rattle.std.specs.List.{All, AllByRecursion, list_all, position, position_from, slice_get}
+use Rattle.std.proofs.lemmas.List.Elements.{recursion_from_All}
 use Rattle.std.proofs.lemmas.Bool.{false≢true}
 use Rattle.std.proofs.lemmas.Iterator.Adapters.{position_from-zero}
 use Rattle.std.proofs.lemmas.Option.{none-some}
 use Rattle.enq_base.specs.Causes.{Rose}
+use Rattle.enq_base.specs.declared.condition.BackupBad.{BackupBad}
+use Rattle.enq_base.specs.declared.condition.Bad.TheVariants as bad
+use Rattle.enq_base.specs.declared.condition.BackupBad.TheVariants as backup
+use Rattle.enq_base.specs.declared.owner.UnitKey.{UnitKey}
+use Rattle.gate_log.proofs.Logs.{stands_once, stands_unbroken}
+use Rattle.backup_file.proofs.Records.{record_reader}
+use Rattle.backup_file.specs.File.{Stands, grammar}
+use Rattle.backup_file.specs.Reading.{record_at}
+use Rattle.backup_file.specs.declared.handed.Handed.{Handed}
+use Rattle.enq_server.specs.Faults.{IsOpenFault}
+use Rattle.enq_server.specs.Recovery.{Agrees, IsFirstDifference, IsMissing, entries_of, joined}
+use Rattle.lock_entry.specs.Sound.{IsSound}
+use Rattle.lock_entry.specs.declared.entry.Entry.{Entry}
+use Rattle.lock_entry.specs.declared.entry.UnitLocks.{UnitLocks}
+use Rattle.enq_server.specs.declared.fault.OpenFault.TheVariants as opening
 use Rattle.keeper_api.specs.Keeping.{IsWithin}
 use Rattle.keeper_api.specs.Rows.{Rows}
 use Rattle.landscape.specs.declared.landscape.Landscape.{Landscape}
 use Rattle.number_ranges.specs.declared.interval.Interval.{Interval}
 use Rattle.posting.specs.Intervals.{in_row_order}
-use Rattle.posting.specs.Reopening.{MayBeLeftBy}
+use Rattle.posting.specs.Reopening.{HasStood, IsRaised, MayBeLeftBy}
+use Rattle.posting.specs.Views.{open_locks}
 use Rattle.range_list.specs.Levels.{fits}
 use Rattle.store_laws.proofs.Faultfree.{good_rules_kept, not_both}
 use Rattle.store_laws.proofs.LedgerRows.{good_rows_spelled}
 use Rattle.store_reading.specs.Good.{IsBadPlace}
 use Rattle.store_reading.specs.Stores.{store_fault}
-use Rattle.update_records.specs.Ledger.{IsGood}
+use Rattle.update_records.specs.Ledger.{IsGood, Ledger}
 use Rattle.hall.specs.declared.command.PastEntry.{PastEntry}
 use Rattle.hall.specs.declared.opening.HallFault.{HallFault}
 use Rattle.hall.specs.declared.opening.HallFault.TheVariants as fault
-use Rattle.hall.specs.Faults.{CountsHallFault, IsHallFault, MayBeHallFault, OnBadStore, OnKept, StoodUnfit}
+use Rattle.hall.specs.Faults.{CountsFileFault, CountsHallFault, IsBadFile, IsHallFault, MayBeHallFault, OnBadStore, OnKept, StoodUnfit, StoodUnlike}
 use Rattle.script_runner.specs.Replay.{Seen}
 use Rattle.script_runner.specs.declared.runner.Why.{Why}
-use Rattle.enq_cmd.specs.Main.{CountsOpening, EndsComplete, FitAll, HasNoStart, StoodAtLast, IsBadStore, IsOpeningEnd, IsRead, IsUnfitEnd, IsUnopened, MayRemain, opening_end}
+use Rattle.enq_cmd.specs.Main.{CountsFiling, CountsOpening, EndsComplete, FitAll, HasNoStart, StoodAtLast, IsBadStore, IsGoodFile, IsOpeningEnd, IsRead, IsUnfitEnd, IsUnopened, MayRemain, opening_end}
 
 opening_ends : (f : HallFault) → MayBeHallFault f → IsOpeningEnd (opening_end f)
 opening_ends fault.Store h = refl
-opening_ends (fault.Bad table row) h = h
+opening_ends fault.Backup h = refl
+opening_ends (fault.Bad (bad.Store table row)) h = h
+opening_ends (fault.Bad (bad.Backup place)) h = tt
+opening_ends (fault.Bad (bad.Replica first second)) h = tt
 opening_ends fault.NoStart h = tt
 opening_ends (fault.Interval row) h = (refl, omega (arith, h))
 opening_ends fault.NoMemory h = tt
@@ -37,10 +57,13 @@ opening_ends fault.NoMemory h = tt
 remains : (f : HallFault) (before after : Rows → Type 0) → ((rows : Rows) → after rows → MayBeLeftBy before true rows) → OnKept f (IsWithin after before)
     → (rows : Rows) → after rows → MayRemain (opening_end f) before rows
 remains fault.Store before after left kept = left
-remains (fault.Bad table row) before after left kept = kept
+remains fault.Backup before after left kept = left
+remains (fault.Bad (bad.Store table row)) before after left kept = kept
+remains (fault.Bad (bad.Backup place)) before after left kept = left
+remains (fault.Bad (bad.Replica first second)) before after left kept = left
 remains fault.NoStart before after left kept = kept
 remains (fault.Interval row) before after left kept = left
-remains fault.NoMemory before after left kept = kept
+remains fault.NoMemory before after left kept = left
 
 told_left : (o : Option Rows) (P : Type 0) → IsTrue (is_some o) → IfSome o (λ _. P) → P
 told_left None P told h = absurd (cc)
@@ -48,20 +71,34 @@ told_left (Some rows) P told h = h
 
 opening_counts : (f : HallFault) (n m : ℕ) → CountsHallFault f n m → CountsOpening (opening_end f) n m
 opening_counts fault.Store n m h = h
-opening_counts (fault.Bad table row) n m h = h
+opening_counts fault.Backup n m h = h
+opening_counts (fault.Bad (bad.Store table row)) n m h = h
+opening_counts (fault.Bad (bad.Backup place)) n m h = h
+opening_counts (fault.Bad (bad.Replica first second)) n m h = h
 opening_counts fault.NoStart n m h = h
 opening_counts (fault.Interval row) n m h = h
 opening_counts fault.NoMemory n m h = h
 
+filing_counts : (f : HallFault) (n m : ℕ) → CountsFileFault f n m → CountsFiling (opening_end f) n m
+filing_counts fault.Store n m h = h
+filing_counts fault.Backup n m h = h
+filing_counts (fault.Bad (bad.Store table row)) n m h = h
+filing_counts (fault.Bad (bad.Backup place)) n m h = h
+filing_counts (fault.Bad (bad.Replica first second)) n m h = h
+filing_counts fault.NoStart n m h = h
+filing_counts (fault.Interval row) n m h = h
+filing_counts fault.NoMemory n m h = h
+
 -- the store wasn't opened
 pub unopened : (f : HallFault) (t : Bool) (o : Option Rows) (before after : Rows → Type 0) (old new : Seen) (past : List PastEntry) (why : Why)
-    → why ≡ opening_end f → is_some o ≡ t → record new { store_faults = old.store_faults } ≡ old → MayBeHallFault f → CountsHallFault f old.store_faults new.store_faults → past ≡ []
+    → why ≡ opening_end f → is_some o ≡ t → record new { store_faults = old.store_faults; file_faults = old.file_faults } ≡ old → MayBeHallFault f → CountsHallFault f old.store_faults new.store_faults → CountsFileFault f old.file_faults new.file_faults → past ≡ []
     → IfSome o (λ _. (rows : Rows) → after rows → MayBeLeftBy before true rows) → OnKept f (IsWithin after before)
     → IsUnopened t before after old new past why
-unopened f t o before after old new past why is told same may counts none left kept = record {
+unopened f t o before after old new past why is told same may counts file_counts none left kept = record {
   end = subst IsOpeningEnd (sym is) (opening_ends f may);
   same = same;
   counts = subst (λ w. CountsOpening w old.store_faults new.store_faults) (sym is) (opening_counts f old.store_faults new.store_faults counts);
+  file_counts = subst (λ w. CountsFiling w old.file_faults new.file_faults) (sym is) (filing_counts f old.file_faults new.file_faults file_counts);
   none = none;
   left = λ yes rows may_be.
       let all = told_left o ((rows : Rows) → after rows → MayBeLeftBy before true rows) (subst (λ b. IsTrue b) (sym told) yes) left in
@@ -106,25 +143,69 @@ not_unfit land may_be (Some rows) row told fit why = no_unfit land may_be row fi
 abbrev pub IsCause : Landscape → (Rows → Type 0) → HallFault → Option Rows → Type 0
 IsCause land may_be f o = IfSome o (λ rows. IsHallFault land.ranges may_be rows f)
 
+-- ---- a backup file that has the locks of these units
+
+agrees_at : (lists : List Handed) (front : List UnitLocks) (found : UnitLocks) (rest : List UnitLocks) → AllByRecursion (Agrees lists) (front ++ found ∷ rest) → Agrees lists found
+agrees_at lists [] found rest h = h.0
+agrees_at lists (u ∷ front) found rest h = agrees_at lists front found rest h.1
+
+no_difference : (xs ys : List Entry) (at : ℕ) → xs ≡ ys → IsFirstDifference xs ys at → ⊥
+no_difference xs ys at same d = d.differ (ap (λ zs. slice_get zs d.before) same)
+
+none_missing : (lists : List Handed) (units : List UnitLocks) (unit : UnitKey) (at : ℕ) → AllByRecursion (Agrees lists) units → IsMissing lists units unit at → ⊥
+none_missing lists units unit at agree m =
+    let own : Agrees lists m.found = agrees_at lists m.front m.found m.rest (subst (AllByRecursion (Agrees lists)) m.whole agree) in
+    no_difference m.found.entries (entries_of lists unit) at (own ∙ ap (entries_of lists) m.named) m.difference
+
+-- no place of it is bad
+pub no_bad_place : (bytes : List ℕ) (units : List UnitLocks) (lists : List Handed) (place : BackupBad) → Stands bytes lists → All (Agrees lists) units → IsSound (joined units) → IsOpenFault bytes units (opening.Bad place) → ⊥
+no_bad_place bytes units lists (backup.Bytes at) stands agree sound bad = stands_unbroken grammar record_at record_reader bytes lists at stands bad
+no_bad_place bytes units lists (backup.Clash first second) stands agree sound bad = bad.2.unsound sound
+no_bad_place bytes units lists (backup.Missing unit at) stands agree sound bad =
+    let one : bad.0 ≡ lists = stands_once grammar record_at record_reader bytes bad.0 lists bad.1 stands in
+    none_missing lists units unit at (recursion_from_All (Agrees lists) units agree) (subst (λ l. IsMissing l units unit at) one bad.2)
+
+-- a file that has the locks of the units that wait isn't told to be bad
+not_bad_file : (may_be : Rows → Type 0) (o : Option Rows) (bytes : List ℕ) (place : BackupBad) → IsTrue (is_some o) → IsGoodFile may_be bytes → StoodUnlike o may_be bytes place → ⊥
+not_bad_file may_be o bytes place told good unlike =
+    let stood = told_left o (IsRaised (HasStood may_be) true unlike.ledger) told unlike.stood in
+    good stood.0 stood.1 place (subst (λ (l : Ledger). IsOpenFault bytes (open_locks l) (opening.Bad place)) stood.2 unlike.fault)
+
+-- what is known of the backup file where no count rose
+pub record IsFileCalm (may_be : Rows → Type 0) (told : Option Rows) (bytes : List ℕ) (f : HallFault) (n m : ℕ) : Type 0 where
+  pub good : IsGoodFile may_be bytes
+  pub bad : IsBadFile told may_be bytes f
+  pub counts : CountsFileFault f n m
+  pub calm : Rose n m → ⊥
+
 -- where no count rose a good store with the landscape's intervals is opened, unless memory is wanting or it has no next start
-pub opening_completes : (land : Landscape) (may_be : Rows → Type 0) (before after : Option Rows) (f : HallFault) (n m : ℕ) (why : Why)
+pub opening_completes : (land : Landscape) (may_be : Rows → Type 0) (before after : Option Rows) (f : HallFault) (n m : ℕ) (bytes : List ℕ) (d e : ℕ) (why : Why)
     → why ≡ opening_end f → is_some after ≡ is_some before → IsTrue (is_some before) → ((rows : Rows) → may_be rows → IsGood rows) → FitAll land may_be
     → IsCause land may_be f after → OnBadStore f (IfSome after may_be) → CountsHallFault f n m → (Rose n m → ⊥)
+    → IsFileCalm may_be after bytes f d e
     → EndsComplete may_be why
-opening_completes land may_be before after fault.Store n m why end same told good fit why_not found counts calm = absurd (calm counts.1)
-opening_completes land may_be before after (fault.Bad table row) n m why end same told good fit why_not found counts calm =
+opening_completes land may_be before after fault.Store n m bytes d e why end same told good fit why_not found counts calm file = absurd (calm counts.1)
+opening_completes land may_be before after fault.Backup n m bytes d e why end same told good fit why_not found counts calm file = absurd (file.calm file.counts.1)
+opening_completes land may_be before after (fault.Bad (bad.Backup place)) n m bytes d e why end same told good fit why_not found counts calm file =
+    absurd (not_bad_file may_be after bytes place (subst (λ b. IsTrue b) (sym same) told) file.good file.bad)
+opening_completes land may_be before after (fault.Bad (bad.Replica first second)) n m bytes d e why end same told good fit why_not found counts calm file =
+    absurd (told_left after ⊥ (subst (λ b. IsTrue b) (sym same) told) why_not)
+opening_completes land may_be before after (fault.Bad (bad.Store table row)) n m bytes d e why end same told good fit why_not found counts calm file =
     absurd (not_bad may_be after table row (subst (λ b. IsTrue b) (sym same) told) good why_not found)
-opening_completes land may_be before after fault.NoStart n m why end same told good fit why_not found counts calm =
+opening_completes land may_be before after fault.NoStart n m bytes d e why end same told good fit why_not found counts calm file =
     inr (inr (end, at_last land.ranges may_be after (subst (λ b. IsTrue b) (sym same) told) why_not found))
-opening_completes land may_be before after (fault.Interval row) n m why end same told good fit why_not found counts calm =
+opening_completes land may_be before after (fault.Interval row) n m bytes d e why end same told good fit why_not found counts calm file =
     absurd (not_unfit land may_be after row (subst (λ b. IsTrue b) (sym same) told) fit why_not)
-opening_completes land may_be before after fault.NoMemory n m why end same told good fit why_not found counts calm = inr (inl end)
+opening_completes land may_be before after fault.NoMemory n m bytes d e why end same told good fit why_not found counts calm file = inr (inl end)
 
 -- a bad store is told by its place
 pub opening_place : (land : Landscape) (may_be : Rows → Type 0) (f : HallFault) (o : Option Rows) → IsCause land may_be f o → IfSome o (λ rows. IsBadStore rows (opening_end f))
 opening_place land may_be f None h = tt
 opening_place land may_be fault.Store (Some rows) h = tt
-opening_place land may_be (fault.Bad table row) (Some rows) h = (h, bad_is_not_good rows table row h)
+opening_place land may_be fault.Backup (Some rows) h = tt
+opening_place land may_be (fault.Bad (bad.Backup place)) (Some rows) h = tt
+opening_place land may_be (fault.Bad (bad.Replica first second)) (Some rows) h = tt
+opening_place land may_be (fault.Bad (bad.Store table row)) (Some rows) h = (h, bad_is_not_good rows table row h)
 opening_place land may_be fault.NoStart (Some rows) h = tt
 opening_place land may_be (fault.Interval row) (Some rows) h = tt
 opening_place land may_be fault.NoMemory (Some rows) h = tt
@@ -133,7 +214,10 @@ opening_place land may_be fault.NoMemory (Some rows) h = tt
 pub opening_last : (land : Landscape) (may_be : Rows → Type 0) (f : HallFault) (o : Option Rows) → IsCause land may_be f o → IfSome o (λ rows. HasNoStart rows (opening_end f))
 opening_last land may_be f None h = tt
 opening_last land may_be fault.Store (Some rows) h = tt
-opening_last land may_be (fault.Bad table row) (Some rows) h = tt
+opening_last land may_be fault.Backup (Some rows) h = tt
+opening_last land may_be (fault.Bad (bad.Store table row)) (Some rows) h = tt
+opening_last land may_be (fault.Bad (bad.Backup place)) (Some rows) h = tt
+opening_last land may_be (fault.Bad (bad.Replica first second)) (Some rows) h = tt
 opening_last land may_be fault.NoStart (Some rows) h = h
 opening_last land may_be (fault.Interval row) (Some rows) h = tt
 opening_last land may_be fault.NoMemory (Some rows) h = tt
@@ -142,7 +226,10 @@ opening_last land may_be fault.NoMemory (Some rows) h = tt
 pub opening_unfit : (left : Option (List ℕ)) (land : Landscape) (may_be : Rows → Type 0) (f : HallFault) (o : Option Rows) → IsRead left land → IsCause land may_be f o → IfSome o (λ _. IsUnfitEnd left may_be (opening_end f))
 opening_unfit left land may_be f None read h = tt
 opening_unfit left land may_be fault.Store (Some rows) read h = tt
-opening_unfit left land may_be (fault.Bad table row) (Some rows) read h = tt
+opening_unfit left land may_be fault.Backup (Some rows) read h = tt
+opening_unfit left land may_be (fault.Bad (bad.Store table row)) (Some rows) read h = tt
+opening_unfit left land may_be (fault.Bad (bad.Backup place)) (Some rows) read h = tt
+opening_unfit left land may_be (fault.Bad (bad.Replica first second)) (Some rows) read h = tt
 opening_unfit left land may_be fault.NoStart (Some rows) read h = tt
 opening_unfit left land may_be (fault.Interval row) (Some rows) read h = λ rule. (land, read, record { row = row; stood = h; told = refl })
 opening_unfit left land may_be fault.NoMemory (Some rows) read h = tt

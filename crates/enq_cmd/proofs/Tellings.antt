@@ -1,5 +1,5 @@
 -- The history of a run leads to the state that it ends in.
-use Rattle.std.proofs.Common.{inl, inr, is_some, IsTrue, IfSome, ◌≡◌, ℕ, ◌+◌, Bool, true, List, [], ◌∷◌, fold, refl, sym, ap, ◌∙◌, ◌<◌, ◌^◌, subst, arith}
+use Rattle.std.proofs.Common.{inl, inr, is_some, IsTrue, IfSome, ◌≡◌, ℕ, ◌+◌, Bool, true, List, [], ◌∷◌, fold, refl, sym, ap, ◌∙◌, subst}
 use Rattle.std.specs.Prelude.{Option, Some, None}
 use Rattle.hall.specs.declared.command.Command.{Command}
 use Rattle.hall.specs.declared.command.PastEntry.{PastEntry}
@@ -8,11 +8,12 @@ use Rattle.hall.specs.Devices.{DeviceOutcome, IsAllowed}
 use Rattle.hall.specs.History.{step}
 use Rattle.hall.specs.Recall.{Made, state_after}
 use Rattle.hall.specs.State.{State}
-use Rattle.hall.proofs.Beginning.{AgreeWith, first_sound}
-use Rattle.hall.proofs.Standings.{locks_return, locks_stand}
-use Rattle.hall.proofs.Recalls.{IsTold, stays_sound, told_first, told_step, told-answers}
+use Rattle.hall.proofs.Beginning.{AgreeWith}
+use Rattle.hall.proofs.FirstState.{IsFirstTable}
+use Rattle.hall.proofs.Standings.{locks_return, locks_stand, stays_sound}
+use Rattle.hall.proofs.Recalls.{IsTold, answers_before, told_first, told_step, told-answers}
 use Rattle.script_runner.specs.declared.runner.Why.{Why}
-use Rattle.script_runner.specs.declared.runner.Why.TheVariants.{Done, BadWords, BadLandscape, BadLine, SourceFault, SinkFault, LongLine, ManyLines, StoreFault, BadStore, NoStart, NoMemory}
+use Rattle.script_runner.specs.declared.runner.Why.TheVariants.{Done, BadWords, BadLandscape, BadLine, SourceFault, SinkFault, LongLine, ManyLines, StoreFault, BackupFault, BadStore, BadBackup, NoStart, NoMemory}
 use Rattle.lock_objects.specs.Objects.{Object}
 use Rattle.landscape.specs.declared.landscape.Landscape.{Landscape}
 use Rattle.landscape.proofs.Limits.{HasLimits}
@@ -26,9 +27,11 @@ use Rattle.script_runner.proofs.TurnLemmas.{answered-world}
 use Rattle.script_runner.specs.World.{World, first_world, world}
 use Rattle.script_runner.specs.Replay.{doubt_of}
 use Rattle.script_runner.specs.Whole.{IsComplete, IsScript}
-use Rattle.enq_cmd.specs.Main.{EndsComplete, IsFaultless, IsNextOf, IsServed, Ran, SurvivesStop, first_state}
+use Rattle.enq_cmd.specs.Main.{EndsComplete, HadHanded, HasHanded, IsFaultless, IsGoodFile, IsLedgerOf, IsNextOf, IsServed, Ran, SurvivesStop, first_state}
 use Rattle.enq_cmd.proofs.Lands.{landed_intervals}
-use Rattle.enq_cmd.proofs.Numbers.{numbers_right}
+use Rattle.enq_cmd.proofs.Numbers.{handed_held, numbers_right}
+use Rattle.enq_cmd.proofs.Openings.{no_bad_place}
+use Rattle.posting.specs.Views.{open_locks}
 use Rattle.ledger_laws.proofs.Books.{books_right, holds_books}
 use Rattle.ledger_laws.proofs.OneLedger.{one_ledger}
 use Rattle.update_records.specs.Growing.{with_start}
@@ -36,7 +39,12 @@ use Rattle.keeper_api.specs.Rows.{Rows}
 use Rattle.posting.specs.Reopening.{HasStood, IsRaised}
 use Rattle.store_reading.specs.Good.{IsSound}
 use Rattle.update_records.specs.Ledger.{Ledger}
+use Rattle.hall.specs.Filing.{RecoversFrom}
+use Rattle.hall.specs.Kept.{HasOpenUnits}
 use Rattle.hall.specs.Leaving.{StandForPending, StandForState}
+use Rattle.hall.specs.OpenUnits.{AgreeAll, OfPending, open_entries}
+use Rattle.backup_file.specs.declared.handed.Handed.{Handed}
+use Rattle.lock_entry.specs.Sound.{IsSound as IsSoundTable}
 
 told_does : (first : State) (w : World) (n : ℕ) (l : ScriptLine) (d : DeviceOutcome) (m : Meaning) → ((c : Command) → m ≡ Calls c → IsAllowed d w.hall c) → IsTold first w.hall → IsTold first (does w n l d m).world.hall
 told_does first w n l d Silent allowed h = h
@@ -107,6 +115,7 @@ ran land t l before after objects old new past why h told =
 complete_ends : (may_be : Rows → Type 0) (land : Landscape) (t : Bool) (l : Ledger) (objects : List Object) (before after : State) (bytes : List ℕ) (old new : Option (List ℕ)) (why : Why) → before ≡ first_state land t l → IsComplete (first_world objects before) after bytes old new why → EndsComplete may_be why
 complete_ends may_be land t l objects before after bytes old new Done e h = inl refl
 complete_ends may_be land t l objects before after bytes old new (StoreFault k) e h = absurd (let up = sym h.0 ∙ ap doubt_of e in cc)
+complete_ends may_be land t l objects before after bytes old new (BackupFault k) e h = absurd (let up = sym h.0 ∙ ap doubt_of e in cc)
 complete_ends may_be land t l objects before after bytes old new NoMemory e h = inr (inl refl)
 complete_ends may_be land t l objects before after bytes old new BadWords e h = absurd h
 complete_ends may_be land t l objects before after bytes old new (BadLandscape rule place) e h = absurd h
@@ -116,6 +125,7 @@ complete_ends may_be land t l objects before after bytes old new SinkFault e h =
 complete_ends may_be land t l objects before after bytes old new (LongLine n) e h = absurd h
 complete_ends may_be land t l objects before after bytes old new ManyLines e h = absurd h
 complete_ends may_be land t l objects before after bytes old new (BadStore table row) e h = absurd h
+complete_ends may_be land t l objects before after bytes old new (BadBackup place) e h = absurd h
 complete_ends may_be land t l objects before after bytes old new NoStart e h = absurd h
 
 pub completes_as : (may_be : Rows → Type 0) (land : Landscape) (t : Bool) (l : Ledger) (objects : List Object) (before after : State) (bytes : List ℕ) (old new : Option (List ℕ)) (why end : Why) → before ≡ first_state land t l → why ≡ end → IsComplete (first_world objects before) after bytes old new why → EndsComplete may_be end
@@ -138,6 +148,29 @@ survives rows s h = elim h [
   | inr pending ↦ survives_pending rows s s.pending refl pending
 ]
 
+agree_pending : (s : State) (lists : List Handed) (ledger : Ledger) → s.pending ≡ Some ledger → OfPending s.pending (λ l. AgreeAll l lists) → AgreeAll ledger lists
+agree_pending s lists ledger is h = subst (λ p. OfPending p (λ l. AgreeAll l lists)) is h
+
+together_pending : (s : State) (ledger : Ledger) → s.pending ≡ Some ledger → OfPending s.pending (λ l. IsSoundTable (open_entries l)) → IsSoundTable (open_entries ledger)
+together_pending s ledger is h = subst (λ p. OfPending p (λ l. IsSoundTable (open_entries l))) is h
+
+-- an image of the file from which a state is recovered is what a stop may leave of it
+handed_in : (image : List ℕ) (s : State) → HasOpenUnits s → RecoversFrom s.condition s.stored s.pending image → HasHanded image s
+handed_in image s units h = record {
+  lists = h.lists;
+  stands = h.stands;
+  agree = λ ledger known. elim known [ inl is ↦ subst (λ l. AgreeAll l h.lists) (sym is) h.agree | inr is ↦ agree_pending s h.lists ledger is h.landed ];
+  together = λ ledger known. elim known [ inl is ↦ subst (λ l. IsSoundTable (open_entries l)) (sym is) units.stored | inr is ↦ together_pending s ledger is units.pending ];
+}
+
+-- the next start finds a file that has the locks of the units that wait in the store
+good_next : (may_leave : Rows → Type 0) (s : State) (image : List ℕ) → ((rows : Rows) → may_leave rows → SurvivesStop rows s) → HasHanded image s → IsGoodFile may_leave image
+good_next may_leave s image left handed ledger stood place bad =
+    let survives = left stood.0 stood.1 in
+    let one : ledger ≡ survives.ledger = one_ledger stood.0 ledger survives.ledger stood.2 survives.stand in
+    let known = subst (IsLedgerOf s) (sym one) survives.known in
+    no_bad_place image (open_locks ledger) handed.lists place handed.stands (handed.agree ledger known) (handed.together ledger known) bad
+
 -- the next start finds the ledger that the rows stand for, and there is one
 follows_on : (may_leave : Rows → Type 0) (s : State) → ((rows : Rows) → may_leave rows → SurvivesStop rows s) → (next : Ledger) → IsRaised (HasStood may_leave) true next → IsNextOf s next
 follows_on may_leave s left next found =
@@ -147,40 +180,47 @@ follows_on may_leave s left next found =
     (survives.ledger, survives.known, found.2 ∙ ap (λ (l : Ledger). with_start l (l.start + 1)) one)
 
 -- all that is said of a program that opened its store
-pub served_as : (land : Landscape) (t : Bool) (l : Ledger) (may_be may_leave : Rows → Type 0) (before after : State) (objects : List Object) (old new : Seen) (past : List PastEntry) (why : Why)
-    → HasLimits land → IsRaised IsSound true l → (IsTrue t → IsRaised (HasStood may_be) true l) → FitRows land.ranges l.levels → HasRun land t l before after objects old new past why
+pub served_as : (land : Landscape) (t : Bool) (l : Ledger) (may_be may_leave : Rows → Type 0) (tells : Bool) (bytes : List ℕ) (images : List ℕ → Type 0) (before after : State) (objects : List Object) (old new : Seen) (past : List PastEntry) (why : Why)
+    → HasLimits land → IsRaised IsSound true l → (IsTrue t → IsRaised (HasStood may_be) true l) → FitRows land.ranges l.levels → IsFirstTable land.max_locks l → (IsTrue tells → HadHanded bytes l)
+    → HasRun land t l before after objects old new past why
     → (IsTrue t → (rows : Rows) → may_leave rows → StandForState rows after)
-    → IsServed land t may_be may_leave old new past why
-served_as land t l may_be may_leave before after objects old new past why limits good found fit h left =
+    → (IsTrue tells → (image : List ℕ) → images image → RecoversFrom after.condition after.stored after.pending image) → HasOpenUnits after
+    → IsServed land t may_be may_leave tells bytes images old new past why
+served_as land t l may_be may_leave tells bytes images before after objects old new past why limits good found fit table filed h left lists units =
     let first = first_state land t l in
     let told = told_by land t l before after objects old new past why h in
     let made : List Made = told.made in
     let answers = told-answers first after told in
-    let few : land.max_locks < 2 ^ 32 = omega (arith, limits.locks) in
     let agree : AgreeWith land.ranges l = record { good = landed_intervals land limits; fit = fit } in
     let left_after : IsTrue t → (rows : Rows) → may_leave rows → SurvivesStop rows (state_after first made) =
-    λ tells rows may. subst (SurvivesStop rows) told.state (survives rows after (left tells rows may)) in
+    λ yes rows may. subst (SurvivesStop rows) told.state (survives rows after (left yes rows may)) in
     record {
       stored = l;
       good = good;
       found = found;
+      filed = filed;
       fit = fit;
       made = made;
       calls = h.history ∙ told.calls;
       run = ran land t l before after objects old new past why h told;
       history = answers;
-      sound = stays_sound first made (first_sound land.max_locks land.max_marks land.ranges t l few good);
-      stand = locks_stand land.max_locks land.max_marks land.ranges t l made few limits.marks agree good answers;
-      back = locks_return land.max_locks land.max_marks land.ranges t l made few limits.marks agree good answers;
-      numbers = λ earlier later whole. numbers_right land.max_locks land.max_marks land.ranges t l earlier few limits.marks agree good;
-      left = λ tells rows may. left_after tells rows may;
-      next = λ tells. follows_on may_leave (state_after first made) (left_after tells);
+      sound = stays_sound land.max_locks land.max_marks land.ranges t l made table limits.marks agree good answers;
+      stand = locks_stand land.max_locks land.max_marks land.ranges t l made table limits.marks agree good answers;
+      back = locks_return land.max_locks land.max_marks land.ranges t l made table limits.marks agree good answers;
+      held = λ earlier later whole.
+          handed_held land.max_locks land.max_marks land.ranges t l earlier table limits.marks agree good (answers_before first made earlier later answers whole);
+      numbers = λ earlier later whole.
+          numbers_right land.max_locks land.max_marks land.ranges t l earlier table limits.marks agree good (answers_before first made earlier later answers whole);
+      left = λ yes rows may. left_after yes rows may;
+      handed = λ yes image may. subst (HasHanded image) told.state (handed_in image after units (lists yes image may));
+      opens = λ yes tells image may. good_next may_leave (state_after first made) image (left_after yes) (subst (HasHanded image) told.state (handed_in image after units (lists tells image may)));
+      next = λ yes. follows_on may_leave (state_after first made) (left_after yes);
     }
 
 -- the same of what was seen, under other names
-pub served_seen : (land : Landscape) (t : Bool) (may_be may_leave : Rows → Type 0) (old new older newer : Seen) (past : List PastEntry) (why end : Why)
-    → old ≡ older → new ≡ newer → why ≡ end → IsServed land t may_be may_leave old new past why → IsServed land t may_be may_leave older newer past end
-served_seen land t may_be may_leave old new older newer past why end o n w h =
-    subst (λ x. IsServed land t may_be may_leave older newer past x) w
-    (subst (λ x. IsServed land t may_be may_leave older x past why) n
-    (subst (λ x. IsServed land t may_be may_leave x new past why) o h))
+pub served_seen : (land : Landscape) (t : Bool) (may_be may_leave : Rows → Type 0) (tells : Bool) (bytes : List ℕ) (images : List ℕ → Type 0) (old new older newer : Seen) (past : List PastEntry) (why end : Why)
+    → old ≡ older → new ≡ newer → why ≡ end → IsServed land t may_be may_leave tells bytes images old new past why → IsServed land t may_be may_leave tells bytes images older newer past end
+served_seen land t may_be may_leave tells bytes images old new older newer past why end o n w h =
+    subst (λ x. IsServed land t may_be may_leave tells bytes images older newer past x) w
+    (subst (λ x. IsServed land t may_be may_leave tells bytes images older x past why) n
+    (subst (λ x. IsServed land t may_be may_leave tells bytes images x new past why) o h))

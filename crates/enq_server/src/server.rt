@@ -190,6 +190,8 @@ impl<T: LockStore, D: Disk, L: Link> EnqServer<T, D, L> {
         ensures usable { OnOk result (self.new.file.failed ≡ false) }
         ensures failed { IsErrOf result WriteFault.Failed → self.new.file.failed ≡ true }
         ensures no_memory { IsErrOf result WriteFault.NoMemory → IsSame self.old.file self.new.file }
+        // The disk can fail only where there is a list to write.
+        ensures some { IsErrOf result WriteFault.Failed → 1 ≤ length (lasting unit.now self.old.table.entries) }
         ensures cause { HasWriteCause (D.faults self.old.file.disk) (D.faults self.new.file.disk) result }
         ensures copy { self.new.copy ≡ self.old.copy }
     {
@@ -222,6 +224,14 @@ impl<T: LockStore, D: Disk, L: Link> EnqServer<T, D, L> {
         ensures { IfOk result (λ entries. entries.items ≡ self.now.table.entries) }
     {
         self.table.list(alloc)
+    }
+
+    /// The owner's entries in order of granting.
+    pub fn entries_of(&self, alloc: Global, owner: &Owner) -> Result<Vec<Entry>, NoMemory>
+        ensures entries { IfOk result (λ entries. entries.items ≡ filter (is_of owner.now) self.now.table.entries) }
+        ensures good { IsTable self.now.table }
+    {
+        self.table.entries_of(alloc, owner)
     }
 
     /// Flags the unit's S, E and X entries as handed and removes its O entries: the rest of a handover, behind `save`.
@@ -263,6 +273,8 @@ impl<T: LockStore, D: Disk, L: Link> EnqServer<T, D, L> {
         ensures untouched { IfErr result (λ f. f ≡ server.Failed ⊎ IsSame self.old.file self.new.file) }
         ensures unshipped { IfErr result (λ f. f ≡ server.Failed ⊎ (self.new.copy ≡ self.old.copy)) }
         ensures failed { IsErrOf result server.Failed → self.new.file.failed ≡ true }
+        // The disk can fail only where there is a list to write.
+        ensures some { IsErrOf result server.Failed → 1 ≤ length entries.now }
         ensures cause { HasCallCause (D.faults self.old.file.disk) (D.faults self.new.file.disk) result }
         ensures copy { KeepsOn L.faults L.refusals self.old.copy self.new.copy }
     {

@@ -1,3 +1,4 @@
+use enq_base::{BackupBad, UnitKey};
 use script_runner::Why;
 use std::fmt;
 
@@ -19,6 +20,22 @@ impl fmt::Display for EndLine {
             Why::LongLine(number) => write!(f, "enqd: line {number} is too long"),
             Why::ManyLines => f.write_str("enqd: too many lines"),
             Why::StoreFault(call) => write!(f, "enqd: store fault in command {call}"),
+            Why::BackupFault(call) => write!(f, "enqd: backup fault in command {call}"),
+            Why::BadBackup(BackupBad::Bytes { at }) => write!(f, "enqd: bad backup at {at}"),
+            Why::BadBackup(BackupBad::Missing { unit, at }) => {
+                let UnitKey {
+                    start,
+                    session,
+                    luw,
+                } = unit;
+                write!(
+                    f,
+                    "enqd: backup lacks a lock of unit {start}.{session}.{luw} at {at}"
+                )
+            }
+            Why::BadBackup(BackupBad::Clash { first, second }) => {
+                write!(f, "enqd: backup entries {first} and {second} clash")
+            }
             Why::BadStore { table, row } => {
                 write!(f, "enqd: bad store, table {table} row {row}")
             }

@@ -1,11 +1,10 @@
 -- What the first state of a start keeps.
-use Rattle.std.proofs.Common.{◌≡◌, ℕ, zero, suc, ◌+◌, ◌≤◌, ◌<◌, Bool, true, false, ◌&&◌, not, List, [], ◌∷◌, length, map, replicate, cond, Option, Some, None, IfSome, inl, inr, ◌⊎◌, refl, sym, ap, ◌∙◌, ◌^◌, subst, arith}
+use Rattle.std.proofs.Common.{◌≡◌, ℕ, zero, suc, ◌+◌, ◌≤◌, ◌<◌, Bool, true, false, ◌&&◌, not, List, [], ◌∷◌, length, map, replicate, cond, Option, Some, None, IfSome, inl, inr, ◌⊎◌, refl, sym, ap, ◌∙◌, subst, arith}
 use Rattle.std.specs.Prelude.{nat_eq, nat_le}
 use Rattle.std.specs.List.{AllByRecursion, filter, list_all}
 use Rattle.std.proofs.lemmas.Bool.{and_from}
 use Rattle.std.proofs.lemmas.Bool.Decides.{nat_tests}
 use Rattle.std.proofs.lemmas.List.Elements.{All-from_recursion, recursion_from_All}
-use Rattle.enq_base.specs.declared.condition.Condition.TheVariants as condition
 use Rattle.enq_base.specs.declared.owner.UnitKey.{UnitKey}
 use Rattle.std.specs.FinMap.{empty, get-empty}
 use Rattle.keeper_api.specs.Rows.{Rows}
@@ -21,7 +20,6 @@ use Rattle.lock_entry.proofs.Naming.{same_owner-refl}
 use Rattle.lock_entry.specs.declared.entry.Entry.{Entry}
 use Rattle.lock_entry.specs.Names.{is_of}
 use Rattle.lock_entry.specs.Sound.{has_count}
-use Rattle.lock_entry.specs.Table.{IsTable, Table}
 use Rattle.mode_rules.specs.declared.Mode.{Mode}
 use Rattle.mode_rules.specs.declared.Mode.TheVariants.{S, E, X, O}
 use Rattle.mode_rules.specs.Modes.{same_mode}
@@ -35,22 +33,18 @@ use Rattle.update_records.specs.Ledger.{IsMarkUnder, Ledger, LevelsAgree, StandF
 use Rattle.update_records.specs.Marks.{draws_alone, has_no_v2, is_rec, status_of}
 use Rattle.update_records.specs.declared.records.Mark.{Mark}
 use Rattle.update_records.specs.declared.records.Unit.{Unit as UnitOfWork}
-use Rattle.hall.specs.Kept.{AreOrders, HasFew, HasGoodLocks, HasItsUser, HasSoundLocks, HaveMarks, IsKept, IsKnown, IsSteady, IsUnheard, OfLock, OfStored, is_firm}
+use Rattle.hall.specs.Kept.{AreOrders, HasGoodLocks, HasItsUser, HaveMarks, IsKnown, IsUnheard, OfLock, OfStored, is_firm}
 use Rattle.hall.specs.Leaving.{StandForPending}
-use Rattle.hall.specs.State.{opened, state_of}
-use Rattle.hall.specs.declared.command.PastEntry.{PastEntry}
-use Rattle.hall.specs.declared.command.Session.{Session}
-use Rattle.hall.proofs.Fair.{none_stands}
 use Rattle.hall.proofs.Users.{every_more, every_two}
 
-no_orders : (ledger : Ledger) (n : ℕ) → AreOrders ledger (replicate n None)
+pub no_orders : (ledger : Ledger) (n : ℕ) → AreOrders ledger (replicate n None)
 no_orders ledger zero = tt
 no_orders ledger (suc n) = no_orders ledger n
 
 abbrev nobody : Option UnitKey
 nobody = None
 
-idle : (n : ℕ) → length (replicate n nobody) ≡ n
+pub idle : (n : ℕ) → length (replicate n nobody) ≡ n
 idle zero = refl
 idle (suc n) = ap suc (idle n)
 
@@ -131,13 +125,13 @@ every_any : {A : Type 0} (P : A → Type 0) → ((x : A) → P x) → (xs : List
 every_any P h [] = tt
 every_any P h (x ∷ xs) = (h x, every_any P h xs)
 
-first_known : (ledger : Ledger) → IsFirst ledger → AllByRecursion (OfStored (λ owner user. IsKnown ledger.start 1 owner)) ledger.units
+pub first_known : (ledger : Ledger) → IsFirst ledger → AllByRecursion (OfStored (λ owner user. IsKnown ledger.start 1 owner)) ledger.units
 first_known ledger first =
     let before = first.0 in
     subst (λ (l : Ledger). AllByRecursion (OfStored (λ owner user. IsKnown l.start 1 owner)) l.units) (sym first.2)
     (every_more (IsEarlier before.start) (OfStored (λ owner user. IsKnown (before.start + 1) 1 owner)) (λ unit h. earlier_known before.start unit h) before.units (earlier before first.1))
 
-first_users : (ledger : Ledger) → AllByRecursion (OfStored (HasItsUser ledger.start [])) ledger.units
+pub first_users : (ledger : Ledger) → AllByRecursion (OfStored (HasItsUser ledger.start [])) ledger.units
 first_users ledger = every_any (OfStored (HasItsUser ledger.start [])) (λ unit. every_any (OfLock (HasItsUser ledger.start [])) (λ e. tt) unit.entries) ledger.units
 
 no_mode : (m : Mode) → is_optimistic m ≡ false → same_mode m O ≡ false
@@ -179,10 +173,12 @@ all_firm key (e ∷ es) h = and_from (is_firm e) (list_all is_firm es) h.0.firm 
 
 good_unit : (unit : UnitOfWork) → IsUnit unit → HasGoodLocks unit
 good_unit unit h =
-    let each = every_more (IsEntryOf unit) (IsRight unit.key) (right unit) unit.entries (recursion_from_All (IsEntryOf unit) unit.entries h.entries) in
+    let of_unit = recursion_from_All (IsEntryOf unit) unit.entries h.entries in
+    let each = every_more (IsEntryOf unit) (IsRight unit.key) (right unit) unit.entries of_unit in
     record {
       own = record { owners = all_own unit.key unit.entries each; names = h.distinct; counts = all_counted unit.key unit.entries each };
       firm = all_firm unit.key unit.entries each;
+      used = every_more (IsEntryOf unit) (λ (e : Entry). e.user ≡ unit.user) (λ e own. own.user) unit.entries of_unit;
     }
 
 -- the locks that are stored with units of a good store can stand
@@ -206,7 +202,7 @@ first_agree ledger (inl none) = subst (λ (l : Ledger). LevelsAgree l.levels (nu
 first_agree ledger (inr law) = law.levels
 
 -- no session has drawn a number
-nothing_drawn : (ledger : Ledger) (intervals : List Interval) → AgreeWith intervals ledger → IsFirst ledger → AreDrawnRight (first_ranges ledger.levels intervals) ledger.levels [] (numbers_of ledger.units ledger.marks)
+pub nothing_drawn : (ledger : Ledger) (intervals : List Interval) → AgreeWith intervals ledger → IsFirst ledger → AreDrawnRight (first_ranges ledger.levels intervals) ledger.levels [] (numbers_of ledger.units ledger.marks)
 nothing_drawn ledger intervals agree first =
     let before = first.0 in
     first_drawn intervals ledger.levels [] (numbers_of ledger.units ledger.marks) agree.good (fit_levels intervals ledger.levels agree.fit)
@@ -217,53 +213,8 @@ marks_before : (ledger : Ledger) → IsSound ledger → HaveMarks (with_start le
 marks_before ledger (inl none) = subst (λ (l : Ledger). HaveMarks (with_start l (l.start + 1))) (sym none) (λ key h. refl)
 marks_before ledger (inr law) = λ key none. not_there ledger key law.recorded (none_of (has_no_v2 ledger.units key) key ledger.marks none)
 
-first_marks : (ledger : Ledger) → IsFirst ledger → HaveMarks ledger
+pub first_marks : (ledger : Ledger) → IsFirst ledger → HaveMarks ledger
 first_marks ledger first = subst HaveMarks (sym first.2) (marks_before first.0 first.1)
-
-pub first_sound : (limit mark_limit : ℕ) (intervals : List Interval) (told : Bool) (ledger : Ledger) → limit < 2 ^ 32 → IsFirst ledger → HasSoundLocks (opened limit mark_limit intervals told ledger)
-first_sound limit mark_limit intervals told ledger fits first = record { table = none_stands limit fits; stored = first_stored ledger first }
-
--- ---- the first state
-
-pub first_steady : (limit mark_limit : ℕ) (intervals : List Interval) (told : Bool) (ledger : Ledger) → mark_limit ≤ 1048576 → AgreeWith intervals ledger → IsFirst ledger → IsSteady (opened limit mark_limit intervals told ledger)
-first_steady limit mark_limit intervals told ledger limited agree first = record {
-  started = first_started ledger first;
-  limited = limited;
-  server = tt;
-  whole = tt;
-  named = λ name. omega arith;
-  drawn = nothing_drawn ledger intervals agree first;
-  marked = first_marks ledger first;
-  settled = refl;
-  fresh = record { numbered = tt; ahead = tt; later = λ session luw from. first_unheard ledger first session luw };
-  places = idle 256;
-  orders = no_orders ledger 256;
-  owned = record {
-    known = tt;
-    users = tt;
-    holders = tt;
-    stored_known = first_known ledger first;
-    stored_users = first_users ledger;
-  };
-}
-
-pub first_few : (limit mark_limit : ℕ) (intervals : List Interval) (told : Bool) (ledger : Ledger) → HasFew 0 (opened limit mark_limit intervals told ledger)
-first_few limit mark_limit intervals told ledger = record { sessions = omega arith; units = tt }
-
-first_here : (told : Bool) (max_locks mark_limit : ℕ) (intervals : List Interval) (ledger : Ledger) → mark_limit ≤ 1048576 → AgreeWith intervals ledger → IsFirst ledger → IsTable (record { entries = []; limit = max_locks }) → IsKept (opened max_locks mark_limit intervals told ledger)
-first_here told max_locks mark_limit intervals ledger limited agree first good =
-    record {
-      within = omega arith;
-      few = first_few max_locks mark_limit intervals told ledger;
-      steady = first_steady max_locks mark_limit intervals told ledger limited agree first;
-      sound = record { table = good; stored = first_stored ledger first };
-    }
-
-pub first_kept : (told : Bool) (table : Table) (max_locks mark_limit : ℕ) (intervals : List Interval) (ledger : Ledger) (sessions : List Session) (orders : List (Option UnitKey)) (past : List PastEntry) → mark_limit ≤ 1048576 → AgreeWith intervals ledger → IsFirst ledger → IsTable table → table ≡ record { entries = []; limit = max_locks } → sessions ≡ [] → orders ≡ replicate 256 None → past ≡ []
-    → IsKept (state_of told condition.Up sessions 1 orders table max_locks mark_limit (first_ranges ledger.levels intervals) ledger None past)
-first_kept told table max_locks mark_limit intervals ledger sessions orders past limited agree first good free none idle new =
-    subst IsKept (λ i. state_of told condition.Up (sym none i) 1 (sym idle i) (sym free i) max_locks mark_limit (first_ranges ledger.levels intervals) ledger None (sym new i))
-    (first_here told max_locks mark_limit intervals ledger limited agree first (subst IsTable free good))
 
 pub first_leaves : (held : Option Rows) (may_leave : Rows → Type 0) (ledger : Ledger) → IfSome held (λ _. (left : Rows) → may_leave left → StandFor left ledger)
     → IfSome held (λ _. (left : Rows) → may_leave left → StandFor left ledger ⊎ StandForPending left None)

@@ -1,11 +1,14 @@
 -- What holds of the verdict of each call holds of any call.
-use Rattle.std.proofs.Common.{◌≡◌, ℕ, Bool, true, false, cond, List, length, map, refl}
+use Rattle.std.proofs.Common.{◌≡◌, ℕ, Bool, true, false, cond, List, [], ◌∷◌, ◌++◌, length, map, refl, arith}
 use Rattle.std.specs.Prelude.{◌&&◌, ◌||◌, not, if◌then◌else◌, nat_eq, nat_le, nat_lt, Option, Some, None, Result, Ok, Err, is_some}
+use Rattle.std.proofs.lemmas.Bool.{and_parts, eqb-true}
+use Rattle.std.proofs.lemmas.List.{length-append}
 use Rattle.enq_base.specs.declared.condition.Condition.{Condition}
 use Rattle.enq_base.specs.declared.condition.Condition.TheVariants as condition
 use Rattle.enq_base.specs.declared.owner.UnitKey.{UnitKey}
 use Rattle.enq_base.specs.declared.refusal.Refusal.{Refusal}
 use Rattle.enq_base.specs.declared.refusal.Refusal.TheVariants as refusal
+use Rattle.enq_base.specs.declared.unit.Num.{Num}
 use Rattle.enq_base.specs.declared.unit.Parts.{Parts}
 use Rattle.enq_base.specs.declared.unit.Status.{Status}
 use Rattle.enq_base.specs.declared.unit.Status.TheVariants.{Bad, Bad2}
@@ -23,16 +26,17 @@ use Rattle.posting.specs.Steps.{waiting_for}
 use Rattle.update_records.specs.Marks.{status_of}
 use Rattle.hall.specs.Calls.{Call, LogsOn, OfSession, OfWorker, OfAdmin, Cancels, Resubmits, Takes, Posts, Drops}
 use Rattle.hall.specs.Calls.{SessionCall, LogsOff, Asks, Frees, FreesAll, Converts, Draws, Reserves, Reads, Commits, RollsBack, call_of, wants_server}
-use Rattle.hall.specs.Devices.{DeviceOutcome, AllWell, Wanting, StoreFails, found_by}
-use Rattle.hall.specs.History.{Served, doubted, ends_in, judged, pending_after, refused, served}
+use Rattle.hall.specs.Devices.{DeviceOutcome, AllWell, Wanting, StoreFails, BackupFails, found_by}
+use Rattle.hall.specs.History.{Served, doubted, ends_in, judged, pending_after, refused, served, stored_before_file, unfiled}
 use Rattle.hall.specs.Orders.{first_unclaimed, order_for, order_of, without_order}
 use Rattle.hall.specs.Sessions.{owners_of, pair_of, session_at, unit_key}
-use Rattle.hall.specs.Numbers.{drawn, next_number, other_holder, raised_to}
+use Rattle.hall.specs.Numbers.{drawn, next_number, other_holder, raised_to, stocked}
 use Rattle.hall.specs.State.{State}
+use Rattle.hall.specs.Stocks.{MayCall}
 use Rattle.number_ranges.specs.Intervals.{block_level, code_of, is_buffered}
 use Rattle.range_list.specs.Levels.{present, range_at}
 use Rattle.range_list.specs.declared.range.NumberRange.{NumberRange}
-use Rattle.hall.specs.Step.{Found, Verdict, Refuses, Leaves, ask_refusal, barred, called, caller_refusal, call_verdict, cancelled, commit, committed, converting, drawing, effects_in, entered, freed_all, giving, granting, logged_off, logon, lowered, marked, numbered, or_else, own_verdict, posted_reply, posting, reopened, reposted, reserving, rolled_back, session_call, session_refusal, taken, taking, unavailable, unless_refused, verdict, with_room}
+use Rattle.hall.specs.Step.{Found, Verdict, Refuses, Leaves, ask_refusal, barred, called, caller_refusal, call_verdict, cancelled, commit, committed, converting, drawing, effects_in, entered, freed_all, giving, granting, logged_off, logon, lowered, marked, numbered, or_else, own_verdict, passing, posted_reply, posting, reopened, reposted, reserving, rolled_back, session_call, session_refusal, taken, taking, unavailable, unless_refused, verdict, with_room}
 use Rattle.hall.specs.declared.command.Command.{Command}
 use Rattle.hall.specs.declared.command.Reply.TheVariants as reply
 use Rattle.hall.specs.declared.command.Session.{Session}
@@ -67,9 +71,9 @@ pub record OfEach (P : Call → Verdict → Type 0) (found : Found) (s : State) 
   pub draws : (name : List ℕ) (x : Session) (object nr : List ℕ) (r : NumberRange) → session_at s.sessions name ≡ Some x → CanDraw s x object nr r → P (OfSession name (Draws object nr)) (Leaves (drawn s x (present s.stored.levels r.interval) (next_number r (present s.stored.levels r.interval) x)) (reply.Number (next_number r (present s.stored.levels r.interval) x) (code_of (present s.stored.levels r.interval) (next_number r (present s.stored.levels r.interval) x))))
   pub reserves : (name : List ℕ) (x : Session) (object nr : List ℕ) (upto : ℕ) (r : NumberRange) → session_at s.sessions name ≡ Some x → CanReserve s object nr upto r → P (OfSession name (Reserves object nr upto)) (Leaves (record s { stored = raised_to (present s.stored.levels r.interval) upto s.stored }) (reply.Level (block_level (present s.stored.levels r.interval) upto)))
   pub reads : (name : List ℕ) (x : Session) (table key : List ℕ) → session_at s.sessions name ≡ Some x → P (OfSession name (Reads table key)) (Leaves s (reply.Row (found.row table key)))
-  pub commits_nothing : (name : List ℕ) (x : Session) (parts : Parts) → session_at s.sessions name ≡ Some x → P (OfSession name (Commits parts)) (Leaves s reply.Done)
-  pub commits_numbers : (name : List ℕ) (x : Session) (parts : Parts) → session_at s.sessions name ≡ Some x → P (OfSession name (Commits parts)) (Leaves (numbered s x x.draws) reply.Done)
-  pub commits : (name : List ℕ) (x : Session) (parts : Parts) → session_at s.sessions name ≡ Some x → P (OfSession name (Commits parts)) (Leaves (committed s x parts x.draws) (reply.Unit (unit_key s.stored.start x)))
+  pub commits_nothing : (name : List ℕ) (x : Session) (parts : Parts) (stock : List Num) → session_at s.sessions name ≡ Some x → P (OfSession name (Commits parts stock)) (Leaves s reply.Done)
+  pub commits_numbers : (name : List ℕ) (x : Session) (parts : Parts) (stock : List Num) → session_at s.sessions name ≡ Some x → P (OfSession name (Commits parts stock)) (Leaves (stocked stock (numbered s x (x.draws ++ stock))) reply.Done)
+  pub commits : (name : List ℕ) (x : Session) (parts : Parts) (stock : List Num) → session_at s.sessions name ≡ Some x → P (OfSession name (Commits parts stock)) (Leaves (stocked stock (committed s x parts (x.draws ++ stock))) (reply.Unit (unit_key s.stored.start x)))
   pub rolls_back : (name : List ℕ) (x : Session) → session_at s.sessions name ≡ Some x → P (OfSession name RollsBack) (Leaves (rolled_back s x) reply.Done)
   pub takes : (worker part : ℕ) (unit : UnitKey) → order_of s.orders worker ≡ None → first_unclaimed s.orders (waiting_for part s.stored) ≡ Some unit → P (OfWorker worker (Takes part)) (Leaves (taken s worker unit) (reply.Unit unit))
   pub posts : (worker part : ℕ) (unit : UnitKey) → order_for part s.stored s.orders worker ≡ Some unit → P (OfWorker worker (Posts part)) (Leaves (marked part s worker unit (kind_for part (found.part part unit))) (posted_reply part unit (found.part part unit)))
@@ -119,13 +123,21 @@ by_conversion Q s (Ok c) own refuse convert = convert c refl
 by_conversion Q s (Err f) own refuse convert = refuse (ask_refusal f) own
 
 module _ (P : Call → Verdict → Type 0) (found : Found) (s : State) (each : OfEach P found s) where
-  commit-holds : (name : List ℕ) (x : Session) (parts : Parts) → session_at s.sessions name ≡ Some x → P (OfSession name (Commits parts)) (commit s x parts)
-  commit-holds name x parts at =
-      let Q = P (OfSession name (Commits parts)) in
-      one_of Q (nat_lt 64 (length x.draws) || nat_lt 200 (effects_in parts)) _ _ (λ e. each.refuses _ _ refl)
-      (λ e. one_of Q (nat_eq (effects_in parts) 0 && nat_eq (length x.draws) 0) _ _ (λ f. each.commits_nothing name x parts at)
+  -- without numbers there are none of a stock
+  nothing-holds : (name : List ℕ) (x : Session) (parts : Parts) (stock : List Num) → session_at s.sessions name ≡ Some x → length (x.draws ++ stock) ≡ 0 → P (OfSession name (Commits parts stock)) (Leaves (stocked stock s) reply.Done)
+  nothing-holds name x parts [] at none = each.commits_nothing name x parts [] at
+  nothing-holds name x parts (num ∷ stock) at none =
+      let long = length-append x.draws (num ∷ stock) in
+      absurd (omega (arith, long, none))
+
+  commit-holds : (name : List ℕ) (x : Session) (parts : Parts) (stock : List Num) → session_at s.sessions name ≡ Some x → P (OfSession name (Commits parts stock)) (commit s x parts stock)
+  commit-holds name x parts stock at =
+      let numbers = x.draws ++ stock in
+      let Q : Verdict → Type 0 = λ v. P (OfSession name (Commits parts stock)) (passing stock v) in
+      one_of Q (nat_lt 64 (length numbers) || nat_lt 200 (effects_in parts)) _ _ (λ e. each.refuses _ _ refl)
+      (λ e. one_of Q (nat_eq (effects_in parts) 0 && nat_eq (length numbers) 0) _ _ (λ f. nothing-holds name x parts stock at (eqb-true (length numbers) 0 (and_parts (nat_eq (effects_in parts) 0) (nat_eq (length numbers) 0) f).1))
       (λ f. by_room Q s _ (each.refuses _ _ refl)
-      (one_of Q (nat_eq (effects_in parts) 0) _ _ (λ g. each.commits_numbers name x parts at) (λ g. each.commits name x parts at))))
+      (one_of Q (nat_eq (effects_in parts) 0) _ _ (λ g. each.commits_numbers name x parts stock at) (λ g. each.commits name x parts stock at))))
 
   giving-holds : (name : List ℕ) (x : Session) (object nr : List ℕ) (r : NumberRange) → session_at s.sessions name ≡ Some x → range_at s.ranges object nr ≡ Some r → nat_le 64 (length x.draws) ≡ false → other_holder s.sessions x.name (present s.stored.levels r.interval) ≡ None
       → P (OfSession name (Draws object nr)) (giving s x (present s.stored.levels r.interval) (next_number r (present s.stored.levels r.interval) x))
@@ -165,7 +177,7 @@ module _ (P : Call → Verdict → Type 0) (found : Found) (s : State) (each : O
   session-holds name x (Draws object nr) at = drawing-holds name x object nr (range_at s.ranges object nr) at refl
   session-holds name x (Reserves object nr upto) at = reserving-holds name x object nr upto (range_at s.ranges object nr) at refl
   session-holds name x (Reads table key) at = each.reads name x table key at
-  session-holds name x (Commits parts) at = commit-holds name x parts at
+  session-holds name x (Commits parts stock) at = commit-holds name x parts stock at
   session-holds name x RollsBack at = each.rolls_back name x at
 
   called-holds : (name : List ℕ) (call : SessionCall) (o : Option Session) → session_at s.sessions name ≡ o → P (OfSession name call) (called found s call o)
@@ -254,12 +266,48 @@ unfolding call_verdict
 by_call P found s each call =
     unless_holds (P call) (unavailable s call) (own_verdict found s call) (plain_unavailable s call) (each.refuses call) (own-holds P found s each call)
 
+-- the same of a call that may be made
+pub by_made : (P : Call → Verdict → Type 0) (found : Found) (s : State) → OfEach (λ call v. MayCall s call → P call v) found s → (call : Call) → MayCall s call → P call (call_verdict found s call)
+by_made P found s each call may = by_call (λ c v. MayCall s c → P c v) found s each call may
+
 -- what is shown of what a call comes to, of want of memory, and of a server in doubt, is shown of what is served
-pub by_event : (Q : Served → Type 0) (o : DeviceOutcome) (s : State) (c : Command) → ((found : Found) → Q (judged s (verdict found s c))) → Q (refused s refusal.NoMemory) → ((pending : Option Ledger) → Q (refused (doubted s pending) refusal.StoreFault)) → Q (served o s c)
-by_event Q o s c well wanting fails =
-    let v = verdict (found_by o.reading s) s c in
-    elim o.event as (λ e. Q (ends_in e s (call_of c) v)) [
-      | AllWell ↦ well (found_by o.reading s)
+pub by_event : (Q : Served → Type 0) (o : DeviceOutcome) (s : State) (c : Command) → ((found : Found) → Q (judged s (verdict found s c))) → Q (refused s refusal.NoMemory)
+    → ((found : Found) → Q (refused (doubted s (pending_after s (call_of c) (verdict found s c))) refusal.StoreFault))
+    → ((found : Found) → Q (refused (unfiled s (stored_before_file s (call_of c) (verdict found s c))) refusal.BackupFault)) → Q (served o s c)
+by_event Q o s c well wanting fails unfiles =
+    let found = found_by o.reading s in
+    elim o.event as (λ e. Q (ends_in e s (call_of c) (verdict found s c))) [
+      | AllWell ↦ well found
       | Wanting ↦ wanting
-      | StoreFails ↦ fails (pending_after s (call_of c) v)
+      | StoreFails ↦ fails found
+      | BackupFails ↦ unfiles found
     ]
+
+-- What the store has where the disk of the backup file fails: what it had, or with the mark of a post or of a cancelling.
+pub by_filing : (P : Ledger → Type 0) (found : Found) (s : State) (c : Command) → P s.stored
+    → ((worker part : ℕ) (unit : UnitKey) → order_for part s.stored s.orders worker ≡ Some unit → P (marked part s worker unit (kind_for part (found.part part unit))).stored)
+    → ((unit : UnitKey) (status : Status) → CanBeCancelled s.stored s.orders s.mark_limit unit status → P (cancelled s unit status).stored)
+    → P (stored_before_file s (call_of c) (verdict found s c))
+by_filing P found s c same posts cancels =
+    by_call (λ call v. P (stored_before_file s call v)) found s (record {
+      refuses = λ call r plain. same;
+      enters = λ name user free. same;
+      logs_off = λ name x at. same;
+      grants = λ name x rs locks at e. same;
+      lowers = λ name x rs at. same;
+      frees = λ name x at. same;
+      converts = λ name x wanted c at e. same;
+      draws = λ name x object nr r at can. same;
+      reserves = λ name x object nr upto r at can. same;
+      reads = λ name x table key at. same;
+      commits_nothing = λ name x parts stock at. same;
+      commits_numbers = λ name x parts stock at. same;
+      commits = λ name x parts stock at. same;
+      rolls_back = λ name x at. same;
+      takes = λ worker part unit free e. same;
+      posts = λ worker part unit e. posts worker part unit e;
+      drops = λ worker unit e. same;
+      cancels = λ unit status can. cancels unit status can;
+      reopens = λ unit es here stand. same;
+      reposts = λ unit here. same;
+    }) _

@@ -5,6 +5,9 @@ use Rattle.enq_base.specs.declared.condition.Condition.{Condition}
 use Rattle.enq_base.specs.declared.condition.Condition.TheVariants as condition
 use Rattle.enq_base.specs.declared.refusal.Refusal.{Refusal}
 use Rattle.enq_base.specs.declared.refusal.Refusal.TheVariants as refusal
+use Rattle.enq_server.specs.Faults.{IsRefusal}
+use Rattle.enq_server.specs.declared.fault.ServerFault.{ServerFault}
+use Rattle.enq_server.specs.declared.fault.ServerFault.TheVariants as server
 use Rattle.lock_entry.specs.declared.entry.Asker.{Asker}
 use Rattle.lock_entry.specs.declared.fault.AskFault.{AskFault}
 use Rattle.lock_entry.specs.declared.fault.AskFault.TheVariants as fault
@@ -22,12 +25,13 @@ use Rattle.hall.specs.declared.command.Reply.{Reply}
 use Rattle.hall.specs.declared.command.Reply.TheVariants as reply
 use Rattle.hall.specs.declared.command.Session.{Session}
 use Rattle.hall.specs.Acts.{Admits, IsAct}
-use Rattle.hall.specs.Calls.{Call, LogsOn, OfSession, OfWorker, OfAdmin, AdminCall, WorkerCall, SessionCall, LogsOff, Asks, Frees, FreesAll, Converts, RollsBack, call_of, ends_unit, only_reads, wants_server}
-use Rattle.hall.specs.Devices.{StoreFails, Wanting, all_well, may_want, only, uses_store}
-use Rattle.hall.specs.History.{doubted, judged, pending_after, refused}
+use Rattle.hall.specs.Calls.{Call, LogsOn, OfSession, OfWorker, OfAdmin, AdminCall, WorkerCall, SessionCall, LogsOff, Asks, Frees, FreesAll, Converts, RollsBack, call_of, ends_unit, only_reads, wants_server, writes_store_first}
+use Rattle.hall.specs.Devices.{BackupFails, StoreFails, Wanting, all_well, may_want, only, uses_file, uses_store}
+use Rattle.hall.specs.History.{doubted, judged, pending_after, refused, stored_before_file, unfiled}
+use Rattle.hall.specs.Leaving.{HasStoreCause}
 use Rattle.hall.specs.Sessions.{begun, is_called, session_at, without_session, with_session, with_fresh_unit, pair_of}
 use Rattle.hall.specs.State.{State}
-use Rattle.hall.specs.Step.{Found, Verdict, Refuses, Leaves, answer_of, ask_refusal, barred, call_verdict, called, caller_refusal, converting, entered, found_in, granting, leaves, logon, lost_refusal, or_else, own_verdict, server_refusal, session_call, session_refusal, unavailable, unless_refused, verdict}
+use Rattle.hall.specs.Step.{Found, Verdict, Refuses, Leaves, answer_of, ask_refusal, barred, call_verdict, called, caller_refusal, converting, entered, fault_refusal, found_in, granting, leaves, logon, lost_refusal, or_else, own_verdict, server_refusal, session_call, session_refusal, unavailable, unless_refused, verdict}
 use Rattle.hall.proofs.Fresh.{found_in as found_all_in}
 
 -- where nothing bars calls, a call comes to what it asks for
@@ -81,7 +85,7 @@ barred_verdict found s call r shut = ap (λ o. unless_refused (or_else o (or_els
 pub tells : (s : State) (c : Command) (v : Verdict) (after : State) (r : Reply) → Admits s → own_verdict (found_in s) s (call_of c) ≡ v → judged s v ≡ record { state = after; reply = r } → IsAct s c after r
 tells s c v after r h e j = record {
   outcome = all_well;
-  allowed = record { reading = tt; event = tt };
+  possible = record { reading = tt; event = tt };
   same = ap (judged s) (admitted (found_in s) s (call_of c) h ∙ e) ∙ j;
 }
 
@@ -96,7 +100,7 @@ is_done s c after h e = leaves_as s c after reply.Done h e
 
 -- memory was wanting
 pub is_wanting : (s : State) (c : Command) → unavailable s (call_of c) ≡ None → IsTrue (may_want s (verdict (found_in s) s c) (call_of c)) → IsAct s c s (reply.Refused refusal.NoMemory)
-is_wanting s c free may = record { outcome = only Wanting; allowed = record { reading = tt; event = (free, may) }; same = refl }
+is_wanting s c free may = record { outcome = only Wanting; possible = record { reading = tt; event = (free, may) }; same = refl }
 
 -- the store failed
 pub fails : (s : State) (c : Command) (after : State) (r : Reply) → Admits s → own_verdict (found_in s) s (call_of c) ≡ Leaves after r → IsTrue (uses_store s (call_of c)) → only_reads (call_of c) ≡ false → IsAct s c (doubted s (Some after.stored)) (reply.Refused refusal.StoreFault)
@@ -104,9 +108,19 @@ fails s c after r h e uses writes =
     let v = admitted (found_in s) s (call_of c) h ∙ e in
     record {
       outcome = only StoreFails;
-      allowed = record { reading = tt; event = (ap leaves v, uses) };
+      possible = record { reading = tt; event = (ap leaves v, uses) };
       same = ap (λ x. refused (doubted s (pending_after s (call_of c) x)) refusal.StoreFault) v
           ∙ ap (λ b. refused (doubted s (if b then s.pending else Some after.stored)) refusal.StoreFault) writes;
+    }
+
+-- the disk of the backup file failed
+pub fails_filing : (s : State) (c : Command) (after : State) (r : Reply) → Admits s → own_verdict (found_in s) s (call_of c) ≡ Leaves after r → IsTrue (uses_file s (call_of c)) → IsAct s c (unfiled s (if writes_store_first (call_of c) then after.stored else s.stored)) (reply.Refused refusal.BackupFault)
+fails_filing s c after r h e uses =
+    let v = admitted (found_in s) s (call_of c) h ∙ e in
+    record {
+      outcome = only BackupFails;
+      possible = record { reading = tt; event = (ap leaves v, uses) };
+      same = ap (λ x. refused (unfiled s (stored_before_file s (call_of c) x)) refusal.BackupFault) v;
     }
 
 pub at_state : (s : State) (c : Command) (after other : State) (r : Reply) → after ≡ other → IsAct s c after r → IsAct s c other r
@@ -200,6 +214,40 @@ rolls_back s start sessions name x pair after entries k room e f =
     (of_session s start sessions name x pair RollsBack k
     ∙ ap (λ p. Leaves (record s { sessions = with_session x.name with_fresh_unit s.sessions; locks = freed_owner s.locks p.update }) reply.Done) own
     ∙ (λ i. Leaves (record s { sessions = sym next i; locks = sym f i }) reply.Done))
+
+-- ---- what the lock server refuses
+
+-- the fault of the table that it tells; where the backup file failed there is none
+abbrev pub table_fault : ServerFault → AskFault
+table_fault (server.Ask f) = f
+table_fault server.Failed = fault.NoMemory
+table_fault server.NoMemory = fault.NoMemory
+
+-- the table's rule refuses so, unless memory was wanting
+pub of_table : {X : Type 0} (rule : Result X AskFault) (f : ServerFault) → IsRefusal rule f → IsFaultOf rule (table_fault f)
+of_table rule (server.Ask (fault.Foreign e)) h = h
+of_table rule (server.Ask (fault.Full used most)) h = h
+of_table rule (server.Ask fault.Count) h = h
+of_table rule (server.Ask fault.Lost) h = h
+of_table rule (server.Ask fault.NoMemory) h = tt
+of_table rule server.Failed h = absurd h
+of_table rule server.NoMemory h = tt
+
+-- and it is told as the table's
+pub told_alike : {X : Type 0} (rule : Result X AskFault) (f : ServerFault) → IsRefusal rule f → fault_refusal f ≡ ask_refusal (table_fault f)
+told_alike rule (server.Ask f) h = refl
+told_alike rule server.Failed h = absurd h
+told_alike rule server.NoMemory h = refl
+
+-- a refusal of the lock server leaves the store's count of faults
+pub told_quiet : (f : ServerFault) (n m : ℕ) → m ≡ n → HasStoreCause n m (reply.Refused (fault_refusal f))
+told_quiet (server.Ask (fault.Foreign e)) n m h = h
+told_quiet (server.Ask (fault.Full used most)) n m h = h
+told_quiet (server.Ask fault.Count) n m h = h
+told_quiet (server.Ask fault.Lost) n m h = h
+told_quiet (server.Ask fault.NoMemory) n m h = h
+told_quiet server.Failed n m h = h
+told_quiet server.NoMemory n m h = h
 
 -- ---- converting
 

@@ -12,7 +12,9 @@ use Rattle.update_records.specs.Ledger.{Ledger}
 use Rattle.update_records.specs.declared.records.MarkKind.{MarkKind}
 use Rattle.update_records.specs.declared.records.Unit.{Unit as UnitOfWork}
 use Rattle.hall.proofs.Heard.{marked_waiting, of_has, recorded_waiting, status_in}
-use Rattle.hall.specs.Kept.{AreOrders, IsWaiting}
+use Rattle.hall.specs.Kept.{AreOrders, IsWaiting, OutsideDoubt}
+use Rattle.enq_base.specs.declared.condition.Condition.{Condition}
+use Rattle.enq_base.specs.declared.condition.Condition.TheVariants as condition
 use Rattle.hall.specs.Orders.{is_claimed, is_for, waits_for}
 
 no_or : (a b : Bool) → (a || b) ≡ false → (a ≡ false) × (b ≡ false)
@@ -22,6 +24,12 @@ no_or false b h = (refl, h)
 or_no : (a b : Bool) → a ≡ false → b ≡ false → (a || b) ≡ false
 or_no true b h k = cc
 or_no false b h k = k
+
+-- what follows outside doubt
+pub outside_more : {P Q : Type 0} (k : Condition) → (P → Q) → OutsideDoubt k P → OutsideDoubt k Q
+outside_more condition.Up f h = f h
+outside_more condition.NoServer f h = f h
+outside_more (condition.Doubt n) f h = tt
 
 -- ---- a unit that no worker has an order for, in more or fewer orders
 

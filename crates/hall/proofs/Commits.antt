@@ -3,8 +3,8 @@ use Rattle.std.proofs.Common.{◌≡◌, ℕ, ◌+◌, ◌≤◌, ◌<◌, Bool,
 use Rattle.std.specs.Prelude.{◌&&◌, ◌||◌, not, nat_eq, nat_le, nat_lt, Contains, Some}
 use Rattle.std.specs.List.{All, AllByRecursion, filter}
 use Rattle.std.proofs.lemmas.Bool.Decides.{nat_tests}
-use Rattle.std.proofs.lemmas.List.{map-append, take_more}
-use Rattle.std.proofs.lemmas.List.Elements.{All-contains, All-from_recursion, filter-append}
+use Rattle.std.proofs.lemmas.List.{length-append, map-append, take_more}
+use Rattle.std.proofs.lemmas.List.Elements.{filter-append}
 use Rattle.enq_base.specs.declared.owner.UnitKey.{UnitKey}
 use Rattle.enq_base.specs.declared.refusal.Refusal.TheVariants as refusal
 use Rattle.enq_base.specs.declared.unit.Num.{Num as Number}
@@ -16,8 +16,9 @@ use Rattle.number_ranges.specs.declared.interval.Interval.{Interval}
 use Rattle.posting.specs.Intervals.{MayStore, with_intervals}
 use Rattle.posting.specs.Steps.{IsDrawing, after_step}
 use Rattle.posting.specs.declared.prepared.Step.TheVariants.{Draw, Record}
-use Rattle.range_list.proofs.Owners.{session_has_digits, session_may_commit}
-use Rattle.range_list.specs.Drawn.{AreDrawnRight, IsDrawnAs, IsDrawnRight, IsRun, drawn_of, is_settled_by, settled_rows, stored_as, with_level_behind}
+use Rattle.range_list.proofs.Drawing.{interval_among}
+use Rattle.range_list.proofs.Owners.{session_may_commit_stock, session_stock_digits, session_stock_fits}
+use Rattle.range_list.specs.Drawn.{AreDrawnRight, IsStock, drawn_of, is_settled_by, settled_rows, stored_as, with_level_behind}
 use Rattle.range_list.specs.Levels.{intervals_of, level_in, present}
 use Rattle.range_list.specs.declared.range.NumberRange.{NumberRange}
 use Rattle.update_records.specs.Business.{numbers_of}
@@ -32,8 +33,8 @@ use Rattle.hall.specs.declared.command.Reply.TheVariants as reply
 use Rattle.hall.specs.declared.command.Session.{Session}
 use Rattle.hall.specs.declared.units.InFlight.TheVariants as flight
 use Rattle.hall.specs.declared.units.Written.{Written}
-use Rattle.hall.specs.declared.units.Written.TheVariants.{Answered, Failed}
-use Rattle.hall.specs.Acts.{IsAct, IsWritten}
+use Rattle.hall.specs.declared.units.Written.TheVariants.{Answered, Failed, Unfiled}
+use Rattle.hall.specs.Acts.{IsAct, IsWritten, ranges_behind}
 use Rattle.hall.specs.Commits.{RecordsNumbers, RecordsUnit}
 use Rattle.hall.specs.Flights.{landed}
 use Rattle.hall.specs.Kept.{IsAhead, draws_in}
@@ -41,7 +42,7 @@ use Rattle.hall.specs.Sessions.{is_called, session_at, unit_key, with_next_unit,
 use Rattle.hall.specs.State.{State}
 use Rattle.hall.specs.Step.{effects_in, unit_of}
 use Rattle.hall.proofs.Fresh.{found_in as found_all_in, found_name}
-use Rattle.hall.proofs.Writes.{IsCommitAt, commits, commits_in_doubt, commits_numbers, commits_wanting, is_nothing, is_too_much, numbers_in_doubt}
+use Rattle.hall.proofs.Writes.{IsCommitAt, commits, commits_in_doubt, commits_unfiled, commits_numbers, commits_wanting, is_nothing, is_too_much, numbers_in_doubt}
 
 -- ---- the rows of the settled intervals
 
@@ -138,53 +139,48 @@ module _ (levels : Levels) (nums : List Number) where
   settled_none ranges k r drawn before now within at none is so_far same =
       settled_same ranges k r before now within at (settled_not_drawn (present levels r.interval) nums drawn none is) so_far same
 
--- ---- what a session has drawn
+-- ---- what a session has drawn, with numbers of a stock
 
--- a session's draws fit their intervals
-module _ (sessions : List Session) (name : List ℕ) (x : Session) (found : session_at sessions name ≡ Some x) (ledger : Ledger) (ranges : List NumberRange)
-    (h : AreDrawnRight ranges ledger.levels (draws_in sessions) (numbers_of ledger.units ledger.marks)) where
+module _ (sessions : List Session) (name : List ℕ) (x : Session) (found : session_at sessions name ≡ Some x) (ledger : Ledger) (ranges : List NumberRange) (stock : List Number)
+    (h : AreDrawnRight ranges ledger.levels (draws_in sessions) (numbers_of ledger.units ledger.marks))
+    (fits : IsStock (intervals_of ranges) ledger.levels (draws_in sessions) (numbers_of ledger.units ledger.marks) stock) where
   abbrev committed : List Number
   committed = numbers_of ledger.units ledger.marks
 
-  run_in : (i : Interval) (xs : List Session) → AllByRecursion (IsRun i) (draws_in xs) → AllByRecursion (λ (y : Session). IsRun i y.draws) xs
-  run_in i [] all = tt
-  run_in i (y ∷ ys) all = (all.0, run_in i ys all.1)
+  abbrev taken : List Number
+  taken = x.draws ++ stock
 
-  run_of : (b : Bool) (i : Interval) (next : ℕ) → b ≡ false → IsDrawnAs b i next (draws_in sessions) committed → IsRun i x.draws
-  run_of true i next e d = cc
-  run_of false i next e d = found_all_in (λ (y : Session). IsRun i y.draws) (is_called name) sessions x found (run_in i sessions d.runs)
-
-  pub rows_fit : (r : NumberRange) → Contains ranges r → is_buffered r.interval ≡ false
-      → level_in ledger.levels r.interval + drawn_of (present ledger.levels r.interval) x.draws ≤ r.interval.to
-  rows_fit r among plain =
-      let drawn = All-contains (IsDrawnRight ledger.levels (draws_in sessions) committed) ranges r
-      (All-from_recursion (IsDrawnRight ledger.levels (draws_in sessions) committed) ranges h.each) among in
-      (run_of (is_buffered r.interval) (present ledger.levels r.interval) r.next plain drawn).within
+  -- they fit their intervals
+  pub rows_fit : (nums : List Number) → nums ≡ taken → (r : NumberRange) → Contains ranges r → is_buffered r.interval ≡ false
+      → level_in ledger.levels r.interval + drawn_of (present ledger.levels r.interval) nums ≤ r.interval.to
+  rows_fit nums is r among plain =
+      subst (λ ns. level_in ledger.levels r.interval + drawn_of (present ledger.levels r.interval) ns ≤ r.interval.to) (sym is)
+      (session_stock_fits (λ (y : Session). y.draws) (is_called name) (λ y. y) sessions x found ranges ledger.levels committed stock fits h r.interval (interval_among ranges r among) plain)
 
   -- they may be stored with their levels
-  pub draws_stored : (levels : List StoredInterval) (nums : List Number) → levels ≡ settled_rows ledger.levels ranges x.draws → nums ≡ x.draws → MayStore ledger levels nums
+  pub draws_stored : (levels : List StoredInterval) (nums : List Number) → levels ≡ settled_rows ledger.levels ranges taken → nums ≡ taken → MayStore ledger levels nums
   draws_stored levels nums rows is =
       subst (λ ns. MayStore ledger levels ns) (sym is)
-      (subst (λ ls. MayStore ledger ls x.draws) (sym rows)
-      (session_may_commit (λ (y : Session). y.draws) (is_called name) (λ y. y) sessions x found ledger ranges h))
+      (subst (λ ls. MayStore ledger ls taken) (sym rows)
+      (session_may_commit_stock (λ (y : Session). y.draws) (is_called name) (λ y. y) sessions x found ledger ranges stock fits h))
 
-  pub draws_digits : All HasDigits x.draws
-  draws_digits = session_has_digits (λ (y : Session). y.draws) (is_called name) (λ y. y) sessions x found ranges ledger.levels committed h
+  pub draws_digits : (nums : List Number) → nums ≡ taken → All HasDigits nums
+  draws_digits nums is = subst (All HasDigits) (sym is) (session_stock_digits (λ (y : Session). y.draws) (is_called name) (λ y. y) sessions x found ranges ledger.levels committed stock fits h)
 
   -- numbers alone may be recorded of the session's open unit
-  pub may_draw : (start : ℕ) (key : UnitKey) (nums : List Number) → start ≡ ledger.start → key ≡ unit_key start x → nums ≡ x.draws
+  pub may_draw : (start : ℕ) (key : UnitKey) (nums : List Number) → start ≡ ledger.start → key ≡ unit_key start x → nums ≡ taken
       → 1 ≤ ledger.start → AllByRecursion (IsAhead ledger) sessions
-      → 1 ≤ length x.draws → length x.draws ≤ 64 → IsDrawing ledger key nums
+      → 1 ≤ length nums → length nums ≤ 64 → IsDrawing ledger key nums
   may_draw start key nums same is drawn started ahead some few =
       subst (λ k. IsDrawing ledger k nums) (sym (is ∙ ap (λ n. unit_key n x) same))
-      (subst (IsDrawing ledger (unit_key ledger.start x)) (sym drawn) (record {
+      (record {
         fresh = found_all_in (IsAhead ledger) (is_called name) sessions x found ahead x.luw (omega arith);
         first = started;
         last = omega arith;
         some = some;
         few = few;
-        digits = draws_digits;
-      }))
+        digits = draws_digits nums drawn;
+      })
 
 -- ---- the change in flight
 
@@ -197,14 +193,17 @@ landed_numbers ledger key drawn nums rows levels a b = λ i. with_intervals (sym
 
 -- ---- how much there is to record
 
-pub too_many : (x : Session) (parts : Parts) (n : ℕ) → n ≡ length x.draws → 64 < n → is_too_much x parts ≡ true
-too_many x parts n is many = ap (λ b. b || nat_lt 200 (effects_in parts)) (above (length x.draws) (subst (λ k. 64 < k) is many))
+pub together : (draws got stock : List Number) → got ≡ draws → length got + length stock ≡ length (draws ++ stock)
+together draws got stock is = ap (λ ns. length ns + length stock) is ∙ sym (length-append draws stock)
+
+pub too_many : (nums : List Number) (parts : Parts) (n : ℕ) → n ≡ length nums → 64 < n → is_too_much nums parts ≡ true
+too_many nums parts n is many = ap (λ b. b || nat_lt 200 (effects_in parts)) (above (length nums) (subst (λ k. 64 < k) is many))
   where
     above : (k : ℕ) → 64 < k → nat_lt 64 k ≡ true
     above k h = grind (arith, nat_tests)
 
-pub too_large : (x : Session) (parts : Parts) (e : ℕ) → e ≡ effects_in parts → 200 < e → is_too_much x parts ≡ true
-too_large x parts e is large = ap (λ b. nat_lt 64 (length x.draws) || b) (above (effects_in parts) (subst (λ k. 200 < k) is large)) ∙ or_true (nat_lt 64 (length x.draws))
+pub too_large : (nums : List Number) (parts : Parts) (e : ℕ) → e ≡ effects_in parts → 200 < e → is_too_much nums parts ≡ true
+too_large nums parts e is large = ap (λ b. nat_lt 64 (length nums) || b) (above (effects_in parts) (subst (λ k. 200 < k) is large)) ∙ or_true (nat_lt 64 (length nums))
   where
     above : (k : ℕ) → 200 < k → nat_lt 200 k ≡ true
     above k h = grind (arith, nat_tests)
@@ -213,9 +212,9 @@ too_large x parts e is large = ap (λ b. nat_lt 64 (length x.draws) || b) (above
     or_true true = refl
     or_true false = refl
 
-pub few_enough : (x : Session) (parts : Parts) (n e : ℕ) → n ≡ length x.draws → e ≡ effects_in parts → n ≤ 64 → e ≤ 200 → is_too_much x parts ≡ false
-few_enough x parts n e a b few small =
-    λ i. within (length x.draws) (subst (λ k. k ≤ 64) a few) i || inside (effects_in parts) (subst (λ k. k ≤ 200) b small) i
+pub few_enough : (nums : List Number) (parts : Parts) (n e : ℕ) → n ≡ length nums → e ≡ effects_in parts → n ≤ 64 → e ≤ 200 → is_too_much nums parts ≡ false
+few_enough nums parts n e a b few small =
+    λ i. within (length nums) (subst (λ k. k ≤ 64) a few) i || inside (effects_in parts) (subst (λ k. k ≤ 200) b small) i
   where
     within : (k : ℕ) → k ≤ 64 → nat_lt 64 k ≡ false
     within k h = grind (arith, nat_tests)
@@ -229,14 +228,14 @@ is_zero k h = grind (arith, nat_tests)
 is_more : (k : ℕ) → 1 ≤ k → nat_eq k 0 ≡ false
 is_more k h = grind (arith, nat_tests)
 
-pub nothing_there : (x : Session) (parts : Parts) (n e : ℕ) → n ≡ length x.draws → e ≡ effects_in parts → n ≡ 0 → e ≡ 0 → is_nothing x parts ≡ true
-nothing_there x parts n e a b none without = λ i. is_zero (effects_in parts) (sym b ∙ without) i && is_zero (length x.draws) (sym a ∙ none) i
+pub nothing_there : (nums : List Number) (parts : Parts) (n e : ℕ) → n ≡ length nums → e ≡ effects_in parts → n ≡ 0 → e ≡ 0 → is_nothing nums parts ≡ true
+nothing_there nums parts n e a b none without = λ i. is_zero (effects_in parts) (sym b ∙ without) i && is_zero (length nums) (sym a ∙ none) i
 
-pub some_numbers : (x : Session) (parts : Parts) (n : ℕ) → n ≡ length x.draws → 1 ≤ n → is_nothing x parts ≡ false
-some_numbers x parts n a some = ap (λ b. nat_eq (effects_in parts) 0 && b) (is_more (length x.draws) (subst (λ k. 1 ≤ k) a some)) ∙ no_both (nat_eq (effects_in parts) 0)
+pub some_numbers : (nums : List Number) (parts : Parts) (n : ℕ) → n ≡ length nums → 1 ≤ n → is_nothing nums parts ≡ false
+some_numbers nums parts n a some = ap (λ b. nat_eq (effects_in parts) 0 && b) (is_more (length nums) (subst (λ k. 1 ≤ k) a some)) ∙ no_both (nat_eq (effects_in parts) 0)
 
-pub some_effects : (x : Session) (parts : Parts) (e : ℕ) → e ≡ effects_in parts → 1 ≤ e → is_nothing x parts ≡ false
-some_effects x parts e b some = ap (λ c. c && nat_eq (length x.draws) 0) (is_more (effects_in parts) (subst (λ k. 1 ≤ k) b some))
+pub some_effects : (nums : List Number) (parts : Parts) (e : ℕ) → e ≡ effects_in parts → 1 ≤ e → is_nothing nums parts ≡ false
+some_effects nums parts e b some = ap (λ c. c && nat_eq (length nums) 0) (is_more (effects_in parts) (subst (λ k. 1 ≤ k) b some))
 
 pub no_effects : (parts : Parts) (e : ℕ) → e ≡ effects_in parts → e ≡ 0 → nat_eq (effects_in parts) 0 ≡ true
 no_effects parts e b none = is_zero (effects_in parts) (sym b ∙ none)
@@ -246,42 +245,44 @@ with_effects parts e b some = is_more (effects_in parts) (subst (λ k. 1 ≤ k) 
 
 -- ---- what was recorded is what the call leaves
 
-module _ (s : State) (sessions : List Session) (ranges : List NumberRange) (entries : List Entry) (ledger : Ledger) (limit : ℕ) (name : List ℕ) (x : Session) (parts : Parts)
-    (at : IsCommitAt s sessions ranges entries ledger limit name x) (few : is_too_much x parts ≡ false) (some : is_nothing x parts ≡ false)
+module _ (s : State) (sessions : List Session) (ranges : List NumberRange) (entries : List Entry) (ledger : Ledger) (limit : ℕ) (name : List ℕ) (x : Session) (parts : Parts) (stock : List Number)
+    (at : IsCommitAt s sessions ranges entries ledger limit name x) (few : is_too_much (x.draws ++ stock) parts ≡ false) (some : is_nothing (x.draws ++ stock) parts ≡ false)
     (space : nat_le limit (length ledger.marks) ≡ false) where
   called_so : x.name ≡ name
   called_so = bytes_eq-same _ _ (found_name name sessions x at.found)
 
-  abbrev left_as : List Session → List Entry → Ledger → State
-  left_as after left now = record s { sessions = after; locks = left; stored = now }
+  abbrev left_as : List Session → List Entry → Ledger → Written → State
+  left_as after left now w = record s { sessions = after; ranges = ranges_behind stock ranges w; locks = left; stored = now }
 
-  pub unit_recorded : nat_eq (effects_in parts) 0 ≡ false → (unit : UnitOfWork) (levels : List StoredInterval) → unit ≡ unit_of ledger.start entries x parts x.draws
-      → levels ≡ settled_rows ledger.levels ranges x.draws → (after : List Session) (left : List Entry) (now : Ledger) (w : Written)
-      → RecordsUnit sessions after entries left ledger now name unit levels w → IsWritten s (command.Commit name parts) (left_as after left now) w
+  pub unit_recorded : nat_eq (effects_in parts) 0 ≡ false → (unit : UnitOfWork) (levels : List StoredInterval) → unit ≡ unit_of ledger.start entries x parts (x.draws ++ stock)
+      → levels ≡ settled_rows ledger.levels ranges (x.draws ++ stock) → (after : List Session) (left : List Entry) (now : Ledger) (w : Written)
+      → RecordsUnit sessions after entries left ledger now name unit levels w → IsWritten s (command.Commit name parts stock) (left_as after left now w) w
   unit_recorded effects unit levels is rows after left now (Answered (reply.Unit key)) h =
-      commits s sessions ranges entries ledger limit name x parts at few effects some space after left now key
+      commits s sessions ranges entries ledger limit name x parts stock at few effects some space after left now key
       (h.0 ∙ ap (λ (u : UnitOfWork). u.key) is) (h.1 ∙ ap (λ n. with_session n with_next_unit sessions) (sym called_so)) h.2
       (h.3 ∙ (λ i. with_intervals (rows i) (with_unit ledger (is i))))
   unit_recorded effects unit levels is rows after left now (Answered (reply.Refused refusal.NoMemory)) h =
-      subst (λ ss. IsAct s (command.Commit name parts) (left_as ss left now) (reply.Refused refusal.NoMemory)) (sym h.0)
-      (subst (λ es. IsAct s (command.Commit name parts) (left_as sessions es now) (reply.Refused refusal.NoMemory)) (sym h.1)
-      (commits_wanting s sessions ranges entries ledger limit name x parts at now h.2))
+      subst (λ ss. IsAct s (command.Commit name parts stock) (left_as ss left now (Answered (reply.Refused refusal.NoMemory))) (reply.Refused refusal.NoMemory)) (sym h.0)
+      (subst (λ es. IsAct s (command.Commit name parts stock) (left_as sessions es now (Answered (reply.Refused refusal.NoMemory))) (reply.Refused refusal.NoMemory)) (sym h.1)
+      (commits_wanting s sessions ranges entries ledger limit name x parts stock at now h.2))
   unit_recorded effects unit levels is rows after left now (Failed (Some (flight.Unit recorded kept))) h =
-      commits_in_doubt s sessions ranges entries ledger limit name x parts at few effects some space recorded kept (h.0 ∙ is) (h.1 ∙ rows)
+      commits_in_doubt s sessions ranges entries ledger limit name x parts stock at few effects some space recorded kept (h.0 ∙ is) (h.1 ∙ rows)
+  unit_recorded effects unit levels is rows after left now Unfiled h =
+      commits_unfiled s sessions ranges entries ledger limit name x parts stock at few effects some space unit.key (ap (λ (u : UnitOfWork). u.key) is) h.1 now h.0
   unit_recorded effects unit levels is rows after left now _ h = absurd h
 
-  pub numbers_recorded : nat_eq (effects_in parts) 0 ≡ true → (key : UnitKey) (nums : List Number) (levels : List StoredInterval) → key ≡ unit_key ledger.start x → nums ≡ x.draws
-      → levels ≡ settled_rows ledger.levels ranges x.draws → (after : List Session) (now : Ledger) (w : Written)
-      → RecordsNumbers sessions after ledger now name key nums levels w → IsWritten s (command.Commit name parts) (left_as after entries now) w
+  pub numbers_recorded : nat_eq (effects_in parts) 0 ≡ true → (key : UnitKey) (nums : List Number) (levels : List StoredInterval) → key ≡ unit_key ledger.start x → nums ≡ (x.draws ++ stock)
+      → levels ≡ settled_rows ledger.levels ranges (x.draws ++ stock) → (after : List Session) (now : Ledger) (w : Written)
+      → RecordsNumbers sessions after ledger now name key nums levels w → IsWritten s (command.Commit name parts stock) (left_as after entries now w) w
   numbers_recorded alone key nums levels k is rows after now (Answered reply.Done) h =
-      commits_numbers s sessions ranges entries ledger limit name x parts at few alone some space after now
+      commits_numbers s sessions ranges entries ledger limit name x parts stock at few alone some space after now
       (h.0 ∙ ap (λ n. with_session n without_draws sessions) (sym called_so))
       (h.1 ∙ (λ i. with_intervals (rows i) (with_mark ledger (k i) (Num (is i)))))
   numbers_recorded alone key nums levels k is rows after now (Answered (reply.Refused refusal.NoMemory)) h =
-      subst (λ ss. IsAct s (command.Commit name parts) (left_as ss entries now) (reply.Refused refusal.NoMemory)) (sym h.0)
-      (commits_wanting s sessions ranges entries ledger limit name x parts at now h.1)
+      subst (λ ss. IsAct s (command.Commit name parts stock) (left_as ss entries now (Answered (reply.Refused refusal.NoMemory))) (reply.Refused refusal.NoMemory)) (sym h.0)
+      (commits_wanting s sessions ranges entries ledger limit name x parts stock at now h.1)
   numbers_recorded alone key nums levels k is rows after now (Failed (Some (flight.Numbers drawn_key drawn kept))) h =
       let key_is : drawn_key ≡ unit_key s.stored.start x = h.0 ∙ k ∙ ap (λ (l : Ledger). unit_key l.start x) (sym at.own_ledger) in
-      subst (λ l. IsWritten s (command.Commit name parts) (left_as after entries now) (Failed (Some l))) (λ i. flight.Numbers (sym key_is i) (sym (h.1 ∙ is) i) kept)
-      (numbers_in_doubt s sessions ranges entries ledger limit name x parts at few alone some space kept (h.2 ∙ rows))
+      subst (λ l. IsWritten s (command.Commit name parts stock) (left_as after entries now (Failed (Some l))) (Failed (Some l))) (λ i. flight.Numbers (sym key_is i) (sym (h.1 ∙ is) i) kept)
+      (numbers_in_doubt s sessions ranges entries ledger limit name x parts stock at few alone some space kept (h.2 ∙ rows))
   numbers_recorded alone key nums levels k is rows after now _ h = absurd h

@@ -1,6 +1,6 @@
 -- What each call leaves of the names of the sessions, and of the numbers that they have drawn.
-use Rattle.std.proofs.Common.{◌≡◌, ℕ, ◌+◌, ◌-◌, ◌*◌, ◌≤◌, ◌<◌, Bool, true, false, cond, List, [], ◌∷◌, ◌++◌, map, nat_eq, refl, sym, ap, ◌∙◌, subst, arith, mul_comm}
-use Rattle.std.specs.Prelude.{Contains, count_by, if◌then◌else◌, is_some, min, nat_le, nat_lt, not, ◌&&◌, Option, Some, None}
+use Rattle.std.proofs.Common.{◌≡◌, ℕ, ◌+◌, ◌-◌, ◌*◌, ◌≤◌, ◌<◌, Bool, true, false, cond, List, [], ◌∷◌, ◌++◌, nat_eq, refl, sym, ap, ◌∙◌, subst, arith, mul_comm}
+use Rattle.std.specs.Prelude.{Contains, count_by, if◌then◌else◌, is_some, nat_le, nat_lt, not, ◌&&◌, Option, Some, None}
 use Rattle.std.specs.Int.{div_ceil}
 use Rattle.std.specs.List.{AllByRecursion, filter, find}
 use Rattle.std.specs.Str.{bytes_eq}
@@ -22,11 +22,12 @@ use Rattle.posting.specs.declared.prepared.Outcome.TheVariants as outcome
 use Rattle.range_list.proofs.Counting.{bit, count_append, count_cons, count_none}
 use Rattle.range_list.proofs.Drawing.{interval_among, range_found}
 use Rattle.range_list.proofs.Fits.{found_level, level_fits}
-use Rattle.range_list.proofs.Owners.{session_commits, session_draws_buffered, session_draws_plain, session_gives_back}
+use Rattle.range_list.proofs.Owners.{session_commits_stock, session_draws_buffered, session_draws_plain, session_gives_back}
 use Rattle.range_list.proofs.Recording.{raised_drawn}
 use Rattle.range_list.proofs.Sessions.{fewer_drawn, fewer_last, fewer_left}
 use Rattle.range_list.proofs.Settling.{insert_own}
-use Rattle.range_list.specs.Drawn.{AreDrawnRight, drawn_of, handed_out, num_of, settled_rows, stored_as}
+use Rattle.range_list.proofs.Stocks.{no_stock}
+use Rattle.range_list.specs.Drawn.{AreDrawnRight, drawn_of, handed_out, num_of, passed, settled_rows, stored_as}
 use Rattle.range_list.specs.Levels.{intervals_of, level_in, name_of, present}
 use Rattle.range_list.specs.declared.range.NumberRange.{NumberRange}
 use Rattle.update_records.proofs.Status.{none_of, one_unit, status_push, unit_other}
@@ -39,9 +40,10 @@ use Rattle.update_records.specs.declared.records.MarkKind.{MarkKind}
 use Rattle.update_records.specs.declared.records.MarkKind.TheVariants as mark
 use Rattle.update_records.specs.declared.records.Unit.{Unit as UnitOfWork}
 use Rattle.hall.specs.Kept.{HaveMarks, HaveOwnNames, IsDrawn, draws_in}
-use Rattle.hall.specs.Numbers.{holds, next_number, raised_to}
+use Rattle.hall.specs.Numbers.{holds, next_number, raised_to, stocked}
 use Rattle.hall.specs.Sessions.{is_called, session_at, unit_key, with_draw, with_session, without_draws}
 use Rattle.hall.specs.State.{State}
+use Rattle.hall.specs.Stocks.{IsStockIn}
 use Rattle.hall.specs.Step.{numbered}
 use Rattle.hall.specs.declared.command.Session.{Session}
 use Rattle.hall.proofs.ByCall.{CanDraw}
@@ -163,6 +165,12 @@ marks_marked ledger key kind h other none =
     (elim (same_unit key other) as (λ t. (if t then given b kind before else before) ≡ None → before ≡ None) [ true ↦ was_none b kind before | false ↦ λ e. e ]
     (sym (status_push b other None ledger.marks (next_mark ledger key kind)) ∙ none))
 
+-- ---- numbers of a stock
+
+-- there is nothing to be shown of no numbers
+pub no_stock_in : (s : State) → IsStockIn s []
+no_stock_in s = no_stock (intervals_of s.ranges) s.stored.levels (draws_in s.sessions) (numbers_of s.stored.units s.stored.marks)
+
 -- ---- a unit that is recorded with its numbers
 
 some_or_none : {X : Type 0} (o : Option X) (x : X) → o ≡ Some x → o ≡ None → ⊥
@@ -177,22 +185,27 @@ marks_recorded ledger unit fresh h other none =
       | false ↦ λ apart. unit_other ledger.units unit other apart ∙ h other (sym (recorded_other ledger unit other fresh apart) ∙ none)
     ] refl
 
-pub drawn_recorded : (s : State) (x : Session) (change : Session → Session) (unit : UnitOfWork) → session_at s.sessions x.name ≡ Some x → (change x).draws ≡ [] → unit.numbers ≡ x.draws → status_in s.stored unit.key ≡ None → HaveMarks s.stored → IsDrawn s
-    → AreDrawnRight s.ranges (with_levels (settled_rows s.stored.levels s.ranges x.draws) s.stored.levels) (draws_in (with_session x.name change s.sessions)) (numbers_of (s.stored.units ++ unit ∷ []) (with_unit s.stored unit).marks)
-drawn_recorded s x change unit at none is fresh marks h =
-    let units = s.stored.units in
-    let old = s.stored.marks in
-    subst (AreDrawnRight s.ranges (with_levels (settled_rows s.stored.levels s.ranges x.draws) s.stored.levels) (draws_in (with_session x.name change s.sessions)))
-    (sym (numbers_recorded units unit old (next_mark s.stored unit.key mark.Rec).seq (none_of (has_no_v2 units unit.key) unit.key old fresh) (marks unit.key fresh) ∙ ap (λ n. numbers_of units old ++ n) is))
-    (session_commits draws_of (is_called x.name) change s.sessions x at s.ranges s.stored.levels (numbers_of units old) none h)
+-- what sessions have drawn where one of them has committed what it drew and these numbers of a stock
+abbrev AreRightBehind : State → Session → List Num → List Session → List Num → Type 0
+AreRightBehind s x stock sessions committed =
+    AreDrawnRight (passed stock s.ranges) (with_levels (settled_rows s.stored.levels s.ranges (x.draws ++ stock)) s.stored.levels) (draws_in sessions) committed
 
-pub drawn_numbered : (s : State) (x : Session) → session_at s.sessions x.name ≡ Some x → IsDrawn s → IsDrawn (numbered s x x.draws)
-drawn_numbered s x at h =
+pub drawn_recorded : (s : State) (x : Session) (stock : List Num) (change : Session → Session) (unit : UnitOfWork) → session_at s.sessions x.name ≡ Some x → (change x).draws ≡ [] → unit.numbers ≡ x.draws ++ stock → status_in s.stored unit.key ≡ None → HaveMarks s.stored
+    → IsStockIn s stock → IsDrawn s → AreRightBehind s x stock (with_session x.name change s.sessions) (numbers_of (s.stored.units ++ unit ∷ []) (with_unit s.stored unit).marks)
+drawn_recorded s x stock change unit at none is fresh marks fits h =
     let units = s.stored.units in
     let old = s.stored.marks in
-    subst (AreDrawnRight s.ranges (with_levels (settled_rows s.stored.levels s.ranges x.draws) s.stored.levels) (draws_in (with_session x.name without_draws s.sessions)))
-    (sym (numbers_push units old (next_mark s.stored (unit_key s.stored.start x) (mark.Num x.draws))))
-    (session_commits draws_of (is_called x.name) without_draws s.sessions x at s.ranges s.stored.levels (numbers_of units old) refl h)
+    subst (AreRightBehind s x stock (with_session x.name change s.sessions))
+    (sym (numbers_recorded units unit old (next_mark s.stored unit.key mark.Rec).seq (none_of (has_no_v2 units unit.key) unit.key old fresh) (marks unit.key fresh) ∙ ap (λ n. numbers_of units old ++ n) is))
+    (session_commits_stock draws_of (is_called x.name) change s.sessions x at s.ranges s.stored.levels (numbers_of units old) stock fits h none)
+
+pub drawn_numbered : (s : State) (x : Session) (stock : List Num) → session_at s.sessions x.name ≡ Some x → IsStockIn s stock → IsDrawn s → IsDrawn (stocked stock (numbered s x (x.draws ++ stock)))
+drawn_numbered s x stock at fits h =
+    let units = s.stored.units in
+    let old = s.stored.marks in
+    subst (AreRightBehind s x stock (with_session x.name without_draws s.sessions))
+    (sym (numbers_push units old (next_mark s.stored (unit_key s.stored.start x) (mark.Num (x.draws ++ stock)))))
+    (session_commits_stock draws_of (is_called x.name) without_draws s.sessions x at s.ranges s.stored.levels (numbers_of units old) stock fits h refl)
 
 -- ---- a level that is raised
 

@@ -23,7 +23,7 @@ use Rattle.hall.specs.declared.command.Command.TheVariants as command
 use Rattle.hall.specs.declared.command.Reply.TheVariants as reply
 use Rattle.hall.specs.declared.command.Session.{Session}
 use Rattle.hall.specs.declared.units.Written.{Written}
-use Rattle.hall.specs.declared.units.Written.TheVariants.{Answered, Failed}
+use Rattle.hall.specs.declared.units.Written.TheVariants.{Answered, Failed, Unfiled}
 use Rattle.hall.specs.Acts.{Admits, IsAct, IsWritten}
 use Rattle.hall.specs.Calls.{OfSession, Draws, Reserves}
 use Rattle.hall.specs.Devices.{is_past_level, uses_store}
@@ -273,6 +273,7 @@ module _ (s : State) (sessions : List Session) (ranges : List NumberRange) (ledg
         (at_state _ _ s _ _ is_same (draws_wanting d.session d.found)))
     draws_unraised buffered (Failed change) h new kept =
         subst (λ x. IsAct s draws_call (doubted s (option_map (landed s.stored) x)) (reply.Refused refusal.StoreFault)) (sym h.0) (draws_in_doubt buffered h.1)
+    draws_unraised buffered Unfiled h new kept = absurd h
 
   -- ---- reservations
 
@@ -345,3 +346,4 @@ module _ (s : State) (sessions : List Session) (ranges : List NumberRange) (ledg
           (is_wanting s reserves_call (free_session s name (Reserves object nr upto) d.session at.admits (found_at s sessions name (Some d.session) at.own_sessions d.found)) refl))
       reserves_unraised (Failed change) h new kept =
           subst (λ x. IsAct s reserves_call (doubted s (option_map (landed s.stored) x)) (reply.Refused refusal.StoreFault)) (sym h.0) (reserves_in_doubt h.1)
+      reserves_unraised Unfiled h new kept = absurd h

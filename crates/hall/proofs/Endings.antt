@@ -1,6 +1,6 @@
 -- A call, apart from its place in the history and with it.
 use Rattle.std.proofs.Common.{◌≡◌, inl, inr, ℕ, Bool, true, false, List, [], length, refl, sym, ap, ◌∙◌, subst}
-use Rattle.std.specs.Prelude.{if◌then◌else◌, IsTrue, Option, Some, None, is_some}
+use Rattle.std.specs.Prelude.{if◌then◌else◌, nat_eq, IsTrue, Option, Some, None, is_some}
 use Rattle.std.specs.Option.{option_map}
 use Rattle.enq_base.specs.declared.condition.Condition.{Condition}
 use Rattle.enq_base.specs.declared.condition.Condition.TheVariants.{Up}
@@ -13,12 +13,14 @@ use Rattle.update_records.specs.Ledger.{Ledger}
 use Rattle.enq_base.specs.declared.condition.Condition.TheVariants as condition
 use Rattle.enq_base.specs.declared.refusal.Refusal.{Refusal}
 use Rattle.enq_base.specs.declared.refusal.Refusal.TheVariants as refusal
+use Rattle.enq_server.specs.Following.{KeepsOn}
 use Rattle.keeper_api.specs.Rows.{Rows}
-use Rattle.hall.specs.Acts.{Admits, IsAct, IsWritten, OnFailure, written_condition, written_pending, written_reply}
-use Rattle.hall.specs.Calls.{Call, LogsOn, OfSession, OfWorker, OfAdmin, SessionCall, LogsOff, Asks, Frees, FreesAll, Converts, Draws, Reserves, Reads, Commits, RollsBack, Takes, Posts, Drops, call_of, session_touches_store, touches_store}
-use Rattle.hall.specs.Devices.{all_well, session_uses_store, uses_store}
-use Rattle.hall.specs.History.{IsGiven, Served, is_unrecorded, judged}
-use Rattle.hall.specs.Kept.{HasServer, IsKept}
+use Rattle.hall.specs.Acts.{Admits, IsAct, IsWritten, OnFailure, OnStoreFailure, post_of, written_condition, written_pending, written_reply}
+use Rattle.hall.specs.Calls.{Call, LogsOn, OfSession, OfWorker, OfAdmin, SessionCall, LogsOff, Asks, Frees, FreesAll, Converts, Draws, Reserves, Reads, Commits, RollsBack, Takes, Posts, Drops, call_of, session_touches_file, touches_file}
+use Rattle.hall.specs.Devices.{all_well, reaches_store, session_reaches_store, session_uses_file, session_uses_store, uses_file, uses_store}
+use Rattle.hall.specs.Filing.{DoesFile, HasFileCause, KeepsFile, MayFile}
+use Rattle.hall.specs.History.{IsGiven, Served, is_row, is_unrecorded, judged}
+use Rattle.hall.specs.Kept.{HasServer, IsKept, WhileUp}
 use Rattle.hall.specs.Leaving.{HasStoreCause}
 use Rattle.hall.specs.Serving.{DoesStore, IsDue, MayWrite, Serves, with_calls}
 use Rattle.hall.specs.State.{State, View, state_of}
@@ -29,13 +31,15 @@ use Rattle.hall.specs.declared.command.Reply.{Reply}
 use Rattle.hall.specs.declared.command.Reply.TheVariants as reply
 use Rattle.hall.specs.declared.command.Session.{Session}
 use Rattle.hall.specs.declared.units.Written.{Written}
-use Rattle.hall.specs.declared.units.Written.TheVariants.{Answered, Failed}
+use Rattle.hall.specs.declared.units.Written.TheVariants.{Answered, Failed, Unfiled}
 use Rattle.hall.proofs.Calls.{barred_verdict}
-use Rattle.hall.proofs.Ends.{ends_as, written_act, written_state}
+use Rattle.hall.proofs.Ends.{IsPart, ends_as, none_before, posts_part, written_act, written_state}
 use Rattle.hall.proofs.Few.{full_or}
 use Rattle.hall.proofs.Frames.{in_doubt, shut_by_history}
 use Rattle.hall.proofs.Leaves.{barred_quiet, same_keeps, untouched_keeps}
-use Rattle.hall.proofs.Replies.{fault_uses_store, unnoted_same}
+use Rattle.hall.proofs.Filing.{any_file, barred_file_quiet, same_file}
+use Rattle.hall.proofs.Replies.{fault_uses_file, fault_uses_store, unnoted_same}
+use Rattle.backup_file.specs.Backup.{BackupView}
 
 -- the fields of a hall
 abbrev pub state_with : Bool → Condition → List Session → ℕ → List (Option UnitKey) → Table → ℕ → ℕ → List NumberRange → Ledger → Option InFlight → List PastEntry → State
@@ -76,12 +80,13 @@ due_up s past due = due.admits.up
 same_past : (s after : State) (w : Written) → after.past ≡ s.past → record (written_state s after w) { past = s.past } ≡ written_state s after w
 same_past s after (Answered r) h = λ i. record after { past = sym h i }
 same_past s after (Failed change) h = refl
+same_past s after Unfiled h = refl
 
 -- a call that uses the store, where it fails too
 pub written_call : (told told' : Bool) (k k' : Condition) (ss ss' : List Session) (n : ℕ) (os os' : List (Option UnitKey)) (t t' : Table) (x m : ℕ) (rs rs' : List NumberRange) (l l' : Ledger) (p p' : Option InFlight) (past : List PastEntry) (w : Written) (c : Command) (said : Reply)
     → IsDue (state_with told k ss n os t x m rs l p []) past
     → told' ≡ told → k' ≡ written_condition k (length past) w → p' ≡ written_pending p w → said ≡ written_reply w
-    → t'.limit ≡ t.limit → OnFailure w (ss' ≡ ss) → OnFailure w (os' ≡ os) → OnFailure w (l' ≡ l) → OnFailure w (rs' ≡ rs)
+    → t'.limit ≡ t.limit → OnFailure w (ss' ≡ ss) → OnFailure w (os' ≡ os) → OnStoreFailure w (l' ≡ l) → OnFailure w (rs' ≡ rs)
     → (option_map (landed l) p ≡ None → Admits (state_with told Up ss n os t x m rs l p past) → IsWritten (state_with told Up ss n os t x m rs l p past) c (rewritten (state_with told Up ss n os t x m rs l p past) ss' os' t' rs' l') w)
     → IsAct (state_with told k ss n os t x m rs l p past) c (state_with told' k' ss' n os' t' x m rs' l' p' past) said
 written_call told told' k k' ss ss' n os os' t t' x m rs rs' l l' p p' past w c said due tells condition pending reply limit a b d e written =
@@ -105,7 +110,7 @@ written_call told told' k k' ss ss' n os os' t t' x m rs rs' l l' p p' past w c 
 pub barred_call : (s : State) (c : Command) (r : Refusal) → barred s ≡ Some r → IsAct s c s (reply.Refused r)
 barred_call s c r shut = record {
   outcome = all_well;
-  allowed = record { reading = tt; event = tt };
+  possible = record { reading = tt; event = tt };
   same = ap (judged s) (barred_verdict (found_in s) s (call_of c) r shut);
 }
 
@@ -123,11 +128,11 @@ barred_store held may_leave faults keeper s r shut =
 
 -- ---- what a call does to the store
 
-session_touches : (s : State) (name : List ℕ) (call : SessionCall) → IsTrue (session_uses_store s name call) → session_touches_store call ≡ true
-session_touches s name (Draws object nr) uses = refl
-session_touches s name (Reserves object nr upto) uses = refl
+session_touches : (s : State) (name : List ℕ) (call : SessionCall) → IsTrue (session_uses_store s name call) → session_reaches_store s call ≡ true
+session_touches s name (Draws object nr) uses = uses
+session_touches s name (Reserves object nr upto) uses = uses
 session_touches s name (Reads table key) uses = refl
-session_touches s name (Commits parts) uses = refl
+session_touches s name (Commits parts stock) uses = refl
 session_touches s name LogsOff uses = cc
 session_touches s name (Asks rs) uses = cc
 session_touches s name (Frees rs) uses = cc
@@ -136,7 +141,7 @@ session_touches s name (Converts wanted) uses = cc
 session_touches s name RollsBack uses = cc
 
 -- a call that uses the store is one that touches it
-uses_touches : (s : State) (call : Call) → IsTrue (uses_store s call) → touches_store call ≡ true
+uses_touches : (s : State) (call : Call) → IsTrue (uses_store s call) → reaches_store s call ≡ true
 uses_touches s (LogsOn name user) uses = cc
 uses_touches s (OfSession name call) uses = session_touches s name call uses
 uses_touches s (OfWorker worker (Takes part)) uses = cc
@@ -149,12 +154,12 @@ untouched true e f = cc
 untouched false e f = cc
 
 -- a call that doesn't touch the store is not answered that it failed
-quiet_counts : (s : State) (c : Command) (after : State) (r : Reply) (f g : ℕ) → touches_store (call_of c) ≡ false → IsAct s c after r → g ≡ f → HasStoreCause f g r
+quiet_counts : (s : State) (c : Command) (after : State) (r : Reply) (f g : ℕ) → reaches_store s (call_of c) ≡ false → IsAct s c after r → g ≡ f → HasStoreCause f g r
 quiet_counts s c after (reply.Refused refusal.StoreFault) f g off act e =
     absurd (untouched _ (uses_touches s (call_of c) (fault_uses_store s c after act)) off)
 quiet_counts s c after _ f g off act e = e
 
-store_by : {K : Type 0} (held : K → Option Rows) (may_leave : K → Rows → Type 0) (faults : K → ℕ) (old new : K) (s : State) (c : Command) (after : State) (r : Reply) (b : Bool) → touches_store (call_of c) ≡ b → IsAct s c after r → DoesStore held may_leave faults b old new r → MayWrite held may_leave faults old new r
+store_by : {K : Type 0} (held : K → Option Rows) (may_leave : K → Rows → Type 0) (faults : K → ℕ) (old new : K) (s : State) (c : Command) (after : State) (r : Reply) (b : Bool) → reaches_store s (call_of c) ≡ b → IsAct s c after r → DoesStore held may_leave faults b old new r → MayWrite held may_leave faults old new r
 store_by held may_leave faults old new s c after r true e act h = h
 store_by held may_leave faults old new s c after r false e act h =
     record {
@@ -164,24 +169,75 @@ store_by held may_leave faults old new s c after r false e act h =
     }
 
 -- what any call may do to it
-pub any_store : {K : Type 0} (held : K → Option Rows) (may_leave : K → Rows → Type 0) (faults : K → ℕ) (old new : K) (s : State) (c : Command) (after : State) (r : Reply) → IsAct s c after r → DoesStore held may_leave faults (touches_store (call_of c)) old new r → MayWrite held may_leave faults old new r
-any_store held may_leave faults old new s c after r act h = store_by held may_leave faults old new s c after r (touches_store (call_of c)) refl act h
+pub any_store : {K : Type 0} (held : K → Option Rows) (may_leave : K → Rows → Type 0) (faults : K → ℕ) (old new : K) (s : State) (c : Command) (after : State) (r : Reply) → IsAct s c after r → DoesStore held may_leave faults (reaches_store s (call_of c)) old new r → MayWrite held may_leave faults old new r
+any_store held may_leave faults old new s c after r act h = store_by held may_leave faults old new s c after r (reaches_store s (call_of c)) refl act h
 
-pub same_keeper : {K : Type 0} (held : K → Option Rows) (may_leave : K → Rows → Type 0) (faults : K → ℕ) (old new : K) (c : Command) (r : Reply) → DoesStore held may_leave faults (touches_store (call_of c)) old new r → touches_store (call_of c) ≡ false → new ≡ old
-same_keeper held may_leave faults old new c r h e = subst (λ b. DoesStore held may_leave faults b old new r) e h
+pub same_keeper : {K : Type 0} (held : K → Option Rows) (may_leave : K → Rows → Type 0) (faults : K → ℕ) (old new : K) (s : State) (c : Command) (r : Reply) → DoesStore held may_leave faults (reaches_store s (call_of c)) old new r → reaches_store s (call_of c) ≡ false → new ≡ old
+same_keeper held may_leave faults old new s c r h e = subst (λ b. DoesStore held may_leave faults b old new r) e h
+
+-- a call that touches the store in some cases
+pub does_store : {K : Type 0} (held : K → Option Rows) (may_leave : K → Rows → Type 0) (faults : K → ℕ) (b : Bool) (old new : K) (r : Reply) → MayWrite held may_leave faults old new r → (b ≡ false → new ≡ old) → DoesStore held may_leave faults b old new r
+does_store held may_leave faults true old new r may same = may
+does_store held may_leave faults false old new r may same = same refl
+
+-- ---- what a call does to the backup file
+
+pub barred_file : {D : Type 0} (faults : D → ℕ) (file : BackupView D) (s : State) (r : Refusal) → barred s ≡ Some r → MayFile faults file file (reply.Refused r)
+barred_file faults file s r shut = record { cause = barred_file_quiet s r (faults file.disk) (faults file.disk) refl shut; kept = any_file file (reply.Refused r) }
+
+file_session_touches : (s : State) (name : List ℕ) (call : SessionCall) → IsTrue (session_uses_file s name call) → session_touches_file call ≡ true
+file_session_touches s name (Commits parts stock) uses = refl
+file_session_touches s name (Draws object nr) uses = cc
+file_session_touches s name (Reserves object nr upto) uses = cc
+file_session_touches s name (Reads table key) uses = cc
+file_session_touches s name LogsOff uses = cc
+file_session_touches s name (Asks rs) uses = cc
+file_session_touches s name (Frees rs) uses = cc
+file_session_touches s name FreesAll uses = cc
+file_session_touches s name (Converts wanted) uses = cc
+file_session_touches s name RollsBack uses = cc
+
+-- a call that uses the file is one that touches it
+uses_touches_file : (s : State) (call : Call) → IsTrue (uses_file s call) → touches_file call ≡ true
+uses_touches_file s (LogsOn name user) uses = cc
+uses_touches_file s (OfSession name call) uses = file_session_touches s name call uses
+uses_touches_file s (OfWorker worker (Takes part)) uses = cc
+uses_touches_file s (OfWorker worker (Posts part)) uses = uses
+uses_touches_file s (OfWorker worker Drops) uses = cc
+uses_touches_file s (OfAdmin call) uses = refl
+
+-- a call that doesn't touch the file is not answered that the disk failed
+quiet_file : (s : State) (c : Command) (after : State) (r : Reply) (f g : ℕ) → touches_file (call_of c) ≡ false → IsAct s c after r → g ≡ f → HasFileCause f g r
+quiet_file s c after (reply.Refused refusal.BackupFault) f g off act e =
+    absurd (untouched _ (uses_touches_file s (call_of c) (fault_uses_file s c after act)) off)
+quiet_file s c after _ f g off act e = e
+
+file_by : {D : Type 0} (faults : D → ℕ) (old new : BackupView D) (s : State) (c : Command) (after : State) (r : Reply) (b : Bool) → touches_file (call_of c) ≡ b → IsAct s c after r → DoesFile faults b old new r → MayFile faults old new r
+file_by faults old new s c after r true e act h = h
+file_by faults old new s c after r false e act h =
+    subst (λ f. MayFile faults old f r) (sym h) (record { cause = quiet_file s c after r (faults old.disk) (faults old.disk) e act refl; kept = any_file old r })
+
+-- what any call may do to it
+pub any_call_file : {D : Type 0} (faults : D → ℕ) (old new : BackupView D) (s : State) (c : Command) (after : State) (r : Reply) → IsAct s c after r → DoesFile faults (touches_file (call_of c)) old new r → MayFile faults old new r
+any_call_file faults old new s c after r act h = file_by faults old new s c after r (touches_file (call_of c)) refl act h
+
+pub same_as_filed : {D : Type 0} (faults : D → ℕ) (old new : BackupView D) (c : Command) (r : Reply) → DoesFile faults (touches_file (call_of c)) old new r → touches_file (call_of c) ≡ false → new ≡ old
+same_as_filed faults old new c r h e = subst (λ b. DoesFile faults b old new r) e h
 
 -- a call that doesn't touch the store, of a server that is up
-pub serves_beside : {K : Type 0} (held : K → Option Rows) (may_leave : K → Rows → Type 0) (faults : K → ℕ) (before after : Condition → View K) (k : Condition) (was : View K) (past : List PastEntry) (c : Command) (r said : Reply)
-    → before k ≡ was → (before k).state.condition ≡ k → (after k).keeper ≡ (before k).keeper → IsDue was.state past → touches_store (call_of c) ≡ false → said ≡ r
+pub serves_beside : {K D L : Type 0} (held : K → Option Rows) (may_leave : K → Rows → Type 0) (faults : K → ℕ) (disk_faults : D → ℕ) (link_faults refusals : L → ℕ) (before after : Condition → View K D L) (k : Condition) (was : View K D L) (past : List PastEntry) (c : Command) (r said : Reply)
+    → before k ≡ was → (before k).state.condition ≡ k → (after k).keeper ≡ (before k).keeper → (after k).file ≡ (before k).file → KeepsOn link_faults refusals (before k).follower (after k).follower → IsDue was.state past → reaches_store (before k).state (call_of c) ≡ false → touches_file (call_of c) ≡ false → said ≡ r
     → (Admits (with_calls (before Up).state past) → IsAct (with_calls (before Up).state past) c (with_calls (after Up).state past) r)
-    → Serves held may_leave faults was (after k) past c said
-serves_beside held may_leave faults before after k was past c r said is own kept due off same act =
-    let here : IsDue (before k).state past = subst (λ (v : View _). IsDue v.state past) (sym is) due in
+    → Serves held may_leave faults disk_faults link_faults refusals was (after k) past c said
+serves_beside held may_leave faults disk_faults link_faults refusals before after k was past c r said is own kept file follows due off unfiled same act =
+    let here : IsDue (before k).state past = subst (λ (v : View _ _ _). IsDue v.state past) (sym is) due in
     let up : k ≡ Up = sym own ∙ here.admits.up in
     let room : Admits (with_calls (before Up).state past) = subst (λ q. Admits (with_calls (before q).state past)) up here.admits in
-    subst (λ v. Serves held may_leave faults v (after k) past c said) is (record {
+    subst (λ v. Serves held may_leave faults disk_faults link_faults refusals v (after k) past c said) is (record {
       call = subst (λ q. IsAct (with_calls (before q).state past) c (with_calls (after q).state past) said) (sym up) (subst (IsAct (with_calls (before Up).state past) c (with_calls (after Up).state past)) (sym same) (act room));
       store = subst (λ b. DoesStore held may_leave faults b (before k).keeper (after k).keeper said) (sym off) kept;
+      file = subst (λ b. DoesFile disk_faults b (before k).file (after k).file said) (sym unfiled) file;
+      follower = follows;
     })
 
 -- ---- its place in the history
@@ -198,6 +254,26 @@ given_store held may_leave faults old new (reply.Row text) given (inr (row, is))
     subst (MayWrite held may_leave faults old new) (sym is) (record { told = h.told; cause = h.cause; kept = h.kept })
 given_store held may_leave faults old new _ given (inr (row, is)) h = absurd (cc)
 
+pub given_file : {D : Type 0} (faults : D → ℕ) (old new : BackupView D) (made given : Reply) → IsGiven made given → MayFile faults old new made → (is_row made ≡ true → new ≡ old) → MayFile faults old new given
+given_file faults old new made given (inl same) h row = subst (MayFile faults old new) (sym same) h
+given_file faults old new (reply.Row text) given (inr (told, is)) h row =
+    subst (MayFile faults old new) (sym is) (record { cause = h.cause; kept = subst (λ f. KeepsFile old f (reply.Refused refusal.NoMemory)) (sym (row told)) (same_file old) })
+given_file faults old new _ given (inr (told, is)) h row = absurd (cc)
+
 pub given_noted : (made given : Reply) → IsGiven made given → is_unrecorded made ≡ false → is_unrecorded given ≡ false
 given_noted made given (inl same) noted = ap is_unrecorded same ∙ noted
 given_noted made given (inr (row, is)) noted = ap is_unrecorded is
+
+-- no change is in flight where a call is due
+pub no_flight : (told : Bool) (k : Condition) (ss : List Session) (n : ℕ) (os : List (Option UnitKey)) (t : Table) (x m : ℕ) (rs : List NumberRange) (l : Ledger) (p : Option InFlight) (past : List PastEntry) → IsDue (state_with told k ss n os t x m rs l p []) past → p ≡ None
+no_flight told k ss n os t x m rs l p past due =
+    none_before p l (subst (λ c. WhileUp c (option_map (landed l) p ≡ None)) (due_up (state_with told k ss n os t x m rs l p []) past due) due.kept.steady.settled)
+
+-- a V2 part isn't one whose locks end
+pub posts_file : {D : Type 0} (faults : D → ℕ) (old new : BackupView D) (part worker : ℕ) (r : Reply) → IsPart part → MayFile faults old new r → (nat_eq part 1 ≡ false → new ≡ old) → DoesFile faults (touches_file (call_of (post_of part worker))) old new r
+posts_file faults old new part worker r is does unfiled =
+    subst (λ call. DoesFile faults (touches_file call) old new r) (sym (posts_part part worker is)) (by_part (nat_eq part 1) refl)
+  where
+    by_part : (b : Bool) → nat_eq part 1 ≡ b → DoesFile faults b old new r
+    by_part true e = does
+    by_part false e = unfiled e

@@ -10,34 +10,36 @@ use Rattle.range_list.specs.declared.range.NumberRange.{NumberRange}
 use Rattle.hall.specs.Flights.{landed}
 use Rattle.hall.specs.declared.units.InFlight.{InFlight}
 use Rattle.update_records.specs.Ledger.{Ledger}
-use Rattle.hall.specs.Acts.{Admits, IsAct, IsWritten, OnFailure, post_of, take_of, written_condition, written_pending, written_reply}
+use Rattle.hall.specs.Acts.{Admits, IsAct, IsWritten, OnFailure, OnStoreFailure, post_of, take_of, written_condition, written_pending, written_reply}
 use Rattle.hall.specs.Calls.{OfWorker, Posts, Takes, call_of}
 use Rattle.hall.proofs.Calls.{tells}
 use Rattle.hall.specs.declared.command.Reply.{Reply}
 use Rattle.hall.specs.Step.{found_in, own_verdict, take}
-use Rattle.hall.specs.History.{doubted, judged}
+use Rattle.hall.specs.History.{doubted, judged, unfiled}
 use Rattle.hall.specs.State.{State, state_of}
 use Rattle.hall.specs.declared.command.Command.{Command}
 use Rattle.hall.specs.declared.command.PastEntry.{PastEntry}
 use Rattle.hall.specs.declared.command.Session.{Session}
 use Rattle.hall.specs.declared.units.Written.{Written}
-use Rattle.hall.specs.declared.units.Written.TheVariants.{Answered, Failed}
+use Rattle.hall.specs.declared.units.Written.TheVariants.{Answered, Failed, Unfiled}
 
 abbrev pub written_state : State → State → Written → State
 written_state s after (Answered r) = after
 written_state s after (Failed change) = doubted s (option_map (landed s.stored) change)
+written_state s after Unfiled = unfiled s after.stored
 
 pub written_act : (s : State) (c : Command) (after : State) (w : Written) → IsWritten s c after w → IsAct s c (written_state s after w) (written_reply w)
 written_act s c after (Answered r) h = h
 written_act s c after (Failed change) h = h
+written_act s c after Unfiled h = h
 
-none_before : (p : Option InFlight) (l : Ledger) → option_map (landed l) p ≡ None → p ≡ None
+pub none_before : (p : Option InFlight) (l : Ledger) → option_map (landed l) p ≡ None → p ≡ None
 none_before None l h = refl
 none_before (Some step) l h = cc
 
 -- what the fields are behind it
 pub ends_as : (told told' : Bool) (ss ss' : List Session) (n : ℕ) (os os' : List (Option UnitKey)) (t t' : Table) (k m : ℕ) (rs rs' : List NumberRange) (l l' : Ledger) (p : Option InFlight) (past past' : List PastEntry) (w : Written)
-    → told' ≡ told → option_map (landed l) p ≡ None → t'.limit ≡ t.limit → OnFailure w (ss' ≡ ss) → OnFailure w (os' ≡ os) → OnFailure w (l' ≡ l) → OnFailure w (rs' ≡ rs)
+    → told' ≡ told → option_map (landed l) p ≡ None → t'.limit ≡ t.limit → OnFailure w (ss' ≡ ss) → OnFailure w (os' ≡ os) → OnStoreFailure w (l' ≡ l) → OnFailure w (rs' ≡ rs)
     → state_of told' (written_condition Up (length past) w) ss' n os' t' k m rs' l' (option_map (landed l') (written_pending p w)) past'
     ≡ record (written_state (state_of told Up ss n os t k m rs l (option_map (landed l) p) past) (record (state_of told Up ss n os t k m rs l (option_map (landed l) p) past) { sessions = ss'; orders = os'; locks = t'.entries; ranges = rs'; stored = l' }) w) { past = past' }
 ends_as told told' ss ss' n os os' t t' k m rs rs' l l' p past past' (Answered r) tells none limit a b c d =
@@ -45,6 +47,9 @@ ends_as told told' ss ss' n os os' t t' k m rs rs' l l' p past past' (Answered r
     λ i. record (state_of (tells i) Up ss' n os' t' k m rs' l' (same i) past') { limit = limit i }
 ends_as told told' ss ss' n os os' t t' k m rs rs' l l' p past past' (Failed change) tells none limit a b c d =
     λ i. record (doubted (state_of (tells i) Up (a i) n (b i) t k m (d i) (c i) None past) (option_map (landed (c i)) change)) { limit = limit i; past = past' }
+ends_as told told' ss ss' n os os' t t' k m rs rs' l l' p past past' Unfiled tells none limit a b c d =
+    let same : option_map (landed l') p ≡ option_map (landed l) p = ap (option_map (landed l')) (none_before p l none) ∙ sym none in
+    λ i. record (unfiled (state_of (tells i) Up (a i) n (b i) t k m (d i) l None past) l') { limit = limit i; pending = same i; past = past' }
 
 -- one of the two parts of a unit
 abbrev pub IsPart : ℕ → Type 0

@@ -1,5 +1,5 @@
 -- Each call keeps the locks sound.
-use Rattle.std.proofs.Common.{ℕ, ◌<◌, ◌^◌, arith, Bool, true, false, List, [], ◌∷◌, fold, refl}
+use Rattle.std.proofs.Common.{ℕ, ◌<◌, ◌^◌, arith, Bool, true, false, List, [], ◌∷◌, ◌++◌, fold, refl}
 use Rattle.std.specs.Prelude.{if◌then◌else◌, nat_eq, nat_le}
 use Rattle.std.specs.List.{AllByRecursion}
 use Rattle.std.proofs.lemmas.Bool.{and_from, eq-eqb}
@@ -20,8 +20,9 @@ use Rattle.posting.specs.Posts.{entries_of}
 use Rattle.hall.specs.declared.command.Command.{Command}
 use Rattle.hall.specs.declared.command.Session.{Session}
 use Rattle.hall.specs.Devices.{DeviceOutcome}
-use Rattle.hall.specs.History.{judged, served, step}
-use Rattle.hall.specs.Kept.{HasGoodLocks, HasSoundLocks}
+use Rattle.hall.specs.Calls.{Call}
+use Rattle.hall.specs.History.{judged, served, step, unfiled}
+use Rattle.hall.specs.Kept.{HasGoodLocks, HasItsUser, HasSoundLocks, OfLock}
 use Rattle.hall.specs.Sessions.{owners_of, pair_of, unit_key, with_draw, with_session}
 use Rattle.hall.specs.Numbers.{drawn, raised_to}
 use Rattle.range_list.specs.Drawn.{handed_out}
@@ -31,13 +32,18 @@ use Rattle.number_ranges.specs.declared.interval.Interval.{Interval}
 use Rattle.posting.specs.Intervals.{with_intervals}
 use Rattle.range_list.specs.Drawn.{num_of, stored_as}
 use Rattle.range_list.specs.Levels.{present}
-use Rattle.hall.specs.Step.{Found, cancelled, unit_of}
-use Rattle.hall.proofs.ByCall.{OfEach, by_call, by_event}
+use Rattle.hall.specs.Step.{Found, call_verdict, cancelled, unit_of}
+use Rattle.update_records.specs.Ledger.{Ledger}
+use Rattle.hall.proofs.ByCall.{OfEach, by_call, by_event, by_filing}
 use Rattle.hall.proofs.Frames.{by_noting}
 use Rattle.hall.proofs.HandedLocks.{handed_good}
 use Rattle.hall.proofs.Owned.{may_be_readmitted}
 use Rattle.hall.proofs.Resubmissions.{table_in}
 use Rattle.hall.proofs.Users.{every_append}
+
+-- a lock of a session that is logged on has the session's user
+abbrev pub HaveItsUsers : State → Type 0
+HaveItsUsers s = AllByRecursion (OfLock (HasItsUser s.stored.start s.sessions)) s.locks
 
 -- the locks of a state, and those that are stored in it
 pub over_table : {s : State} → AllByRecursion HasGoodLocks s.stored.units → IsTable (table_in s) → HasSoundLocks s
@@ -87,8 +93,8 @@ drawn-sound s x i number good =
       | false ↦ over_table good.stored good.table
     ]
 
-sound : (found : Found) (s : State) → HasSoundLocks s → OfEach (λ call v. HasSoundLocks (judged s v).state) found s
-sound found s good = record {
+sound : (found : Found) (s : State) → HaveItsUsers s → HasSoundLocks s → OfEach (λ call v. HasSoundLocks (judged s v).state) found s
+sound found s users good = record {
   refuses = λ call r plain. good;
   enters = λ name user free. over_table good.stored good.table;
   logs_off = λ name x at. over_table good.stored (both_freed s x good.table);
@@ -101,11 +107,12 @@ sound found s good = record {
   draws = λ name x object nr r at can. drawn-sound s x (present s.stored.levels r.interval) _ good;
   reserves = λ name x object nr upto r at can. raised-sound s (present s.stored.levels r.interval) upto good;
   reads = λ name x table key at. good;
-  commits_nothing = λ name x parts at. good;
-  commits_numbers = λ name x parts at. over_table good.stored good.table;
-  commits = λ name x parts at. record {
+  commits_nothing = λ name x parts stock at. good;
+  commits_numbers = λ name x parts stock at. over_table good.stored good.table;
+  commits = λ name x parts stock at. record {
     table = IsTable-handed_over (table_in s) (unit_key s.stored.start x) good.table;
-    stored = every_append HasGoodLocks s.stored.units (unit_of s.stored.start s.locks x parts x.draws ∷ []) good.stored (handed_good (table_in s) s.stored.start x parts x.draws good.table, tt);
+    stored = every_append HasGoodLocks s.stored.units (unit_of s.stored.start s.locks x parts (x.draws ++ stock) ∷ []) good.stored
+        (handed_good (table_in s) s.sessions name s.stored.start x parts (x.draws ++ stock) at users good.table, tt);
   };
   rolls_back = λ name x at. over_table good.stored (IsTable-freed_owner (table_in s) (pair_of s.stored.start x).update good.table);
   takes = λ worker part unit free e. over_table good.stored good.table;
@@ -120,13 +127,24 @@ sound found s good = record {
 pub none_stands : (limit : ℕ) → limit < 2 ^ 32 → IsTable (record { entries = []; limit = limit })
 none_stands limit fits = record { sound = record { names = refl; counts = refl; conflicts = refl }; within = omega arith; limit_fits = fits }
 
-pub served-sound : (o : DeviceOutcome) (s : State) (c : Command) → HasSoundLocks s → HasSoundLocks (served o s c).state
-served-sound o s c good =
-    by_event (λ r. HasSoundLocks r.state) o s c
-    (λ found. by_call (λ call v. HasSoundLocks (judged s v).state) found s (sound found s good) _) good
-    (λ pending. over_table good.stored (none_stands s.limit good.table.limit_fits))
+pub verdict-sound : (found : Found) (s : State) (call : Call) → HaveItsUsers s → HasSoundLocks s → HasSoundLocks (judged s (call_verdict found s call)).state
+verdict-sound found s call users good = by_call (λ call v. HasSoundLocks (judged s v).state) found s (sound found s users good) call
 
-pub step-sound : (o : DeviceOutcome) (s : State) (line : ℕ) (c : Command) → HasSoundLocks s → HasSoundLocks (step o s line c).state
-step-sound o s line c good =
-    let h = served-sound o s c good in
+abbrev StoredGood : State → Ledger → Type 0
+StoredGood s stored = HasSoundLocks (unfiled s stored)
+
+unfiled-sound : (s : State) (stored : Ledger) → HasSoundLocks s → AllByRecursion HasGoodLocks stored.units → StoredGood s stored
+unfiled-sound s stored good units = over_table units (none_stands s.limit good.table.limit_fits)
+
+pub served-sound : (o : DeviceOutcome) (s : State) (c : Command) → HaveItsUsers s → HasSoundLocks s → HasSoundLocks (served o s c).state
+served-sound o s c users good =
+    by_event (λ r. HasSoundLocks r.state) o s c
+    (λ found. by_call (λ call v. HasSoundLocks (judged s v).state) found s (sound found s users good) _) good
+    (λ found. over_table good.stored (none_stands s.limit good.table.limit_fits))
+    (λ found. by_filing (StoredGood s) found s c (unfiled-sound s s.stored good good.stored)
+    (λ worker part unit e. unfiled-sound s _ good good.stored) (λ unit status can. unfiled-sound s _ good good.stored))
+
+pub step-sound : (o : DeviceOutcome) (s : State) (line : ℕ) (c : Command) → HaveItsUsers s → HasSoundLocks s → HasSoundLocks (step o s line c).state
+step-sound o s line c users good =
+    let h = served-sound o s c users good in
     by_noting (λ r. HasSoundLocks r.state) line c (served o s c) h (over_table h.stored h.table)

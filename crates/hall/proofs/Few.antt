@@ -1,6 +1,6 @@
 -- What each call keeps.
 use Rattle.std.proofs.Common.{◌≡◌, ℕ, ◌+◌, ◌≤◌, ◌<◌, Bool, true, false, List, [], ◌∷◌, ◌++◌, length, fold, set, refl, sym, ap, ◌∙◌, subst, arith, cond}
-use Rattle.std.specs.Prelude.{if◌then◌else◌, is_some, nat_eq, nat_le, nat_lt, not, Option, Some, None, Result, Ok}
+use Rattle.std.specs.Prelude.{if◌then◌else◌, is_some, nat_eq, nat_le, nat_lt, not, Option, Some, None, Ok}
 use Rattle.std.specs.List.{AllByRecursion, filter, find}
 use Rattle.std.proofs.lemmas.List.{length-append, length-set}
 use Rattle.std.proofs.lemmas.Bool.{or_from}
@@ -9,6 +9,7 @@ use Rattle.enq_base.specs.Owners.{same_unit}
 use Rattle.enq_base.specs.declared.owner.Owner.{Owner}
 use Rattle.enq_base.specs.declared.owner.Owner.TheVariants.{Upd}
 use Rattle.enq_base.specs.declared.owner.UnitKey.{UnitKey}
+use Rattle.enq_base.specs.declared.unit.Num.{Num as Number}
 use Rattle.enq_base.specs.declared.refusal.Refusal.TheVariants as refusal
 use Rattle.enq_base.specs.declared.unit.Parts.{Parts}
 use Rattle.enq_base.specs.declared.unit.Status.{Status}
@@ -17,7 +18,6 @@ use Rattle.lock_entry.proofs.Naming.{bytes_eq-same}
 use Rattle.lock_entry.specs.declared.entry.Asked.{Asked}
 use Rattle.lock_entry.specs.declared.entry.Entry.{Entry}
 use Rattle.lock_entry.specs.declared.entry.Request.{Request}
-use Rattle.lock_entry.specs.declared.fault.AskFault.{AskFault}
 use Rattle.lock_entry.specs.Converting.{Conversion, conversion, converted}
 use Rattle.lock_entry.specs.Freeing.{freed, freed_owner, handed_over}
 use Rattle.lock_entry.specs.Granting.{asked, readmitted}
@@ -36,30 +36,34 @@ use Rattle.hall.specs.declared.command.Reply.{Reply}
 use Rattle.hall.specs.declared.command.Session.{Session}
 use Rattle.hall.specs.Acts.{IsAct}
 use Rattle.hall.specs.Devices.{DeviceOutcome}
-use Rattle.hall.specs.History.{doubted, judged, served, with_entry}
+use Rattle.hall.specs.History.{doubted, judged, served, stored_before_file, unfiled, with_entry}
 use Rattle.number_ranges.specs.Intervals.{block_level, is_buffered, with_level}
 use Rattle.number_ranges.specs.declared.interval.Interval.{Interval}
 use Rattle.posting.specs.Intervals.{with_levels}
 use Rattle.range_list.proofs.Drawing.{interval_among, range_found}
-use Rattle.range_list.specs.Drawn.{AreDrawnRight, handed_out, num_of, settled_rows, stored_as}
+use Rattle.range_list.specs.Drawn.{AreDrawnRight, handed_out, num_of, passed, settled_rows, stored_as}
 use Rattle.range_list.specs.Levels.{present}
 use Rattle.range_list.specs.declared.range.NumberRange.{NumberRange}
-use Rattle.hall.specs.Numbers.{drawn, next_number, raised_to}
-use Rattle.hall.specs.Kept.{draws_in, AreOrders, HasFew, HasGoodLocks, HasItsUser, HasSoundLocks, IsKept, IsKnown, IsOwned, IsSteady, IsWaiting, IsYoung, MayHold, NoneLost, OfLock, OfStored, may_hold}
+use Rattle.hall.specs.Numbers.{drawn, next_number, raised_to, stocked}
+use Rattle.hall.specs.Kept.{draws_in, AreOrders, HasFew, HasGoodLocks, HasItsUser, HasOpenUnits, HasSoundLocks, IsAhead, IsKept, IsKnown, IsOwned, IsSteady, IsWaiting, IsYoung, MayHold, NoneLost, OfLock, OfStored, may_hold}
 use Rattle.hall.specs.Orders.{first_unclaimed, is_claimed, order_for, order_of, without_order}
 use Rattle.hall.specs.Sessions.{begun, is_called, owners_of, pair_of, session_at, unit_key, with_draw, with_fresh_unit, with_next_unit, with_session, without_draws, without_session}
+use Rattle.hall.specs.Calls.{call_of}
 use Rattle.hall.specs.State.{State}
-use Rattle.hall.specs.Step.{Found, barred, cancelled, committed, entered, is_full, locks_behind, locks_without, marked, numbered, reopened, reposted, taken, unit_of}
+use Rattle.hall.specs.Calls.{call_of}
+use Rattle.hall.specs.Stocks.{IsStockIn, MayCall}
+use Rattle.hall.specs.Step.{Found, barred, cancelled, committed, entered, is_full, locks_behind, locks_without, marked, numbered, reopened, reposted, taken, unit_of, verdict}
 use Rattle.hall.proofs.Alike.{AreAlike, HaveOneStatus, ahead_alike, alike_all, alike_with, count_alike, lost_alike, numbered_alike, orders_alike, owned_alike, with_others, young_alike}
-use Rattle.hall.proofs.ByCall.{CanDraw, CanReserve, OfEach, by_call, by_event}
+use Rattle.hall.proofs.ByCall.{CanDraw, CanReserve, OfEach, by_event, by_filing, by_made}
+use Rattle.hall.proofs.OpenKept.{served-open}
 use Rattle.hall.proofs.Cancels.{CanBeCancelled, unclaimed}
-use Rattle.hall.proofs.Claims.{found_all, held_for, orders_marked, orders_posted, orders_recorded, orders_with, orders_without}
+use Rattle.hall.proofs.Claims.{found_all, held_for, orders_marked, orders_posted, orders_recorded, orders_with, orders_without, outside_more}
 use Rattle.hall.proofs.Drawn.{AreRightIn, CommitsNone, drawn_back, drawn_buffered, drawn_entered, drawn_left, drawn_marked, drawn_numbered, drawn_plain, drawn_raised, drawn_recorded, marks_marked, marks_recorded, named_filter, named_push, named_with, post_commits_none}
 use Rattle.hall.proofs.Fair.{over_table, served-sound}
 use Rattle.hall.proofs.Frames.{served-past, shut_by_history}
 use Rattle.hall.proofs.Fresh.{found_name, fresh_committed, fresh_entered, fresh_left, fresh_marked, fresh_next, number_below, open_unheard}
 use Rattle.hall.proofs.Heard.{all_waiting, apart_from_waiting, numbers_leave, status_in}
-use Rattle.hall.proofs.LockLists.{Allows, asked_allows, converted_allows}
+use Rattle.hall.proofs.LockLists.{allowed, Allows, asked_allows, converted_allows}
 use Rattle.hall.proofs.Owned.{owned_back, owned_beside, owned_by_none, owned_entered, owned_freed, owned_left, owned_locks, owned_next, owned_recorded}
 use Rattle.hall.proofs.Resubmissions.{readmitted_is, table_in}
 use Rattle.hall.proofs.Users.{every_conversion, every_freed, every_freed_owner, every_granted, every_handed, every_of, known_dialogue, known_update, one_number, only_dialogue, only_update}
@@ -209,14 +213,14 @@ rolled-holds n s name x locks at own h =
     subst (λ xs. Holds (n + 1) (record s { sessions = xs; locks = locks })) (sym (fresh_is_next name s.sessions h.steady.whole)) (next-holds n s name x locks at own h)
 
 -- the session that commits is the one of that name
-commit-holds : (n : ℕ) (s : State) (x : Session) (parts : Parts) → session_at s.sessions x.name ≡ Some x → Holds n s → Holds (n + 1) (committed s x parts x.draws)
-commit-holds n s x parts at h =
+commit-holds : (n : ℕ) (s : State) (x : Session) (parts : Parts) (stock : List Number) → session_at s.sessions x.name ≡ Some x → IsStockIn s stock → Holds n s → Holds (n + 1) (stocked stock (committed s x parts (x.draws ++ stock)))
+commit-holds n s x parts stock at fits h =
     let few = few_more n s h.few in
     let steady = h.steady in
     let key = unit_key s.stored.start x in
-    let unit = unit_of s.stored.start s.locks x parts x.draws in
+    let unit = unit_of s.stored.start s.locks x parts (x.draws ++ stock) in
     let recorded_ledger = with_unit s.stored unit in
-    let levels = with_levels (settled_rows s.stored.levels s.ranges x.draws) s.stored.levels in
+    let levels = with_levels (settled_rows s.stored.levels s.ranges (x.draws ++ stock)) s.stored.levels in
     let sessions = with_session x.name with_next_unit s.sessions in
     let unheard = open_unheard s x.name x at steady.fresh in
     let own = steady.owned in
@@ -234,12 +238,12 @@ commit-holds n s x parts at h =
         server = steady.server;
         whole = each_with WasKept with_next_unit (λ x k. k) x.name s.sessions steady.whole;
         named = named_with with_next_unit (λ x. refl) x.name s.sessions steady.named;
-        drawn = drawn_recorded s x with_next_unit unit at refl refl unheard steady.marked steady.drawn;
+        drawn = drawn_recorded s x stock with_next_unit unit at refl refl unheard steady.marked fits steady.drawn;
         marked = marks_recorded s.stored unit unheard steady.marked;
         settled = steady.settled;
         fresh = record { numbered = fresh.numbered; ahead = fresh.ahead; later = fresh.later };
         places = steady.places;
-        orders = orders_alike recorded_ledger levels recorded_ledger.marks (λ other. refl) s.orders (orders_recorded s.stored unit s.orders unheard steady.orders);
+        orders = outside_more s.condition (λ k. orders_alike recorded_ledger levels recorded_ledger.marks (λ other. refl) s.orders (orders_recorded s.stored unit s.orders unheard k)) steady.orders;
         owned = owned_alike recorded_ledger levels recorded_ledger.marks (λ other. refl) s.next_session sessions sessions (handed_over s.locks key) (alike_all sessions)
             (owned_next recorded_ledger s.next_session x.name s.sessions (handed_over s.locks key) recorded);
       };
@@ -262,10 +266,6 @@ granted-owned s name x rs found steady =
       stored_known = own.stored_known;
       stored_users = own.stored_users;
     })
-
--- what holds of what a rule allows holds of what it gives
-pub allowed : {X : Type 0} (Q : X → Type 0) (r : Result X AskFault) (x : X) → Allows Q r → r ≡ Ok x → Q x
-allowed Q r x h e = subst (Allows Q) e h
 
 converted-owned : (s : State) (x : Session) (wanted : List Asked) → IsSteady s → Allows (λ (c : Conversion). AreOwned s c.entries) (converted s.locks (pair_of s.stored.start x) wanted)
 converted-owned s x wanted steady =
@@ -340,7 +340,7 @@ taken-holds n part s worker unit e h =
       settled = steady.settled;
       fresh = record { numbered = steady.fresh.numbered; ahead = steady.fresh.ahead; later = steady.fresh.later };
       places = length-set s.orders worker (Some unit) ∙ steady.places;
-      orders = orders_with s.stored s.orders worker unit steady.orders found.0 (not_yes (is_claimed s.orders unit) found.1);
+      orders = outside_more s.condition (λ k. orders_with s.stored s.orders worker unit k found.0 (not_yes (is_claimed s.orders unit) found.1)) steady.orders;
       owned = steady.owned;
     }) h
 
@@ -358,7 +358,7 @@ dropped-holds n s worker h =
       settled = steady.settled;
       fresh = record { numbered = steady.fresh.numbered; ahead = steady.fresh.ahead; later = steady.fresh.later };
       places = length-set s.orders worker None ∙ steady.places;
-      orders = orders_without s.stored s.orders worker steady.orders;
+      orders = outside_more s.condition (λ k. orders_without s.stored s.orders worker k) steady.orders;
       owned = steady.owned;
     }) h
 
@@ -389,7 +389,7 @@ marked-holds n part s worker unit kind none e h =
         settled = steady.settled;
         fresh = record { numbered = fresh.numbered; ahead = fresh.ahead; later = fresh.later };
         places = length-set s.orders worker None ∙ steady.places;
-        orders = orders_posted s.stored s.orders worker unit kind steady.orders held.0;
+        orders = outside_more s.condition (λ k. orders_posted s.stored s.orders worker unit kind k held.0) steady.orders;
         owned = behind_marked s part unit kind held.1 steady.owned;
       };
     }
@@ -422,7 +422,7 @@ cancelled-holds n s unit status can h =
         settled = steady.settled;
         fresh = record { numbered = fresh.numbered; ahead = fresh.ahead; later = fresh.later };
         places = steady.places;
-        orders = orders_marked s.stored unit Gone s.orders (unclaimed s.orders unit can.free) steady.orders;
+        orders = outside_more s.condition (λ k. orders_marked s.stored unit Gone s.orders (unclaimed s.orders unit can.free) k) steady.orders;
         owned = without_marked s unit status can.recorded steady.owned;
       };
     }
@@ -456,7 +456,7 @@ reopened-holds n s unit es here own h =
         settled = steady.settled;
         fresh = record { numbered = fresh.numbered; ahead = fresh.ahead; later = fresh.later };
         places = steady.places;
-        orders = orders_marked s.stored unit Again1 s.orders (not_claimed s.stored s.orders unit Bad here (λ e. cc) (λ e. cc) steady.orders) steady.orders;
+        orders = outside_more s.condition (λ k. orders_marked s.stored unit Again1 s.orders (not_claimed s.stored s.orders unit Bad here (λ e. cc) (λ e. cc) k) k) steady.orders;
         owned = own;
       };
     }
@@ -479,7 +479,7 @@ reposted-holds n s unit here h =
         settled = steady.settled;
         fresh = record { numbered = fresh.numbered; ahead = fresh.ahead; later = fresh.later };
         places = steady.places;
-        orders = orders_marked s.stored unit Again2 s.orders (not_claimed s.stored s.orders unit Bad2 here (λ e. cc) (λ e. cc) steady.orders) steady.orders;
+        orders = outside_more s.condition (λ k. orders_marked s.stored unit Again2 s.orders (not_claimed s.stored s.orders unit Bad2 here (λ e. cc) (λ e. cc) k) k) steady.orders;
         owned = owned_beside s.stored s.next_session s.sessions s.locks unit Again2 Bad2 here refl steady.owned;
       };
     }
@@ -515,7 +515,7 @@ beside-holds n s sessions ranges levels marks alike same drawn h =
           later = λ session luw from. same (record { start = s.stored.start; session = session; luw = luw }) ∙ steady.fresh.later session luw from;
         };
         places = steady.places;
-        orders = orders_alike s.stored levels marks same s.orders steady.orders;
+        orders = outside_more s.condition (λ k. orders_alike s.stored levels marks same s.orders k) steady.orders;
         owned = owned_alike s.stored levels marks same s.next_session s.sessions sessions s.locks alike steady.owned;
       };
     }
@@ -550,40 +550,41 @@ reserves-holds n s object nr upto r can h =
     raised-holds n s s.sessions s.ranges (present s.stored.levels r.interval) upto (alike_all s.sessions)
     (drawn_raised s r.interval upto (interval_among s.ranges r (range_found s.ranges object nr r can.range).among) (not_no (is_buffered r.interval) can.buffered) (not_past r.interval.to upto can.within) h.steady.drawn) h
 
-numbered-holds : (n : ℕ) (s : State) (x : Session) → session_at s.sessions x.name ≡ Some x → Holds n s → Holds (n + 1) (numbered s x x.draws)
-numbered-holds n s x at h =
+numbered-holds : (n : ℕ) (s : State) (x : Session) (stock : List Number) → session_at s.sessions x.name ≡ Some x → IsStockIn s stock → Holds n s → Holds (n + 1) (stocked stock (numbered s x (x.draws ++ stock)))
+numbered-holds n s x stock at fits h =
     let key = unit_key s.stored.start x in
-    beside-holds n s (with_session x.name without_draws s.sessions) s.ranges (with_levels (settled_rows s.stored.levels s.ranges x.draws) s.stored.levels) (with_mark s.stored key (Num x.draws)).marks
-    (alike_with without_draws (λ y. record { name = refl; user = refl; number = refl; luw = refl; lost = refl }) x.name s.sessions) (λ other. numbers_leave s.stored key other x.draws) (drawn_numbered s x at h.steady.drawn) h
+    let numbers = x.draws ++ stock in
+    beside-holds n s (with_session x.name without_draws s.sessions) (passed stock s.ranges) (with_levels (settled_rows s.stored.levels s.ranges numbers) s.stored.levels) (with_mark s.stored key (Num numbers)).marks
+    (alike_with without_draws (λ y. record { name = refl; user = refl; number = refl; luw = refl; lost = refl }) x.name s.sessions) (λ other. numbers_leave s.stored key other numbers) (drawn_numbered s x stock at fits h.steady.drawn) h
 
 -- ---- all calls
 
-each-holds : (n : ℕ) (found : Found) (s : State) → HasSoundLocks s → Holds n s → OfEach (λ call v. Holds (n + 1) (judged s v).state) found s
+each-holds : (n : ℕ) (found : Found) (s : State) → HasSoundLocks s → Holds n s → OfEach (λ call v. MayCall s call → Holds (n + 1) (judged s v).state) found s
 each-holds n found s sound h = record {
-  refuses = λ call r plain. holds_more n s h;
-  enters = λ name user free. entered-holds n s name user free h;
-  logs_off = λ name x at. left-holds n s x.name _ (both-owned s x h.steady) h;
-  grants = λ name x rs locks at e. holds_locks n s locks (allowed (AreOwned s) _ locks (granted-owned s name x rs at h.steady) e) h;
-  lowers = λ name x rs at.
+  refuses = λ call r plain may. holds_more n s h;
+  enters = λ name user free may. entered-holds n s name user free h;
+  logs_off = λ name x at may. left-holds n s x.name _ (both-owned s x h.steady) h;
+  grants = λ name x rs locks at e may. holds_locks n s locks (allowed (AreOwned s) _ locks (granted-owned s name x rs at h.steady) e) h;
+  lowers = λ name x rs at may.
       let names = halves (pair_of s.stored.start x) rs in
       holds_locks n s _ (owned_by s (fold freed s.locks names) (λ Q k. every_freed Q s.locks names k) h.steady) h;
-  frees = λ name x at. holds_locks n s _ (both-owned s x h.steady) h;
-  converts = λ name x wanted c at e. holds_locks n s c.entries (allowed (λ (c : Conversion). AreOwned s c.entries) _ c (converted-owned s x wanted h.steady) e) h;
-  reads = λ name x table key at. holds_more n s h;
-  commits_nothing = λ name x parts at. holds_more n s h;
-  draws = λ name x object nr r at can. draws-holds n s x object nr r (own_name s name x at) can h;
-  reserves = λ name x object nr upto r at can. reserves-holds n s object nr upto r can h;
-  commits_numbers = λ name x parts at. numbered-holds n s x (own_name s name x at) h;
-  commits = λ name x parts at. commit-holds n s x parts (own_name s name x at) h;
-  rolls_back = λ name x at.
+  frees = λ name x at may. holds_locks n s _ (both-owned s x h.steady) h;
+  converts = λ name x wanted c at e may. holds_locks n s c.entries (allowed (λ (c : Conversion). AreOwned s c.entries) _ c (converted-owned s x wanted h.steady) e) h;
+  reads = λ name x table key at may. holds_more n s h;
+  commits_nothing = λ name x parts stock at may. holds_more n s h;
+  draws = λ name x object nr r at can may. draws-holds n s x object nr r (own_name s name x at) can h;
+  reserves = λ name x object nr upto r at can may. reserves-holds n s object nr upto r can h;
+  commits_numbers = λ name x parts stock at may. numbered-holds n s x stock (own_name s name x at) may h;
+  commits = λ name x parts stock at may. commit-holds n s x parts stock (own_name s name x at) may h;
+  rolls_back = λ name x at may.
       let update = (pair_of s.stored.start x).update in
       rolled-holds n s x.name x _ (own_name s name x at) (owned_by s (freed_owner s.locks update) (λ Q k. every_freed_owner Q s.locks update k) h.steady) h;
-  takes = λ worker part unit free e. taken-holds n part s worker unit e h;
-  posts = λ worker part unit e. marked-holds n part s worker unit (kind_for part (found.part part unit)) (post_commits_none part (found.part part unit)) e h;
-  drops = λ worker unit e. dropped-holds n s worker h;
-  cancels = λ unit status can. cancelled-holds n s unit status can h;
-  reopens = λ unit es here stand. reopened-holds n s unit es here (back-owned s unit es sound.stored stand h.steady.owned) h;
-  reposts = λ unit here. reposted-holds n s unit here h;
+  takes = λ worker part unit free e may. taken-holds n part s worker unit e h;
+  posts = λ worker part unit e may. marked-holds n part s worker unit (kind_for part (found.part part unit)) (post_commits_none part (found.part part unit)) e h;
+  drops = λ worker unit e may. dropped-holds n s worker h;
+  cancels = λ unit status can may. cancelled-holds n s unit status can h;
+  reopens = λ unit es here stand may. reopened-holds n s unit es here (back-owned s unit es sound.stored stand h.steady.owned) h;
+  reposts = λ unit here may. reposted-holds n s unit here h;
 }
 
 doubted-holds : (n : ℕ) (s : State) (pending : Option Ledger) → Holds n s → Holds (n + 1) (doubted s pending)
@@ -603,16 +604,59 @@ doubted-holds n s pending h =
         settled = tt;
         fresh = record { numbered = steady.fresh.numbered; ahead = steady.fresh.ahead; later = steady.fresh.later };
         places = steady.places;
-        orders = steady.orders;
+        orders = tt;
         owned = owned_by_none s.stored s.next_session s.sessions s.locks steady.owned;
       };
     }
 
-pub served-holds : (n : ℕ) (o : DeviceOutcome) (s : State) (c : Command) → HasSoundLocks s → Holds n s → Holds (n + 1) (served o s c).state
-served-holds n o s c sound h =
+-- what a state in doubt needs of what is stored, where its sessions are as they were
+abbrev StoredHolds : ℕ → State → Ledger → Type 0
+StoredHolds n s stored = Holds n (unfiled s stored)
+
+-- a mark stands already
+filed-holds : (n : ℕ) (s t : State) → t.sessions ≡ s.sessions → t.next_session ≡ s.next_session → t.ranges ≡ s.ranges → Holds n s → Holds (n + 1) t → t.mark_limit ≡ s.mark_limit → length t.orders ≡ length s.orders
+    → StoredHolds (n + 1) s t.stored
+filed-holds n s t sessions next ranges before h marks places =
+    let steady = h.steady in
+    let few = few_more n s before.few in
+    record {
+      few = record { sessions = few.sessions; units = few.units };
+      steady = record {
+        started = steady.started;
+        limited = before.steady.limited;
+        server = tt;
+        whole = before.steady.whole;
+        named = before.steady.named;
+        drawn = subst (λ xs. AreDrawnRight s.ranges t.stored.levels (draws_in xs) (numbers_of t.stored.units t.stored.marks)) sessions
+            (subst (λ rs. AreDrawnRight rs t.stored.levels (draws_in t.sessions) (numbers_of t.stored.units t.stored.marks)) ranges steady.drawn);
+        marked = steady.marked;
+        settled = tt;
+        fresh = record {
+          numbered = before.steady.fresh.numbered;
+          ahead = subst (AllByRecursion (IsAhead t.stored)) sessions steady.fresh.ahead;
+          later = λ session luw from. steady.fresh.later session luw (subst (λ k. k ≤ session) (sym next) from);
+        };
+        places = before.steady.places;
+        orders = tt;
+        owned = owned_by_none t.stored s.next_session s.sessions t.locks
+            (subst (λ xs. IsOwned t.stored s.next_session xs t.locks) sessions (subst (λ k. IsOwned t.stored k t.sessions t.locks) next steady.owned));
+      };
+    }
+
+unfiled-holds : (n : ℕ) (found : Found) (s : State) (c : Command) → Holds n s → Holds (n + 1) (unfiled s (stored_before_file s (call_of c) (verdict found s c)))
+unfiled-holds n found s c h =
+    by_filing (StoredHolds (n + 1) s) found s c (doubted-holds n s s.pending h)
+    (λ worker part unit e.
+    filed-holds n s (marked part s worker unit (kind_for part (found.part part unit))) refl refl refl h (marked-holds n part s worker unit (kind_for part (found.part part unit)) (post_commits_none part (found.part part unit)) e h) refl
+    (length-set s.orders worker None))
+    (λ unit status can. filed-holds n s (cancelled s unit status) refl refl refl h (cancelled-holds n s unit status can h) refl refl)
+
+pub served-holds : (n : ℕ) (o : DeviceOutcome) (s : State) (c : Command) → MayCall s (call_of c) → HasSoundLocks s → Holds n s → Holds (n + 1) (served o s c).state
+served-holds n o s c may sound h =
     by_event (λ r. Holds (n + 1) r.state) o s c
-    (λ found. by_call (λ call v. Holds (n + 1) (judged s v).state) found s (each-holds n found s sound h) _) (holds_more n s h)
-    (λ pending. doubted-holds n s pending h)
+    (λ found. by_made (λ call v. Holds (n + 1) (judged s v).state) found s (each-holds n found s sound h) (call_of c) may) (holds_more n s h)
+    (λ found. doubted-holds n s _ h)
+    (λ found. unfiled-holds n found s c h)
 
 below_limit : (n : ℕ) → nat_le 262144 n ≡ false → n + 1 ≤ 262144
 below_limit n h = grind (arith, nat_tests)
@@ -659,11 +703,12 @@ with_past n s past h =
     }
 
 -- a call with room for it in the history
-pub kept_call : (s : State) (line : ℕ) (c : Command) (after : State) (r : Reply) → IsKept s → is_full s ≡ false → IsAct s c after r → IsKept (with_entry line c (record { state = after; reply = r }))
-kept_call s line c after r kept room act =
+pub kept_call : (s : State) (line : ℕ) (c : Command) (after : State) (r : Reply) → MayCall s (call_of c) → IsKept s → is_full s ≡ false → IsAct s c after r → IsKept (with_entry line c (record { state = after; reply = r }))
+kept_call s line c after r may kept room act =
     let before : Holds (length s.past) s = record { few = kept.few; steady = kept.steady } in
-    let holds : Holds (length s.past + 1) after = subst (λ x. Holds (length s.past + 1) x.state) act.same (served-holds (length s.past) act.outcome s c kept.sound before) in
-    let sound : HasSoundLocks after = subst (λ x. HasSoundLocks x.state) act.same (served-sound act.outcome s c kept.sound) in
+    let holds : Holds (length s.past + 1) after = subst (λ x. Holds (length s.past + 1) x.state) act.same (served-holds (length s.past) act.outcome s c may kept.sound before) in
+    let sound : HasSoundLocks after = subst (λ x. HasSoundLocks x.state) act.same (served-sound act.outcome s c kept.steady.owned.users kept.sound) in
+    let units : HasOpenUnits after = subst (λ x. HasOpenUnits x.state) act.same (served-open act.outcome s c kept.steady kept.sound kept.open_units) in
     let past : after.past ≡ s.past = ap (λ x. x.state.past) (sym act.same) ∙ served-past act.outcome s c in
     let t : State = with_entry line c (record { state = after; reply = r }) in
     let longer : length t.past ≡ length s.past + 1 = length-append after.past _ ∙ ap (λ es. length es + 1) past in
@@ -673,6 +718,7 @@ kept_call s line c after r kept room act =
       few = subst (λ n. HasFew n t) (sym longer) whole.few;
       steady = whole.steady;
       sound = over_table sound.stored sound.table;
+      open_units = record { held = units.held; stored = units.stored; pending = units.pending };
     }
 
 pub young_enough : (s : State) → IsKept s → AllByRecursion (IsYoung 262145) s.sessions

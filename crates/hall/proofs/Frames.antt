@@ -7,13 +7,15 @@ use Rattle.enq_base.specs.declared.condition.Condition.TheVariants as condition
 use Rattle.enq_base.specs.declared.refusal.Refusal.{Refusal}
 use Rattle.enq_base.specs.declared.refusal.Refusal.TheVariants as refusal
 use Rattle.hall.specs.Acts.{IsAct}
-use Rattle.hall.specs.Devices.{DeviceOutcome, AllWell, Wanting, StoreFails, is_store_failure}
+use Rattle.hall.specs.Calls.{call_of}
+use Rattle.hall.specs.Devices.{DeviceOutcome, AllWell, Wanting, StoreFails, BackupFails, is_failure}
 use Rattle.hall.specs.History.{IsStep, Served, is_unrecorded, judged, noted, past_entry, served, step, with_entry}
 use Rattle.hall.specs.Recall.{HasBegun}
 use Rattle.hall.specs.Numbers.{drawn, raised_to}
 use Rattle.range_list.specs.Drawn.{handed_out}
 use Rattle.hall.specs.Sessions.{with_draw, with_session}
 use Rattle.hall.specs.State.{State}
+use Rattle.hall.specs.Stocks.{MayCall}
 use Rattle.hall.specs.declared.command.Session.{Session}
 use Rattle.number_ranges.specs.Intervals.{is_buffered}
 use Rattle.number_ranges.specs.declared.interval.Interval.{Interval}
@@ -32,58 +34,60 @@ pub record IsFramed (s t : State) : Type 0 where
   pub limit : t.limit ≡ s.limit
   pub mark_limit : t.mark_limit ≡ s.mark_limit
   pub past : t.past ≡ s.past
+  pub pending : t.pending ≡ s.pending
 
 stays : (s : State) → IsFramed s s
-stays s = record { condition = refl; limit = refl; mark_limit = refl; past = refl }
+stays s = record { condition = refl; limit = refl; mark_limit = refl; past = refl; pending = refl }
 
 drawn_frame : (s : State) (x : Session) (i : Interval) (number : ℕ) → IsFramed s (drawn s x i number)
 drawn_frame s x i number =
     let t : State = record s { sessions = with_session x.name (with_draw (num_of i number)) s.sessions } in
     elim (is_buffered i) as (λ b. IsFramed s (if b then record t { ranges = handed_out i t.ranges; stored = raised_to i number t.stored } else t)) [
-      | true ↦ record { condition = refl; limit = refl; mark_limit = refl; past = refl }
-      | false ↦ record { condition = refl; limit = refl; mark_limit = refl; past = refl }
+      | true ↦ record { condition = refl; limit = refl; mark_limit = refl; past = refl; pending = refl }
+      | false ↦ record { condition = refl; limit = refl; mark_limit = refl; past = refl; pending = refl }
     ]
 
 framed : (found : Found) (s : State) → OfEach (λ call v. IsFramed s (judged s v).state) found s
 framed found s = record {
   refuses = λ call r plain. stays s;
-  enters = λ name user free. record { condition = refl; limit = refl; mark_limit = refl; past = refl };
-  logs_off = λ name x at. record { condition = refl; limit = refl; mark_limit = refl; past = refl };
-  grants = λ name x rs locks at e. record { condition = refl; limit = refl; mark_limit = refl; past = refl };
-  lowers = λ name x rs at. record { condition = refl; limit = refl; mark_limit = refl; past = refl };
-  frees = λ name x at. record { condition = refl; limit = refl; mark_limit = refl; past = refl };
-  converts = λ name x wanted c at e. record { condition = refl; limit = refl; mark_limit = refl; past = refl };
+  enters = λ name user free. record { condition = refl; limit = refl; mark_limit = refl; past = refl; pending = refl };
+  logs_off = λ name x at. record { condition = refl; limit = refl; mark_limit = refl; past = refl; pending = refl };
+  grants = λ name x rs locks at e. record { condition = refl; limit = refl; mark_limit = refl; past = refl; pending = refl };
+  lowers = λ name x rs at. record { condition = refl; limit = refl; mark_limit = refl; past = refl; pending = refl };
+  frees = λ name x at. record { condition = refl; limit = refl; mark_limit = refl; past = refl; pending = refl };
+  converts = λ name x wanted c at e. record { condition = refl; limit = refl; mark_limit = refl; past = refl; pending = refl };
   draws = λ name x object nr r at can. drawn_frame s x (present s.stored.levels r.interval) _;
-  reserves = λ name x object nr upto r at can. record { condition = refl; limit = refl; mark_limit = refl; past = refl };
+  reserves = λ name x object nr upto r at can. record { condition = refl; limit = refl; mark_limit = refl; past = refl; pending = refl };
   reads = λ name x table key at. stays s;
-  commits_nothing = λ name x parts at. stays s;
-  commits_numbers = λ name x parts at. record { condition = refl; limit = refl; mark_limit = refl; past = refl };
-  commits = λ name x parts at. record { condition = refl; limit = refl; mark_limit = refl; past = refl };
-  rolls_back = λ name x at. record { condition = refl; limit = refl; mark_limit = refl; past = refl };
-  takes = λ worker part unit free e. record { condition = refl; limit = refl; mark_limit = refl; past = refl };
-  posts = λ worker part unit e. record { condition = refl; limit = refl; mark_limit = refl; past = refl };
-  drops = λ worker unit e. record { condition = refl; limit = refl; mark_limit = refl; past = refl };
-  cancels = λ unit status can. record { condition = refl; limit = refl; mark_limit = refl; past = refl };
-  reopens = λ unit es here stand. record { condition = refl; limit = refl; mark_limit = refl; past = refl };
-  reposts = λ unit here. record { condition = refl; limit = refl; mark_limit = refl; past = refl };
+  commits_nothing = λ name x parts stock at. stays s;
+  commits_numbers = λ name x parts stock at. record { condition = refl; limit = refl; mark_limit = refl; past = refl; pending = refl };
+  commits = λ name x parts stock at. record { condition = refl; limit = refl; mark_limit = refl; past = refl; pending = refl };
+  rolls_back = λ name x at. record { condition = refl; limit = refl; mark_limit = refl; past = refl; pending = refl };
+  takes = λ worker part unit free e. record { condition = refl; limit = refl; mark_limit = refl; past = refl; pending = refl };
+  posts = λ worker part unit e. record { condition = refl; limit = refl; mark_limit = refl; past = refl; pending = refl };
+  drops = λ worker unit e. record { condition = refl; limit = refl; mark_limit = refl; past = refl; pending = refl };
+  cancels = λ unit status can. record { condition = refl; limit = refl; mark_limit = refl; past = refl; pending = refl };
+  reopens = λ unit es here stand. record { condition = refl; limit = refl; mark_limit = refl; past = refl; pending = refl };
+  reposts = λ unit here. record { condition = refl; limit = refl; mark_limit = refl; past = refl; pending = refl };
 }
 
-verdict_framed : (found : Found) (s : State) (c : Command) → IsFramed s (judged s (verdict found s c)).state
+pub verdict_framed : (found : Found) (s : State) (c : Command) → IsFramed s (judged s (verdict found s c)).state
 verdict_framed found s c = by_call (λ call v. IsFramed s (judged s v).state) found s (framed found s) _
 
 pub served-past : (o : DeviceOutcome) (s : State) (c : Command) → (served o s c).state.past ≡ s.past
-served-past o s c = by_event (λ r. r.state.past ≡ s.past) o s c (λ found. (verdict_framed found s c).past) refl (λ pending. refl)
+served-past o s c = by_event (λ r. r.state.past ≡ s.past) o s c (λ found. (verdict_framed found s c).past) refl (λ found. refl) (λ found. refl)
 
--- the condition stays, unless the store fails and leaves a doubt
+-- the condition stays, unless the store or the disk fails and leaves a doubt
 abbrev pub Becomes : Bool → Condition → Condition → Type 0
 Becomes fails c d = (d ≡ c) ⊎ (IsTrue fails × ((k : ℕ) × (d ≡ condition.Doubt (k + 1))))
 
-served_becomes : (o : DeviceOutcome) (s : State) (c : Command) → Becomes (is_store_failure o.event) s.condition (served o s c).state.condition
+served_becomes : (o : DeviceOutcome) (s : State) (c : Command) → Becomes (is_failure o.event) s.condition (served o s c).state.condition
 served_becomes o s c =
-    elim o.event as (λ e. Becomes (is_store_failure e) s.condition (served (record { event = e; reading = o.reading }) s c).state.condition) [
+    elim o.event as (λ e. Becomes (is_failure e) s.condition (served (record { event = e; reading = o.reading }) s c).state.condition) [
       | AllWell ↦ inl (verdict_framed _ s c).condition
       | Wanting ↦ inl refl
       | StoreFails ↦ inr (refl, (length s.past, refl))
+      | BackupFails ↦ inr (refl, (length s.past, refl))
     ]
 
 -- ---- noted or not
@@ -92,10 +96,10 @@ served_becomes o s c =
 pub by_noting : (Q : Served → Type 0) (line : ℕ) (c : Command) (r : Served) → Q r → Q (record r { state = with_entry line c r }) → Q (noted line c r)
 by_noting Q line c r off on = elim (is_unrecorded r.reply) as (λ b. Q (if b then r else record r { state = with_entry line c r })) [ true ↦ off | false ↦ on ]
 
-pub step_becomes : (o : DeviceOutcome) (s : State) (n : ℕ) (c : Command) → Becomes (is_store_failure o.event) s.condition (step o s n c).state.condition
+pub step_becomes : (o : DeviceOutcome) (s : State) (n : ℕ) (c : Command) → Becomes (is_failure o.event) s.condition (step o s n c).state.condition
 step_becomes o s n c =
     let r = served o s c in
-    by_noting (λ x. Becomes (is_store_failure o.event) s.condition x.state.condition) n c r (served_becomes o s c) (served_becomes o s c)
+    by_noting (λ x. Becomes (is_failure o.event) s.condition x.state.condition) n c r (served_becomes o s c) (served_becomes o s c)
 
 -- a full history
 abbrev pub in_doubt : Condition → Option Refusal
@@ -105,18 +109,18 @@ pub shut_by_history : (s : State) → is_full s ≡ true → barred s ≡ Some r
 shut_by_history s full = ap (λ b. if b then Some refusal.LogFull else in_doubt s.condition) full
 
 -- a call that is put into the history
-pub noted_step : (s : State) (line : ℕ) (c : Command) (after : State) (r : Reply) → IsAct s c after r → is_unrecorded r ≡ false → IsStep s (with_entry line c (record { state = after; reply = r })) line c r
-noted_step s line c after r h on =
+pub noted_step : (s : State) (line : ℕ) (c : Command) (after : State) (r : Reply) → MayCall s (call_of c) → IsAct s c after r → is_unrecorded r ≡ false → IsStep s (with_entry line c (record { state = after; reply = r })) line c r
+noted_step s line c after r may h on =
     let whole : Served = record { state = after; reply = r } in
     let entry : Served = record { state = with_entry line c whole; reply = r } in
-    record { outcome = h.outcome; allowed = h.allowed; same = sym (ap (noted line c) h.same ∙ ap (λ b. if b then whole else entry) on) }
+    record { outcome = h.outcome; allowed = record { call = may; possible = h.possible }; same = sym (ap (noted line c) h.same ∙ ap (λ b. if b then whole else entry) on) }
 
 -- and one that isn't
-pub unnoted_step : (s : State) (line : ℕ) (c : Command) (after : State) (r : Reply) → IsAct s c after r → is_unrecorded r ≡ true → IsStep s after line c r
-unnoted_step s line c after r h off =
+pub unnoted_step : (s : State) (line : ℕ) (c : Command) (after : State) (r : Reply) → MayCall s (call_of c) → IsAct s c after r → is_unrecorded r ≡ true → IsStep s after line c r
+unnoted_step s line c after r may h off =
     let whole : Served = record { state = after; reply = r } in
     let entry : Served = record { state = with_entry line c whole; reply = r } in
-    record { outcome = h.outcome; allowed = h.allowed; same = sym (ap (noted line c) h.same ∙ ap (λ b. if b then whole else entry) off) }
+    record { outcome = h.outcome; allowed = record { call = may; possible = h.possible }; same = sym (ap (noted line c) h.same ∙ ap (λ b. if b then whole else entry) off) }
 
 -- the history goes on
 pub step_begins : (o : DeviceOutcome) (s : State) (line : ℕ) (c : Command) → HasBegun s.past (step o s line c).state.past

@@ -9,6 +9,7 @@ use Rattle.enq_base.specs.declared.owner.Owner.TheVariants.{Upd}
 use Rattle.enq_base.specs.declared.owner.UnitKey.{UnitKey}
 use Rattle.enq_base.specs.declared.unit.Num.{Num}
 use Rattle.enq_base.specs.declared.unit.Parts.{Parts}
+use Rattle.enq_server.specs.Server.{is_lasting, lasting}
 use Rattle.lock_entry.proofs.Frees.{IsTable-filter, IsTable-handed_over}
 use Rattle.lock_entry.proofs.Lists.{list_all-filter_self}
 use Rattle.lock_entry.proofs.Naming.{same_owner-same}
@@ -51,6 +52,11 @@ handed_table t start x good =
     let key = unit_key start x in
     IsTable-filter (with_entries t (handed_over t.entries key)) (is_of (Upd key)) (IsTable-handed_over t key good)
 
+-- a lock of the session's open unit has the session's user
+user_at : (sessions : List Session) (name : List ℕ) (start : ℕ) (x : Session) (e : Entry) → session_at sessions name ≡ Some x → e.owner ≡ Upd (unit_key start x) → HasItsUser start sessions e.owner e.user → e.user ≡ x.user
+user_at sessions name start x e found own user =
+    found_in (IsUserOf start e.owner e.user) (is_called name) sessions x found user (ap (is_of_session start x.number) own ∙ own_session start x)
+
 held_by : (t : Table) (sessions : List Session) (name : List ℕ) (start : ℕ) (x : Session) (parts : Parts) (numbers : List Num) (e : Entry) → session_at sessions name ≡ Some x → AllByRecursion (OfLock (HasItsUser start sessions)) t.entries → IsTable t → Among (handed_locks t.entries (unit_key start x)) e → IsHeldBy (unit_of start t.entries x parts numbers) e
 held_by t sessions name start x parts numbers e found users good k =
     let key = unit_key start x in
@@ -62,7 +68,7 @@ held_by t sessions name start x parts numbers e found users good k =
     let counts = and_parts (nat_le 1 e.count) (nat_le e.count 9999) (all_among has_count (handed_locks t.entries key) e (handed_table t start x good).sound.counts k) in
     record {
       owner = own;
-      user = found_in (IsUserOf start e.owner e.user) (is_called name) sessions x found user (ap (is_of_session start x.number) own ∙ own_session start x);
+      user = user_at sessions name start x e found own user;
       mode = ap (λ (z : Entry). is_optimistic z.mode) source.4 ∙ firm_mode source.0.mode source.3;
       low = least e.count counts.0;
       high = most e.count counts.1;
@@ -86,8 +92,8 @@ firm_by es key e k =
     (ap (λ (z : Entry). not (same_mode z.mode O)) source.4 ∙ ap not source.3)
 
 -- they can stand again as they are
-pub handed_good : (t : Table) (start : ℕ) (x : Session) (parts : Parts) (numbers : List Num) → IsTable t → HasGoodLocks (unit_of start t.entries x parts numbers)
-handed_good t start x parts numbers good =
+pub handed_good : (t : Table) (sessions : List Session) (name : List ℕ) (start : ℕ) (x : Session) (parts : Parts) (numbers : List Num) → session_at sessions name ≡ Some x → AllByRecursion (OfLock (HasItsUser start sessions)) t.entries → IsTable t → HasGoodLocks (unit_of start t.entries x parts numbers)
+handed_good t sessions name start x parts numbers found users good =
     let key = unit_key start x in
     let table = handed_table t start x good in
     record {
@@ -97,4 +103,15 @@ handed_good t start x parts numbers good =
         counts = table.sound.counts;
       };
       firm = all_by is_firm (handed_locks t.entries key) (λ e k. firm_by t.entries key e k);
+      used = every_by (λ (e : Entry). e.user ≡ x.user) (handed_locks t.entries key) (λ e k. (held_by t sessions name start x parts numbers e found users good k).user);
     }
+
+-- the locks that a commit writes into the backup file have the session's user
+pub lasting_used : (locks : List Entry) (sessions : List Session) (name : List ℕ) (start : ℕ) (x : Session) → session_at sessions name ≡ Some x → AllByRecursion (OfLock (HasItsUser start sessions)) locks → AllByRecursion (λ (e : Entry). e.user ≡ x.user) (lasting (unit_key start x) locks)
+lasting_used locks sessions name start x found users =
+    let key = unit_key start x in
+    every_by (λ (e : Entry). e.user ≡ x.user) (lasting key locks)
+    (λ e k.
+    let stood = filter_source (is_lasting key) locks e k in
+    let own = same_owner-same e.owner (Upd key) (and_parts (is_of (Upd key) e) (not (same_mode e.mode O)) stood.1).0 in
+    user_at sessions name start x e found own (every_at (OfLock (HasItsUser start sessions)) locks e users stood.0))

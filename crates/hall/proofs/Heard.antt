@@ -1,5 +1,5 @@
 -- What a recorded unit or a mark leaves of the statuses of other units.
-use Rattle.std.proofs.Common.{◌≡◌, inl, inr, ℕ, Bool, true, false, not, ◌&&◌, ◌||◌, List, [], ◌∷◌, ◌++◌, refl, sym, ap, ◌∙◌}
+use Rattle.std.proofs.Common.{◌≡◌, inl, inr, ℕ, Bool, true, false, not, ◌&&◌, ◌||◌, List, [], ◌∷◌, ◌++◌, refl, sym, ap, ◌∙◌, subst}
 use Rattle.std.specs.Prelude.{if◌then◌else◌, nat_eq, Option, Some, None}
 use Rattle.std.specs.List.{AllByRecursion, list_any}
 use Rattle.enq_base.specs.Owners.{same_unit}
@@ -57,7 +57,7 @@ apart_the_other_way ledger key other s none here =
     (λ same. absurd (some_or_none (status_in ledger other) s here (ap (status_in ledger) (sym (one_unit key other same)) ∙ none)))
     (λ apart. apart)
 
-two_statuses : (o : Option Status) (a b : Status) → o ≡ Some a → o ≡ Some b → a ≡ b
+pub two_statuses : (o : Option Status) (a b : Status) → o ≡ Some a → o ≡ Some b → a ≡ b
 two_statuses None a b h k = cc
 two_statuses (Some s) a b h k = cc
 
@@ -167,14 +167,14 @@ no_or true b h = (cc, cc)
 no_or false b h = (refl, h)
 
 -- marks that decide nothing of a unit leave its status
-undecided : (b : Bool) (key : UnitKey) (before : Option Status) (marks : List Mark) → list_any (decides key) marks ≡ false → status_after b key before marks ≡ before
+pub undecided : (b : Bool) (key : UnitKey) (before : Option Status) (marks : List Mark) → list_any (decides key) marks ≡ false → status_after b key before marks ≡ before
 undecided b key before [] h = refl
 undecided b key before (m ∷ marks) h =
     let parts = no_or (decides key m) (list_any (decides key) marks) h in
     ap (λ o. status_after b key o marks) (undecided_once b key before m parts.0) ∙ undecided b key before marks parts.1
 
 -- whatever stood before
-abbrev Ends : List UnitOfWork → List Mark → Status → UnitKey → Type 0
+abbrev pub Ends : List UnitOfWork → List Mark → Status → UnitKey → Type 0
 Ends units marks status key = (before : Option Status) → status_after (has_no_v2 units key) key before marks ≡ Some status
 
 ends_more : (units : List UnitOfWork) (m : Mark) (marks : List Mark) (status : Status) (keys : List UnitKey) → AllByRecursion (Ends units marks status) keys → AllByRecursion (Ends units (m ∷ marks) status) keys
@@ -199,7 +199,7 @@ ends_here units m marks status h before =
     ∙ ap (λ o. status_after b m.unit o marks) here
     ∙ undecided b m.unit (Some status) marks (second_of _ _ h)
 
-ends_with : (status : Status) (units : List UnitOfWork) (marks : List Mark) → AllByRecursion (Ends units marks status) (units_with status units marks)
+pub ends_with : (status : Status) (units : List UnitOfWork) (marks : List Mark) → AllByRecursion (Ends units marks status) (units_with status units marks)
 ends_with status units [] = tt
 ends_with status units (m ∷ marks) =
     let rest = ends_more units m marks status (units_with status units marks) (ends_with status units marks) in
@@ -220,3 +220,24 @@ wait_either ledger false = all_wait ledger Posted _ (λ key h. inr h) (ends_with
 -- those that are offered for a part wait for one
 pub all_waiting : (part : ℕ) (ledger : Ledger) → AllByRecursion (IsWaiting ledger) (waiting_for part ledger)
 all_waiting part ledger = wait_either ledger (nat_eq part 1)
+
+-- ---- a mark that ends the V1 part
+
+-- behind it the unit isn't open, whatever it was before
+abbrev pub EndsFirst : MarkKind → Type 0
+EndsFirst kind = (b : Bool) (before : Option Status) → given b kind before ≡ Some Open → ⊥
+
+-- the status that a mark gives its own unit
+pub status_marked : (ledger : Ledger) (key : UnitKey) (kind : MarkKind) → status_in (with_mark ledger key kind) key ≡ given (has_no_v2 ledger.units key) kind (status_in ledger key)
+status_marked ledger key kind =
+    let b = has_no_v2 ledger.units key in
+    status_push b key None ledger.marks (next_mark ledger key kind)
+    ∙ ap (λ t. if t then given b kind (status_after b key None ledger.marks) else status_after b key None ledger.marks) (unit_refl key)
+
+-- another unit is open than the one whose part ended
+pub apart_from_ended : (ledger : Ledger) (key other : UnitKey) (kind : MarkKind) → EndsFirst kind → IsOpenUnit (with_mark ledger key kind) other → same_unit key other ≡ false
+apart_from_ended ledger key other kind ends waits =
+    by_test _ (same_unit key other)
+    (λ same.
+    absurd (ends (has_no_v2 ledger.units key) (status_in ledger key) (sym (status_marked ledger key kind) ∙ subst (IsOpenUnit (with_mark ledger key kind)) (sym (one_unit key other same)) waits)))
+    (λ apart. apart)

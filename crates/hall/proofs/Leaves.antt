@@ -17,7 +17,7 @@ use Rattle.posting.specs.declared.prepared.Outcome.{Outcome}
 use Rattle.posting.specs.declared.prepared.Outcome.TheVariants as outcome
 use Rattle.hall.specs.declared.units.InFlight.{InFlight}
 use Rattle.update_records.specs.Ledger.{Ledger, StandFor}
-use Rattle.hall.specs.Acts.{OnAnswer, OnFailure, written_condition, written_pending}
+use Rattle.hall.specs.Acts.{OnAnswer, OnFailure, OnStoreFailure, written_condition, written_pending}
 use Rattle.hall.specs.Kept.{WhileUp}
 use Rattle.hall.specs.Leaving.{HasStoreCause, KeepsStore, LeavesWritten, StandForLanded, StandForPending, StandForWritten}
 use Rattle.hall.specs.State.{State}
@@ -26,7 +26,7 @@ use Rattle.hall.specs.declared.command.Reply.{Reply}
 use Rattle.hall.specs.declared.command.Reply.TheVariants as reply
 use Rattle.hall.proofs.Plain.{IsPlain}
 use Rattle.hall.specs.declared.units.Written.{Written}
-use Rattle.hall.specs.declared.units.Written.TheVariants.{Answered, Failed}
+use Rattle.hall.specs.declared.units.Written.TheVariants.{Answered, Failed, Unfiled}
 
 -- ---- a call that isn't served
 
@@ -106,6 +106,7 @@ plain_quiet _ n m h plain = h
 -- a refusal before anything was written
 pub refused_keeps : {K : Type 0} (held : K → Option Rows) (may_leave : K → Rows → Type 0) (old new : K) (r : Refusal) → held new ≡ held old → IsWithin (may_leave new) (may_leave old) → KeepsStore held may_leave old new (reply.Refused r)
 refused_keeps held may_leave old new refusal.StoreFault rows crash = tt
+refused_keeps held may_leave old new refusal.BackupFault rows crash = tt
 refused_keeps held may_leave old new _ rows crash = (rows, crash)
 
 pub untouched_keeps : {K : Type 0} (held : K → Option Rows) (may_leave : K → Rows → Type 0) (k : K) (r : Refusal) → KeepsStore held may_leave k k (reply.Refused r)
@@ -128,6 +129,7 @@ posted_keeps held may_leave old new part unit (outcome.Refused index reason) =
 stands_after : (left : Rows) (ledger : Ledger) (p : Option InFlight) (w : Written) → StandForWritten left ledger w → StandFor left ledger ⊎ StandForPending left (option_map (landed ledger) (written_pending p w))
 stands_after left ledger p (Answered r) h = inl h
 stands_after left ledger p (Failed step) h = h
+stands_after left ledger p Unfiled h = inl h
 
 leaves_for : (held : Option Rows) (may_leave : Rows → Type 0) (ledger : Ledger) (p : Option InFlight) (w : Written) → IfSome held (λ _. (left : Rows) → may_leave left → StandForWritten left ledger w)
     → IfSome held (λ _. (left : Rows) → may_leave left → StandFor left ledger ⊎ StandForPending left (option_map (landed ledger) (written_pending p w)))
@@ -143,6 +145,7 @@ leaves_after held may_leave shelf p pending w is h =
 usable_for : (P : Type 0) (calls : ℕ) (w : Written) → OnAnswer w P → WhileUp (written_condition condition.Up calls w) P
 usable_for P calls (Answered r) h = h
 usable_for P calls (Failed step) h = tt
+usable_for P calls Unfiled h = tt
 
 pub usable_after : (P : Type 0) (before now : Condition) (calls : ℕ) (w : Written) → before ≡ condition.Up → now ≡ written_condition before calls w → OnAnswer w P → WhileUp now P
 usable_after P before now calls w up is h =
@@ -151,3 +154,14 @@ usable_after P before now calls w up is h =
 pub also_failed : (P : Type 0) (w : Written) → P → OnFailure w P
 also_failed P (Answered r) h = tt
 also_failed P (Failed step) h = h
+also_failed P Unfiled h = h
+
+pub also_store_failed : (P : Type 0) (w : Written) → P → OnStoreFailure w P
+also_store_failed P (Answered r) h = tt
+also_store_failed P (Failed step) h = h
+also_store_failed P Unfiled h = tt
+
+pub also_answered : (P : Type 0) (w : Written) → P → OnAnswer w P
+also_answered P (Answered r) h = h
+also_answered P (Failed step) h = tt
+also_answered P Unfiled h = tt

@@ -253,7 +253,7 @@ kept_freed es (n ∷ ns) e h k =
     let hs = or_parts (same_name (name_of e) n) (list_any (same_name (name_of e)) ns) h in
     kept_freed (freed es n) ns e hs.1 (kept_replace (has_name n) lowered es e (same_name-sym n (name_of e) ∙ hs.0) k)
 
-raised_same : (names : List LockName) (e : Entry) → list_any (same_name (name_of e)) names ≡ false → raised names e ≡ e
+pub raised_same : (names : List LockName) (e : Entry) → list_any (same_name (name_of e)) names ≡ false → raised names e ≡ e
 raised_same names e h =
     let none : times names (name_of e) ≡ 0 = count_by-none (same_name (name_of e)) names h in
     let same : e.count + times names (name_of e) ≡ e.count = omega arith in
@@ -277,6 +277,10 @@ kept_conversion es asker asked e h firm k =
 abbrev pub Allows : {X : Type 0} → (X → Type 0) → Result X AskFault → Type 0
 Allows P (Ok x) = P x
 Allows P (Err f) = Unit {0}
+
+-- what holds of what a rule allows holds of what it gives
+pub allowed : {X : Type 0} (Q : X → Type 0) (r : Result X AskFault) (x : X) → Allows Q r → r ≡ Ok x → Q x
+allowed Q r x h e = subst (Allows Q) e h
 
 barred_allows : {X : Type 0} (P : X → Type 0) (o : Option Entry) (r : Result X AskFault) → Allows P r → Allows P (unless_barred o r)
 barred_allows P None r h = h

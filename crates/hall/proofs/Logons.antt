@@ -122,9 +122,9 @@ keeps found s = record {
   draws = λ name x object nr r at can n off h. drawn_keeps s x (present s.stored.levels r.interval) _ n h;
   reserves = λ name x object nr upto r at can n off h. h;
   reads = λ name x table key at n off h. h;
-  commits_nothing = λ name x parts at n off h. h;
-  commits_numbers = λ name x parts at n off h. logged_with without_draws (λ m y. refl) x.name s.sessions n h;
-  commits = λ name x parts at n off h. logged_with with_next_unit (λ m y. refl) x.name s.sessions n h;
+  commits_nothing = λ name x parts stock at n off h. h;
+  commits_numbers = λ name x parts stock at n off h. logged_with without_draws (λ m y. refl) x.name s.sessions n h;
+  commits = λ name x parts stock at n off h. logged_with with_next_unit (λ m y. refl) x.name s.sessions n h;
   rolls_back = λ name x at n off h. logged_with with_fresh_unit (λ m y. refl) x.name s.sessions n h;
   takes = λ worker part unit free e n off h. h;
   posts = λ worker part unit e n off h. h;
@@ -136,7 +136,7 @@ keeps found s = record {
 
 pub step_keeps : (o : DeviceOutcome) (s : State) (line : ℕ) (c : Command) → KeepsSessions s (call_of c) (step o s line c)
 step_keeps o s line c =
-    let h = by_event (KeepsSessions s (call_of c)) o s c (λ found. by_call (λ call v. KeepsSessions s call (judged s v)) found s (keeps found s) _) (λ n off k. k) (λ pending n off k. k) in
+    let h = by_event (KeepsSessions s (call_of c)) o s c (λ found. by_call (λ call v. KeepsSessions s call (judged s v)) found s (keeps found s) _) (λ n off k. k) (λ found n off k. k) (λ found n off k. k) in
     by_noting (KeepsSessions s (call_of c)) line c (served o s c) h h
 
 -- ---- a logon
@@ -175,9 +175,9 @@ enters found s = record {
   draws = λ name x object nr r at can. tt;
   reserves = λ name x object nr upto r at can. tt;
   reads = λ name x table key at. tt;
-  commits_nothing = λ name x parts at. tt;
-  commits_numbers = λ name x parts at. tt;
-  commits = λ name x parts at. tt;
+  commits_nothing = λ name x parts stock at. tt;
+  commits_numbers = λ name x parts stock at. tt;
+  commits = λ name x parts stock at. tt;
   rolls_back = λ name x at. tt;
   takes = λ worker part unit free e. tt;
   posts = λ worker part unit e. tt;
@@ -190,7 +190,7 @@ enters found s = record {
 pub step_enters : (o : DeviceOutcome) (s : State) (line : ℕ) (name user : List ℕ) → MayEnter s (LogsOn name user) (step o s line (command.Logon name user))
 step_enters o s line name user =
     let c = command.Logon name user in
-    let k = by_event (MayEnter s (call_of c)) o s c (λ found. by_call (λ call v. MayEnter s call (judged s v)) found s (enters found s) (call_of c)) tt (λ pending. tt) in
+    let k = by_event (MayEnter s (call_of c)) o s c (λ found. by_call (λ call v. MayEnter s call (judged s v)) found s (enters found s) (call_of c)) tt (λ found. tt) (λ found. tt) in
     by_noting (MayEnter s (call_of c)) line c (served o s c) k k
 
 pub logon_enters : (old new : State) (line : ℕ) (name user : List ℕ) → IsStep old new line (command.Logon name user) reply.Done → Enters name old.sessions new.sessions

@@ -1,9 +1,11 @@
 -- What is drawn or reserved next lies within its interval, and its level may be stored.
-use Rattle.std.proofs.Common.{◌≡◌, ℕ, ◌+◌, ◌≤◌, ◌<◌, ◌^◌, Bool, true, false, List, [], ◌∷◌, refl, sym, ap, ◌∙◌, subst, arith}
-use Rattle.std.specs.Prelude.{Contains, IfSome, Some, nat_lt, if◌then◌else◌}
+use Rattle.std.proofs.Common.{◌≡◌, ℕ, ◌+◌, ◌-◌, ◌≤◌, ◌<◌, ◌^◌, Bool, true, false, List, [], ◌∷◌, refl, sym, ap, ◌∙◌, subst, arith}
+use Rattle.std.specs.Prelude.{Contains, ◌&&◌, IfSome, Option, Some, nat_le, nat_lt, if◌then◌else◌}
+use Rattle.std.specs.Int.{div_ceil}
+use Rattle.std.specs.Option.{option_map_or}
 use Rattle.std.proofs.lemmas.Bool.Decides.{nat_tests}
 use Rattle.enq_base.specs.declared.unit.Num.{Num}
-use Rattle.number_ranges.specs.Intervals.{IsInterval, block_level, is_buffered, with_level}
+use Rattle.number_ranges.specs.Intervals.{IsInterval, block_level, is_buffered, level_with, with_level}
 use Rattle.number_ranges.specs.declared.interval.Interval.{Interval}
 use Rattle.posting.specs.Intervals.{MayStore}
 use Rattle.range_list.proofs.Drawing.{interval_among, range_found}
@@ -13,9 +15,12 @@ use Rattle.range_list.specs.Drawn.{IsDrawnAs, drawn_of, stored_as}
 use Rattle.range_list.specs.Levels.{intervals_of, present, range_at}
 use Rattle.range_list.specs.declared.range.NumberRange.{NumberRange}
 use Rattle.update_records.specs.Business.{numbers_of}
-use Rattle.update_records.specs.Ledger.{Ledger}
+use Rattle.update_records.specs.Ledger.{Ledger, Levels}
+use Rattle.hall.specs.Calls.{Draws, Reserves}
+use Rattle.hall.specs.Devices.{raises_level}
 use Rattle.hall.specs.Kept.{draws_in}
 use Rattle.hall.specs.Numbers.{IsNextDraw, IsNextReserve, level_for}
+use Rattle.hall.specs.State.{State}
 use Rattle.hall.specs.declared.command.Session.{Session}
 use Rattle.hall.proofs.Drawn.{AreRightIn, blocks}
 
@@ -102,3 +107,34 @@ module _ (sessions : List Session) (ranges : List NumberRange) (ledger : Ledger)
   -- an interval that was found, with its present level
   pub found_is : (object nr : List ℕ) (r : NumberRange) → range_at ranges object nr ≡ Some r → IsInterval (here r.interval)
   found_is object nr r chosen = present_is ranges ledger.levels (draws_in sessions) committed h r (range_found ranges object nr r chosen).among
+
+-- ---- a draw or a reservation that raises no level
+
+up_to : (m n : ℕ) → nat_lt m n ≡ false → nat_le n m ≡ true
+up_to m n h = grind (arith, nat_tests)
+
+-- where a number isn't past the level, the level that reserves it is the present one
+reserved_already : (i : Interval) (number level : ℕ) → is_buffered i ≡ true → level ≡ level_for i number → nat_lt i.level number ≡ false → level ≡ i.level
+reserved_already i number level buffered reserved still =
+    reserved
+    ∙ ap (λ b. if b then block_level i number else i.level) buffered
+    ∙ ap (λ b. if b then i.level else level_with i (div_ceil (number - i.level) i.buffer)) (up_to i.level number still)
+
+pub draw_still : (sessions : List Session) (ranges : List NumberRange) (ledger : Ledger) (name object nr : List ℕ) (i : Interval) (number level : ℕ) (draws : List Num) → IsNextDraw sessions ranges ledger.levels name object nr i number level draws
+    → is_buffered i ≡ true → (s : State) → s.ranges ≡ ranges → s.stored ≡ ledger → raises_level s (Draws object nr) ≡ false → level ≡ i.level
+draw_still sessions ranges ledger name object nr i number level draws d buffered s e l off =
+    let test : Levels → Option NumberRange → Bool = λ levels o. option_map_or (λ (r : NumberRange). is_buffered r.interval && nat_lt (present levels r.interval).level r.next) o false in
+    let found : range_at s.ranges object nr ≡ Some d.range = ap (λ rs. range_at rs object nr) e ∙ d.chosen in
+    let here : test ledger.levels (Some d.range) ≡ false = sym (λ k. let m : Ledger = l k in test m.levels (found k)) ∙ off in
+    let both : (is_buffered i && nat_lt i.level d.range.next) ≡ false = subst (λ (j : Interval). (is_buffered j && nat_lt j.level d.range.next) ≡ false) (sym d.interval) here in
+    let past : nat_lt i.level d.range.next ≡ false = subst (λ b. (b && nat_lt i.level d.range.next) ≡ false) buffered both in
+    let same : number ≡ d.range.next = d.next ∙ ap (λ b. if b then d.range.next else i.level + drawn_of i d.session.draws + 1) buffered in
+    reserved_already i number level buffered d.reserved (ap (nat_lt i.level) same ∙ past)
+
+pub reserve_still : (sessions : List Session) (ranges : List NumberRange) (ledger : Ledger) (name object nr : List ℕ) (upto : ℕ) (i : Interval) (level : ℕ) → IsNextReserve sessions ranges ledger.levels name object nr upto i level
+    → (s : State) → s.ranges ≡ ranges → s.stored ≡ ledger → raises_level s (Reserves object nr upto) ≡ false → level ≡ i.level
+reserve_still sessions ranges ledger name object nr upto i level d s e l off =
+    let test : Levels → Option NumberRange → Bool = λ levels o. option_map_or (λ (r : NumberRange). nat_lt (present levels r.interval).level upto) o false in
+    let found : range_at s.ranges object nr ≡ Some d.range = ap (λ rs. range_at rs object nr) e ∙ d.chosen in
+    let here : test ledger.levels (Some d.range) ≡ false = sym (λ k. let m : Ledger = l k in test m.levels (found k)) ∙ off in
+    reserved_already i upto level d.buffered d.reserved (subst (λ (j : Interval). nat_lt j.level upto ≡ false) (sym d.interval) here)

@@ -25,7 +25,7 @@ use Rattle.update_records.specs.declared.records.Unit.{Unit as UnitOfWork}
 use Rattle.hall.specs.declared.command.Session.{Session}
 use Rattle.hall.specs.Kept.{HasGoodLocks, HasItsUser, IsKnown, IsOwned, MayHold, OfLock, OfStored, is_firm, may_hold}
 use Rattle.hall.specs.Sessions.{owners_of, with_next_unit, with_session}
-use Rattle.hall.proofs.Heard.{marked_other, recorded_other, status_in}
+use Rattle.hall.proofs.Heard.{marked_other, recorded_other, status_in, status_marked}
 use Rattle.hall.proofs.LockLists.{Among, all_among, filter_source}
 use Rattle.hall.proofs.Users.{every_append, every_freed_owner, every_more, every_two, known_next, user_entered, user_left, user_next}
 
@@ -172,12 +172,6 @@ pub none_held : (ledger : Ledger) (next : ℕ) (sessions : List Session) (es : L
 none_held ledger next sessions es key status is none h e k own =
     never_holds (status_in ledger key) status is none
     (subst (MayHold ledger) own (every_at (OfLock (λ owner user. MayHold ledger owner)) es e h.holders k))
-
-status_marked : (ledger : Ledger) (key : UnitKey) (kind : MarkKind) → status_in (with_mark ledger key kind) key ≡ given (has_no_v2 ledger.units key) kind (status_in ledger key)
-status_marked ledger key kind =
-    let b = has_no_v2 ledger.units key in
-    status_push b key None ledger.marks (next_mark ledger key kind)
-    ∙ ap (λ t. if t then given b kind (status_after b key None ledger.marks) else status_after b key None ledger.marks) (unit_refl key)
 
 -- one that waits again may have some
 pub holds_again : (ledger : Ledger) (key : UnitKey) → MayHold (with_mark ledger key mark.Again1) (Upd key)

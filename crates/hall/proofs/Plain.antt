@@ -9,6 +9,7 @@ use Rattle.hall.specs.Step.{ask_refusal}
 abbrev pub is_fault : Refusal → Bool
 is_fault refusal.NoMemory = true
 is_fault refusal.StoreFault = true
+is_fault refusal.BackupFault = true
 is_fault _ = false
 
 abbrev pub IsPlain : Refusal → Type 0

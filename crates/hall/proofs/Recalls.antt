@@ -6,10 +6,8 @@ use Rattle.std.proofs.lemmas.List.Sums.{fold-append}
 use Rattle.hall.specs.declared.command.Command.{Command}
 use Rattle.hall.specs.Devices.{DeviceOutcome, IsAllowed}
 use Rattle.hall.specs.History.{Served, after_of, is_unrecorded, past_entry, served, step, with_entry}
-use Rattle.hall.specs.Kept.{HasSoundLocks}
-use Rattle.hall.specs.Recall.{AreModelAnswers, IsModelAnswer, Made, StaysSound, calls_of, recalled, state_after}
+use Rattle.hall.specs.Recall.{AreModelAnswers, IsModelAnswer, Made, calls_of, recalled, state_after}
 use Rattle.hall.specs.State.{State}
-use Rattle.hall.proofs.Fair.{step-sound}
 use Rattle.hall.proofs.Frames.{served-past}
 use Rattle.hall.proofs.Replies.{unnoted_same}
 
@@ -70,15 +68,6 @@ told_step first s o line c h allowed =
 pub told-answers : (first s : State) (h : IsTold first s) → AreModelAnswers first h.made
 told-answers first s h earlier later m e = answer_at first earlier later m (subst (λ ms. AnswersFrom first ms) e h.answers)
 
--- ---- soundness
-
-after-sound : (s : State) (ms : List Made) → HasSoundLocks s → HasSoundLocks (state_after s ms)
-after-sound s [] h = h
-after-sound s (m ∷ ms) h = after-sound (recalled s m) ms (step-sound m.outcome s m.call.line m.call.command h)
-
-pub stays_sound : (first : State) (made : List Made) → HasSoundLocks first → StaysSound first made
-stays_sound first made h earlier later e = (after-sound first earlier h).table.sound
-
 -- ---- a part of a history
 
 pub answers_from : (first : State) (earlier made : List Made) → ((done later : List Made) (m : Made) → made ≡ done ++ m ∷ later → IsModelAnswer (state_after first (earlier ++ done)) m) → AnswersFrom (state_after first earlier) made
@@ -99,6 +88,12 @@ rest_of all earlier between later m done after other whole e =
     ∙ ap (λ es. earlier ++ m ∷ es) (append_assoc done (other ∷ after) later)
     ∙ sym (append_assoc earlier (m ∷ []) (done ++ other ∷ (after ++ later)))
     ∙ sym (append_assoc (earlier ++ m ∷ []) done (other ∷ (after ++ later)))
+
+-- the first calls of a history
+pub answers_before : (first : State) (all earlier later : List Made) → AreModelAnswers first all → all ≡ earlier ++ later → AnswersFrom first earlier
+answers_before first all earlier later answers whole =
+    answers_from first [] earlier
+    (λ done after other e. answers done (after ++ later) other (whole ∙ ap (λ es. es ++ later) e ∙ append_assoc done (other ∷ after) later))
 
 -- the calls behind one of a history, answered from the state behind it
 pub answers_behind : (first : State) (all earlier between later : List Made) (m : Made) → AreModelAnswers first all → all ≡ earlier ++ m ∷ (between ++ later) → AnswersFrom (recalled (state_after first earlier) m) between

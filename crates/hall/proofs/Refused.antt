@@ -1,18 +1,26 @@
--- Why a hall isn't opened, by why its books or its ranges aren't.
-use Rattle.std.proofs.Common.{◌≡◌, ◌≤◌, ℕ, Option, Some, None, IfSome, List, refl, sym, subst, arith}
+-- Why a hall isn't opened, by why its books, its ranges or its backup file aren't.
+use Rattle.std.proofs.Common.{◌≡◌, inl, inr, ℕ, Bool, Option, Some, None, IfSome, List, subst, arith}
+use Rattle.enq_base.specs.declared.condition.Bad.TheVariants as bad
+use Rattle.enq_server.specs.Faults as files
+use Rattle.enq_server.specs.Faults.{IsOpenFault}
+use Rattle.enq_server.specs.declared.fault.OpenFault.{OpenFault}
+use Rattle.enq_server.specs.declared.fault.OpenFault.TheVariants as opening
 use Rattle.keeper_api.specs.Rows.{Rows}
+use Rattle.lock_entry.specs.declared.entry.UnitLocks.{UnitLocks}
 use Rattle.number_ranges.specs.declared.interval.Interval.{Interval}
 use Rattle.posting.specs.Intervals.{in_row_order}
 use Rattle.posting.specs.Opening.{CountsFault, OnBad, OnRefused}
 use Rattle.posting.specs.Reopening.{HasStood, IsOpeningFault, IsRaised, MayBeOpeningFault}
 use Rattle.posting.specs.declared.opening.BooksFault.{BooksFault}
 use Rattle.posting.specs.declared.opening.BooksFault.TheVariants as books
+use Rattle.posting.specs.Views.{open_locks}
 use Rattle.range_list.specs.Levels.{IsFirstUnfit}
-use Rattle.update_records.specs.Ledger.{Ledger}
-use Rattle.hall.specs.Faults.{CountsHallFault, IsHallFault, IsRangesFault, MayBeHallFault, OnBadStore, OnKept, hall_fault}
+use Rattle.store_reading.specs.Good.{IsSound}
+use Rattle.update_records.specs.Ledger.{Ledger, Levels}
+use Rattle.hall.specs.Faults.{CountsFileFault, CountsHallFault, IsBadFile, IsFileFault, IsHallFault, IsLateFault, IsRangesFault, MayBeHallFault, OnBadStore, OnKept, file_fault, hall_fault}
 use Rattle.hall.specs.declared.opening.HallFault.{HallFault}
 use Rattle.hall.specs.declared.opening.HallFault.TheVariants as hall
-use Rattle.std.specs.Prelude.{true, Result, Ok, Err, IfOk, IfErr}
+use Rattle.std.specs.Prelude.{true, Result, Ok, Err, IfOk, IfErr, IsTrue}
 
 -- ---- the books aren't opened
 
@@ -32,7 +40,7 @@ pub books_kept : (f : BooksFault) (P : Type 0) → OnRefused f P → OnKept (hal
 books_kept books.StoreFault P h = tt
 books_kept (books.BadStore table row) P h = h
 books_kept books.NoStart P h = h
-books_kept books.NoMemory P h = h
+books_kept books.NoMemory P h = tt
 
 pub books_bad : (f : BooksFault) (P : Type 0) → OnBad f P → OnBadStore (hall_fault f) P
 books_bad books.StoreFault P h = tt
@@ -46,43 +54,125 @@ books_counts (books.BadStore table row) n m h = h
 books_counts books.NoStart n m h = h
 books_counts books.NoMemory n m h = h
 
+-- a fault of the books says nothing of the backup file, which isn't touched then
+pub books_file : (told : Option Rows) (before : Rows → Type 0) (bytes : List ℕ) (f : BooksFault) → IsBadFile told before bytes (hall_fault f)
+books_file told before bytes books.StoreFault = tt
+books_file told before bytes (books.BadStore table row) = tt
+books_file told before bytes books.NoStart = tt
+books_file told before bytes books.NoMemory = tt
+
+pub books_file_counts : (f : BooksFault) (n m : ℕ) → m ≡ n → CountsFileFault (hall_fault f) n m
+books_file_counts books.StoreFault n m same = same
+books_file_counts (books.BadStore table row) n m same = same
+books_file_counts books.NoStart n m same = same
+books_file_counts books.NoMemory n m same = same
+
 -- ---- a stored interval isn't one of the landscape's
 
-pub ranges_why : (intervals : List Interval) (before : Rows → Type 0) (rows : Rows) (ledger : Ledger) (f : HallFault) → IsRaised (HasStood before) true ledger → IsRangesFault intervals ledger.levels f → IsHallFault intervals before rows f
+ranges_why : (intervals : List Interval) (before : Rows → Type 0) (rows : Rows) (ledger : Ledger) (f : HallFault) → IsRaised (HasStood before) true ledger → IsRangesFault intervals ledger.levels f → IsHallFault intervals before rows f
 ranges_why intervals before rows ledger (hall.Interval row) stood h =
     (stood.0, stood.1, subst (λ (l : Ledger). IsFirstUnfit intervals (in_row_order l.levels) row) stood.2 h)
-ranges_why intervals before rows ledger hall.Store stood h = absurd h
-ranges_why intervals before rows ledger (hall.Bad table row) stood h = absurd h
-ranges_why intervals before rows ledger hall.NoStart stood h = absurd h
-ranges_why intervals before rows ledger hall.NoMemory stood h = absurd h
+ranges_why intervals before rows ledger _ stood h = absurd h
 
-pub ranges_may : (intervals : List Interval) (ledger : Ledger) (f : HallFault) → IsRangesFault intervals ledger.levels f → MayBeHallFault f
-ranges_may intervals ledger (hall.Interval row) h = let place = h.place in omega (arith, place)
-ranges_may intervals ledger hall.Store h = absurd h
-ranges_may intervals ledger (hall.Bad table row) h = absurd h
-ranges_may intervals ledger hall.NoStart h = absurd h
-ranges_may intervals ledger hall.NoMemory h = absurd h
+ranges_may : (intervals : List Interval) (levels : Levels) (f : HallFault) → IsRangesFault intervals levels f → MayBeHallFault f
+ranges_may intervals levels (hall.Interval row) h = let place = h.place in omega (arith, place)
+ranges_may intervals levels _ h = absurd h
 
-pub ranges_kept : (intervals : List Interval) (ledger : Ledger) (f : HallFault) (P : Type 0) → IsRangesFault intervals ledger.levels f → OnKept f P
-ranges_kept intervals ledger (hall.Interval row) P h = tt
-ranges_kept intervals ledger hall.Store P h = absurd h
-ranges_kept intervals ledger (hall.Bad table row) P h = absurd h
-ranges_kept intervals ledger hall.NoStart P h = absurd h
-ranges_kept intervals ledger hall.NoMemory P h = absurd h
+ranges_kept : (intervals : List Interval) (levels : Levels) (f : HallFault) (P : Type 0) → IsRangesFault intervals levels f → OnKept f P
+ranges_kept intervals levels (hall.Interval row) P h = tt
+ranges_kept intervals levels _ P h = absurd h
 
-pub ranges_bad : (intervals : List Interval) (ledger : Ledger) (f : HallFault) (P : Type 0) → IsRangesFault intervals ledger.levels f → OnBadStore f P
-ranges_bad intervals ledger (hall.Interval row) P h = tt
-ranges_bad intervals ledger hall.Store P h = absurd h
-ranges_bad intervals ledger (hall.Bad table row) P h = absurd h
-ranges_bad intervals ledger hall.NoStart P h = absurd h
-ranges_bad intervals ledger hall.NoMemory P h = absurd h
+ranges_bad : (intervals : List Interval) (levels : Levels) (f : HallFault) (P : Type 0) → IsRangesFault intervals levels f → OnBadStore f P
+ranges_bad intervals levels (hall.Interval row) P h = tt
+ranges_bad intervals levels _ P h = absurd h
 
-pub ranges_counts : (intervals : List Interval) (ledger : Ledger) (f : HallFault) (n m : ℕ) → IsRangesFault intervals ledger.levels f → m ≡ n → CountsHallFault f n m
-ranges_counts intervals ledger (hall.Interval row) n m h same = same
-ranges_counts intervals ledger hall.Store n m h same = absurd h
-ranges_counts intervals ledger (hall.Bad table row) n m h same = absurd h
-ranges_counts intervals ledger hall.NoStart n m h same = absurd h
-ranges_counts intervals ledger hall.NoMemory n m h same = absurd h
+ranges_counts : (intervals : List Interval) (levels : Levels) (f : HallFault) (n m : ℕ) → IsRangesFault intervals levels f → m ≡ n → CountsHallFault f n m
+ranges_counts intervals levels (hall.Interval row) n m h same = same
+ranges_counts intervals levels _ n m h same = absurd h
+
+ranges_file : (intervals : List Interval) (levels : Levels) (told : Option Rows) (before : Rows → Type 0) (bytes : List ℕ) (f : HallFault) → IsRangesFault intervals levels f → IsBadFile told before bytes f
+ranges_file intervals levels told before bytes (hall.Interval row) h = tt
+ranges_file intervals levels told before bytes _ h = absurd h
+
+pub ranges_file_counts : (intervals : List Interval) (levels : Levels) (f : HallFault) (n m : ℕ) → IsRangesFault intervals levels f → m ≡ n → CountsFileFault f n m
+ranges_file_counts intervals levels (hall.Interval row) n m h same = same
+ranges_file_counts intervals levels _ n m h same = absurd h
+
+-- ---- the backup file isn't opened
+
+pub file_why : (tells : Bool) (bytes : List ℕ) (units : List UnitLocks) (f : OpenFault) → (IsTrue tells → IsOpenFault bytes units f) → IsFileFault tells bytes units (file_fault f)
+file_why tells bytes units opening.Failed h = tt
+file_why tells bytes units (opening.Bad place) h = h
+file_why tells bytes units opening.NoMemory h = tt
+
+pub file_counts : (f : OpenFault) (n m : ℕ) → files.CountsFault f n m → CountsFileFault (file_fault f) n m
+file_counts opening.Failed n m h = h
+file_counts (opening.Bad place) n m h = h
+file_counts opening.NoMemory n m h = h
+
+not_books : (intervals : List Interval) (before : Rows → Type 0) (rows : Rows) (tells : Bool) (bytes : List ℕ) (units : List UnitLocks) (f : HallFault) → IsFileFault tells bytes units f → IsHallFault intervals before rows f
+not_books intervals before rows tells bytes units hall.Backup h = tt
+not_books intervals before rows tells bytes units (hall.Bad (bad.Backup place)) h = tt
+not_books intervals before rows tells bytes units hall.NoMemory h = tt
+not_books intervals before rows tells bytes units _ h = absurd h
+
+file_may : (tells : Bool) (bytes : List ℕ) (units : List UnitLocks) (f : HallFault) → IsFileFault tells bytes units f → MayBeHallFault f
+file_may tells bytes units hall.Backup h = tt
+file_may tells bytes units (hall.Bad (bad.Backup place)) h = tt
+file_may tells bytes units hall.NoMemory h = tt
+file_may tells bytes units _ h = absurd h
+
+file_kept : (tells : Bool) (bytes : List ℕ) (units : List UnitLocks) (f : HallFault) (P : Type 0) → IsFileFault tells bytes units f → OnKept f P
+file_kept tells bytes units hall.Backup P h = tt
+file_kept tells bytes units (hall.Bad (bad.Backup place)) P h = tt
+file_kept tells bytes units hall.NoMemory P h = tt
+file_kept tells bytes units _ P h = absurd h
+
+file_bad : (tells : Bool) (bytes : List ℕ) (units : List UnitLocks) (f : HallFault) (P : Type 0) → IsFileFault tells bytes units f → OnBadStore f P
+file_bad tells bytes units hall.Backup P h = tt
+file_bad tells bytes units (hall.Bad (bad.Backup place)) P h = tt
+file_bad tells bytes units hall.NoMemory P h = tt
+file_bad tells bytes units _ P h = absurd h
+
+keeper_counts : (tells : Bool) (bytes : List ℕ) (units : List UnitLocks) (f : HallFault) (n m : ℕ) → IsFileFault tells bytes units f → m ≡ n → CountsHallFault f n m
+keeper_counts tells bytes units hall.Backup n m h same = same
+keeper_counts tells bytes units (hall.Bad (bad.Backup place)) n m h same = same
+keeper_counts tells bytes units hall.NoMemory n m h same = same
+keeper_counts tells bytes units _ n m h same = absurd h
+
+file_told : (ledger : Ledger) (told : Option Rows) (before : Rows → Type 0) (tells : Bool) (bytes : List ℕ) (f : HallFault) → IsRaised IsSound true ledger → IfSome told (λ _. IsRaised (HasStood before) true ledger) → IsTrue tells → IsFileFault tells bytes (open_locks ledger) f → IsBadFile told before bytes f
+file_told ledger told before tells bytes hall.Backup sound stood t h = tt
+file_told ledger told before tells bytes (hall.Bad (bad.Backup place)) sound stood t h = record { ledger = ledger; sound = sound; stood = stood; fault = h t }
+file_told ledger told before tells bytes hall.NoMemory sound stood t h = tt
+file_told ledger told before tells bytes _ sound stood t h = absurd h
+
+-- ---- one of both
+
+pub late_why : (intervals : List Interval) (before : Rows → Type 0) (rows : Rows) (ledger : Ledger) (tells : Bool) (bytes : List ℕ) (f : HallFault) → IsRaised (HasStood before) true ledger → IsLateFault intervals ledger tells bytes f → IsHallFault intervals before rows f
+late_why intervals before rows ledger tells bytes f stood (inl h) = ranges_why intervals before rows ledger f stood h
+late_why intervals before rows ledger tells bytes f stood (inr h) = not_books intervals before rows tells bytes (open_locks ledger) f h
+
+pub late_may : (intervals : List Interval) (ledger : Ledger) (tells : Bool) (bytes : List ℕ) (f : HallFault) → IsLateFault intervals ledger tells bytes f → MayBeHallFault f
+late_may intervals ledger tells bytes f (inl h) = ranges_may intervals ledger.levels f h
+late_may intervals ledger tells bytes f (inr h) = file_may tells bytes (open_locks ledger) f h
+
+pub late_kept : (intervals : List Interval) (ledger : Ledger) (tells : Bool) (bytes : List ℕ) (f : HallFault) (P : Type 0) → IsLateFault intervals ledger tells bytes f → OnKept f P
+late_kept intervals ledger tells bytes f P (inl h) = ranges_kept intervals ledger.levels f P h
+late_kept intervals ledger tells bytes f P (inr h) = file_kept tells bytes (open_locks ledger) f P h
+
+pub late_bad : (intervals : List Interval) (ledger : Ledger) (tells : Bool) (bytes : List ℕ) (f : HallFault) (P : Type 0) → IsLateFault intervals ledger tells bytes f → OnBadStore f P
+late_bad intervals ledger tells bytes f P (inl h) = ranges_bad intervals ledger.levels f P h
+late_bad intervals ledger tells bytes f P (inr h) = file_bad tells bytes (open_locks ledger) f P h
+
+pub late_counts : (intervals : List Interval) (ledger : Ledger) (tells : Bool) (bytes : List ℕ) (f : HallFault) (n m : ℕ) → IsLateFault intervals ledger tells bytes f → m ≡ n → CountsHallFault f n m
+late_counts intervals ledger tells bytes f n m (inl h) same = ranges_counts intervals ledger.levels f n m h same
+late_counts intervals ledger tells bytes f n m (inr h) same = keeper_counts tells bytes (open_locks ledger) f n m h same
+
+pub late_file : (intervals : List Interval) (ledger : Ledger) (told : Option Rows) (before : Rows → Type 0) (tells : Bool) (bytes : List ℕ) (f : HallFault) → IsRaised IsSound true ledger → IfSome told (λ _. IsRaised (HasStood before) true ledger) → IsTrue tells → IsLateFault intervals ledger tells bytes f → IsBadFile told before bytes f
+late_file intervals ledger told before tells bytes f sound stood t (inl h) = ranges_file intervals ledger.levels told before bytes f h
+late_file intervals ledger told before tells bytes f sound stood t (inr h) = file_told ledger told before tells bytes f sound stood t h
+
+-- ---- more of what a result says
 
 pub where_held : (o : Option Rows) (P : Type 0) (Q : Rows → Type 0) → ((rows : Rows) → P → Q rows) → IfSome o (λ _. P) → IfSome o Q
 where_held None P Q f h = tt

@@ -7,7 +7,8 @@ use Rattle.posting.specs.declared.prepared.Outcome.{Outcome}
 use Rattle.posting.specs.declared.prepared.Outcome.TheVariants as outcome
 use Rattle.hall.specs.Acts.{IsAct}
 use Rattle.hall.specs.Calls.{Call, call_of}
-use Rattle.hall.specs.Devices.{DeviceOutcome, AllWell, Wanting, StoreFails, MayHappen, found_by, is_store_failure, may_want, uses_store}
+use Rattle.hall.specs.Devices.{DeviceOutcome, AllWell, Wanting, StoreFails, BackupFails, MayHappen, found_by, is_file_failure, is_store_failure, may_want, uses_file, uses_store}
+use Rattle.hall.specs.Filing.{HasFileCause}
 use Rattle.hall.specs.History.{IsGiven, Served, is_row, is_unrecorded, judged, served, step}
 use Rattle.hall.specs.Leaving.{HasCounted, HasStoreCause}
 use Rattle.hall.specs.State.{State}
@@ -73,9 +74,9 @@ answered found s = record {
   draws = λ name x object nr r at can. plainly s _ _ _ (record { own = refl; noted = refl; no_row = refl });
   reserves = λ name x object nr upto r at can. plainly s _ _ _ (record { own = refl; noted = refl; no_row = refl });
   reads = λ name x table key at. record { own = refl; quiet = λ e. refl; row = λ e. (refl, refl) };
-  commits_nothing = λ name x parts at. plainly s _ _ _ done;
-  commits_numbers = λ name x parts at. plainly s _ _ _ done;
-  commits = λ name x parts at. plainly s _ _ _ (of_unit _);
+  commits_nothing = λ name x parts stock at. plainly s _ _ _ done;
+  commits_numbers = λ name x parts stock at. plainly s _ _ _ done;
+  commits = λ name x parts stock at. plainly s _ _ _ (of_unit _);
   rolls_back = λ name x at. plainly s _ _ _ done;
   takes = λ worker part unit free e. plainly s _ _ _ (of_unit unit);
   posts = λ worker part unit e. plainly s _ _ _ (posted part unit (found.part part unit));
@@ -97,6 +98,7 @@ unnoted_same o s c =
       | AllWell ↦ (verdict_answered _ s _).quiet
       | Wanting ↦ λ e. refl
       | StoreFails ↦ λ e. absurd (never false refl e)
+      | BackupFails ↦ λ e. absurd (never false refl e)
     ]
 
 abbrev IsStoreFault : Reply → Type 0
@@ -108,6 +110,9 @@ no_fault r own is = never (is_fault_reply r) own (ap is_fault_reply is)
 not_wanting : IsStoreFault (reply.Refused refusal.NoMemory) → ⊥
 not_wanting e = cc
 
+not_filing : IsStoreFault (reply.Refused refusal.BackupFault) → ⊥
+not_filing e = cc
+
 -- that the store failed is answered only in a call that uses it
 pub fault_uses_store : (s : State) (c : Command) (after : State) → IsAct s c after (reply.Refused refusal.StoreFault) → IsTrue (uses_store s (call_of c))
 fault_uses_store s c after act =
@@ -116,7 +121,8 @@ fault_uses_store s c after act =
       | AllWell ↦ λ may is. absurd (no_fault _ (verdict_answered _ s _).own is)
       | Wanting ↦ λ may is. absurd (not_wanting is)
       | StoreFails ↦ λ may is. may.1
-    ] act.allowed.event (ap (λ (r : Served). r.reply) act.same)
+      | BackupFails ↦ λ may is. absurd (not_filing is)
+    ] act.possible.event (ap (λ (r : Served). r.reply) act.same)
 
 -- ---- the store's count of faults
 
@@ -130,12 +136,56 @@ served_counts o s c f g =
       | AllWell ↦ λ h. plain_counts _ f g (verdict_answered _ s _).own h
       | Wanting ↦ λ h. h
       | StoreFails ↦ λ h. h
+      | BackupFails ↦ λ h. h
     ]
 
 -- it rises just in a call in which the store fails
 pub step_counts : (o : DeviceOutcome) (s : State) (line : ℕ) (c : Command) (f g : ℕ) → HasStoreCause f g (step o s line c).reply → HasCounted (is_store_failure o.event) f g
 step_counts o s line c f g =
     by_noting (λ x. HasStoreCause f g x.reply → HasCounted (is_store_failure o.event) f g) line c (served o s c) (served_counts o s c f g) (served_counts o s c f g)
+
+-- ---- the disk's count of faults
+
+plain_file_counts : (r : Reply) (f g : ℕ) → is_fault_reply r ≡ false → HasFileCause f g r → g ≡ f
+plain_file_counts (reply.Refused refusal.BackupFault) f g own h = absurd (cc)
+plain_file_counts _ f g own h = h
+
+served_file_counts : (o : DeviceOutcome) (s : State) (c : Command) (f g : ℕ) → HasFileCause f g (served o s c).reply → HasCounted (is_file_failure o.event) f g
+served_file_counts o s c f g =
+    elim o.event as (λ e. HasFileCause f g (served (record { event = e; reading = o.reading }) s c).reply → HasCounted (is_file_failure e) f g) [
+      | AllWell ↦ λ h. plain_file_counts _ f g (verdict_answered _ s _).own h
+      | Wanting ↦ λ h. h
+      | StoreFails ↦ λ h. h
+      | BackupFails ↦ λ h. h
+    ]
+
+-- it rises just in a call in which the disk fails
+pub step_file_counts : (o : DeviceOutcome) (s : State) (line : ℕ) (c : Command) (f g : ℕ) → HasFileCause f g (step o s line c).reply → HasCounted (is_file_failure o.event) f g
+step_file_counts o s line c f g =
+    by_noting (λ x. HasFileCause f g x.reply → HasCounted (is_file_failure o.event) f g) line c (served o s c) (served_file_counts o s c f g) (served_file_counts o s c f g)
+
+abbrev IsFileFault : Reply → Type 0
+IsFileFault r = r ≡ reply.Refused refusal.BackupFault
+
+no_file_fault : (r : Reply) → is_fault_reply r ≡ false → IsFileFault r → ⊥
+no_file_fault r own is = never (is_fault_reply r) own (ap is_fault_reply is)
+
+file_not_wanting : IsFileFault (reply.Refused refusal.NoMemory) → ⊥
+file_not_wanting e = cc
+
+file_not_storing : IsFileFault (reply.Refused refusal.StoreFault) → ⊥
+file_not_storing e = cc
+
+-- that the disk failed is answered only in a call that uses the file
+pub fault_uses_file : (s : State) (c : Command) (after : State) → IsAct s c after (reply.Refused refusal.BackupFault) → IsTrue (uses_file s (call_of c))
+fault_uses_file s c after act =
+    let o = act.outcome in
+    elim o.event as (λ e. MayHappen e s (call_of c) (call_verdict (found_by o.reading s) s (call_of c)) → IsFileFault (served (record { event = e; reading = o.reading }) s c).reply → IsTrue (uses_file s (call_of c))) [
+      | AllWell ↦ λ may is. absurd (no_file_fault _ (verdict_answered _ s _).own is)
+      | Wanting ↦ λ may is. absurd (file_not_wanting is)
+      | StoreFails ↦ λ may is. absurd (file_not_storing is)
+      | BackupFails ↦ λ may is. may.1
+    ] act.possible.event (ap (λ (r : Served). r.reply) act.same)
 
 -- ---- a text that can't be told twice
 
@@ -163,11 +213,12 @@ row_wanting s c after r row act =
           let stays : s ≡ after = sym told.0 ∙ ap (λ (x : Served). x.state) same in
           subst (λ t. IsAct s c t (reply.Refused refusal.NoMemory)) stays (record {
             outcome = record { event = Wanting; reading = o.reading };
-            allowed = record { reading = act.allowed.reading; event = (available s (call_of c) found is, told.1) };
+            possible = record { reading = act.possible.reading; event = (available s (call_of c) found is, told.1) };
             same = refl;
           })
       | Wanting ↦ λ same. absurd (never false refl (row_of _ _ same row))
       | StoreFails ↦ λ same. absurd (never false refl (row_of _ _ same row))
+      | BackupFails ↦ λ same. absurd (never false refl (row_of _ _ same row))
     ] act.same
 
 -- the answer as it is given

@@ -1,5 +1,5 @@
 -- The locks of a unit that was committed stand as long as it waits for its V1 part.
-use Rattle.std.proofs.Common.{◌⊎◌, inl, inr, ◌<◌, ◌^◌, ◌≤◌, ◌≡◌, ◌≢◌, ℕ, ◌+◌, Bool, true, false, not, ◌&&◌, List, [], ◌∷◌, ◌++◌, refl, sym, ap, ◌∙◌, subst}
+use Rattle.std.proofs.Common.{◌⊎◌, inl, inr, ◌≤◌, ◌≡◌, ◌≢◌, ℕ, ◌+◌, Bool, true, false, not, ◌&&◌, List, [], ◌∷◌, ◌++◌, refl, sym, ap, ◌∙◌, subst}
 use Rattle.std.specs.Prelude.{Contains, if◌then◌else◌, nat_eq, nat_le, Option, Some, None, Ok}
 use Rattle.std.specs.List.{AllByRecursion, list_all}
 use Rattle.std.proofs.lemmas.Bool.{and_from, or_parts}
@@ -42,13 +42,13 @@ use Rattle.hall.specs.declared.command.Reply.{Reply}
 use Rattle.hall.specs.declared.command.Reply.TheVariants as reply
 use Rattle.hall.specs.declared.command.Session.{Session}
 use Rattle.hall.specs.Calls.{Call, OfAdmin, Cancels, Resubmits, call_of}
-use Rattle.hall.specs.History.{Served, doubted, judged, served}
+use Rattle.hall.specs.History.{Served, doubted, judged, served, unfiled}
 use Rattle.hall.specs.Kept.{HasGoodLocks, HasServer, HasSoundLocks, IsOwned, IsSteady, is_firm}
 use Rattle.hall.specs.Orders.{order_of, without_order}
-use Rattle.hall.specs.Recall.{AreModelAnswers, IsModelAnswer, Made, again, recalled, state_after}
+use Rattle.hall.specs.Recall.{AreModelAnswers, IsModelAnswer, Made, StaysSound, again, recalled, state_after}
 use Rattle.hall.specs.Sessions.{owners_of, pair_of, unit_key, with_draw, with_session}
 use Rattle.hall.specs.Standing.{CallKeepsLocks, CallsKeepLocks, HandsOver, IsCommitOf, IsFirm, IsHandedTo, IsResubmissionOf, LocksAreBack, LocksReturn, LocksStand, NoneEndsWait, ReturnsLocked, StillWaits, WaitsLocked, WasFirm, ends_wait, is_commit, is_resubmission_of, with_handed}
-use Rattle.hall.specs.Numbers.{drawn, raised_to}
+use Rattle.hall.specs.Numbers.{drawn, raised_to, stocked}
 use Rattle.range_list.specs.Drawn.{handed_out}
 use Rattle.hall.specs.State.{State, opened}
 use Rattle.enq_base.specs.declared.unit.Num.{Num}
@@ -57,18 +57,19 @@ use Rattle.posting.specs.Intervals.{with_intervals}
 use Rattle.range_list.specs.Drawn.{num_of, stored_as}
 use Rattle.range_list.specs.Levels.{present}
 use Rattle.hall.specs.Step.{Found, Leaves, call_verdict, cancelled, caller_refusal, committed, freed_all, is_full, lowered, or_else, locks_without, marked, numbered, own_verdict, posted_reply, reopened, reposted, rolled_back, server_refusal, unit_of, unless_refused}
-use Rattle.hall.proofs.Beginning.{AgreeWith, IsFirst, first_few, first_sound, first_steady}
+use Rattle.hall.proofs.Beginning.{AgreeWith, IsFirst, first_stored}
+use Rattle.hall.proofs.FirstState.{IsFirstTable, first_few, first_sound, first_steady, first_sure}
 use Rattle.number_ranges.specs.declared.interval.Interval.{Interval}
 use Rattle.hall.proofs.ByCall.{OfEach, by_call, by_event}
 use Rattle.hall.proofs.Claims.{held_for}
 use Rattle.hall.proofs.Fair.{step-sound}
-use Rattle.hall.proofs.Few.{Holds, allowed, served-holds, with_past}
+use Rattle.hall.proofs.Few.{Holds, served-holds, with_past}
 use Rattle.hall.proofs.Frames.{by_noting, in_doubt}
 use Rattle.hall.proofs.Fresh.{open_unheard}
-use Rattle.hall.proofs.Heard.{apart_by, apart_by_status, apart_from_open, marked_other, numbers_leave, recorded_open, status_in}
-use Rattle.hall.proofs.LockLists.{Among, AreSure, IsOutside, all_among, among_from, asked_allows, contains_from, converted_allows, handed_source, hands_over, is_sure, kept_both, kept_conversion, kept_freed, kept_granted, kept_handed, kept_left, kept_right, kept_unit, kept_update, sure_conversion, sure_freed, sure_freed_owner, sure_granted, sure_handed_over, unnamed}
+use Rattle.hall.proofs.Heard.{EndsFirst, apart_by, apart_by_status, apart_from_ended, apart_from_open, marked_other, numbers_leave, recorded_open, status_in, status_marked}
+use Rattle.hall.proofs.LockLists.{Among, allowed, AreSure, IsOutside, all_among, among_from, asked_allows, contains_from, converted_allows, handed_source, hands_over, is_sure, kept_both, kept_conversion, kept_freed, kept_granted, kept_handed, kept_left, kept_right, kept_unit, kept_update, sure_conversion, sure_freed, sure_freed_owner, sure_granted, sure_handed_over, unnamed}
 use Rattle.hall.proofs.Owned.{none_held, stored_firm, stored_owner}
-use Rattle.hall.proofs.Recalls.{AnswersFrom, answers_behind}
+use Rattle.hall.proofs.Recalls.{AnswersFrom, answers_before, answers_behind}
 use Rattle.hall.proofs.Resubmissions.{readmitted_is, table_in}
 
 -- the same as `KeepsHanded`, by recursion over the locks
@@ -198,33 +199,15 @@ drawn-stands {c} s x i number r =
 
 -- ---- calls of a worker
 
--- a mark that ends the V1 part
-abbrev Ends : MarkKind → Type 0
-Ends kind = (b : Bool) (before : Option Status) → given b kind before ≡ Some Open → ⊥
-
-v1-ends : Ends mark.V1
+v1-ends : EndsFirst mark.V1
 v1-ends true before h = cc
 v1-ends false before h = cc
-
-status_here : (ledger : Ledger) (key : UnitKey) (kind : MarkKind) → status_in (with_mark ledger key kind) key ≡ given (has_no_v2 ledger.units key) kind (status_in ledger key)
-status_here ledger key kind =
-    let b = has_no_v2 ledger.units key in
-    status_push b key None ledger.marks (next_mark ledger key kind)
-    ∙ ap (λ t. if t then given b kind (status_after b key None ledger.marks) else status_after b key None ledger.marks) (unit_refl key)
 
 by_unit : (P : Type 0) (key other : UnitKey) → (key ≡ other → P) → (same_unit key other ≡ false → P) → P
 by_unit P key other f g =
     elim (same_unit key other) as (λ b. same_unit key other ≡ b → P) [ true ↦ λ same. f (one_unit key other same) | false ↦ λ apart. g apart ] refl
 
--- another unit waits than the one whose part ended
-apart_from_ended : (ledger : Ledger) (key other : UnitKey) (kind : MarkKind) → Ends kind → IsOpenUnit (with_mark ledger key kind) other → same_unit key other ≡ false
-apart_from_ended ledger key other kind ends waits =
-    by_unit _ key other
-    (λ same.
-    absurd (ends (has_no_v2 ledger.units key) (status_in ledger key) (sym (status_here ledger key kind) ∙ subst (IsOpenUnit (with_mark ledger key kind)) (sym same) waits)))
-    (λ apart. apart)
-
-marked-stands : {c : Call} (s : State) (worker : ℕ) (unit : UnitKey) (kind : MarkKind) (r : Reply) → Ends kind → ((u : UnitKey) → ends_wait u c r ≡ same_unit unit u) → Stands c s (record { state = marked 1 s worker unit kind; reply = r })
+marked-stands : {c : Call} (s : State) (worker : ℕ) (unit : UnitKey) (kind : MarkKind) (r : Reply) → EndsFirst kind → ((u : UnitKey) → ends_wait u c r ≡ same_unit unit u) → Stands c s (record { state = marked 1 s worker unit kind; reply = r })
 marked-stands s worker unit kind r ends told = record {
   sure = λ h. sure_freed_owner s.locks (Upd unit) h;
   kept = λ h u e own w k. kept_unit s.locks u unit e own.owner (flip u unit (apart_from_ended s.stored unit u kind ends w.waits)) k;
@@ -324,6 +307,14 @@ reposted-stands s unit here = record {
 
 -- ---- all calls
 
+-- what memory hands out is no part of that
+stocked-stands : {c : Call} (stock : List Num) (s t : State) (r : Reply) → Stands c s (record { state = t; reply = r }) → Stands c s (record { state = stocked stock t; reply = r })
+stocked-stands stock s t r h = record {
+  sure = λ k. h.sure k;
+  kept = λ sure unit e own w k. h.kept sure unit e own (record { up = w.up; waits = w.waits }) k;
+  waits = λ unit on w. let now = h.waits unit on w in record { up = now.up; waits = now.waits };
+}
+
 each-stands : (found : Found) (s : State) → IsSteady s → HasSoundLocks s → OfEach (λ call v. Stands call s (judged s v)) found s
 each-stands found s steady sound = record {
   refuses = λ call r plain. stands_still s _;
@@ -336,9 +327,9 @@ each-stands found s steady sound = record {
   draws = λ name x object nr r at can. drawn-stands s x (present s.stored.levels r.interval) _ _;
   reserves = λ name x object nr upto r at can. raised-stands s (present s.stored.levels r.interval) upto _;
   reads = λ name x table key at. stands_still s _;
-  commits_nothing = λ name x parts at. stands_still s _;
-  commits_numbers = λ name x parts at. numbered-stands s x x.draws _ (open_unheard s name x at steady.fresh);
-  commits = λ name x parts at. committed-stands s x parts x.draws _ (open_unheard s name x at steady.fresh);
+  commits_nothing = λ name x parts stock at. stands_still s _;
+  commits_numbers = λ name x parts stock at. stocked-stands stock s _ _ (numbered-stands s x (x.draws ++ stock) _ (open_unheard s name x at steady.fresh));
+  commits = λ name x parts stock at. stocked-stands stock s _ _ (committed-stands s x parts (x.draws ++ stock) _ (open_unheard s name x at steady.fresh));
   rolls_back = λ name x at. rolled-stands s x (open_unheard s name x at steady.fresh);
   takes = λ worker part unit free e. stands_beside s _ _ refl refl refl;
   posts = λ worker part unit e. posted-stands part s worker unit (found.part part unit) (held_for part s.stored (order_of s.orders worker) unit e).1;
@@ -356,11 +347,18 @@ doubted-stands s pending = record {
   waits = λ unit on w. absurd (cc);
 }
 
+unfiled-stands : {c : Call} (s : State) (stored : Ledger) → Stands c s (record { state = unfiled s stored; reply = reply.Refused refusal.BackupFault })
+unfiled-stands s stored = record {
+  sure = λ h. refl;
+  kept = λ h unit e own w k. let up = w.up in absurd (cc);
+  waits = λ unit on w. absurd (cc);
+}
+
 stepped-stands : (s : State) (m : Made) → IsSteady s → HasSoundLocks s → Stands (call_of m.call.command) s (again s m)
 stepped-stands s m steady sound =
     let c = m.call.command in
     let Q : Served → Type 0 = Stands (call_of c) s in
-    let h = by_event Q m.outcome s c (λ found. by_call (λ call v. Stands call s (judged s v)) found s (each-stands found s steady sound) _) (stands_still s _) (λ pending. doubted-stands s pending) in
+    let h = by_event Q m.outcome s c (λ found. by_call (λ call v. Stands call s (judged s v)) found s (each-stands found s steady sound) _) (stands_still s _) (λ found. doubted-stands s _) (λ found. unfiled-stands s _) in
     by_noting Q m.call.line c (served m.outcome s c) h (record {
       sure = λ k. h.sure k;
       kept = λ sure unit e own w k. h.kept sure unit e own (record { up = w.up; waits = w.waits }) k;
@@ -375,24 +373,24 @@ record IsReached (s : State) : Type 0 where
   sound : HasSoundLocks s
   sure : AreSure s.locks
 
-reached_first : (limit mark_limit : ℕ) (intervals : List Interval) (told : Bool) (ledger : Ledger) → limit < 2 ^ 32 → mark_limit ≤ 1048576 → AgreeWith intervals ledger → IsFirst ledger → IsReached (opened limit mark_limit intervals told ledger)
-reached_first limit mark_limit intervals told ledger fits limited agree first =
-    record { calls = 0; sound = first_sound limit mark_limit intervals told ledger fits first; holds = record { few = first_few limit mark_limit intervals told ledger; steady = first_steady limit mark_limit intervals told ledger limited agree first }; sure = refl }
+reached_first : (limit mark_limit : ℕ) (intervals : List Interval) (told : Bool) (ledger : Ledger) → IsFirstTable limit ledger → mark_limit ≤ 1048576 → AgreeWith intervals ledger → IsFirst ledger → IsReached (opened limit mark_limit intervals told ledger)
+reached_first limit mark_limit intervals told ledger good limited agree first =
+    record { calls = 0; sound = first_sound limit mark_limit intervals told ledger good first; holds = record { few = first_few limit mark_limit intervals told ledger; steady = first_steady limit mark_limit intervals told ledger limited agree first }; sure = first_sure ledger (first_stored ledger first) }
 
-reached_next : (s : State) (m : Made) → IsReached s → IsReached (recalled s m)
-reached_next s m h =
+reached_next : (s : State) (m : Made) → IsModelAnswer s m → IsReached s → IsReached (recalled s m)
+reached_next s m answer h =
     let r = served m.outcome s m.call.command in
-    let holds = served-holds h.calls m.outcome s m.call.command h.sound h.holds in
+    let holds = served-holds h.calls m.outcome s m.call.command answer.allowed.call h.sound h.holds in
     record {
       calls = h.calls + 1;
       holds = by_noting (λ x. Holds (h.calls + 1) x.state) m.call.line m.call.command r holds (with_past (h.calls + 1) r.state _ holds);
-      sound = step-sound m.outcome s m.call.line m.call.command h.sound;
+      sound = step-sound m.outcome s m.call.line m.call.command h.holds.steady.owned.users h.sound;
       sure = (stepped-stands s m h.holds.steady h.sound).sure h.sure;
     }
 
-reached_after : (s : State) (ms : List Made) → IsReached s → IsReached (state_after s ms)
-reached_after s [] h = h
-reached_after s (m ∷ ms) h = reached_after (recalled s m) ms (reached_next s m h)
+reached_after : (s : State) (ms : List Made) → AnswersFrom s ms → IsReached s → IsReached (state_after s ms)
+reached_after s [] answers h = h
+reached_after s (m ∷ ms) answers h = reached_after (recalled s m) ms answers.1 (reached_next s m answers.0 h)
 
 -- ---- commits
 
@@ -410,12 +408,12 @@ recorded_here ledger unit =
     status_push b unit.key None ledger.marks (next_mark ledger unit.key mark.Rec)
     ∙ ap (λ t. if t then given b mark.Rec (status_after b unit.key None ledger.marks) else status_after b unit.key None ledger.marks) (unit_refl unit.key)
 
-committed-hands : (unit : UnitKey) (s : State) (x : Session) (parts : Parts) → s.condition ≡ condition.Up → reply.Unit (unit_key s.stored.start x) ≡ reply.Unit unit → Hands unit s (committed s x parts x.draws)
-committed-hands unit s x parts up e =
+committed-hands : (unit : UnitKey) (s : State) (x : Session) (parts : Parts) (numbers stock : List Num) → s.condition ≡ condition.Up → reply.Unit (unit_key s.stored.start x) ≡ reply.Unit unit → Hands unit s (stocked stock (committed s x parts numbers))
+committed-hands unit s x parts numbers stock up e =
     let same : unit_key s.stored.start x ≡ unit = cc in
     record {
       locks = ap (handed_over s.locks) same;
-      waits = record { up = up; waits = subst (IsOpenUnit (committed s x parts x.draws).stored) same (recorded_here s.stored (unit_of s.stored.start s.locks x parts x.draws)) };
+      waits = record { up = up; waits = subst (IsOpenUnit (committed s x parts numbers).stored) same (recorded_here s.stored (unit_of s.stored.start s.locks x parts numbers)) };
     }
 
 no_unit : (unit : UnitKey) (r : Refusal) → reply.Refused r ≡ reply.Unit unit → ⊥
@@ -439,9 +437,9 @@ each-hands unit found s up = record {
   draws = λ name x object nr r at can is told. absurd (no_commit is);
   reserves = λ name x object nr upto r at can is told. absurd (no_commit is);
   reads = λ name x table key at is told. absurd (no_commit is);
-  commits_nothing = λ name x parts at is told. absurd (not_done unit told);
-  commits_numbers = λ name x parts at is told. absurd (not_done unit told);
-  commits = λ name x parts at is told. committed-hands unit s x parts up told;
+  commits_nothing = λ name x parts stock at is told. absurd (not_done unit told);
+  commits_numbers = λ name x parts stock at is told. absurd (not_done unit told);
+  commits = λ name x parts stock at is told. committed-hands unit s x parts (x.draws ++ stock) stock up told;
   rolls_back = λ name x at is told. absurd (no_commit is);
   takes = λ worker part other free e is told. absurd (no_commit is);
   posts = λ worker part other e is told. absurd (no_commit is);
@@ -478,7 +476,7 @@ recalled-hands : (unit : UnitKey) (s : State) (m : Made) → HasServer s.conditi
 recalled-hands unit s m server answer is =
     let c = m.call.command in
     let Q : Served → Type 0 = HandsIf unit s (call_of c) in
-    let h = by_event Q m.outcome s c (λ found. verdict-hands unit found s (call_of c) server) (λ is told. absurd (no_unit unit _ told)) (λ pending is told. absurd (no_unit unit _ told)) in
+    let h = by_event Q m.outcome s c (λ found. verdict-hands unit found s (call_of c) server) (λ is told. absurd (no_unit unit _ told)) (λ found is told. absurd (no_unit unit _ told)) (λ found is told. absurd (no_unit unit _ told)) in
     by_noting Q m.call.line c (served m.outcome s c) h
     (λ is told. let k = h is told in record { locks = k.locks; waits = record { up = k.waits.up; waits = k.waits.waits } })
     is.commits (answer.reply ∙ is.answered)
@@ -534,7 +532,7 @@ reopened-back unit s other es is told waits e k =
 reposted-back : (unit : UnitKey) (s : State) (other : UnitKey) → reply.Unit other ≡ reply.Unit unit → Back unit (reposted s other)
 reposted-back unit s other told waits e k =
     let same : other ≡ unit = cc in
-    absurd (no_open _ (status_here s.stored other mark.Again2) (subst (IsOpenUnit (with_mark s.stored other mark.Again2)) (sym same) waits.waits))
+    absurd (no_open _ (status_marked s.stored other mark.Again2) (subst (IsOpenUnit (with_mark s.stored other mark.Again2)) (sym same) waits.waits))
 
 each-back : (unit : UnitKey) (found : Found) (s : State) → OfEach (λ call v. BackIf unit call (judged s v)) found s
 each-back unit found s = record {
@@ -548,9 +546,9 @@ each-back unit found s = record {
   draws = λ name x object nr r at can is told. absurd (no_commit is);
   reserves = λ name x object nr upto r at can is told. absurd (no_commit is);
   reads = λ name x table key at is told. absurd (no_commit is);
-  commits_nothing = λ name x parts at is told. absurd (no_commit is);
-  commits_numbers = λ name x parts at is told. absurd (no_commit is);
-  commits = λ name x parts at is told. absurd (no_commit is);
+  commits_nothing = λ name x parts stock at is told. absurd (no_commit is);
+  commits_numbers = λ name x parts stock at is told. absurd (no_commit is);
+  commits = λ name x parts stock at is told. absurd (no_commit is);
   rolls_back = λ name x at is told. absurd (no_commit is);
   takes = λ worker part other free e is told. absurd (no_commit is);
   posts = λ worker part other e is told. absurd (no_commit is);
@@ -565,7 +563,7 @@ recalled-back : (unit : UnitKey) (s : State) (m : Made) → IsModelAnswer s m �
 recalled-back unit s m answer is =
     let c = m.call.command in
     let Q : Served → Type 0 = BackIf unit (call_of c) in
-    let h = by_event Q m.outcome s c (λ found. by_call (λ call v. BackIf unit call (judged s v)) found s (each-back unit found s) _) (λ is told. absurd (no_unit unit _ told)) (λ pending is told. absurd (no_unit unit _ told)) in
+    let h = by_event Q m.outcome s c (λ found. by_call (λ call v. BackIf unit call (judged s v)) found s (each-back unit found s) _) (λ is told. absurd (no_unit unit _ told)) (λ found is told. absurd (no_unit unit _ told)) (λ found is told. absurd (no_unit unit _ told)) in
     by_noting Q m.call.line c (served m.outcome s c) h (λ is told waits. h is told (record { up = waits.up; waits = waits.waits }))
     is.resubmits (answer.reply ∙ is.answered)
 
@@ -582,13 +580,19 @@ called s m reached answer = record {
       contains_from (recalled s m).locks e ((stepped-stands s m reached.holds.steady reached.sound).kept reached.sure unit e own w (among_from s.locks e k));
 }
 
+-- in each state of a history no two locks of unrelated owners meet and clash
+pub stays_sound : (limit mark_limit : ℕ) (intervals : List Interval) (told : Bool) (ledger : Ledger) (made : List Made) → IsFirstTable limit ledger → mark_limit ≤ 1048576 → AgreeWith intervals ledger → IsFirst ledger → AreModelAnswers (opened limit mark_limit intervals told ledger) made → StaysSound (opened limit mark_limit intervals told ledger) made
+stays_sound limit mark_limit intervals told ledger made fits limited agree begun answers earlier later whole =
+    let first = opened limit mark_limit intervals told ledger in
+    (reached_after first earlier (answers_before first made earlier later answers whole) (reached_first limit mark_limit intervals told ledger fits limited agree begun)).sound.table.sound
+
 -- each call of a history that is answered as the model answers it keeps the locks of committed units
-pub calls_keep_locks : (limit mark_limit : ℕ) (intervals : List Interval) (told : Bool) (ledger : Ledger) (made : List Made) → limit < 2 ^ 32 → mark_limit ≤ 1048576 → AgreeWith intervals ledger → IsFirst ledger → AreModelAnswers (opened limit mark_limit intervals told ledger) made → CallsKeepLocks (opened limit mark_limit intervals told ledger) made
+pub calls_keep_locks : (limit mark_limit : ℕ) (intervals : List Interval) (told : Bool) (ledger : Ledger) (made : List Made) → IsFirstTable limit ledger → mark_limit ≤ 1048576 → AgreeWith intervals ledger → IsFirst ledger → AreModelAnswers (opened limit mark_limit intervals told ledger) made → CallsKeepLocks (opened limit mark_limit intervals told ledger) made
 calls_keep_locks limit mark_limit intervals told ledger made fits limited agree begun answers earlier later m e =
     let first = opened limit mark_limit intervals told ledger in
     let s = state_after first earlier in
     subst (CallKeepsLocks s m.call) (sym (fold-append recalled first earlier (m ∷ [])))
-    (called s m (reached_after first earlier (reached_first limit mark_limit intervals told ledger fits limited agree begun)) (answers earlier later m e))
+    (called s m (reached_after first earlier (answers_before first made earlier (m ∷ later) answers e) (reached_first limit mark_limit intervals told ledger fits limited agree begun)) (answers earlier later m e))
 
 -- a unit that waits, with locks that were handed over to it, waits with them as long as no call ends that
 stays_handed : (unit : UnitKey) (Q : Entry → Type 0) (t : State) (ms : List Made) → ((e : Entry) → Q e → IsHandedTo unit e) → IsReached t → AnswersFrom t ms → NoneEndsWait unit ms → StillWaits unit t → ((e : Entry) → Q e → Among t.locks e) → StillWaits unit (state_after t ms) × ((e : Entry) → Q e → Among (state_after t ms).locks e)
@@ -597,7 +601,7 @@ stays_handed unit Q t (m ∷ ms) own reached answers on waits locks =
     let ons = or_parts (ends_wait unit (call_of m.call.command) m.call.reply) _ on in
     let stands = stepped-stands t m reached.holds.steady reached.sound in
     let now : StillWaits unit (recalled t m) = stands.waits unit (ap (ends_wait unit (call_of m.call.command)) answers.0.reply ∙ ons.0) waits in
-    stays_handed unit Q (recalled t m) ms own (reached_next t m reached) answers.1 ons.1 now
+    stays_handed unit Q (recalled t m) ms own (reached_next t m answers.0 reached) answers.1 ons.1 now
     (λ e q. stands.kept reached.sure unit e (own e q) now (locks e q))
 
 -- a lock that is a firm one of that state, handed over
@@ -621,14 +625,14 @@ stored_handed unit s e sound k = record {
 }
 
 -- in a history that is answered as the model answers it each committed unit waits with its locks until a call ends that
-pub locks_stand : (limit mark_limit : ℕ) (intervals : List Interval) (told : Bool) (ledger : Ledger) (made : List Made) → limit < 2 ^ 32 → mark_limit ≤ 1048576 → AgreeWith intervals ledger → IsFirst ledger → AreModelAnswers (opened limit mark_limit intervals told ledger) made → LocksStand (opened limit mark_limit intervals told ledger) made
+pub locks_stand : (limit mark_limit : ℕ) (intervals : List Interval) (told : Bool) (ledger : Ledger) (made : List Made) → IsFirstTable limit ledger → mark_limit ≤ 1048576 → AgreeWith intervals ledger → IsFirst ledger → AreModelAnswers (opened limit mark_limit intervals told ledger) made → LocksStand (opened limit mark_limit intervals told ledger) made
 locks_stand limit mark_limit intervals told ledger made fits limited agree begun answers earlier between later m unit whole is on =
     let first = opened limit mark_limit intervals told ledger in
     let s = state_after first earlier in
     let t = recalled s m in
-    let reached = reached_after first earlier (reached_first limit mark_limit intervals told ledger fits limited agree begun) in
+    let reached = reached_after first earlier (answers_before first made earlier (m ∷ (between ++ later)) answers whole) (reached_first limit mark_limit intervals told ledger fits limited agree begun) in
     let hands = hands-over unit s t (recalled-hands unit s m reached.holds.steady.server (answers earlier (between ++ later) m whole) is) in
-    let stays = stays_handed unit (IsOf unit s) t between (of_unit unit s) (reached_next s m reached) (answers_behind first made earlier between later m answers whole) on hands.waits
+    let stays = stays_handed unit (IsOf unit s) t between (of_unit unit s) (reached_next s m (answers earlier (between ++ later) m whole) reached) (answers_behind first made earlier between later m answers whole) on hands.waits
     (λ e q. subst (Among t.locks) (sym q.same) (among_from t.locks (with_handed q.was) (hands.handed q.was q.firm q.stood))) in
     subst (WaitsLocked unit s) (sym (fold-append recalled first earlier (m ∷ between)))
     (record {
@@ -638,13 +642,13 @@ locks_stand limit mark_limit intervals told ledger made fits limited agree begun
 
 -- in a history that is answered as the model answers it each unit that waits again has its stored locks until a call ends
 -- that
-pub locks_return : (limit mark_limit : ℕ) (intervals : List Interval) (told : Bool) (ledger : Ledger) (made : List Made) → limit < 2 ^ 32 → mark_limit ≤ 1048576 → AgreeWith intervals ledger → IsFirst ledger → AreModelAnswers (opened limit mark_limit intervals told ledger) made → LocksReturn (opened limit mark_limit intervals told ledger) made
+pub locks_return : (limit mark_limit : ℕ) (intervals : List Interval) (told : Bool) (ledger : Ledger) (made : List Made) → IsFirstTable limit ledger → mark_limit ≤ 1048576 → AgreeWith intervals ledger → IsFirst ledger → AreModelAnswers (opened limit mark_limit intervals told ledger) made → LocksReturn (opened limit mark_limit intervals told ledger) made
 locks_return limit mark_limit intervals told ledger made fits limited agree begun answers earlier between later m unit whole is on waits =
     let first = opened limit mark_limit intervals told ledger in
     let s = state_after first earlier in
     let t = recalled s m in
     let to_here : state_after first (earlier ++ m ∷ []) ≡ t = fold-append recalled first earlier (m ∷ []) in
-    let here = reached_next s m (reached_after first earlier (reached_first limit mark_limit intervals told ledger fits limited agree begun)) in
+    let here = reached_next s m (answers earlier (between ++ later) m whole) (reached_after first earlier (answers_before first made earlier (m ∷ (between ++ later)) answers whole) (reached_first limit mark_limit intervals told ledger fits limited agree begun)) in
     let waits' : StillWaits unit t = subst (StillWaits unit) to_here waits in
     let back = recalled-back unit s m (answers earlier (between ++ later) m whole) is waits' in
     let stays = stays_handed unit (Among (entries_of t.stored.units unit)) t between (λ e k. stored_handed unit t e here.sound k) here (answers_behind first made earlier between later m answers whole) on waits' back in

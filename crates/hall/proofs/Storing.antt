@@ -17,7 +17,9 @@ use Rattle.hall.specs.Storing.{EndsAs, StaysAsItWas, TriesStep}
 use Rattle.hall.specs.declared.command.Reply.{Reply}
 use Rattle.hall.specs.declared.command.Reply.TheVariants as reply
 use Rattle.hall.specs.declared.units.InFlight.{InFlight}
-use Rattle.hall.specs.declared.units.Written.TheVariants.{Answered, Failed}
+use Rattle.hall.specs.Acts.{OnStoreFailure, written_reply}
+use Rattle.hall.specs.declared.units.Written.{Written}
+use Rattle.hall.specs.declared.units.Written.TheVariants.{Answered, Failed, Unfiled}
 use Rattle.hall.proofs.Leaves.{answered_leaves, failed_leaves, plain_quiet, untouched_keeps, where_told}
 use Rattle.hall.proofs.Plain.{IsPlain}
 
@@ -132,4 +134,49 @@ module _ {K : Type 0} (held : K → Option Rows) (is_open : K → Type 0) (may_l
         (subst (λ l. IfSome (held new.keeper) (λ _. (left : Rows) → may_leave new.keeper left → StandForEither left l ready)) same.ledger tried.left);
     cause = subst (λ n. HasFaultCause n (faults new.keeper) result) same.count tried.cause;
     untouched = untouched_more old.keeper mid.keeper new.keeper result same.rows same.crash tried.untouched;
+  }
+
+  -- ---- a call that does something else between what it makes ready and what it writes
+
+  -- memory was wanting in it
+  pub unready_ends : IsSettled → (old mid : Shelf K) → IsUsable held is_open mid → IsUnmoved held may_leave faults old mid → EndsAs held is_open may_leave faults old mid (Answered (reply.Refused refusal.NoMemory))
+  unready_ends settled old mid usable same = record {
+    ledger = tt;
+    usable = usable;
+    told = ap is_some same.rows;
+    left = answered_leaves held is_open may_leave mid settled usable;
+    cause = same.count;
+    kept = (same.rows, same.crash);
+  }
+
+  -- the disk of the backup file failed in it
+  pub unfiled_ends : IsSettled → (old mid : Shelf K) → IsUsable held is_open mid → IsUnmoved held may_leave faults old mid → EndsAs held is_open may_leave faults old mid Unfiled
+  unfiled_ends settled old mid usable same = record {
+    ledger = tt;
+    usable = tt;
+    told = ap is_some same.rows;
+    left = answered_leaves held is_open may_leave mid settled usable;
+    cause = same.count;
+    kept = tt;
+  }
+
+  refused_more : (old mid new : K) (r : Refusal) → held mid ≡ held old → IsWithin (may_leave mid) (may_leave old) → KeepsStore held may_leave mid new (reply.Refused r) → KeepsStore held may_leave old new (reply.Refused r)
+  refused_more old mid new refusal.StoreFault rows crash h = tt
+  refused_more old mid new refusal.BackupFault rows crash h = tt
+  refused_more old mid new _ rows crash h = (h.0 ∙ rows, λ left may. crash left (h.1 left may))
+
+  keeps_more : (old mid new : K) (r : Reply) → held mid ≡ held old → IsWithin (may_leave mid) (may_leave old) → KeepsStore held may_leave mid new r → KeepsStore held may_leave old new r
+  keeps_more old mid new (reply.Refused r) rows crash h = refused_more old mid new r rows crash h
+  keeps_more old mid new (reply.Row text) rows crash h = (h.0 ∙ rows, λ left may. crash left (h.1 left may))
+  keeps_more old mid new _ rows crash h = tt
+
+  -- what came behind it ended so
+  pub ready_ends : (old mid new : Shelf K) (w : Written) → IsUnmoved held may_leave faults old mid → EndsAs held is_open may_leave faults mid new w → EndsAs held is_open may_leave faults old new w
+  ready_ends old mid new w same h = record {
+    ledger = subst (λ l. OnStoreFailure w (new.ledger ≡ l)) same.ledger h.ledger;
+    usable = h.usable;
+    told = h.told ∙ ap is_some same.rows;
+    left = h.left;
+    cause = subst (λ n. HasStoreCause n (faults new.keeper) (written_reply w)) same.count h.cause;
+    kept = keeps_more old.keeper mid.keeper new.keeper (written_reply w) same.rows same.crash h.kept;
   }

@@ -30,12 +30,12 @@ pub every_append : {A : Type 0} (Q : A → Type 0) (xs ys : List A) → AllByRec
 every_append Q [] ys h k = k
 every_append Q (x ∷ xs) ys h k = (h.0, every_append Q xs ys h.1 k)
 
-every_filter : {A : Type 0} (Q : A → Type 0) (p : A → Bool) (xs : List A) → AllByRecursion Q xs → AllByRecursion Q (filter p xs)
+pub every_filter : {A : Type 0} (Q : A → Type 0) (p : A → Bool) (xs : List A) → AllByRecursion Q xs → AllByRecursion Q (filter p xs)
 every_filter Q p [] h = tt
 every_filter Q p (x ∷ xs) h =
     elim (p x) as (λ b. AllByRecursion Q (cond b (x ∷ filter p xs) (filter p xs))) [ true ↦ (h.0, every_filter Q p xs h.1) | false ↦ every_filter Q p xs h.1 ]
 
-every_map : {A B : Type 0} (Q : A → Type 0) (P : B → Type 0) (f : A → B) → ((x : A) → Q x → P (f x)) → (xs : List A) → AllByRecursion Q xs → AllByRecursion P (map f xs)
+pub every_map : {A B : Type 0} (Q : A → Type 0) (P : B → Type 0) (f : A → B) → ((x : A) → Q x → P (f x)) → (xs : List A) → AllByRecursion Q xs → AllByRecursion P (map f xs)
 every_map Q P f k [] h = tt
 every_map Q P f k (x ∷ xs) h = (k x h.0, every_map Q P f k xs h.1)
 
@@ -43,7 +43,7 @@ pub every_more : {A : Type 0} (Q P : A → Type 0) → ((x : A) → Q x → P x)
 every_more Q P k [] h = tt
 every_more Q P k (x ∷ xs) h = (k x h.0, every_more Q P k xs h.1)
 
-every_replaced : {A : Type 0} (Q : A → Type 0) (p : A → Bool) (turn : A → List A) → ((x : A) → Q x → AllByRecursion Q (turn x)) → (xs : List A) → AllByRecursion Q xs → AllByRecursion Q (replace_first p turn xs)
+pub every_replaced : {A : Type 0} (Q : A → Type 0) (p : A → Bool) (turn : A → List A) → ((x : A) → Q x → AllByRecursion Q (turn x)) → (xs : List A) → AllByRecursion Q xs → AllByRecursion Q (replace_first p turn xs)
 every_replaced Q p turn k [] h = tt
 every_replaced Q p turn k (x ∷ xs) h =
     elim (p x) as (λ b. AllByRecursion Q (cond b (turn x ++ xs) (x ∷ replace_first p turn xs))) [
@@ -51,11 +51,11 @@ every_replaced Q p turn k (x ∷ xs) h =
       | false ↦ (h.0, every_replaced Q p turn k xs h.1)
     ]
 
-abbrev OnSome : {A : Type 0} → (A → Type 0) → Option A → Type 0
+abbrev pub OnSome : {A : Type 0} → (A → Type 0) → Option A → Type 0
 OnSome Q None = Unit {0}
 OnSome Q (Some x) = Q x
 
-every_turned : {A : Type 0} (Q : A → Type 0) (f : A → Option A) → ((x : A) → Q x → OnSome Q (f x)) → (xs : List A) → AllByRecursion Q xs → AllByRecursion Q (filter_map f xs)
+pub every_turned : {A : Type 0} (Q : A → Type 0) (f : A → Option A) → ((x : A) → Q x → OnSome Q (f x)) → (xs : List A) → AllByRecursion Q xs → AllByRecursion Q (filter_map f xs)
 every_turned Q f k [] h = tt
 every_turned Q f k (x ∷ xs) h =
     let rest = every_turned Q f k xs h.1 in
@@ -92,7 +92,7 @@ by_mode Q E es e h =
 by_mode Q O es e h =
     elim (stands es (name_in E e)) as (λ b. OnSome (OfLock Q) (cond b None (Some (record e { mode = E })))) [ true ↦ tt | false ↦ h ]
 
-turned_one : (Q : Owner → List ℕ → Type 0) (test : Entry → Bool) (es : List Entry) (e : Entry) → OfLock Q e → OnSome (OfLock Q) (turned_entry test es e)
+pub turned_one : (Q : Owner → List ℕ → Type 0) (test : Entry → Bool) (es : List Entry) (e : Entry) → OfLock Q e → OnSome (OfLock Q) (turned_entry test es e)
 turned_one Q test es e h =
     elim (test e) as (λ b. OnSome (OfLock Q) (cond b (turned_by e.mode es e) (Some e))) [ true ↦ by_mode Q e.mode es e h | false ↦ h ]
 
@@ -103,21 +103,21 @@ every_conversion Q es asker asked h =
 
 -- ---- new locks
 
-abbrev NamesOf : (Owner → Type 0) → LockName → Type 0
+abbrev pub NamesOf : (Owner → Type 0) → LockName → Type 0
 NamesOf P n = P n.owner
 
 half_of : (P : Owner → Type 0) (owner : Owner) (b : Bool) (a : Asked) → P owner → AllByRecursion (NamesOf P) (cond b (named owner a ∷ []) [])
 half_of P owner true a h = (h, tt)
 half_of P owner false a h = tt
 
-of_halves : (P : Owner → Type 0) (asker : Asker) (rs : List Request) → P asker.dialogue → P asker.update → AllByRecursion (NamesOf P) (halves asker rs)
+pub of_halves : (P : Owner → Type 0) (asker : Asker) (rs : List Request) → P asker.dialogue → P asker.update → AllByRecursion (NamesOf P) (halves asker rs)
 of_halves P asker [] d u = tt
 of_halves P asker (r ∷ rs) d u =
     every_append (NamesOf P) (halves_of asker r) (halves asker rs)
     (every_append (NamesOf P) (cond r.dialogue (named asker.dialogue r.asked ∷ []) []) _ (half_of P asker.dialogue r.dialogue r.asked d) (half_of P asker.update r.update r.asked u))
     (of_halves P asker rs d u)
 
-of_once : (P : Owner → Type 0) (ns : List LockName) → AllByRecursion (NamesOf P) ns → AllByRecursion (NamesOf P) (each_once ns)
+pub of_once : (P : Owner → Type 0) (ns : List LockName) → AllByRecursion (NamesOf P) ns → AllByRecursion (NamesOf P) (each_once ns)
 of_once P [] h = tt
 of_once P (n ∷ ns) h = (h.0, every_filter (NamesOf P) (λ m. not (same_name n m)) (each_once ns) (of_once P ns h.1))
 

@@ -1,5 +1,5 @@
 -- Commits, orders and posts come to what their commands' verdicts say.
-use Rattle.std.proofs.Common.{◌≡◌, ℕ, zero, suc, ◌+◌, ◌-◌, ◌≤◌, ◌<◌, Bool, true, false, cond, not, List, [], ◌∷◌, length, drop, set, refl, sym, ap, ◌∙◌, subst, arith}
+use Rattle.std.proofs.Common.{◌≡◌, ℕ, zero, suc, ◌+◌, ◌-◌, ◌≤◌, ◌<◌, Bool, true, false, cond, not, List, [], ◌∷◌, ◌++◌, length, drop, set, refl, sym, ap, ◌∙◌, subst, arith}
 use Rattle.std.specs.Prelude.{◌&&◌, ◌||◌, IsTrue, Option, Some, None, Result, Ok, Err, IfSome, is_ok, is_some, nat_eq, nat_le, nat_lt, slice_get, if◌then◌else◌}
 use Rattle.std.specs.FinMap.{get}
 use Rattle.std.specs.List.{All, AllByRecursion, find}
@@ -9,6 +9,7 @@ use Rattle.enq_base.specs.declared.owner.UnitKey.{UnitKey}
 use Rattle.enq_base.specs.declared.refusal.Refusal.{Refusal}
 use Rattle.enq_base.specs.declared.refusal.Refusal.TheVariants as refusal
 use Rattle.enq_base.specs.declared.unit.Effect.{Effect}
+use Rattle.enq_base.specs.declared.unit.Num.{Num as Number}
 use Rattle.enq_base.specs.declared.unit.Parts.{Parts}
 use Rattle.enq_base.specs.declared.unit.Reason.{Reason}
 use Rattle.enq_base.specs.declared.unit.Status.{Status}
@@ -30,7 +31,7 @@ use Rattle.posting.specs.Steps.{IsNewUnit, IsOutcome, after_step, at_place, wait
 use Rattle.posting.specs.declared.prepared.Step.{Step}
 use Rattle.posting.specs.declared.prepared.Step.TheVariants.{Note}
 use Rattle.posting.specs.declared.prepared.Outcome.{Outcome}
-use Rattle.range_list.specs.Drawn.{settled_rows}
+use Rattle.range_list.specs.Drawn.{passed, settled_rows}
 use Rattle.range_list.specs.declared.range.NumberRange.{NumberRange}
 use Rattle.update_records.specs.Business.{tables_of}
 use Rattle.update_records.specs.Grammar.{HasDigits}
@@ -46,18 +47,25 @@ use Rattle.hall.specs.declared.command.Reply.TheVariants as reply
 use Rattle.hall.specs.declared.command.Session.{Session}
 use Rattle.hall.specs.declared.units.InFlight.TheVariants as flight
 use Rattle.hall.specs.Acts.{Admits, IsAct, post_of}
-use Rattle.hall.specs.Calls.{OfAdmin, OfSession, OfWorker, Cancels, Resubmits, Commits, Posts, Reads, call_of, only_reads}
-use Rattle.hall.specs.Devices.{AllWell, Comes, IsTold, MayRead, Shows, StoreFails, found_by, may_want, only, uses_store}
+use Rattle.hall.specs.Calls.{OfAdmin, OfSession, OfWorker, Cancels, Resubmits, Commits, Posts, Reads, call_of, only_reads, writes_store_first}
+use Rattle.hall.specs.Devices.{AllWell, BackupFails, Comes, IsTold, MayRead, Shows, StoreFails, found_by, may_want, only, uses_file, uses_store}
+use Rattle.hall.specs.Filing.{is_open}
+use Rattle.enq_server.specs.Server.{lasting}
+use Rattle.enq_base.specs.declared.unit.Status.TheVariants as status
+use Rattle.update_records.specs.Marks.{has_status, status_of}
+use Rattle.hall.proofs.Cancels.{can_be}
+use Rattle.hall.proofs.Resubmissions.{can_be_tried}
+use Rattle.std.proofs.lemmas.Bool.{and_from}
 use Rattle.hall.specs.Coming.{MayComeTo, outcome_in, outcome_of}
 use Rattle.hall.specs.Flights.{landed}
-use Rattle.hall.specs.History.{Served, doubted, judged, pending_after, refused}
+use Rattle.hall.specs.History.{Served, doubted, judged, pending_after, refused, stored_before_file, unfiled}
 use Rattle.hall.specs.Kept.{HasItsUser, IsAhead, OfLock}
 use Rattle.hall.specs.Orders.{first_unclaimed, is_claimed, order_for, order_of}
 use Rattle.hall.specs.Sessions.{is_called, owners_of, session_at, unit_key, with_next_unit, with_session, without_draws}
-use Rattle.hall.specs.Numbers.{with_numbers}
+use Rattle.hall.specs.Numbers.{stocked, with_numbers}
 use Rattle.hall.specs.State.{State}
-use Rattle.hall.specs.Step.{Found, Verdict, Refuses, Leaves, ask_refusal, called, cancel, cancelled, cancelling, commit, committed, effects_in, found_in, leaves, locks_behind, locks_without, marked, numbered, own_verdict, posted_reply, posting, reopened, reopening, reposted, resubmit, resubmitting, row_in, take, taking, to_cancel, to_resubmit, unavailable, unit_of, with_room}
-use Rattle.hall.proofs.Calls.{admitted, at_state, fails, found_at, free_admin, free_worker, free_session, is_done, is_wanting, leaves_as, refuses}
+use Rattle.hall.specs.Step.{Found, Verdict, Refuses, Leaves, ask_refusal, called, cancel, cancelled, cancelling, commit, committed, effects_in, found_in, leaves, locks_behind, locks_without, marked, numbered, own_verdict, passing, posted_reply, posting, reopened, reopening, reposted, resubmit, resubmitting, row_in, take, taking, to_cancel, to_resubmit, unavailable, unit_of, with_room}
+use Rattle.hall.proofs.Calls.{admitted, at_state, fails, fails_filing, found_at, free_admin, free_worker, free_session, is_done, is_wanting, leaves_as, refuses}
 use Rattle.hall.proofs.Ends.{IsPart, posts_part}
 use Rattle.hall.proofs.Fresh.{found_in as found_all_in}
 use Rattle.hall.proofs.HandedLocks.{all_held, handed_table}
@@ -206,7 +214,7 @@ comes part c s worker unit o posts room at space may =
     let found = found_by (Comes o) s in
     record {
       outcome = record { event = AllWell; reading = Comes o };
-      allowed = record {
+      possible = record {
         reading = subst (MayRead (Comes o) s) (sym posts) (subst (λ x. IfSome x (λ u. MayComeTo s.told s.stored part u o)) (sym at) may);
         event = tt;
       };
@@ -272,6 +280,28 @@ posts_in_doubt part s orders ledger limit worker unit is e g m room found space 
     (own_post part c (found_in s) s worker (Some unit) by (held part s ledger orders worker (Some unit) g e found) ∙ fits s _ (full_as s limit ledger false m g space))
     (ap (uses_store s) by) (ap only_reads by)
 
+-- the disk fails behind the mark of a V1 part that comes to this
+unfiled_post : (part : ℕ) (c : Command) (s : State) (worker : ℕ) (unit : UnitKey) (o : Outcome) → call_of c ≡ OfWorker worker (Posts part) → nat_eq part 1 ≡ true → Admits s → order_for part s.stored s.orders worker ≡ Some unit → is_store_full s ≡ false → MayComeTo s.told s.stored part unit o → IsAct s c (unfiled s (with_mark s.stored unit (kind_for part o))) (reply.Refused refusal.BackupFault)
+unfiled_post part c s worker unit o posts first room at space may =
+    let found = found_by (Comes o) s in
+    let v = admitted found s (call_of c) room ∙ own_post part c found s worker (Some unit) posts at ∙ fits s _ space in
+    record {
+      outcome = record { event = BackupFails; reading = Comes o };
+      possible = record {
+        reading = subst (MayRead (Comes o) s) (sym posts) (subst (λ x. IfSome x (λ u. MayComeTo s.told s.stored part u o)) (sym at) may);
+        event = (ap leaves v, ap (uses_file s) posts ∙ first);
+      };
+      same = ap (λ w. refused (unfiled s (stored_before_file s (call_of c) w)) refusal.BackupFault) v
+          ∙ ap (λ b. refused (unfiled s (if b then with_mark s.stored unit (kind_for part o) else s.stored)) refusal.BackupFault) (ap writes_store_first posts);
+    }
+
+pub posts_unfiled : (part : ℕ) (s : State) (told : Bool) (orders : List (Option UnitKey)) (ledger new : Ledger) (limit worker : ℕ) (unit : UnitKey) (o : Outcome) → IsPart part → nat_eq part 1 ≡ true → s.told ≡ told → s.orders ≡ orders → s.stored ≡ ledger → s.mark_limit ≡ limit → Admits s → order_for part ledger orders worker ≡ Some unit → nat_le limit (length ledger.marks) ≡ false → MayComeTo told ledger part unit o → new ≡ with_mark ledger unit (kind_for part o) → IsAct s (post_of part worker) (unfiled s new) (reply.Refused refusal.BackupFault)
+posts_unfiled part s told orders ledger new limit worker unit o is first t e g m room found space may c =
+    let g' : with_mark s.stored unit (kind_for part o) ≡ new = ap (λ l. with_mark l unit (kind_for part o)) g ∙ sym c in
+    let may' : MayComeTo s.told s.stored part unit o = subst (λ x. MayComeTo x s.stored part unit o) (sym t) (subst (λ l. MayComeTo told l part unit o) (sym g) may) in
+    subst (λ l. IsAct s (post_of part worker) (unfiled s l) (reply.Refused refusal.BackupFault)) g'
+    (unfiled_post part (post_of part worker) s worker unit o (posts_part part worker is) first room (held part s ledger orders worker (Some unit) g e found) (full_as s limit ledger false m g space) may')
+
 pub posts_wanting : (part : ℕ) (s : State) (orders : List (Option UnitKey)) (entries : List Entry) (ledger new : Ledger) (worker : ℕ) (unit : UnitKey) → IsPart part → s.orders ≡ orders → s.locks ≡ entries → s.stored ≡ ledger → new ≡ ledger → Admits s → order_for part ledger orders worker ≡ Some unit → IsAct s (post_of part worker) (record s { orders = orders; locks = entries; stored = new }) (reply.Refused refusal.NoMemory)
 posts_wanting part s orders entries ledger new worker unit is e f g kept room found =
     let g' : s.stored ≡ new = g ∙ sym kept in
@@ -307,6 +337,20 @@ cancels s orders entries left ledger new limit unit status e f g m room h a b =
 pub cancels_in_doubt : (s : State) (orders : List (Option UnitKey)) (ledger : Ledger) (limit : ℕ) (unit : UnitKey) (status : Status) → s.orders ≡ orders → s.stored ≡ ledger → s.mark_limit ≡ limit → Admits s → to_cancel ledger orders limit unit ≡ Ok status → IsAct s (command.Cancel unit) (doubted s (Some (landed s.stored (flight.Cancel unit)))) (reply.Refused refusal.StoreFault)
 cancels_in_doubt s orders ledger limit unit status e g m room h =
     fails s (command.Cancel unit) (cancelled s unit status) (reply.Unit unit) room (own_cancel s orders ledger limit unit (Ok status) e g m h) refl refl
+
+open_status : (x : Status) → is_open x ≡ true → has_status status.Open (Some x) ≡ true
+open_status status.Open h = refl
+open_status status.Posted h = cc
+open_status status.Bad h = cc
+open_status status.Closed h = cc
+open_status status.Bad2 h = cc
+open_status status.Cancelled h = cc
+
+pub cancels_unfiled : (s : State) (orders : List (Option UnitKey)) (ledger new : Ledger) (limit : ℕ) (unit : UnitKey) (found : Status) → s.orders ≡ orders → s.stored ≡ ledger → s.mark_limit ≡ limit → Admits s → to_cancel ledger orders limit unit ≡ Ok found → is_open found ≡ true → new ≡ with_mark ledger unit Gone → IsAct s (command.Cancel unit) (unfiled s new) (reply.Refused refusal.BackupFault)
+cancels_unfiled s orders ledger new limit unit found e g m room h waits b =
+    subst (λ l. IsAct s (command.Cancel unit) (unfiled s l) (reply.Refused refusal.BackupFault)) (ap (λ l. with_mark l unit Gone) g ∙ sym b)
+    (fails_filing s (command.Cancel unit) (cancelled s unit found) (reply.Unit unit) room (own_cancel s orders ledger limit unit (Ok found) e g m h)
+    (ap (λ (l : Ledger). has_status status.Open (status_of l.units l.marks unit)) g ∙ ap (has_status status.Open) (can_be ledger orders limit unit found h).recorded ∙ open_status found waits))
 
 -- ---- trying again
 
@@ -349,6 +393,17 @@ reopens s t ledger new limit unit left f l g m room h stand b =
 pub reopens_in_doubt : (s : State) (t : Table) (ledger : Ledger) (limit : ℕ) (unit : UnitKey) (left : List Entry) → s.locks ≡ t.entries → s.limit ≡ t.limit → s.stored ≡ ledger → s.mark_limit ≡ limit → Admits s → to_resubmit ledger limit unit ≡ Ok Bad → readmitted t (owners_of unit) (entries_of ledger.units unit) ≡ Ok left → IsAct s (command.Resubmit unit) (doubted s (Some (landed s.stored (flight.Again unit 1)))) (reply.Refused refusal.StoreFault)
 reopens_in_doubt s t ledger limit unit left f l g m room h stand =
     fails s (command.Resubmit unit) (reopened s unit left) (reply.Unit unit) room (own_reopen s t ledger limit unit (Ok left) f l g m h stand) refl refl
+
+some_written : (n : ℕ) → 1 ≤ n → nat_lt 0 n ≡ true
+some_written n h = grind (arith, nat_tests)
+
+pub reopens_unfiled : (s : State) (t : Table) (ledger new : Ledger) (limit : ℕ) (unit : UnitKey) (left : List Entry) → s.locks ≡ t.entries → s.limit ≡ t.limit → s.stored ≡ ledger → s.mark_limit ≡ limit → Admits s → to_resubmit ledger limit unit ≡ Ok Bad → readmitted t (owners_of unit) (entries_of ledger.units unit) ≡ Ok left → 1 ≤ length (entries_of ledger.units unit) → new ≡ ledger → IsAct s (command.Resubmit unit) (unfiled s new) (reply.Refused refusal.BackupFault)
+reopens_unfiled s t ledger new limit unit left f l g m room h stand some b =
+    subst (λ x. IsAct s (command.Resubmit unit) (unfiled s x) (reply.Refused refusal.BackupFault)) (g ∙ sym b)
+    (fails_filing s (command.Resubmit unit) (reopened s unit left) (reply.Unit unit) room (own_reopen s t ledger limit unit (Ok left) f l g m h stand)
+    ((λ i. let x : Ledger = g i in nat_lt 0 (length (if has_status status.Bad (status_of x.units x.marks unit) then entries_of x.units unit else [])))
+    ∙ ap (λ o. nat_lt 0 (length (if has_status status.Bad o then entries_of ledger.units unit else []))) (can_be_tried ledger limit unit Bad h).recorded
+    ∙ some_written (length (entries_of ledger.units unit)) some))
 
 not_reopened : (s : State) (t : Table) (ledger : Ledger) (limit : ℕ) (unit : UnitKey) (f : AskFault) → s.locks ≡ t.entries → s.limit ≡ t.limit → s.stored ≡ ledger → s.mark_limit ≡ limit → Admits s → to_resubmit ledger limit unit ≡ Ok Bad → IsFaultOf (readmitted t (owners_of unit) (entries_of ledger.units unit)) f → IsAct s (command.Resubmit unit) s (reply.Refused (ask_refusal f))
 not_reopened s t ledger limit unit (fault.Foreign e) locks l g m room h why =
@@ -394,7 +449,7 @@ reads s rows sessions ledger new name table key x text e t g room at known kept 
     at_state _ _ s _ _ (λ i. record s { stored = g' i })
     (record {
       outcome = record { event = AllWell; reading = Shows text };
-      allowed = record { reading = subst (λ l. TellsText s.told l table key text) (sym g) (told_text s.told rows ledger table key text t known); event = tt };
+      possible = record { reading = subst (λ l. TellsText s.told l table key text) (sym g) (told_text s.told rows ledger table key text t known); event = tt };
       same = ap (judged s) (admitted found s (OfSession name (Reads table key)) room ∙ own_read found s sessions name table key x e at);
     })
 
@@ -410,37 +465,45 @@ reads_in_doubt s sessions name table key x e none room at =
     let v = admitted (found_in s) s (OfSession name (Reads table key)) room ∙ own_read (found_in s) s sessions name table key x e at in
     record {
       outcome = only StoreFails;
-      allowed = record { reading = tt; event = (ap leaves v, refl) };
+      possible = record { reading = tt; event = (ap leaves v, refl) };
       same = ap (λ w. refused (doubted s (pending_after s (OfSession name (Reads table key)) w)) refusal.StoreFault) v ∙ ap (λ p. refused (doubted s p) refusal.StoreFault) none;
     }
 
 -- ---- commits
 
-own_commit : (s : State) (sessions : List Session) (name : List ℕ) (x : Session) (parts : Parts) → s.sessions ≡ sessions → session_at sessions name ≡ Some x → own_verdict (found_in s) s (OfSession name (Commits parts)) ≡ commit s x parts
-own_commit s sessions name x parts e found = ap (called (found_in s) s (Commits parts)) (found_at s sessions name (Some x) e found)
+own_commit : (s : State) (sessions : List Session) (name : List ℕ) (x : Session) (parts : Parts) (stock : List Number) → s.sessions ≡ sessions → session_at sessions name ≡ Some x → own_verdict (found_in s) s (OfSession name (Commits parts stock)) ≡ commit s x parts stock
+own_commit s sessions name x parts stock e found = ap (called (found_in s) s (Commits parts stock)) (found_at s sessions name (Some x) e found)
 
-pub commits_unknown : (s : State) (sessions : List Session) (entries : List Entry) (ledger : Ledger) (name : List ℕ) (parts : Parts) (r : Refusal) → s.sessions ≡ sessions → s.locks ≡ entries → s.stored ≡ ledger → Admits s → session_at sessions name ≡ None → r ≡ refusal.UnknownSession → IsAct s (command.Commit name parts) (record s { sessions = sessions; locks = entries; stored = ledger }) (reply.Refused r)
-commits_unknown s sessions entries ledger name parts r e f g room none is =
-    subst (λ x. IsAct s (command.Commit name parts) (record s { sessions = sessions; locks = entries; stored = ledger }) (reply.Refused x)) (sym is)
-    (at_state _ _ s _ _ (λ i. record s { sessions = e i; locks = f i; stored = g i })
-    (refuses s (command.Commit name parts) refusal.UnknownSession room (ap (called (found_in s) s (Commits parts)) (found_at s sessions name None e none))))
+pub commits_unknown : (s : State) (sessions : List Session) (ranges : List NumberRange) (entries : List Entry) (ledger : Ledger) (name : List ℕ) (parts : Parts) (stock : List Number) (r : Refusal) → s.sessions ≡ sessions → s.ranges ≡ ranges → s.locks ≡ entries → s.stored ≡ ledger → Admits s → session_at sessions name ≡ None → r ≡ refusal.UnknownSession → IsAct s (command.Commit name parts stock) (record s { sessions = sessions; ranges = ranges; locks = entries; stored = ledger }) (reply.Refused r)
+commits_unknown s sessions ranges entries ledger name parts stock r e k f g room none is =
+    subst (λ x. IsAct s (command.Commit name parts stock) (record s { sessions = sessions; ranges = ranges; locks = entries; stored = ledger }) (reply.Refused x)) (sym is)
+    (at_state _ _ s _ _ (λ i. record s { sessions = e i; ranges = k i; locks = f i; stored = g i })
+    (refuses s (command.Commit name parts stock) refusal.UnknownSession room (ap (called (found_in s) s (Commits parts stock)) (found_at s sessions name None e none))))
 
 -- the same with the tests decided
-abbrev decided : State → Session → Parts → Bool → Bool → Bool → Verdict
-decided s x parts large none alone =
+abbrev decided : State → Session → Parts → List Number → Bool → Bool → Bool → Verdict
+decided s x parts numbers large none alone =
     if large then Refuses refusal.UnitTooLarge
     else if none then Leaves s reply.Done
-    else with_room s (if alone then Leaves (numbered s x x.draws) reply.Done else Leaves (committed s x parts x.draws) (reply.Unit (unit_key s.stored.start x)))
+    else with_room s (if alone then Leaves (numbered s x numbers) reply.Done else Leaves (committed s x parts numbers) (reply.Unit (unit_key s.stored.start x)))
 
 -- how much there is to record
-abbrev pub is_too_much : Session → Parts → Bool
-is_too_much x parts = nat_lt 64 (length x.draws) || nat_lt 200 (effects_in parts)
+abbrev pub is_too_much : List Number → Parts → Bool
+is_too_much numbers parts = nat_lt 64 (length numbers) || nat_lt 200 (effects_in parts)
 
-abbrev pub is_nothing : Session → Parts → Bool
-is_nothing x parts = nat_eq (effects_in parts) 0 && nat_eq (length x.draws) 0
+abbrev pub is_nothing : List Number → Parts → Bool
+is_nothing numbers parts = nat_eq (effects_in parts) 0 && nat_eq (length numbers) 0
 
-tested : (s : State) (x : Session) (parts : Parts) (large none alone : Bool) → is_too_much x parts ≡ large → is_nothing x parts ≡ none → nat_eq (effects_in parts) 0 ≡ alone → commit s x parts ≡ decided s x parts large none alone
-tested s x parts large none alone a b c = λ i. decided s x parts (a i) (b i) (c i)
+tested : (s : State) (x : Session) (parts : Parts) (stock : List Number) (large none alone : Bool) → is_too_much (x.draws ++ stock) parts ≡ large → is_nothing (x.draws ++ stock) parts ≡ none → nat_eq (effects_in parts) 0 ≡ alone
+    → commit s x parts stock ≡ passing stock (decided s x parts (x.draws ++ stock) large none alone)
+tested s x parts stock large none alone a b c = λ i. passing stock (decided s x parts (x.draws ++ stock) (a i) (b i) (c i))
+
+-- where there is no room, and where there is
+passes_overflow : (s : State) (stock : List Number) (v : Verdict) → is_store_full s ≡ true → passing stock (with_room s v) ≡ Refuses (refusal.StoreFull s.mark_limit)
+passes_overflow s stock v full = ap (passing stock) (overflows s v full)
+
+passes_fit : (s : State) (stock : List Number) (v : Verdict) → is_store_full s ≡ false → passing stock (with_room s v) ≡ passing stock v
+passes_fit s stock v space = ap (passing stock) (fits s v space)
 
 over : (n : ℕ) → 200 < n → nat_lt 200 n ≡ true
 over n h = grind (arith, nat_tests)
@@ -464,108 +527,132 @@ pub record IsCommitAt (s : State) (sessions : List Session) (ranges : List Numbe
   pub admits : Admits s
   pub found : session_at sessions name ≡ Some x
 
-module _ (s : State) (sessions : List Session) (ranges : List NumberRange) (entries : List Entry) (ledger : Ledger) (limit : ℕ) (name : List ℕ) (x : Session) (parts : Parts) (at : IsCommitAt s sessions ranges entries ledger limit name x) where
+module _ (s : State) (sessions : List Session) (ranges : List NumberRange) (entries : List Entry) (ledger : Ledger) (limit : ℕ) (name : List ℕ) (x : Session) (parts : Parts) (stock : List Number) (at : IsCommitAt s sessions ranges entries ledger limit name x) where
+  abbrev numbers : List Number
+  numbers = x.draws ++ stock
+
   abbrev same_state : State
-  same_state = record s { sessions = sessions; locks = entries; stored = ledger }
+  same_state = record s { sessions = sessions; ranges = ranges; locks = entries; stored = ledger }
 
-  own : own_verdict (found_in s) s (OfSession name (Commits parts)) ≡ commit s x parts
-  own = own_commit s sessions name x parts at.own_sessions at.found
+  own : own_verdict (found_in s) s (OfSession name (Commits parts stock)) ≡ commit s x parts stock
+  own = own_commit s sessions name x parts stock at.own_sessions at.found
 
-  here : (r : Reply) → IsAct s (command.Commit name parts) s r → IsAct s (command.Commit name parts) same_state r
-  here r = at_state _ _ s _ _ (λ i. record s { sessions = at.own_sessions i; locks = at.own_locks i; stored = at.own_ledger i })
+  here : (r : Reply) → IsAct s (command.Commit name parts stock) s r → IsAct s (command.Commit name parts stock) same_state r
+  here r = at_state _ _ s _ _ (λ i. record s { sessions = at.own_sessions i; ranges = at.own_ranges i; locks = at.own_locks i; stored = at.own_ledger i })
 
-  pub commits_too_much : is_too_much x parts ≡ true → IsAct s (command.Commit name parts) same_state (reply.Refused refusal.UnitTooLarge)
-  commits_too_much large = here _ (refuses s (command.Commit name parts) refusal.UnitTooLarge at.admits (own ∙ tested s x parts true _ _ large refl refl))
+  pub commits_too_much : is_too_much numbers parts ≡ true → IsAct s (command.Commit name parts stock) same_state (reply.Refused refusal.UnitTooLarge)
+  commits_too_much large = here _ (refuses s (command.Commit name parts stock) refusal.UnitTooLarge at.admits (own ∙ tested s x parts stock true _ _ large refl refl))
 
-  pub commits_nothing : is_too_much x parts ≡ false → is_nothing x parts ≡ true → IsAct s (command.Commit name parts) same_state reply.Done
-  commits_nothing few none = here _ (is_done s (command.Commit name parts) s at.admits (own ∙ tested s x parts false true _ few none refl))
+  pub commits_nothing : is_too_much numbers parts ≡ false → is_nothing numbers parts ≡ true → IsAct s (command.Commit name parts stock) (record s { sessions = sessions; ranges = passed stock ranges; locks = entries; stored = ledger }) reply.Done
+  commits_nothing few none =
+      at_state _ _ (stocked stock s) _ _ (λ i. record s { sessions = at.own_sessions i; ranges = passed stock (at.own_ranges i); locks = at.own_locks i; stored = at.own_ledger i })
+      (is_done s (command.Commit name parts stock) (stocked stock s) at.admits (own ∙ tested s x parts stock false true _ few none refl))
 
-  pub commits_wanting : (new : Ledger) → new ≡ ledger → IsAct s (command.Commit name parts) (record s { sessions = sessions; locks = entries; stored = new }) (reply.Refused refusal.NoMemory)
+  pub commits_wanting : (new : Ledger) → new ≡ ledger → IsAct s (command.Commit name parts stock) (record s { sessions = sessions; ranges = ranges; locks = entries; stored = new }) (reply.Refused refusal.NoMemory)
   commits_wanting new kept =
-      subst (λ l. IsAct s (command.Commit name parts) (record s { sessions = sessions; locks = entries; stored = l }) (reply.Refused refusal.NoMemory)) (sym kept)
-      (here _ (is_wanting s (command.Commit name parts) (free_session s name (Commits parts) x at.admits (found_at s sessions name (Some x) at.own_sessions at.found)) refl))
+      subst (λ l. IsAct s (command.Commit name parts stock) (record s { sessions = sessions; ranges = ranges; locks = entries; stored = l }) (reply.Refused refusal.NoMemory)) (sym kept)
+      (here _ (is_wanting s (command.Commit name parts stock) (free_session s name (Commits parts stock) x at.admits (found_at s sessions name (Some x) at.own_sessions at.found)) refl))
 
-  pub commits_full : is_too_much x parts ≡ false → is_nothing x parts ≡ false → nat_le limit (length ledger.marks) ≡ true → IsAct s (command.Commit name parts) same_state (reply.Refused (refusal.StoreFull limit))
+  pub commits_full : is_too_much numbers parts ≡ false → is_nothing numbers parts ≡ false → nat_le limit (length ledger.marks) ≡ true → IsAct s (command.Commit name parts stock) same_state (reply.Refused (refusal.StoreFull limit))
   commits_full few some full =
-      subst (λ n. IsAct s (command.Commit name parts) same_state (reply.Refused (refusal.StoreFull n))) at.own_limit
-      (here _ (refuses s (command.Commit name parts) (refusal.StoreFull s.mark_limit) at.admits
-      (own ∙ tested s x parts false false _ few some refl ∙ overflows s _ (full_as s limit ledger true at.own_limit at.own_ledger full))))
+      subst (λ n. IsAct s (command.Commit name parts stock) same_state (reply.Refused (refusal.StoreFull n))) at.own_limit
+      (here _ (refuses s (command.Commit name parts stock) (refusal.StoreFull s.mark_limit) at.admits
+      (own ∙ tested s x parts stock false false _ few some refl ∙ passes_overflow s stock _ (full_as s limit ledger true at.own_limit at.own_ledger full))))
 
   -- ---- a unit
 
-  leaves_unit : is_too_much x parts ≡ false → nat_eq (effects_in parts) 0 ≡ false → is_nothing x parts ≡ false → nat_le limit (length ledger.marks) ≡ false
-      → own_verdict (found_in s) s (OfSession name (Commits parts)) ≡ Leaves (committed s x parts x.draws) (reply.Unit (unit_key s.stored.start x))
-  leaves_unit few effects some space = own ∙ tested s x parts false false false few some effects ∙ fits s _ (full_as s limit ledger false at.own_limit at.own_ledger space)
+  leaves_unit : is_too_much numbers parts ≡ false → nat_eq (effects_in parts) 0 ≡ false → is_nothing numbers parts ≡ false → nat_le limit (length ledger.marks) ≡ false
+      → own_verdict (found_in s) s (OfSession name (Commits parts stock)) ≡ Leaves (stocked stock (committed s x parts numbers)) (reply.Unit (unit_key s.stored.start x))
+  leaves_unit few effects some space = own ∙ tested s x parts stock false false false few some effects ∙ passes_fit s stock _ (full_as s limit ledger false at.own_limit at.own_ledger space)
 
   -- what is written of it
   abbrev the_unit : UnitOfWork
-  the_unit = unit_of ledger.start entries x parts x.draws
+  the_unit = unit_of ledger.start entries x parts numbers
 
   abbrev the_levels : List StoredInterval
-  the_levels = settled_rows ledger.levels ranges x.draws
+  the_levels = settled_rows ledger.levels ranges numbers
 
-  pub commits : is_too_much x parts ≡ false → nat_eq (effects_in parts) 0 ≡ false → is_nothing x parts ≡ false → nat_le limit (length ledger.marks) ≡ false
+  pub commits : is_too_much numbers parts ≡ false → nat_eq (effects_in parts) 0 ≡ false → is_nothing numbers parts ≡ false → nat_le limit (length ledger.marks) ≡ false
       → (after : List Session) (left : List Entry) (new : Ledger) (key : UnitKey) → key ≡ unit_key ledger.start x → after ≡ with_session x.name with_next_unit sessions → left ≡ handed_over entries key
-      → new ≡ with_intervals the_levels (with_unit ledger the_unit) → IsAct s (command.Commit name parts) (record s { sessions = after; locks = left; stored = new }) (reply.Unit key)
+      → new ≡ with_intervals the_levels (with_unit ledger the_unit) → IsAct s (command.Commit name parts stock) (record s { sessions = after; ranges = passed stock ranges; locks = left; stored = new }) (reply.Unit key)
   commits few effects some space after left new key k a b c =
       let k' : unit_key s.stored.start x ≡ key = ap (λ (l : Ledger). unit_key l.start x) at.own_ledger ∙ sym k in
       let e' : with_session x.name with_next_unit s.sessions ≡ after = ap (with_session x.name with_next_unit) at.own_sessions ∙ sym a in
       let f' : handed_over s.locks (unit_key s.stored.start x) ≡ left = (λ i. handed_over (at.own_locks i) (k' i)) ∙ sym b in
-      let g' : with_numbers s x.draws (with_unit s.stored (unit_of s.stored.start s.locks x parts x.draws)) ≡ new =
-      (λ i. let l : Ledger = at.own_ledger i in with_intervals (settled_rows l.levels (at.own_ranges i) x.draws) (with_unit l (unit_of l.start (at.own_locks i) x parts x.draws))) ∙ sym c in
-      subst (λ u. IsAct s (command.Commit name parts) (record s { sessions = after; locks = left; stored = new }) (reply.Unit u)) k'
-      (at_state _ _ (committed s x parts x.draws) _ _ (λ i. record s { sessions = e' i; locks = f' i; stored = g' i })
-      (leaves_as s (command.Commit name parts) (committed s x parts x.draws) _ at.admits (leaves_unit few effects some space)))
+      let g' : with_numbers s numbers (with_unit s.stored (unit_of s.stored.start s.locks x parts numbers)) ≡ new =
+      (λ i. let l : Ledger = at.own_ledger i in with_intervals (settled_rows l.levels (at.own_ranges i) numbers) (with_unit l (unit_of l.start (at.own_locks i) x parts numbers))) ∙ sym c in
+      subst (λ u. IsAct s (command.Commit name parts stock) (record s { sessions = after; ranges = passed stock ranges; locks = left; stored = new }) (reply.Unit u)) k'
+      (at_state _ _ (stocked stock (committed s x parts numbers)) _ _ (λ i. record s { sessions = e' i; ranges = passed stock (at.own_ranges i); locks = f' i; stored = g' i })
+      (leaves_as s (command.Commit name parts stock) (stocked stock (committed s x parts numbers)) _ at.admits (leaves_unit few effects some space)))
 
   -- the call uses the store
-  pub uses_to_commit : is_nothing x parts ≡ false → IsTrue (uses_store s (OfSession name (Commits parts)))
+  pub uses_to_commit : is_nothing numbers parts ≡ false → IsTrue (uses_store s (OfSession name (Commits parts stock)))
   uses_to_commit some =
-      subst (λ o. IsTrue (nat_lt 0 (effects_in parts) || option_map_or (λ (y : Session). nat_lt 0 (length y.draws)) o false)) (sym (ap (λ ss. session_at ss name) at.own_sessions ∙ at.found))
-      (some_of (effects_in parts) (length x.draws) some)
+      subst (λ o. IsTrue (nat_lt 0 (effects_in parts) || option_map_or (λ (y : Session). nat_lt 0 (length (y.draws ++ stock))) o false)) (sym (ap (λ ss. session_at ss name) at.own_sessions ∙ at.found))
+      (some_of (effects_in parts) (length numbers) some)
     where
       some_of : (m n : ℕ) → (nat_eq m 0 && nat_eq n 0) ≡ false → IsTrue (nat_lt 0 m || nat_lt 0 n)
       some_of (suc m) n h = ap (λ b. b || nat_lt 0 n) (is_written (suc m) (omega arith))
       some_of zero (suc n) h = is_written (suc n) (omega arith)
       some_of zero zero h = cc
 
-  pub commits_in_doubt : is_too_much x parts ≡ false → nat_eq (effects_in parts) 0 ≡ false → is_nothing x parts ≡ false → nat_le limit (length ledger.marks) ≡ false
+  pub commits_in_doubt : is_too_much numbers parts ≡ false → nat_eq (effects_in parts) 0 ≡ false → is_nothing numbers parts ≡ false → nat_le limit (length ledger.marks) ≡ false
       → (unit : UnitOfWork) (levels : List StoredInterval) → unit ≡ the_unit → levels ≡ the_levels
-      → IsAct s (command.Commit name parts) (doubted s (Some (with_intervals levels (with_unit s.stored unit)))) (reply.Refused refusal.StoreFault)
+      → IsAct s (command.Commit name parts stock) (doubted s (Some (with_intervals levels (with_unit s.stored unit)))) (reply.Refused refusal.StoreFault)
   commits_in_doubt few effects some space unit levels is rows =
-      let same : unit_of s.stored.start s.locks x parts x.draws ≡ unit = (λ i. let l : Ledger = at.own_ledger i in unit_of l.start (at.own_locks i) x parts x.draws) ∙ sym is in
-      let same_rows : settled_rows s.stored.levels s.ranges x.draws ≡ levels = (λ i. let l : Ledger = at.own_ledger i in settled_rows l.levels (at.own_ranges i) x.draws) ∙ sym rows in
-      subst (λ (w : Ledger). IsAct s (command.Commit name parts) (doubted s (Some w)) (reply.Refused refusal.StoreFault)) (λ i. with_intervals (same_rows i) (with_unit s.stored (same i)))
-      (fails s (command.Commit name parts) (committed s x parts x.draws) _ at.admits (leaves_unit few effects some space) (uses_to_commit some) refl)
+      let same : unit_of s.stored.start s.locks x parts numbers ≡ unit = (λ i. let l : Ledger = at.own_ledger i in unit_of l.start (at.own_locks i) x parts numbers) ∙ sym is in
+      let same_rows : settled_rows s.stored.levels s.ranges numbers ≡ levels = (λ i. let l : Ledger = at.own_ledger i in settled_rows l.levels (at.own_ranges i) numbers) ∙ sym rows in
+      subst (λ (w : Ledger). IsAct s (command.Commit name parts stock) (doubted s (Some w)) (reply.Refused refusal.StoreFault)) (λ i. with_intervals (same_rows i) (with_unit s.stored (same i)))
+      (fails s (command.Commit name parts stock) (stocked stock (committed s x parts numbers)) _ at.admits (leaves_unit few effects some space) (uses_to_commit some) refl)
+
+  not_none : (n : ℕ) → nat_eq n 0 ≡ false → 1 ≤ n
+  not_none zero h = cc
+  not_none (suc n) h = omega arith
+
+  -- the call uses the backup file
+  uses_to_hand : nat_eq (effects_in parts) 0 ≡ false → 1 ≤ length (lasting (unit_key ledger.start x) entries) → IsTrue (uses_file s (OfSession name (Commits parts stock)))
+  uses_to_hand effects some =
+      subst (λ o. IsTrue (nat_lt 0 (effects_in parts) && option_map_or (λ (y : Session). nat_lt 0 (length (lasting (unit_key s.stored.start y) s.locks))) o false)) (sym (ap (λ ss. session_at ss name) at.own_sessions ∙ at.found))
+      (and_from (nat_lt 0 (effects_in parts)) _ (is_written (effects_in parts) (not_none (effects_in parts) effects))
+      ((λ i. let l : Ledger = at.own_ledger i in nat_lt 0 (length (lasting (unit_key l.start x) (at.own_locks i)))) ∙ is_written (length (lasting (unit_key ledger.start x) entries)) some))
+
+  pub commits_unfiled : is_too_much numbers parts ≡ false → nat_eq (effects_in parts) 0 ≡ false → is_nothing numbers parts ≡ false → nat_le limit (length ledger.marks) ≡ false
+      → (key : UnitKey) → key ≡ unit_key ledger.start x → 1 ≤ length (lasting key entries) → (new : Ledger) → new ≡ ledger
+      → IsAct s (command.Commit name parts stock) (unfiled s new) (reply.Refused refusal.BackupFault)
+  commits_unfiled few effects some space key k lasts new b =
+      subst (λ l. IsAct s (command.Commit name parts stock) (unfiled s l) (reply.Refused refusal.BackupFault)) (at.own_ledger ∙ sym b)
+      (fails_filing s (command.Commit name parts stock) (stocked stock (committed s x parts numbers)) _ at.admits (leaves_unit few effects some space)
+      (uses_to_hand effects (subst (λ u. 1 ≤ length (lasting u entries)) k lasts)))
 
   -- ---- numbers alone
 
-  leaves_numbers : is_too_much x parts ≡ false → nat_eq (effects_in parts) 0 ≡ true → is_nothing x parts ≡ false → nat_le limit (length ledger.marks) ≡ false
-      → own_verdict (found_in s) s (OfSession name (Commits parts)) ≡ Leaves (numbered s x x.draws) reply.Done
-  leaves_numbers few alone some space = own ∙ tested s x parts false false true few some alone ∙ fits s _ (full_as s limit ledger false at.own_limit at.own_ledger space)
+  leaves_numbers : is_too_much numbers parts ≡ false → nat_eq (effects_in parts) 0 ≡ true → is_nothing numbers parts ≡ false → nat_le limit (length ledger.marks) ≡ false
+      → own_verdict (found_in s) s (OfSession name (Commits parts stock)) ≡ Leaves (stocked stock (numbered s x numbers)) reply.Done
+  leaves_numbers few alone some space = own ∙ tested s x parts stock false false true few some alone ∙ passes_fit s stock _ (full_as s limit ledger false at.own_limit at.own_ledger space)
 
-  pub commits_numbers : is_too_much x parts ≡ false → nat_eq (effects_in parts) 0 ≡ true → is_nothing x parts ≡ false → nat_le limit (length ledger.marks) ≡ false
-      → (after : List Session) (new : Ledger) → after ≡ with_session x.name without_draws sessions → new ≡ with_intervals the_levels (with_mark ledger (unit_key ledger.start x) (Num x.draws))
-      → IsAct s (command.Commit name parts) (record s { sessions = after; locks = entries; stored = new }) reply.Done
+  pub commits_numbers : is_too_much numbers parts ≡ false → nat_eq (effects_in parts) 0 ≡ true → is_nothing numbers parts ≡ false → nat_le limit (length ledger.marks) ≡ false
+      → (after : List Session) (new : Ledger) → after ≡ with_session x.name without_draws sessions → new ≡ with_intervals the_levels (with_mark ledger (unit_key ledger.start x) (Num numbers))
+      → IsAct s (command.Commit name parts stock) (record s { sessions = after; ranges = passed stock ranges; locks = entries; stored = new }) reply.Done
   commits_numbers few alone some space after new a c =
       let e' : with_session x.name without_draws s.sessions ≡ after = ap (with_session x.name without_draws) at.own_sessions ∙ sym a in
-      let g' : with_numbers s x.draws (with_mark s.stored (unit_key s.stored.start x) (Num x.draws)) ≡ new =
-      (λ i. let l : Ledger = at.own_ledger i in with_intervals (settled_rows l.levels (at.own_ranges i) x.draws) (with_mark l (unit_key l.start x) (Num x.draws))) ∙ sym c in
-      at_state _ _ (numbered s x x.draws) _ _ (λ i. record s { sessions = e' i; locks = at.own_locks i; stored = g' i })
-      (leaves_as s (command.Commit name parts) (numbered s x x.draws) _ at.admits (leaves_numbers few alone some space))
+      let g' : with_numbers s numbers (with_mark s.stored (unit_key s.stored.start x) (Num numbers)) ≡ new =
+      (λ i. let l : Ledger = at.own_ledger i in with_intervals (settled_rows l.levels (at.own_ranges i) numbers) (with_mark l (unit_key l.start x) (Num numbers))) ∙ sym c in
+      at_state _ _ (stocked stock (numbered s x numbers)) _ _ (λ i. record s { sessions = e' i; ranges = passed stock (at.own_ranges i); locks = at.own_locks i; stored = g' i })
+      (leaves_as s (command.Commit name parts stock) (stocked stock (numbered s x numbers)) _ at.admits (leaves_numbers few alone some space))
 
-  pub numbers_in_doubt : is_too_much x parts ≡ false → nat_eq (effects_in parts) 0 ≡ true → is_nothing x parts ≡ false → nat_le limit (length ledger.marks) ≡ false
+  pub numbers_in_doubt : is_too_much numbers parts ≡ false → nat_eq (effects_in parts) 0 ≡ true → is_nothing numbers parts ≡ false → nat_le limit (length ledger.marks) ≡ false
       → (levels : List StoredInterval) → levels ≡ the_levels
-      → IsAct s (command.Commit name parts) (doubted s (Some (with_intervals levels (with_mark s.stored (unit_key s.stored.start x) (Num x.draws))))) (reply.Refused refusal.StoreFault)
+      → IsAct s (command.Commit name parts stock) (doubted s (Some (with_intervals levels (with_mark s.stored (unit_key s.stored.start x) (Num numbers))))) (reply.Refused refusal.StoreFault)
   numbers_in_doubt few alone some space levels rows =
-      let same_rows : settled_rows s.stored.levels s.ranges x.draws ≡ levels = (λ i. let l : Ledger = at.own_ledger i in settled_rows l.levels (at.own_ranges i) x.draws) ∙ sym rows in
-      subst (λ (ls : List StoredInterval). IsAct s (command.Commit name parts) (doubted s (Some (with_intervals ls (with_mark s.stored (unit_key s.stored.start x) (Num x.draws))))) (reply.Refused refusal.StoreFault)) same_rows
-      (fails s (command.Commit name parts) (numbered s x x.draws) _ at.admits (leaves_numbers few alone some space) (uses_to_commit some) refl)
+      let same_rows : settled_rows s.stored.levels s.ranges numbers ≡ levels = (λ i. let l : Ledger = at.own_ledger i in settled_rows l.levels (at.own_ranges i) numbers) ∙ sym rows in
+      subst (λ (ls : List StoredInterval). IsAct s (command.Commit name parts stock) (doubted s (Some (with_intervals ls (with_mark s.stored (unit_key s.stored.start x) (Num numbers))))) (reply.Refused refusal.StoreFault)) same_rows
+      (fails s (command.Commit name parts stock) (stocked stock (numbered s x numbers)) _ at.admits (leaves_numbers few alone some space) (uses_to_commit some) refl)
 
 -- the unit of a session that is logged on may be recorded
-pub may_record : (ledger : Ledger) (sessions : List Session) (name : List ℕ) (x : Session) (parts : Parts) (start : ℕ) (t : Table) (unit : UnitOfWork) → start ≡ ledger.start → unit ≡ unit_of start t.entries x parts x.draws → All HasDigits x.draws → length x.draws ≤ 64 → session_at sessions name ≡ Some x → AllByRecursion (IsAhead ledger) sessions → AllByRecursion (OfLock (HasItsUser ledger.start sessions)) t.entries → IsTable t → 1 ≤ ledger.start → 1 ≤ effects_in parts → effects_in parts ≤ 200 → IsNewUnit ledger unit
-may_record ledger sessions name x parts start t unit same is digits few_draws found ahead users good started some few =
+pub may_record : (ledger : Ledger) (sessions : List Session) (name : List ℕ) (x : Session) (parts : Parts) (numbers : List Number) (start : ℕ) (t : Table) (unit : UnitOfWork) → start ≡ ledger.start → unit ≡ unit_of start t.entries x parts numbers → All HasDigits numbers → length numbers ≤ 64 → session_at sessions name ≡ Some x → AllByRecursion (IsAhead ledger) sessions → AllByRecursion (OfLock (HasItsUser ledger.start sessions)) t.entries → IsTable t → 1 ≤ ledger.start → 1 ≤ effects_in parts → effects_in parts ≤ 200 → IsNewUnit ledger unit
+may_record ledger sessions name x parts numbers start t unit same is digits few_draws found ahead users good started some few =
     let held = handed_table t ledger.start x good in
-    subst (IsNewUnit ledger) (sym (is ∙ ap (λ n. unit_of n t.entries x parts x.draws) same)) (record {
+    subst (IsNewUnit ledger) (sym (is ∙ ap (λ n. unit_of n t.entries x parts numbers) same)) (record {
       fresh = found_all_in (IsAhead ledger) (is_called name) sessions x found ahead x.luw (omega arith);
       first = started;
       last = omega arith;
@@ -574,6 +661,6 @@ may_record ledger sessions name x parts start t unit same is digits few_draws fo
       few_numbers = few_draws;
       digits = digits;
       few_entries = omega (arith, held.within, held.limit_fits);
-      held = all_held t sessions name ledger.start x parts x.draws found users good;
+      held = all_held t sessions name ledger.start x parts numbers found users good;
       distinct = held.sound.names;
     })

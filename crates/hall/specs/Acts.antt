@@ -1,19 +1,22 @@
 -- A call apart from its place in the history.
-use Rattle.std.specs.Prelude.{◌≡◌, ℕ, ◌+◌, nat_eq, Option, None, if◌then◌else◌}
+use Rattle.std.specs.Prelude.{◌≡◌, ℕ, ◌+◌, nat_eq, List, Option, None, if◌then◌else◌}
 use Rattle.std.specs.Option.{option_map}
 use Rattle.enq_base.specs.declared.condition.Condition.{Condition}
 use Rattle.enq_base.specs.declared.condition.Condition.TheVariants as condition
 use Rattle.hall.specs.declared.units.InFlight.{InFlight}
 use Rattle.enq_base.specs.declared.refusal.Refusal.TheVariants as refusal
+use Rattle.enq_base.specs.declared.unit.Num.{Num}
+use Rattle.range_list.specs.Drawn.{passed}
+use Rattle.range_list.specs.declared.range.NumberRange.{NumberRange}
 use Rattle.hall.specs.declared.command.Command.{Command}
 use Rattle.hall.specs.declared.command.Command.TheVariants as command
 use Rattle.hall.specs.declared.command.Reply.{Reply}
 use Rattle.hall.specs.declared.command.Reply.TheVariants as reply
 use Rattle.hall.specs.declared.units.Written.{Written}
-use Rattle.hall.specs.declared.units.Written.TheVariants.{Answered, Failed}
-use Rattle.hall.specs.Devices.{DeviceOutcome, IsAllowed}
+use Rattle.hall.specs.declared.units.Written.TheVariants.{Answered, Failed, Unfiled}
+use Rattle.hall.specs.Devices.{DeviceOutcome, IsPossible}
 use Rattle.hall.specs.Flights.{landed}
-use Rattle.hall.specs.History.{doubted, served}
+use Rattle.hall.specs.History.{doubted, served, unfiled}
 use Rattle.hall.specs.Kept.{NoneLost}
 use Rattle.hall.specs.State.{State}
 use Rattle.hall.specs.Step.{barred}
@@ -21,7 +24,7 @@ use Rattle.hall.specs.Step.{barred}
 -- the call leaves this state, and is answered so; it isn't in the history yet
 pub record IsAct (s : State) (c : Command) (after : State) (r : Reply) : Type 0 where
   pub outcome : DeviceOutcome
-  pub allowed : IsAllowed outcome s c
+  pub possible : IsPossible outcome s c
   pub same : served outcome s c ≡ record { state = after; reply = r }
 
 -- nothing bars calls, but of a session that isn't logged on
@@ -38,30 +41,49 @@ take_of part worker = if nat_eq part 1 then command.Take1 worker else command.Ta
 abbrev pub post_of : ℕ → ℕ → Command
 post_of part worker = if nat_eq part 1 then command.Do1 worker else command.Do2 worker
 
--- a call that uses the store leaves this state, or where the store fails a server in doubt
+-- a call that uses store and file leaves this state, or where one of them fails a server in doubt
 abbrev pub IsWritten : State → Command → State → Written → Type 0
 IsWritten s c after (Answered r) = IsAct s c after r
 IsWritten s c after (Failed change) =
     IsAct s c (doubted s (option_map (landed s.stored) change)) (reply.Refused refusal.StoreFault)
+IsWritten s c after Unfiled = IsAct s c (unfiled s after.stored) (reply.Refused refusal.BackupFault)
 
--- where the store fails
+-- where the store fails, or the disk of the backup file
 abbrev pub OnFailure : Written → Type 0 → Type 0
 OnFailure (Answered r) P = Unit {0}
 OnFailure (Failed change) P = P
+OnFailure Unfiled P = P
+
+-- where the store fails
+abbrev pub OnStoreFailure : Written → Type 0 → Type 0
+OnStoreFailure (Answered r) P = Unit {0}
+OnStoreFailure (Failed change) P = P
+OnStoreFailure Unfiled P = Unit {0}
+
+-- memory goes behind the numbers of a stock that were recorded
+abbrev pub ranges_behind : List Num → List NumberRange → Written → List NumberRange
+ranges_behind stock ranges (Answered (reply.Refused r)) = ranges
+ranges_behind stock ranges (Answered r) = passed stock ranges
+ranges_behind stock ranges (Failed change) = ranges
+ranges_behind stock ranges Unfiled = ranges
 
 abbrev pub OnAnswer : Written → Type 0 → Type 0
 OnAnswer (Answered r) P = P
 OnAnswer (Failed change) P = Unit {0}
+OnAnswer Unfiled P = Unit {0}
 
--- what a call that uses the store is answered, and what it leaves of the condition and of the change in flight
+-- what a call that uses the store or the file is answered, and what it leaves of the condition and of the change in flight
 abbrev pub written_reply : Written → Reply
 written_reply (Answered r) = r
 written_reply (Failed change) = reply.Refused refusal.StoreFault
+written_reply Unfiled = reply.Refused refusal.BackupFault
 
 abbrev pub written_condition : Condition → ℕ → Written → Condition
 written_condition before calls (Answered r) = before
 written_condition before calls (Failed change) = condition.Doubt (calls + 1)
+written_condition before calls Unfiled = condition.Doubt (calls + 1)
 
 abbrev pub written_pending : Option InFlight → Written → Option InFlight
 written_pending before (Answered r) = before
 written_pending before (Failed change) = change
+written_pending before Unfiled = before

@@ -1,6 +1,7 @@
 -- Calls by who makes them.
 use Rattle.std.specs.Prelude.{ℕ, Bool, true, false, nat_eq, List}
 use Rattle.enq_base.specs.declared.owner.UnitKey.{UnitKey}
+use Rattle.enq_base.specs.declared.unit.Num.{Num}
 use Rattle.enq_base.specs.declared.unit.Parts.{Parts}
 use Rattle.lock_entry.specs.declared.entry.Asked.{Asked}
 use Rattle.lock_entry.specs.declared.entry.Request.{Request}
@@ -22,8 +23,8 @@ pub data SessionCall : Type 0 where
   Reserves : List ℕ → List ℕ → ℕ → SessionCall
   -- the row of this table and this key
   Reads : List ℕ → List ℕ → SessionCall
-  -- a unit with these effects, and what the session has drawn
-  Commits : Parts → SessionCall
+  -- a unit with these effects, what the session has drawn, and these numbers of a stock
+  Commits : Parts → List Num → SessionCall
   RollsBack : SessionCall
 
 -- what a worker may do; part 1 is V1, and part 2 is V2
@@ -54,7 +55,7 @@ call_of (command.Convert session asked) = OfSession session (Converts asked)
 call_of (command.Number session object nr) = OfSession session (Draws object nr)
 call_of (command.Reserve session object nr upto) = OfSession session (Reserves object nr upto)
 call_of (command.Read session table key) = OfSession session (Reads table key)
-call_of (command.Commit session parts) = OfSession session (Commits parts)
+call_of (command.Commit session parts stock) = OfSession session (Commits parts stock)
 call_of (command.Rollback session) = OfSession session RollsBack
 call_of (command.Take1 worker) = OfWorker worker (Takes 1)
 call_of (command.Take2 worker) = OfWorker worker (Takes 2)
@@ -110,7 +111,7 @@ abbrev pub session_touches_store : SessionCall → Bool
 session_touches_store (Draws object nr) = true
 session_touches_store (Reserves object nr upto) = true
 session_touches_store (Reads table key) = true
-session_touches_store (Commits parts) = true
+session_touches_store (Commits parts stock) = true
 session_touches_store call = false
 
 abbrev pub worker_touches_store : WorkerCall → Bool
@@ -123,3 +124,26 @@ touches_store (LogsOn session user) = false
 touches_store (OfSession session call) = session_touches_store call
 touches_store (OfWorker worker call) = worker_touches_store call
 touches_store (OfAdmin call) = true
+
+-- ---- what calls do to the backup file
+
+abbrev pub session_touches_file : SessionCall → Bool
+session_touches_file (Commits parts stock) = true
+session_touches_file call = false
+
+abbrev pub worker_touches_file : WorkerCall → Bool
+worker_touches_file (Posts part) = nat_eq part 1
+worker_touches_file call = false
+
+-- the calls that hand locks of a unit over to the update, end them, or take them back
+abbrev pub touches_file : Call → Bool
+touches_file (LogsOn session user) = false
+touches_file (OfSession session call) = session_touches_file call
+touches_file (OfWorker worker call) = worker_touches_file call
+touches_file (OfAdmin call) = true
+
+-- of these the ones that write the store first: where the disk fails their mark stands already
+abbrev pub writes_store_first : Call → Bool
+writes_store_first (OfWorker worker (Posts part)) = true
+writes_store_first (OfAdmin (Cancels unit)) = true
+writes_store_first call = false

@@ -1,11 +1,19 @@
 -- What the devices do in a call, and which of it may be.
-use Rattle.std.specs.Prelude.{◌≡◌, ℕ, Bool, true, false, ◌&&◌, ◌||◌, nat_lt, length, List, Option, None, IfSome, IsTrue, is_ok, is_some}
+use Rattle.std.specs.Prelude.{◌≡◌, ℕ, Bool, true, false, ◌&&◌, ◌||◌, ◌++◌, nat_eq, nat_lt, length, List, [], if◌then◌else◌, Option, None, IfSome, IsTrue, is_ok, is_some}
+use Rattle.enq_base.specs.declared.owner.UnitKey.{UnitKey}
+use Rattle.enq_base.specs.declared.unit.Num.{Num}
+use Rattle.enq_base.specs.declared.unit.Parts.{Parts}
+use Rattle.enq_base.specs.declared.unit.Status.TheVariants as status
+use Rattle.enq_server.specs.Server.{lasting}
+use Rattle.lock_entry.specs.declared.entry.Entry.{Entry}
+use Rattle.posting.specs.Posts.{entries_of}
+use Rattle.update_records.specs.Marks.{has_status, status_of}
 use Rattle.posting.specs.declared.prepared.Outcome.{Outcome}
 use Rattle.hall.specs.declared.command.Command.{Command}
 use Rattle.hall.specs.Calls.{AdminCall, Cancels, Resubmits, Call, LogsOn, OfSession, OfWorker, OfAdmin, WorkerCall, Posts}
-use Rattle.hall.specs.Calls.{SessionCall, LogsOff, Frees, FreesAll, Draws, Reserves, Reads, Commits, RollsBack, call_of}
+use Rattle.hall.specs.Calls.{SessionCall, LogsOff, Frees, FreesAll, Draws, Reserves, Reads, Commits, RollsBack, call_of, session_touches_store, touches_store}
 use Rattle.hall.specs.declared.command.Session.{Session}
-use Rattle.hall.specs.Sessions.{session_at}
+use Rattle.hall.specs.Sessions.{session_at, unit_key}
 use Rattle.number_ranges.specs.Intervals.{is_buffered}
 use Rattle.range_list.specs.Levels.{present, range_at}
 use Rattle.range_list.specs.declared.range.NumberRange.{NumberRange}
@@ -13,6 +21,7 @@ use Rattle.std.specs.Option.{option_map_or}
 use Rattle.hall.specs.Coming.{MayComeTo}
 use Rattle.hall.specs.Orders.{order_for}
 use Rattle.hall.specs.State.{State}
+use Rattle.hall.specs.Stocks.{MayCall}
 use Rattle.hall.specs.Step.{Found, Verdict, call_verdict, effects_in, found_in, leaves, row_in, to_resubmit, unavailable}
 
 -- what a device gave that the state doesn't tell
@@ -31,11 +40,23 @@ pub data Event : Type 0 where
   Wanting : Event
   -- the store failed
   StoreFails : Event
+  -- the disk of the backup file failed
+  BackupFails : Event
 
 abbrev pub is_store_failure : Event → Bool
 is_store_failure AllWell = false
 is_store_failure Wanting = false
 is_store_failure StoreFails = true
+is_store_failure BackupFails = false
+
+abbrev pub is_file_failure : Event → Bool
+is_file_failure AllWell = false
+is_file_failure Wanting = false
+is_file_failure StoreFails = false
+is_file_failure BackupFails = true
+
+abbrev pub is_failure : Event → Bool
+is_failure event = is_store_failure event || is_file_failure event
 
 pub record DeviceOutcome : Type 0 where
   pub event : Event
@@ -84,14 +105,24 @@ raises_level s (Reserves object nr upto) =
     option_map_or (λ r. is_past_level s r upto) (range_at s.ranges object nr) false
 raises_level s call = false
 
+-- the calls that may touch the store: of draws and reservations those that raise a level, as the others find theirs in memory
+abbrev pub session_reaches_store : State → SessionCall → Bool
+session_reaches_store s (Draws object nr) = raises_level s (Draws object nr)
+session_reaches_store s (Reserves object nr upto) = raises_level s (Reserves object nr upto)
+session_reaches_store s call = session_touches_store call
+
+abbrev pub reaches_store : State → Call → Bool
+reaches_store s (OfSession session call) = session_reaches_store s call
+reaches_store s call = touches_store call
+
 -- there are numbers to record
-abbrev pub has_numbers : State → List ℕ → Bool
-has_numbers s session =
-    option_map_or (λ (x : Session). nat_lt 0 (length x.draws)) (session_at s.sessions session) false
+abbrev pub has_numbers : State → List ℕ → List Num → Bool
+has_numbers s session stock =
+    option_map_or (λ (x : Session). nat_lt 0 (length (x.draws ++ stock))) (session_at s.sessions session) false
 
 abbrev pub session_uses_store : State → List ℕ → SessionCall → Bool
 session_uses_store s session (Reads table key) = true
-session_uses_store s session (Commits parts) = nat_lt 0 (effects_in parts) || has_numbers s session
+session_uses_store s session (Commits parts stock) = nat_lt 0 (effects_in parts) || has_numbers s session stock
 session_uses_store s session call = raises_level s call
 
 abbrev pub worker_uses_store : WorkerCall → Bool
@@ -105,6 +136,37 @@ uses_store s (LogsOn session user) = false
 uses_store s (OfSession session call) = session_uses_store s session call
 uses_store s (OfWorker worker call) = worker_uses_store call
 uses_store s (OfAdmin call) = true
+
+-- the session's open unit has locks to hand over, and something to record
+abbrev pub hands_over : State → List ℕ → Parts → Bool
+hands_over s session parts =
+    nat_lt 0 (effects_in parts)
+    && option_map_or (λ (x : Session). nat_lt 0 (length (lasting (unit_key s.stored.start x) s.locks))) (session_at s.sessions session) false
+
+abbrev pub session_uses_file : State → List ℕ → SessionCall → Bool
+session_uses_file s session (Commits parts stock) = hands_over s session parts
+session_uses_file s session call = false
+
+abbrev pub worker_uses_file : WorkerCall → Bool
+worker_uses_file (Posts part) = nat_eq part 1
+worker_uses_file call = false
+
+-- the locks that were stored with a unit whose V1 part was refused
+abbrev pub refused_locks : State → UnitKey → List Entry
+refused_locks s unit =
+    if has_status status.Bad (status_of s.stored.units s.stored.marks unit) then entries_of s.stored.units unit else []
+
+abbrev pub admin_uses_file : State → AdminCall → Bool
+admin_uses_file s (Cancels unit) = has_status status.Open (status_of s.stored.units s.stored.marks unit)
+admin_uses_file s (Resubmits unit) = nat_lt 0 (length (refused_locks s unit))
+
+-- the calls that write the backup file: those that record a unit with locks, that end a V1 part, or that cancel a unit which
+-- waits for it, and those by which a refused V1 part is tried again whose unit has locks
+abbrev pub uses_file : State → Call → Bool
+uses_file s (LogsOn session user) = false
+uses_file s (OfSession session call) = session_uses_file s session call
+uses_file s (OfWorker worker call) = worker_uses_file call
+uses_file s (OfAdmin call) = admin_uses_file s call
 
 abbrev pub session_may_want : SessionCall → Bool
 session_may_want LogsOff = false
@@ -133,8 +195,14 @@ abbrev pub MayHappen : Event → State → Call → Verdict → Type 0
 MayHappen AllWell s call v = Unit {0}
 MayHappen Wanting s call v = (unavailable s call ≡ None) × IsTrue (may_want s v call)
 MayHappen StoreFails s call v = IsTrue (leaves v) × IsTrue (uses_store s call)
+MayHappen BackupFails s call v = IsTrue (leaves v) × IsTrue (uses_file s call)
 
--- a call may have this outcome
-pub record IsAllowed (o : DeviceOutcome) (s : State) (c : Command) : Type 0 where
+-- the devices may have done this in a call
+pub record IsPossible (o : DeviceOutcome) (s : State) (c : Command) : Type 0 where
   pub reading : MayRead o.reading s (call_of c)
   pub event : MayHappen o.event s (call_of c) (call_verdict (found_by o.reading s) s (call_of c))
+
+-- a call may be made, and may have this outcome
+pub record IsAllowed (o : DeviceOutcome) (s : State) (c : Command) : Type 0 where
+  pub call : MayCall s (call_of c)
+  pub possible : IsPossible o s c

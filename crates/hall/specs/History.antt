@@ -8,8 +8,8 @@ use Rattle.hall.specs.declared.command.Command.{Command}
 use Rattle.hall.specs.declared.command.PastEntry.{PastEntry}
 use Rattle.hall.specs.declared.command.Reply.{Reply}
 use Rattle.hall.specs.declared.command.Reply.TheVariants as reply
-use Rattle.hall.specs.Calls.{Call, call_of, only_reads, who_of}
-use Rattle.hall.specs.Devices.{DeviceOutcome, Event, AllWell, Wanting, StoreFails, IsAllowed, found_by}
+use Rattle.hall.specs.Calls.{Call, call_of, only_reads, who_of, writes_store_first}
+use Rattle.hall.specs.Devices.{DeviceOutcome, Event, AllWell, Wanting, StoreFails, BackupFails, IsAllowed, found_by}
 use Rattle.hall.specs.State.{State}
 use Rattle.hall.specs.Step.{Verdict, Refuses, Leaves, call_verdict}
 use Rattle.update_records.specs.Ledger.{Ledger}
@@ -43,11 +43,20 @@ abbrev pub pending_after : State → Call → Verdict → Option Ledger
 pending_after s call (Refuses r) = s.pending
 pending_after s call (Leaves after r) = if only_reads call then s.pending else Some after.stored
 
+-- the disk failed: the mark of a post or of a cancelling stands already, and of any other call there is none
+abbrev pub unfiled : State → Ledger → State
+unfiled s stored = record (doubted s s.pending) { stored = stored }
+
+abbrev pub stored_before_file : State → Call → Verdict → Ledger
+stored_before_file s call (Refuses r) = s.stored
+stored_before_file s call (Leaves after r) = if writes_store_first call then after.stored else s.stored
+
 -- a call's end, by what went wrong, and by what the call comes to
 abbrev pub ends_in : Event → State → Call → Verdict → Served
 ends_in AllWell s call v = judged s v
 ends_in Wanting s call v = refused s refusal.NoMemory
 ends_in StoreFails s call v = refused (doubted s (pending_after s call v)) refusal.StoreFault
+ends_in BackupFails s call v = refused (unfiled s (stored_before_file s call v)) refusal.BackupFault
 
 abbrev pub served : DeviceOutcome → State → Command → Served
 served o s c = ends_in o.event s (call_of c) (call_verdict (found_by o.reading s) s (call_of c))

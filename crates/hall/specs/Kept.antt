@@ -10,7 +10,7 @@ use Rattle.enq_base.specs.declared.owner.UnitKey.{UnitKey}
 use Rattle.enq_base.specs.declared.unit.Status.{Status}
 use Rattle.enq_base.specs.declared.unit.Status.TheVariants.{Open}
 use Rattle.lock_entry.specs.declared.entry.Entry.{Entry}
-use Rattle.lock_entry.specs.Sound.{ReadmitsOnly}
+use Rattle.lock_entry.specs.Sound.{IsSound, ReadmitsOnly}
 use Rattle.lock_entry.specs.Table.{IsTable}
 use Rattle.mode_rules.specs.declared.Mode.TheVariants.{O}
 use Rattle.mode_rules.specs.Modes.{same_mode}
@@ -22,6 +22,7 @@ use Rattle.update_records.specs.Ledger.{Ledger}
 use Rattle.update_records.specs.Marks.{status_of, unit_at}
 use Rattle.update_records.specs.declared.records.Unit.{Unit as UnitOfWork}
 use Rattle.hall.specs.declared.command.Session.{Session}
+use Rattle.hall.specs.OpenUnits.{HoldsOpenUnits, OfPending, open_entries}
 use Rattle.hall.specs.Orders.{is_claimed}
 use Rattle.hall.specs.Sessions.{is_called, owners_of}
 use Rattle.hall.specs.State.{State}
@@ -135,10 +136,11 @@ pub record IsOwned (ledger : Ledger) (next : ℕ) (sessions : List Session) (loc
 abbrev pub is_firm : Entry → Bool
 is_firm e = e.handed && not (same_mode e.mode O)
 
--- the locks that are stored with a unit are its own, were handed over to it, and can stand together
+-- the locks that are stored with a unit are its own, have its user, were handed over to it, and can stand together
 pub record HasGoodLocks (unit : UnitOfWork) : Type 0 where
   pub own : ReadmitsOnly (owners_of unit.key) unit.entries
   pub firm : list_all is_firm unit.entries ≡ true
+  pub used : AllByRecursion (λ (e : Entry). e.user ≡ unit.user) unit.entries
 
 -- the locks of the state may stand together, and so may those of each unit
 pub record HasSoundLocks (s : State) : Type 0 where
@@ -150,6 +152,12 @@ abbrev pub WhileUp : Condition → Type 0 → Type 0
 WhileUp condition.Up P = P
 WhileUp condition.NoServer P = Unit {0}
 WhileUp (condition.Doubt k) P = Unit {0}
+
+-- what holds where the server is not in doubt
+abbrev pub OutsideDoubt : Condition → Type 0 → Type 0
+OutsideDoubt condition.Up P = P
+OutsideDoubt condition.NoServer P = P
+OutsideDoubt (condition.Doubt k) P = Unit {0}
 
 -- so far no call ends the lock server
 abbrev pub HasServer : Condition → Type 0
@@ -169,11 +177,20 @@ pub record IsSteady (s : State) : Type 0 where
   pub settled : WhileUp s.condition (s.pending ≡ None)
   pub fresh : HasFreshKeys s
   pub places : length s.orders ≡ 256
-  pub orders : AreOrders s.stored s.orders
+  -- in doubt an order may stand whose unit waits no more
+  pub orders : OutsideDoubt s.condition (AreOrders s.stored s.orders)
   pub owned : IsOwned s.stored s.next_session s.sessions s.locks
+
+-- While the server is up the handed locks of the table are just those of the open units; and these may stand together, so
+-- that the next start can take them over, with the change in flight or without it.
+pub record HasOpenUnits (s : State) : Type 0 where
+  pub held : WhileUp s.condition (HoldsOpenUnits s.locks s.stored)
+  pub stored : IsSound (open_entries s.stored)
+  pub pending : OfPending s.pending (λ ledger. IsSound (open_entries ledger))
 
 pub record IsKept (s : State) : Type 0 where
   pub within : length s.past ≤ 262144
   pub few : HasFew (length s.past) s
   pub steady : IsSteady s
   pub sound : HasSoundLocks s
+  pub open_units : HasOpenUnits s

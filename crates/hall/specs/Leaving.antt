@@ -10,7 +10,7 @@ use Rattle.update_records.specs.Ledger.{Ledger, StandFor}
 use Rattle.hall.specs.declared.command.Reply.{Reply}
 use Rattle.hall.specs.declared.command.Reply.TheVariants as reply
 use Rattle.hall.specs.declared.units.Written.{Written}
-use Rattle.hall.specs.declared.units.Written.TheVariants.{Answered, Failed}
+use Rattle.hall.specs.declared.units.Written.TheVariants.{Answered, Failed, Unfiled}
 use Rattle.hall.specs.declared.units.InFlight.{InFlight}
 use Rattle.hall.specs.Flights.{landed}
 use Rattle.hall.specs.State.{State, View}
@@ -25,7 +25,7 @@ abbrev pub StandForState : Rows → State → Type 0
 StandForState rows s = StandFor rows s.stored ⊎ StandForPending rows s.pending
 
 -- where the keeper tells its rows, each map that a stop may leave stands for the state
-abbrev pub LeavesState : {K : Type 0} → (K → Option Rows) → (K → Rows → Type 0) → View K → Type 0
+abbrev pub LeavesState : {K D L : Type 0} → (K → Option Rows) → (K → Rows → Type 0) → View K D L → Type 0
 LeavesState held may_leave view =
     IfSome (held view.keeper) (λ _. (left : Rows) → may_leave view.keeper left → StandForState left view.state)
 
@@ -37,6 +37,7 @@ StandForLanded rows ledger change = StandFor rows ledger ⊎ StandForPending row
 abbrev pub StandForWritten : Rows → Ledger → Written → Type 0
 StandForWritten rows ledger (Answered r) = StandFor rows ledger
 StandForWritten rows ledger (Failed change) = StandForLanded rows ledger change
+StandForWritten rows ledger Unfiled = StandFor rows ledger
 
 -- the same of each map that a stop may leave
 abbrev pub LeavesWritten :
@@ -55,10 +56,11 @@ abbrev pub HasStoreCause : ℕ → ℕ → Reply → Type 0
 HasStoreCause before now (reply.Refused refusal.StoreFault) = (before ≤ now) × Rose before now
 HasStoreCause before now _ = now ≡ before
 
--- a call that is refused, but for a failure of the store, leaves what the keeper holds and what a stop may leave of it, and
--- so does one that tells a row
+-- a call that is refused, but for a failure of the store or of the backup file, leaves what the keeper holds and what a stop
+-- may leave of it, and so does one that tells a row
 abbrev pub KeepsStore : {K : Type 0} → (K → Option Rows) → (K → Rows → Type 0) → K → K → Reply → Type 0
 KeepsStore held may_leave old new (reply.Refused refusal.StoreFault) = Unit {0}
+KeepsStore held may_leave old new (reply.Refused refusal.BackupFault) = Unit {0}
 KeepsStore held may_leave old new (reply.Refused _) = (held new ≡ held old) × IsWithin (may_leave new) (may_leave old)
 KeepsStore held may_leave old new (reply.Row text) = (held new ≡ held old) × IsWithin (may_leave new) (may_leave old)
 KeepsStore held may_leave old new _ = Unit {0}

@@ -6,7 +6,7 @@ use Rattle.number_ranges.specs.Draws.{RangeState}
 use Rattle.number_ranges.specs.Intervals.{block_level, is_buffered, with_level}
 use Rattle.number_ranges.specs.declared.interval.Interval.{Interval}
 use Rattle.posting.specs.Intervals.{with_intervals}
-use Rattle.range_list.specs.Drawn.{drawn_of, handed_out, num_of, settled_rows, stored_as}
+use Rattle.range_list.specs.Drawn.{drawn_of, handed_out, num_of, passed, settled_rows, stored_as}
 use Rattle.range_list.specs.Levels.{present, range_at}
 use Rattle.range_list.specs.declared.range.NumberRange.{NumberRange}
 use Rattle.update_records.specs.Ledger.{Ledger, Levels}
@@ -82,6 +82,10 @@ drawn s x i number =
 -- the store with these numbers recorded, the levels of intervals without a buffer at the last of them
 abbrev pub with_numbers : State → List Num → Ledger → Ledger
 with_numbers s numbers ledger = with_intervals (settled_rows s.stored.levels s.ranges numbers) ledger
+
+-- memory hands out what is behind these numbers of a stock
+abbrev pub stocked : List Num → State → State
+stocked stock s = record s { ranges = passed stock s.ranges }
 
 -- ---- ranges as their monitor shows them
 

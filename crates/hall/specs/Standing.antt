@@ -18,7 +18,7 @@ use Rattle.hall.specs.Recall.{Made, state_after}
 use Rattle.hall.specs.State.{State}
 
 abbrev pub is_commit : Call → Bool
-is_commit (OfSession session (Commits parts)) = true
+is_commit (OfSession session (Commits parts stock)) = true
 is_commit _ = false
 
 -- the call is the commit that recorded this unit
@@ -45,13 +45,14 @@ pub record IsResubmissionOf (unit : UnitKey) (call : PastEntry) : Type 0 where
   pub resubmits : is_resubmission_of unit (call_of call.command) ≡ true
   pub answered : call.reply ≡ reply.Unit unit
 
--- with this call and its answer the unit waits no more: its V1 part was posted or refused, it was cancelled, or the
--- store failed
+-- with this call and its answer the unit waits no more: its V1 part was posted or refused, it was cancelled, or the store
+-- or the disk of the backup file failed
 abbrev pub ends_wait : UnitKey → Call → Reply → Bool
 ends_wait unit c (reply.Posted other) = same_unit other unit
 ends_wait unit c (reply.Bad other index reason) = same_unit other unit
 ends_wait unit c (reply.Unit other) = cancels unit c
 ends_wait unit c (reply.Refused refusal.StoreFault) = true
+ends_wait unit c (reply.Refused refusal.BackupFault) = true
 ends_wait unit c _ = false
 
 -- none of these calls does

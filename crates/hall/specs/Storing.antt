@@ -10,12 +10,12 @@ use Rattle.posting.specs.Shelf.{IsUsable, Shelf, StandForEither}
 use Rattle.posting.specs.Steps.{after_step}
 use Rattle.posting.specs.declared.prepared.Step.{Step}
 use Rattle.range_list.specs.Drawn.{stored_as}
-use Rattle.hall.specs.Acts.{OnAnswer, OnFailure, written_reply}
+use Rattle.hall.specs.Acts.{OnAnswer, OnStoreFailure, written_reply}
 use Rattle.hall.specs.Leaving.{HasStoreCause, KeepsStore, LeavesWritten}
 use Rattle.hall.specs.declared.command.Reply.TheVariants as reply
 use Rattle.hall.specs.declared.units.InFlight.TheVariants as flight
 use Rattle.hall.specs.declared.units.Written.{Written}
-use Rattle.hall.specs.declared.units.Written.TheVariants.{Answered, Failed}
+use Rattle.hall.specs.declared.units.Written.TheVariants.{Answered, Failed, Unfiled}
 
 -- the keeper holds what it held, and nothing new may be left
 pub record StaysAsItWas {K : Type 0} (held : K → Option Rows) (may_leave : K → Rows → Type 0) (old new : K) : Type 0 where
@@ -35,7 +35,7 @@ pub record TriesStep {K : Type 0} (held : K → Option Rows) (is_open : K → Ty
 
 -- how a call ends that uses the store: what it leaves of the books and of the keeper
 pub record EndsAs {K : Type 0} (held : K → Option Rows) (is_open : K → Type 0) (may_leave : K → Rows → Type 0) (faults : K → ℕ) (old new : Shelf K) (w : Written) : Type 0 where
-  pub ledger : OnFailure w (new.ledger ≡ old.ledger)
+  pub ledger : OnStoreFailure w (new.ledger ≡ old.ledger)
   pub usable : OnAnswer w (IsUsable held is_open new)
   pub told : is_some (held new.keeper) ≡ is_some (held old.keeper)
   pub left : LeavesWritten held may_leave new w
@@ -47,3 +47,4 @@ abbrev pub IsRaiseFault : Interval → ℕ → Written → Type 0
 IsRaiseFault i level (Answered r) = r ≡ reply.Refused refusal.NoMemory
 IsRaiseFault i level (Failed change) =
     (change ≡ Some (flight.Level (stored_as (with_level level i)))) × (nat_eq level i.level ≡ false)
+IsRaiseFault i level Unfiled = ⊥

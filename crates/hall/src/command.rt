@@ -82,6 +82,8 @@ pub enum Command {
     Commit {
         session: Name,
         parts: Parts,
+        /// The numbers of buffered intervals that the caller took from a stock which threads share.
+        stock: Items<Num>,
     },
     Take1 {
         worker: u8,

@@ -1,7 +1,10 @@
-ghost use Rattle.std.specs.Prelude.{ℕ, ◌≡◌, ◌∷◌, ◌≤◌, ◌<◌, ◌+◌, ◌^◌, [], IfErr, IfOk, IfSome, OnErr, OnOk, is_none, length, nat_lt, Contains, false};
+ghost use Rattle.std.specs.Prelude.{ℕ, ◌≡◌, ◌∷◌, ◌≤◌, ◌<◌, ◌+◌, ◌^◌, [], IfErr, IfOk, IfSome, MatchResult, OnErr, OnOk, is_none, length, nat_lt, Contains, false};
 ghost use Rattle.hall.specs.declared.command.Command.TheVariants as command;
 ghost use Rattle.hall.specs.declared.units.Written.TheVariants.{Answered};
 ghost use Rattle.hall.specs.Acts.{Admits, IsAct, IsWritten, OnFailure};
+ghost use Rattle.hall.specs.Filing.{ChangesLevels, KeepsUnits};
+ghost use Rattle.hall.specs.Calls.{Draws, Reserves};
+ghost use Rattle.hall.specs.Devices.{raises_level};
 ghost use Rattle.hall.specs.Kept.{draws_in};
 ghost use Rattle.hall.specs.Leaving.{HasStoreCause};
 ghost use Rattle.hall.specs.Numbers.{IsNextDraw, IsNextReserve, level_for, next_number, raised_by};
@@ -60,6 +63,8 @@ pub(crate) fn draw<K: Keeper>(
         result }
     ensures sessions { OnFailure result (sessions.new ≡ sessions.old) }
     ensures ranges { OnFailure result (ranges.new ≡ ranges.old) }
+    ensures levels { ChangesLevels books.old.ledger books.new.ledger result }
+    ensures keeper { (s : State) → s.ranges ≡ ranges.old → s.stored ≡ books.old.ledger → raises_level s (Draws object.now nr) ≡ false → books.new.keeper ≡ books.old.keeper }
     ensures store { EndsAs K.held K.is_open K.may_leave K.faults books.old books.new result }
 {
     let draw = match to_draw(alloc, sessions, ranges, books, name, object, nr) {
@@ -96,6 +101,8 @@ pub(crate) fn reserve<K: Keeper>(
     requires drawn { AreDrawnRight ranges.now books.old.ledger.levels (draws_in sessions.now) (numbers_of books.old.ledger.units books.old.ledger.marks) }
     ensures act { (s : State) → s.sessions ≡ sessions.now → s.ranges ≡ ranges.now → s.stored ≡ books.old.ledger → Admits s
         → IsWritten s (command.Reserve name.now object.now nr upto) (record s { stored = books.new.ledger }) result }
+    ensures levels { ChangesLevels books.old.ledger books.new.ledger result }
+    ensures keeper { (s : State) → s.ranges ≡ ranges.now → s.stored ≡ books.old.ledger → raises_level s (Reserves object.now nr upto) ≡ false → books.new.keeper ≡ books.old.keeper }
     ensures store { EndsAs K.held K.is_open K.may_leave K.faults books.old books.new result }
 {
     let (interval, level) = match to_reserve(sessions, ranges, books, name, object, nr, upto) {
@@ -122,7 +129,9 @@ fn raise<K: Keeper>(
     ensures done { OnOk result (EndsAs K.held K.is_open K.may_leave K.faults books.old books.new (Answered Reply.Done)) }
     ensures fault { IfErr result (IsRaiseFault interval.now level) }
     ensures kept { OnErr result (books.new.ledger ≡ books.old.ledger) }
+    ensures levels { MatchResult result (λ done. KeepsUnits books.old.ledger books.new.ledger) (ChangesLevels books.old.ledger books.new.ledger) }
     ensures failed { IfErr result (EndsAs K.held K.is_open K.may_leave K.faults books.old books.new) }
+    ensures still { level ≡ interval.now.level → books.new.keeper ≡ books.old.keeper }
 {
     if level == interval.level {
         return Ok(());

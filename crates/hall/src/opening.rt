@@ -1,5 +1,6 @@
-ghost use Rattle.std.specs.Prelude.{◌≡◌, ◌≤◌, List, [], None, IfOk, replicate, vec_capacity};
-ghost use Rattle.hall.specs.Faults.{IsRangesFault, hall_fault};
+ghost use Rattle.std.specs.Prelude.{◌≡◌, ◌≤◌, List, [], false, None, IsTrue, IfOk, IfErr, MatchResult, replicate, vec_capacity};
+ghost use Rattle.enq_server.specs.Server.{IsRecovered, recovered};
+ghost use Rattle.hall.specs.Faults.{CountsFileFault, IsFileFault, IsRangesFault, file_fault, hall_fault};
 ghost use Rattle.posting.specs.Intervals.{in_row_order};
 ghost use Rattle.range_list.specs.Levels.{IsLevelFault};
 ghost use Rattle.number_ranges.specs.declared.interval.Interval.{Interval};
@@ -7,10 +8,13 @@ ghost use Rattle.update_records.specs.Ledger.{Levels};
 ghost use Rattle.lock_entry.specs.Table.{IsTable};
 
 use crate::command::PastEntry;
-use enq_base::{NoMemory, UnitKey};
-use lock_entry::LockStore;
+use bk_disk::Disk;
+use enq_base::{Bad, NoMemory, UnitKey};
+use enq_server::{EnqServer, OpenFault};
+use lock_entry::{LockStore, UnitLocks};
 use posting::BooksFault;
 use range_list::LevelFault;
+use replica_link::Link;
 use std::alloc::Global;
 
 pub(crate) const HISTORY_LIMIT: usize = 262_144;
@@ -22,8 +26,10 @@ const WORKERS: usize = 256;
 pub enum HallFault {
     /// The store failed.
     Store,
-    /// The store isn't good, which shows at this row of this table, counted from 1.
-    Bad { table: u8, row: u64 },
+    /// The disk of the backup file failed.
+    Backup,
+    /// The store or the backup file isn't good, which shows at this place.
+    Bad(Bad),
     /// The store's start number is the last that there is.
     NoStart,
     /// The stored interval in this row of the intervals, counted from 1 in the order of their keys, isn't one of the
@@ -34,23 +40,19 @@ pub enum HallFault {
 
 /// The tables of a hall before its first call, with room for its whole history.
 #[derive(Drop)]
-pub(crate) struct Tables<T: LockStore> {
-    pub(crate) locks: T,
+pub(crate) struct Tables {
     pub(crate) orders: Vec<Option<UnitKey>>,
     pub(crate) past: Vec<PastEntry>,
 }
 
-impl<T: LockStore> Tables<T> {
-    /// No locks, no orders and no calls. At most `max_locks` locks may come to stand.
-    pub(crate) fn empty(alloc: Global, max_locks: u32) -> Result<Tables<T>, NoMemory>
-        ensures locks { IfOk result (λ tables. T.table tables.locks ≡ record { entries = []; limit = max_locks }) }
-        ensures good { IfOk result (λ tables. IsTable (T.table tables.locks)) }
+impl Tables {
+    /// No orders and no calls.
+    pub(crate) fn empty(alloc: Global) -> Result<Tables, NoMemory>
         ensures orders { IfOk result (λ tables. tables.orders.items ≡ replicate 256 None) }
         ensures past { IfOk result (λ tables. tables.past.items ≡ []) }
         ensures room { IfOk result (λ tables. 262144 ≤ vec_capacity tables.past) }
     {
         Ok(Tables {
-            locks: T::empty(alloc, max_locks)?,
             orders: no_orders(alloc)?,
             past: Vec::with_capacity(alloc, HISTORY_LIMIT)?,
         })
@@ -70,7 +72,7 @@ pub(crate) fn fault_of(fault: BooksFault) -> HallFault
 {
     match fault {
         BooksFault::StoreFault => HallFault::Store,
-        BooksFault::BadStore { table, row } => HallFault::Bad { table, row },
+        BooksFault::BadStore { table, row } => HallFault::Bad(Bad::Store { table, row }),
         BooksFault::NoStart => HallFault::NoStart,
         BooksFault::NoMemory => HallFault::NoMemory,
     }
@@ -82,5 +84,43 @@ pub(crate) fn ranges_fault_of(fault: LevelFault) -> HallFault
 {
     match fault {
         LevelFault::Unfit { row } => HallFault::Interval { row },
+    }
+}
+
+/// The lock server of a start, which takes the locks of these units over from the backup file: they are the first locks, and
+/// lists of other units go. At most `max_locks` locks may come to stand, or as many as were taken over. An error gives disk
+/// and link back.
+pub(crate) fn first_locks<T: LockStore, D: Disk, L: Link>(
+    alloc: Global,
+    max_locks: u32,
+    disk: D,
+    link: L,
+    units: &[UnitLocks],
+) -> Result<EnqServer<T, D, L>, (HallFault, D, L)>
+    ensures locks { IfOk result (λ locks. locks.table ≡ recovered max_locks units.now) }
+    ensures good { IfOk result (λ locks. IsTable locks.table) }
+    ensures file { IsTrue D.tells
+        → IfOk result (λ locks. IsRecovered D.reads D.may_leave (D.reads disk) units.now locks.file) }
+    ensures usable { IfOk result (λ locks. locks.file.failed ≡ false) }
+    ensures detached { IfOk result (λ locks. locks.copy.attached ≡ false) }
+    ensures link { MatchResult result (λ locks. locks.copy.link ≡ link) (λ e. e.2 ≡ link) }
+    ensures counts { IfOk result (λ locks. D.faults locks.file.disk ≡ D.faults disk) }
+    ensures fault { IfErr result (λ e. IsFileFault D.tells (D.reads disk) units.now e.0) }
+    ensures cause { IfErr result (λ e. CountsFileFault e.0 (D.faults disk) (D.faults e.1)) }
+{
+    match EnqServer::open(alloc, disk, link, max_locks, units) {
+        Ok(locks) => Ok(locks),
+        Err((fault, disk, link)) => Err((file_fault_of(fault), disk, link)),
+    }
+}
+
+/// Why the backup file wasn't opened.
+fn file_fault_of(fault: OpenFault) -> HallFault
+    ensures { result ≡ file_fault fault }
+{
+    match fault {
+        OpenFault::Failed => HallFault::Backup,
+        OpenFault::Bad(place) => HallFault::Bad(Bad::Backup(place)),
+        OpenFault::NoMemory => HallFault::NoMemory,
     }
 }

@@ -1,13 +1,19 @@
 ghost use Rattle.std.specs.Prelude.{◌≡◌, ◌⊎◌, [], false, length, replicate, None, IfOk, is_some};
+ghost use Rattle.enq_server.specs.Following.{KeepsOn};
+ghost use Rattle.enq_server.specs.Server.{recovered};
+ghost use Rattle.posting.specs.Views.{open_locks};
 ghost use Rattle.hall.specs.declared.command.Command.TheVariants as command;
 ghost use Rattle.hall.specs.Acts.{IsAct, post_of, take_of, written_condition, written_pending, written_reply};
 ghost use Rattle.hall.specs.Kept.{IsDrawn, IsKept};
 ghost use Rattle.range_list.specs.Levels.{first_ranges, intervals_of};
 ghost use Rattle.std.specs.List.{AllByRecursion};
+ghost use Rattle.hall.specs.Filing.{HasOpenLists, LeavesLists, MayFile};
 ghost use Rattle.hall.specs.Leaving.{LeavesState};
-ghost use Rattle.hall.specs.Calls.{call_of, touches_store};
+ghost use Rattle.hall.specs.Calls.{call_of, touches_file};
+ghost use Rattle.hall.specs.Devices.{reaches_store};
 ghost use Rattle.hall.specs.Serving.{IsDue, MayWrite, Serves, with_calls};
 ghost use Rattle.hall.specs.State.{opened};
+ghost use Rattle.hall.specs.Stocks.{IsStockIn, MayCall};
 ghost use Rattle.hall.specs.History.{after_of, is_unrecorded};
 ghost use Rattle.hall.specs.Step.{barred, is_full};
 ghost use Rattle.hall.specs.Views.{marks_shown, numbers_shown, ranges_shown, units_shown};
@@ -21,24 +27,27 @@ use crate::orders::{drop_order, take};
 use crate::sessions::{Sessions, log_on};
 use crate::shown::shown_ranges;
 use crate::units::{InFlight, Written, cancel, commit, post, read, resubmit};
-use enq_base::{Condition, Key, Name, NoMemory, Parts, Refusal, UnitKey};
+use bk_disk::Disk;
+use enq_base::{Condition, Key, Name, NoMemory, Num, Parts, Refusal, UnitKey};
+use enq_server::EnqServer;
 use keeper_api::Keeper;
 use lock_entry::{Asked, Entry, LockStore, Request};
 use number_ranges::Range;
 use posting::Books;
 use range_list::Ranges;
+use replica_link::Link;
 use std::alloc::Global;
 use std::marker::Model;
 use update_records::UnitView;
 
-/// All that calls change, but for the history. It is seen as a state without a history, and the keeper.
+/// All that calls change, but for the history. It is seen as a state without a history, and the devices.
 #[derive(Drop)]
-pub(crate) struct Server<T: LockStore, K: Keeper> {
+pub(crate) struct Server<T: LockStore, K: Keeper, D: Disk, L: Link> {
     pub(crate) condition: Condition,
     pub(crate) sessions: Sessions,
     pub(crate) next_session: u32,
     pub(crate) orders: Vec<Option<UnitKey>>,
-    pub(crate) locks: T,
+    pub(crate) locks: EnqServer<T, D, L>,
     pub(crate) max_locks: u32,
     pub(crate) max_marks: u32,
     pub(crate) ranges: Ranges,
@@ -46,54 +55,64 @@ pub(crate) struct Server<T: LockStore, K: Keeper> {
     pub(crate) pending: Option<InFlight>,
 }
 
-impl<T: LockStore, K: Keeper> Model for Server<T, K> {
+impl<T: LockStore, K: Keeper, D: Disk, L: Link> Model for Server<T, K, D, L> {
     ghost use Rattle.hall.specs.State.{View, state_of};
 
-    ghost Value = { View K };
+    ghost Value = { View K D L };
 
     ghost use Rattle.std.specs.Coded.{codes};
     ghost use Rattle.update_records.specs.Codes.{levels_code};
 
-    ghost coded = { Prim.hlevel (codes, levels_code, K.code) };
+    ghost coded = { Prim.hlevel (codes, levels_code, K.code, D.code, L.code) };
 
     ghost use Rattle.std.specs.Prelude.{[], is_some};
     ghost use Rattle.std.specs.Option.{option_map};
     ghost use Rattle.hall.specs.Kept.{WhileUp};
     ghost use Rattle.hall.specs.Leaving.{LeavesState};
     ghost use Rattle.posting.specs.Shelf.{IsUsable};
+    ghost use Rattle.hall.specs.Filing.{HasOpenLists, LeavesLists};
     ghost use Rattle.hall.specs.Flights.{landed};
 
     ghost view = { λ h. record {
-      state = state_of (is_some (K.held h.books.keeper)) h.condition h.sessions h.next_session h.orders.items (T.table h.locks) h.max_locks h.max_marks h.ranges h.books.ledger
+      state = state_of (is_some (K.held h.books.keeper)) h.condition h.sessions h.next_session h.orders.items h.locks.table h.max_locks h.max_marks h.ranges h.books.ledger
           (option_map (landed h.books.ledger) h.pending) [];
       keeper = h.books.keeper;
+      file = h.locks.file;
+      follower = h.locks.copy;
     } };
 
     ghost invariant = { λ h.
-        let s = state_of (is_some (K.held h.books.keeper)) h.condition h.sessions h.next_session h.orders.items (T.table h.locks) h.max_locks h.max_marks h.ranges h.books.ledger
+        let s = state_of (is_some (K.held h.books.keeper)) h.condition h.sessions h.next_session h.orders.items h.locks.table h.max_locks h.max_marks h.ranges h.books.ledger
         (option_map (landed h.books.ledger) h.pending) [] in
+        let v : View K D L = record { state = s; keeper = h.books.keeper; file = h.locks.file; follower = h.locks.copy } in
         WhileUp h.condition (IsUsable K.held K.is_open h.books)
-        × LeavesState K.held K.may_leave (record { state = s; keeper = h.books.keeper }) };
+        × LeavesState K.held K.may_leave v
+        × WhileUp h.condition (HasOpenLists D.tells D.reads D.may_leave h.books.ledger h.locks.file)
+        × LeavesLists D.tells D.may_leave v };
 }
 
-impl<T: LockStore, K: Keeper> Server<T, K> {
+impl<T: LockStore, K: Keeper, D: Disk, L: Link> Server<T, K, D, L> {
     /// The server of a start, before any call.
     pub(crate) fn first(
         alloc: Global,
-        locks: T,
+        locks: EnqServer<T, D, L>,
         orders: Vec<Option<UnitKey>>,
         ranges: Ranges,
         max_locks: u32,
         max_marks: u32,
         books: Books<K>,
-    ) -> Server<T, K>
+    ) -> Server<T, K, D, L>
         requires usable { IsUsable K.held K.is_open books }
-        requires locks { T.table locks ≡ record { entries = []; limit = max_locks } }
+        requires locks { locks.table ≡ recovered max_locks (open_locks books.ledger) }
+        requires filed { HasOpenLists D.tells D.reads D.may_leave books.ledger locks.file }
         requires orders { orders.items ≡ replicate 256 None }
         requires levels { ranges ≡ first_ranges books.ledger.levels (intervals_of ranges) }
         ensures state { result.state ≡ opened max_locks max_marks (intervals_of ranges) (is_some (K.held books.keeper)) books.ledger }
         ensures keeper { result.keeper ≡ books.keeper }
+        ensures file { result.file ≡ locks.file }
+        ensures follower { result.follower ≡ locks.copy }
         ensures left { LeavesState K.held K.may_leave result }
+        ensures lists { LeavesLists D.tells D.may_leave result }
     {
         Server {
             condition: Condition::Up,
@@ -183,16 +202,20 @@ impl<T: LockStore, K: Keeper> Server<T, K> {
         }
     }
 
-    /// The keeper, as the last call left it.
-    pub(crate) fn into_keeper(self) -> K
-        ensures { result ≡ self.keeper }
+    /// The keeper, the disk and the link, as the last call left them.
+    pub(crate) fn into_devices(self) -> (K, D, L)
+        ensures keeper { result.0 ≡ self.keeper }
+        ensures disk { result.1 ≡ self.file.disk }
+        ensures link { result.2 ≡ self.follower.link }
     {
-        self.books.into_keeper()
+        let (disk, link) = self.locks.kill().into_parts();
+        (self.books.into_keeper(), disk, link)
     }
 
-    /// Tells what holds of every server: what a stop may leave in the store stands for the state.
+    /// Tells what holds of every server: what a stop may leave in the store and in the backup file stands for the state.
     pub(crate) fn read_invariant(&self)
-        ensures { LeavesState K.held K.may_leave self.now }
+        ensures left { LeavesState K.held K.may_leave self.now }
+        ensures lists { LeavesLists D.tells D.may_leave self.now }
     {
         let _ = &self.condition;
     }
@@ -213,10 +236,14 @@ impl<T: LockStore, K: Keeper> Server<T, K> {
 
     /// Serves a call behind those of the past. It isn't put into the history.
     pub(crate) fn serve(&mut self, alloc: Global, past: &Vec<PastEntry>, command: &Command) -> Reply
-        requires { IsKept (with_calls self.old.state past.now.items) }
+        requires kept { IsKept (with_calls self.old.state past.now.items) }
+        requires call { MayCall self.old.state (call_of command.now) }
         ensures call { IsAct (with_calls self.old.state past.now.items) command.now (with_calls self.new.state past.now.items) result }
         ensures store { MayWrite K.held K.may_leave K.faults self.old.keeper self.new.keeper result }
-        ensures keeper { touches_store (call_of command.now) ≡ false → self.new.keeper ≡ self.old.keeper }
+        ensures keeper { reaches_store self.old.state (call_of command.now) ≡ false → self.new.keeper ≡ self.old.keeper }
+        ensures file { MayFile D.faults self.old.file self.new.file result }
+        ensures unfiled { touches_file (call_of command.now) ≡ false → self.new.file ≡ self.old.file }
+        ensures follower { KeepsOn L.faults L.refusals self.old.follower self.new.follower }
         ensures room { is_unrecorded result ≡ false → is_full (with_calls self.old.state past.now.items) ≡ false }
     {
         match self.barred(past) {
@@ -227,8 +254,9 @@ impl<T: LockStore, K: Keeper> Server<T, K> {
 
     /// Does a call that nothing bars.
     fn act(&mut self, alloc: Global, past: &Vec<PastEntry>, command: &Command) -> Reply
-        requires { IsDue self.old.state past.now.items }
-        ensures { Serves K.held K.may_leave K.faults self.old self.new past.now.items command.now result }
+        requires due { IsDue self.old.state past.now.items }
+        requires call { MayCall self.old.state (call_of command.now) }
+        ensures { Serves K.held K.may_leave K.faults D.faults L.faults L.refusals self.old self.new past.now.items command.now result }
     {
         match command {
             Command::Logon { session, user } => self.log_on(alloc, past, *session, *user),
@@ -258,7 +286,11 @@ impl<T: LockStore, K: Keeper> Server<T, K> {
                 nr,
                 upto,
             } => self.reserve(alloc, past, session, object, *nr, *upto),
-            Command::Commit { session, parts } => self.commit(alloc, past, session, parts),
+            Command::Commit {
+                session,
+                parts,
+                stock,
+            } => self.commit(alloc, past, session, parts, stock.as_slice()),
             Command::Take1 { worker } => self.take(past, *worker, 1),
             Command::Do1 { worker } => self.post(alloc, past, *worker, 1),
             Command::Take2 { worker } => self.take(past, *worker, 2),
@@ -271,7 +303,7 @@ impl<T: LockStore, K: Keeper> Server<T, K> {
 
     fn log_on(&mut self, alloc: Global, past: &Vec<PastEntry>, session: Name, user: Name) -> Reply
         requires { IsDue self.old.state past.now.items }
-        ensures { Serves K.held K.may_leave K.faults self.old self.new past.now.items (command.Logon session user) result }
+        ensures { Serves K.held K.may_leave K.faults D.faults L.faults L.refusals self.old self.new past.now.items (command.Logon session user) result }
     {
         Reply::of(log_on(
             alloc,
@@ -284,7 +316,7 @@ impl<T: LockStore, K: Keeper> Server<T, K> {
 
     fn log_off(&mut self, past: &Vec<PastEntry>, session: &Name) -> Reply
         requires { IsDue self.old.state past.now.items }
-        ensures { Serves K.held K.may_leave K.faults self.old self.new past.now.items (command.Logoff session.now) result }
+        ensures { Serves K.held K.may_leave K.faults D.faults L.faults L.refusals self.old self.new past.now.items (command.Logoff session.now) result }
     {
         let start = self.books.start();
         Reply::of(log_off(start, &mut self.sessions, &mut self.locks, session))
@@ -298,7 +330,7 @@ impl<T: LockStore, K: Keeper> Server<T, K> {
         requests: &[Request],
     ) -> Reply
         requires { IsDue self.old.state past.now.items }
-        ensures { Serves K.held K.may_leave K.faults self.old self.new past.now.items (command.Ask session.now requests.now) result }
+        ensures { Serves K.held K.may_leave K.faults D.faults L.faults L.refusals self.old self.new past.now.items (command.Ask session.now requests.now) result }
     {
         let start = self.books.start();
         Reply::of(ask(
@@ -313,7 +345,7 @@ impl<T: LockStore, K: Keeper> Server<T, K> {
 
     fn free(&mut self, past: &Vec<PastEntry>, session: &Name, requests: &[Request]) -> Reply
         requires { IsDue self.old.state past.now.items }
-        ensures { Serves K.held K.may_leave K.faults self.old self.new past.now.items (command.Free session.now requests.now) result }
+        ensures { Serves K.held K.may_leave K.faults D.faults L.faults L.refusals self.old self.new past.now.items (command.Free session.now requests.now) result }
     {
         let start = self.books.start();
         Reply::of(free(start, &self.sessions, &mut self.locks, session, requests))
@@ -321,7 +353,7 @@ impl<T: LockStore, K: Keeper> Server<T, K> {
 
     fn free_all(&mut self, past: &Vec<PastEntry>, session: &Name) -> Reply
         requires { IsDue self.old.state past.now.items }
-        ensures { Serves K.held K.may_leave K.faults self.old self.new past.now.items (command.FreeAll session.now) result }
+        ensures { Serves K.held K.may_leave K.faults D.faults L.faults L.refusals self.old self.new past.now.items (command.FreeAll session.now) result }
     {
         let start = self.books.start();
         Reply::of(free_all(start, &self.sessions, &mut self.locks, session))
@@ -335,7 +367,7 @@ impl<T: LockStore, K: Keeper> Server<T, K> {
         asked: &[Asked],
     ) -> Reply
         requires { IsDue self.old.state past.now.items }
-        ensures { Serves K.held K.may_leave K.faults self.old self.new past.now.items (command.Convert session.now asked.now) result }
+        ensures { Serves K.held K.may_leave K.faults D.faults L.faults L.refusals self.old self.new past.now.items (command.Convert session.now asked.now) result }
     {
         let start = self.books.start();
         Reply::of(convert(
@@ -350,7 +382,7 @@ impl<T: LockStore, K: Keeper> Server<T, K> {
 
     fn roll_back(&mut self, alloc: Global, past: &Vec<PastEntry>, session: &Name) -> Reply
         requires { IsDue self.old.state past.now.items }
-        ensures { Serves K.held K.may_leave K.faults self.old self.new past.now.items (command.Rollback session.now) result }
+        ensures { Serves K.held K.may_leave K.faults D.faults L.faults L.refusals self.old self.new past.now.items (command.Rollback session.now) result }
     {
         let start = self.books.start();
         Reply::of(roll_back(alloc, start, &mut self.sessions, &mut self.locks, session))
@@ -366,7 +398,7 @@ impl<T: LockStore, K: Keeper> Server<T, K> {
         key: &Key,
     ) -> Reply
         requires { IsDue self.old.state past.now.items }
-        ensures { Serves K.held K.may_leave K.faults self.old self.new past.now.items (command.Read session.now table.now key.now) result }
+        ensures { Serves K.held K.may_leave K.faults D.faults L.faults L.refusals self.old self.new past.now.items (command.Read session.now table.now key.now) result }
     {
         let written = read(alloc, &self.sessions, &mut self.books, session, table, key);
         ended(&mut self.condition, &mut self.pending, past, written)
@@ -382,7 +414,7 @@ impl<T: LockStore, K: Keeper> Server<T, K> {
         nr: [u8; 2],
     ) -> Reply
         requires { IsDue self.old.state past.now.items }
-        ensures { Serves K.held K.may_leave K.faults self.old self.new past.now.items (command.Number session.now object.now nr) result }
+        ensures { Serves K.held K.may_leave K.faults D.faults L.faults L.refusals self.old self.new past.now.items (command.Number session.now object.now nr) result }
     {
         let written = draw(
             alloc,
@@ -407,7 +439,7 @@ impl<T: LockStore, K: Keeper> Server<T, K> {
         upto: u64,
     ) -> Reply
         requires { IsDue self.old.state past.now.items }
-        ensures { Serves K.held K.may_leave K.faults self.old self.new past.now.items (command.Reserve session.now object.now nr upto) result }
+        ensures { Serves K.held K.may_leave K.faults D.faults L.faults L.refusals self.old self.new past.now.items (command.Reserve session.now object.now nr upto) result }
     {
         let written = reserve(
             alloc,
@@ -428,18 +460,21 @@ impl<T: LockStore, K: Keeper> Server<T, K> {
         past: &Vec<PastEntry>,
         session: &Name,
         parts: &Parts,
+        stock: &[Num],
     ) -> Reply
-        requires { IsDue self.old.state past.now.items }
-        ensures { Serves K.held K.may_leave K.faults self.old self.new past.now.items (command.Commit session.now parts.now) result }
+        requires due { IsDue self.old.state past.now.items }
+        requires stock { IsStockIn self.old.state stock.now }
+        ensures { Serves K.held K.may_leave K.faults D.faults L.faults L.refusals self.old self.new past.now.items (command.Commit session.now parts.now stock.now) result }
     {
         let written = commit(
             alloc,
             &mut self.sessions,
-            &self.ranges,
+            &mut self.ranges,
             &mut self.locks,
             &mut self.books,
             session,
             parts,
+            stock,
             self.max_marks,
         );
         ended(&mut self.condition, &mut self.pending, past, written)
@@ -449,7 +484,7 @@ impl<T: LockStore, K: Keeper> Server<T, K> {
     fn take(&mut self, past: &Vec<PastEntry>, worker: u8, part: u8) -> Reply
         requires due { IsDue self.old.state past.now.items }
         requires part { (part ≡ 1) ⊎ (part ≡ 2) }
-        ensures { Serves K.held K.may_leave K.faults self.old self.new past.now.items (take_of part worker) result }
+        ensures { Serves K.held K.may_leave K.faults D.faults L.faults L.refusals self.old self.new past.now.items (take_of part worker) result }
     {
         take(&mut self.orders, &self.books, worker, part)
     }
@@ -458,7 +493,7 @@ impl<T: LockStore, K: Keeper> Server<T, K> {
     fn post(&mut self, alloc: Global, past: &Vec<PastEntry>, worker: u8, part: u8) -> Reply
         requires due { IsDue self.old.state past.now.items }
         requires part { (part ≡ 1) ⊎ (part ≡ 2) }
-        ensures { Serves K.held K.may_leave K.faults self.old self.new past.now.items (post_of part worker) result }
+        ensures { Serves K.held K.may_leave K.faults D.faults L.faults L.refusals self.old self.new past.now.items (post_of part worker) result }
     {
         let written = post(
             alloc,
@@ -474,14 +509,14 @@ impl<T: LockStore, K: Keeper> Server<T, K> {
 
     fn drop_order(&mut self, past: &Vec<PastEntry>, worker: u8) -> Reply
         requires { IsDue self.old.state past.now.items }
-        ensures { Serves K.held K.may_leave K.faults self.old self.new past.now.items (command.DropOrder worker) result }
+        ensures { Serves K.held K.may_leave K.faults D.faults L.faults L.refusals self.old self.new past.now.items (command.DropOrder worker) result }
     {
         drop_order(&mut self.orders, worker)
     }
 
     fn cancel(&mut self, alloc: Global, past: &Vec<PastEntry>, unit: UnitKey) -> Reply
         requires { IsDue self.old.state past.now.items }
-        ensures { Serves K.held K.may_leave K.faults self.old self.new past.now.items (command.Cancel unit) result }
+        ensures { Serves K.held K.may_leave K.faults D.faults L.faults L.refusals self.old self.new past.now.items (command.Cancel unit) result }
     {
         let written = cancel(
             alloc,
@@ -496,7 +531,7 @@ impl<T: LockStore, K: Keeper> Server<T, K> {
 
     fn resubmit(&mut self, alloc: Global, past: &Vec<PastEntry>, unit: UnitKey) -> Reply
         requires { IsDue self.old.state past.now.items }
-        ensures { Serves K.held K.may_leave K.faults self.old self.new past.now.items (command.Resubmit unit) result }
+        ensures { Serves K.held K.may_leave K.faults D.faults L.faults L.refusals self.old self.new past.now.items (command.Resubmit unit) result }
     {
         let written = resubmit(
             alloc,
@@ -509,7 +544,7 @@ impl<T: LockStore, K: Keeper> Server<T, K> {
     }
 }
 
-/// What a call that uses the store is answered. Where the store fails the server is in doubt since this call.
+/// What a call that uses store and backup file is answered. Where one of them fails the server is in doubt since this call.
 fn ended(
     condition: &mut Condition,
     pending: &mut Option<InFlight>,
@@ -526,6 +561,10 @@ fn ended(
             *condition = Condition::Doubt(past.len() as u64 + 1);
             *pending = change;
             Reply::Refused(Refusal::StoreFault)
+        }
+        Written::Unfiled => {
+            *condition = Condition::Doubt(past.len() as u64 + 1);
+            Reply::Refused(Refusal::BackupFault)
         }
     }
 }

@@ -1,9 +1,11 @@
-ghost use Rattle.std.specs.Prelude.{◌≡◌, ◌⊎◌, ◌≤◌, ◌<◌, None, Ok, IfOk, IfSome, is_some, length, nat_le};
+ghost use Rattle.std.specs.Prelude.{◌≡◌, ◌⊎◌, ◌≤◌, ◌<◌, ◌+◌, ◌^◌, ◌++◌, None, Ok, IfOk, IfSome, OnOk, false, is_some, length, nat_eq, nat_le};
 ghost use Rattle.std.specs.List.{AllByRecursion};
+ghost use Rattle.enq_server.specs.Following.{KeepsOn};
 ghost use Rattle.hall.specs.declared.command.Command.TheVariants as command;
-ghost use Rattle.hall.specs.Acts.{Admits, IsWritten, OnAnswer, OnFailure, post_of, written_reply};
-ghost use Rattle.hall.specs.Commits.{RecordsNumbers, RecordsUnit};
-ghost use Rattle.hall.specs.Kept.{HasGoodLocks, HasItsUser, IsAhead, IsYoung, OfLock, draws_in};
+ghost use Rattle.enq_base.specs.declared.unit.Num.{Num as Number};
+ghost use Rattle.hall.specs.Acts.{Admits, IsWritten, OnAnswer, OnFailure, OnStoreFailure, post_of, ranges_behind, written_reply};
+ghost use Rattle.hall.specs.Commits.{IsOfCommit, RecordsNumbers, RecordsUnit};
+ghost use Rattle.hall.specs.Kept.{HasGoodLocks, HasItsUser, HaveMarks, IsAhead, IsYoung, OfLock, draws_in};
 ghost use Rattle.hall.specs.Leaving.{HasStoreCause, KeepsStore, LeavesWritten};
 ghost use Rattle.hall.specs.Sessions.{owners_of};
 ghost use Rattle.hall.specs.State.{State};
@@ -11,27 +13,36 @@ ghost use Rattle.hall.specs.Step as step;
 ghost use Rattle.hall.specs.Storing.{EndsAs};
 ghost use Rattle.keeper_api.specs.Keeping.{HasFaultCause, IsWithin, UnlessFailed};
 ghost use Rattle.module_effects.specs.Effects.{applied};
+ghost use Rattle.hall.specs.Filing.{ChangesLevels, FilesAs, FreesList, HasOpenLists, IsSaved, IsUnrefused, is_open, locks_ended, ungranted};
 ghost use Rattle.lock_entry.specs.Table.{IsTable, with_entries};
+ghost use Rattle.posting.specs.Intervals.{with_intervals};
+ghost use Rattle.posting.specs.declared.prepared.Step.TheVariants.{Record};
+ghost use Rattle.update_records.specs.Growing.{with_unit};
 ghost use Rattle.posting.specs.Posts.{MayCome, WaitsFor, effects_of, kind_for};
 ghost use Rattle.posting.specs.Shelf.{IsReady, IsUnmoved, IsUsable};
 ghost use Rattle.posting.specs.Intervals.{MayStore};
 ghost use Rattle.posting.specs.Steps.{HasMarksLeft, IsDrawing, IsNewUnit, IsOutcome, MayGet};
-ghost use Rattle.range_list.specs.Drawn.{AreDrawnRight};
+ghost use Rattle.range_list.specs.Drawn.{AreDrawnRight, IsStock};
+ghost use Rattle.range_list.specs.Levels.{intervals_of};
 ghost use Rattle.posting.specs.declared.prepared.Step.TheVariants.{Note};
 ghost use Rattle.update_records.specs.Business.{numbers_of, tables_of};
 ghost use Rattle.update_records.specs.declared.records.MarkKind.TheVariants.{Again1, Again2};
 
 use crate::command::{Reply, Session};
-use crate::locks::refusal_of;
+use crate::locks::table_refusal_of;
 use crate::numbers::{DRAWS_LIMIT, settled_rows};
 use crate::orders::{order_for, worker_of};
 use crate::sessions::{Sessions, session_of, unit_key};
-use crate::writing::{write_numbers, write_unit};
-use enq_base::{Items, Key, Name, NoMemory, Num, Owner, Parts, Refusal, Status, UnitKey};
+use crate::writing::{prepare_unit, write, write_numbers};
+use backup_file::WriteFault;
+use bk_disk::Disk;
+use enq_base::{Failed, Items, Key, Name, NoMemory, Num, Owner, Parts, Refusal, Status, UnitKey};
+use enq_server::{EnqServer, ServerFault};
 use keeper_api::{KeepFault, Keeper};
 use lock_entry::{Asker, Entry, LockStore, hand_over};
 use posting::{Books, Outcome, Prepared};
 use range_list::Ranges;
+use replica_link::Link;
 use std::alloc::Global;
 use update_records::{MarkKind, StoredInterval, Unit};
 
@@ -43,6 +54,8 @@ pub(crate) enum Written {
     Answered(Reply),
     /// The store failed with this change in flight, if there is one, which it may have taken or not.
     Failed(Option<InFlight>),
+    /// The disk of the backup file failed. What the store took before stands.
+    Unfiled,
 }
 
 /// A change of the store.
@@ -75,12 +88,12 @@ pub(crate) enum InFlight {
     },
 }
 
-/// Posts a part of the unit that a worker has an order for, or records where it is refused. The order goes, and then
-/// with the V1 part the unit's locks.
-pub(crate) fn post<T: LockStore, K: Keeper>(
+/// Posts a part of the unit that a worker has an order for, or records where it is refused. With the V1 part the unit's
+/// locks end, in the backup file and then in the table, and the order goes.
+pub(crate) fn post<T: LockStore, K: Keeper, D: Disk, L: Link>(
     alloc: Global,
     orders: &mut Vec<Option<UnitKey>>,
-    locks: &mut T,
+    locks: &mut EnqServer<T, D, L>,
     books: &mut Books<K>,
     worker: u8,
     part: u8,
@@ -90,14 +103,18 @@ pub(crate) fn post<T: LockStore, K: Keeper>(
     requires limited { max_marks ≤ 1048576 }
     requires places { length orders.old.items ≡ 256 }
     requires part { (part ≡ 1) ⊎ (part ≡ 2) }
-    ensures act { (s : State) → s.told ≡ is_some (K.held books.old.keeper) → s.orders ≡ orders.old.items → s.locks ≡ (T.table locks.old).entries
+    requires filed { HasOpenLists D.tells D.reads D.may_leave books.old.ledger locks.old.file }
+    ensures act { (s : State) → s.told ≡ is_some (K.held books.old.keeper) → s.orders ≡ orders.old.items → s.locks ≡ locks.old.table.entries
         → s.stored ≡ books.old.ledger → s.mark_limit ≡ max_marks → Admits s
         → IsWritten s (post_of part worker)
-        (record s { orders = orders.new.items; locks = (T.table locks.new).entries; stored = books.new.ledger })
+        (record s { orders = orders.new.items; locks = locks.new.table.entries; stored = books.new.ledger })
         result }
-    ensures limit { (T.table locks.new).limit ≡ (T.table locks.old).limit }
+    ensures limit { locks.new.table.limit ≡ locks.old.table.limit }
+    ensures file { FilesAs D.tells D.reads D.may_leave D.faults books.new.ledger locks.old.file locks.new.file result }
+    ensures unfiled { nat_eq part 1 ≡ false → locks.new.file ≡ locks.old.file }
+    ensures follower { KeepsOn L.faults L.refusals locks.old.copy locks.new.copy }
     ensures orders { OnFailure result (orders.new.items ≡ orders.old.items) }
-    ensures ledger { OnFailure result (books.new.ledger ≡ books.old.ledger) }
+    ensures ledger { OnStoreFailure result (books.new.ledger ≡ books.old.ledger) }
     ensures usable { OnAnswer result (IsUsable K.held K.is_open books.new) }
     ensures told { is_some (K.held books.new.keeper) ≡ is_some (K.held books.old.keeper) }
     ensures left { LeavesWritten K.held K.may_leave books.new result }
@@ -116,13 +133,34 @@ pub(crate) fn post<T: LockStore, K: Keeper>(
         Err(KeepFault::Failed) => return Written::Failed(Some(InFlight::Post { unit, part })),
     };
     match books.write(prepared) {
-        Ok(()) => {
-            orders[worker as usize] = None;
-            free_behind(locks, unit, part);
-            Written::Answered(posted(unit, part, outcome))
-        }
+        Ok(()) => match end_locks(locks, &unit, part == 1) {
+            Ok(()) => {
+                orders[worker as usize] = None;
+                Written::Answered(posted(unit, part, outcome))
+            }
+            Err(Failed) => Written::Unfiled,
+        },
         Err(_) => Written::Failed(Some(InFlight::Post { unit, part })),
     }
+}
+
+/// Ends the locks of a unit, where they are to end: its list in the backup file goes first, and then what stands in the
+/// table.
+fn end_locks<T: LockStore, D: Disk, L: Link>(
+    locks: &mut EnqServer<T, D, L>,
+    unit: &UnitKey,
+    ends: bool,
+) -> Result<(), Failed>
+    requires usable { locks.old.file.failed ≡ false }
+    ensures table { OnOk result (locks.new.table ≡ with_entries locks.old.table (locks_ended ends locks.old.table.entries unit.now)) }
+    ensures limit { locks.new.table.limit ≡ locks.old.table.limit }
+    ensures file { FreesList D.tells D.reads D.may_leave D.faults ends unit.now locks.old.file locks.new.file result }
+    ensures follower { KeepsOn L.faults L.refusals locks.old.copy locks.new.copy }
+{
+    if ends {
+        locks.end_unit(unit)?;
+    }
+    Ok(())
 }
 
 /// Makes ready to post a part of a unit that waits for it.
@@ -153,15 +191,6 @@ fn prepare<K: Keeper>(
     }
 }
 
-/// Frees the locks of a unit whose V1 part is posted or refused. The V2 part has none.
-fn free_behind<T: LockStore>(locks: &mut T, unit: UnitKey, part: u8)
-    ensures { T.table locks.new ≡ with_entries (T.table locks.old) (step.locks_behind part (T.table locks.old).entries unit) }
-{
-    if part == 1 {
-        locks.free_owner(&Owner::Upd(unit));
-    }
-}
-
 fn posted(unit: UnitKey, part: u8, outcome: Outcome) -> Reply
     ensures { result ≡ step.posted_reply part unit outcome }
 {
@@ -181,17 +210,18 @@ fn posted(unit: UnitKey, part: u8, outcome: Outcome) -> Reply
     }
 }
 
-/// Records a unit of a session with the effects of its two parts and the numbers that the session has drawn, or such
-/// numbers alone. A unit's locks are handed over to the update, and the session's next unit is open. Without effects and
-/// numbers nothing changes.
-pub(crate) fn commit<T: LockStore, K: Keeper>(
+/// Records a unit of a session with the effects of its two parts, the numbers that the session has drawn and those of a
+/// stock, or such numbers alone. A unit's locks are handed over to the update, and the session's next unit is open. Memory
+/// hands out what is behind the numbers of the stock then. Without effects and numbers nothing changes.
+pub(crate) fn commit<T: LockStore, K: Keeper, D: Disk, L: Link>(
     alloc: Global,
     sessions: &mut Sessions,
-    ranges: &Ranges,
-    locks: &mut T,
+    ranges: &mut Ranges,
+    locks: &mut EnqServer<T, D, L>,
     books: &mut Books<K>,
     name: &Name,
     parts: &Parts,
+    stock: &[Num],
     max_marks: u32,
 ) -> Written
     requires usable { IsUsable K.held K.is_open books.old }
@@ -199,14 +229,71 @@ pub(crate) fn commit<T: LockStore, K: Keeper>(
     requires started { 1 ≤ books.old.ledger.start }
     requires young { AllByRecursion (IsYoung 262145) sessions.old }
     requires fresh { AllByRecursion (IsAhead books.old.ledger) sessions.old }
-    requires users { AllByRecursion (OfLock (HasItsUser books.old.ledger.start sessions.old)) (T.table locks.old).entries }
-    requires drawn { AreDrawnRight ranges.now books.old.ledger.levels (draws_in sessions.old) (numbers_of books.old.ledger.units books.old.ledger.marks) }
-    ensures act { (s : State) → s.sessions ≡ sessions.old → s.ranges ≡ ranges.now → s.locks ≡ (T.table locks.old).entries
+    requires marked { HaveMarks books.old.ledger }
+    requires users { AllByRecursion (OfLock (HasItsUser books.old.ledger.start sessions.old)) locks.old.table.entries }
+    requires drawn { AreDrawnRight ranges.old books.old.ledger.levels (draws_in sessions.old) (numbers_of books.old.ledger.units books.old.ledger.marks) }
+    requires filed { HasOpenLists D.tells D.reads D.may_leave books.old.ledger locks.old.file }
+    requires stock { IsStock (intervals_of ranges.old) books.old.ledger.levels (draws_in sessions.old) (numbers_of books.old.ledger.units books.old.ledger.marks) stock.now }
+    ensures act { (s : State) → s.sessions ≡ sessions.old → s.ranges ≡ ranges.old → s.locks ≡ locks.old.table.entries
         → s.stored ≡ books.old.ledger → s.mark_limit ≡ max_marks → Admits s
-        → IsWritten s (command.Commit name.now parts.now)
-        (record s { sessions = sessions.new; locks = (T.table locks.new).entries; stored = books.new.ledger })
+        → IsWritten s (command.Commit name.now parts.now stock.now)
+        (record s { sessions = sessions.new; ranges = ranges.new; locks = locks.new.table.entries; stored = books.new.ledger })
         result }
-    ensures limit { (T.table locks.new).limit ≡ (T.table locks.old).limit }
+    ensures limit { locks.new.table.limit ≡ locks.old.table.limit }
+    ensures file { FilesAs D.tells D.reads D.may_leave D.faults books.new.ledger locks.old.file locks.new.file result }
+    ensures follower { KeepsOn L.faults L.refusals locks.old.copy locks.new.copy }
+    ensures sessions { OnFailure result (sessions.new ≡ sessions.old) }
+    ensures ranges { OnFailure result (ranges.new ≡ ranges.old) }
+    ensures store { EndsAs K.held K.is_open K.may_leave K.faults books.old books.new result }
+{
+    let written = record_commit(
+        alloc, sessions, ranges, locks, books, name, parts, stock, max_marks,
+    );
+    pass_recorded(ranges, stock, &written);
+    written
+}
+
+/// Memory hands out what is behind the numbers of a stock, where they were recorded.
+fn pass_recorded(ranges: &mut Ranges, stock: &[Num], written: &Written)
+    requires { AllByRecursion (λ (num : Number). num.number + 1 < 2 ^ 64) stock.now }
+    ensures { ranges.new ≡ ranges_behind stock.now ranges.old written.now }
+{
+    match written {
+        Written::Answered(Reply::Refused(_)) | Written::Failed(_) | Written::Unfiled => {}
+        Written::Answered(_) => ranges.pass(stock),
+    }
+}
+
+/// What is recorded of a commit, in the store and with the session.
+fn record_commit<T: LockStore, K: Keeper, D: Disk, L: Link>(
+    alloc: Global,
+    sessions: &mut Sessions,
+    ranges: &Ranges,
+    locks: &mut EnqServer<T, D, L>,
+    books: &mut Books<K>,
+    name: &Name,
+    parts: &Parts,
+    stock: &[Num],
+    max_marks: u32,
+) -> Written
+    requires usable { IsUsable K.held K.is_open books.old }
+    requires limited { max_marks ≤ 1048576 }
+    requires started { 1 ≤ books.old.ledger.start }
+    requires young { AllByRecursion (IsYoung 262145) sessions.old }
+    requires fresh { AllByRecursion (IsAhead books.old.ledger) sessions.old }
+    requires marked { HaveMarks books.old.ledger }
+    requires users { AllByRecursion (OfLock (HasItsUser books.old.ledger.start sessions.old)) locks.old.table.entries }
+    requires drawn { AreDrawnRight ranges.now books.old.ledger.levels (draws_in sessions.old) (numbers_of books.old.ledger.units books.old.ledger.marks) }
+    requires filed { HasOpenLists D.tells D.reads D.may_leave books.old.ledger locks.old.file }
+    requires stock { IsStock (intervals_of ranges.now) books.old.ledger.levels (draws_in sessions.old) (numbers_of books.old.ledger.units books.old.ledger.marks) stock.now }
+    ensures act { (s : State) → s.sessions ≡ sessions.old → s.ranges ≡ ranges.now → s.locks ≡ locks.old.table.entries
+        → s.stored ≡ books.old.ledger → s.mark_limit ≡ max_marks → Admits s
+        → IsWritten s (command.Commit name.now parts.now stock.now)
+        (record s { sessions = sessions.new; ranges = ranges_behind stock.now ranges.now result; locks = locks.new.table.entries; stored = books.new.ledger })
+        result }
+    ensures limit { locks.new.table.limit ≡ locks.old.table.limit }
+    ensures file { FilesAs D.tells D.reads D.may_leave D.faults books.new.ledger locks.old.file locks.new.file result }
+    ensures follower { KeepsOn L.faults L.refusals locks.old.copy locks.new.copy }
     ensures sessions { OnFailure result (sessions.new ≡ sessions.old) }
     ensures store { EndsAs K.held K.is_open K.may_leave K.faults books.old books.new result }
 {
@@ -215,37 +302,46 @@ pub(crate) fn commit<T: LockStore, K: Keeper>(
         Err(refusal) => return Written::Answered(Reply::Refused(refusal)),
     };
     let effects = effects_in(parts);
-    let numbers = session.draws.as_slice().len();
-    if numbers > DRAWS_LIMIT || effects > EFFECTS_LIMIT {
+    let drawn = session.draws.as_slice().len() + stock.len();
+    if drawn > DRAWS_LIMIT || effects > EFFECTS_LIMIT {
         return Written::Answered(Reply::Refused(Refusal::UnitTooLarge));
     }
-    if effects == 0 && numbers == 0 {
+    if effects == 0 && drawn == 0 {
         return Written::Answered(Reply::Done);
     }
     if is_full(books, max_marks) {
         return Written::Answered(Reply::Refused(Refusal::StoreFull(max_marks)));
     }
-    let Ok(levels) = settled_rows(alloc, ranges, books, session.draws.as_slice()) else {
+    let Ok(numbers) = draws_and(alloc, session, stock) else {
+        return Written::Answered(Reply::Refused(Refusal::NoMemory));
+    };
+    let Ok(levels) = settled_rows(alloc, ranges, books, numbers.as_slice()) else {
         return Written::Answered(Reply::Refused(Refusal::NoMemory));
     };
     if effects == 0 {
         let key = unit_key(books.start(), session);
-        let Ok(numbers) = Vec::from_slice(alloc, session.draws.as_slice()) else {
-            return Written::Answered(Reply::Refused(Refusal::NoMemory));
-        };
         return record_numbers(alloc, sessions, books, name, key, numbers, levels);
     }
-    let Ok(unit) = unit_of(alloc, books.start(), locks, session, parts) else {
+    let Ok(unit) = unit_of(alloc, books.start(), locks, session, parts, numbers) else {
         return Written::Answered(Reply::Refused(Refusal::NoMemory));
     };
     record_unit(alloc, sessions, locks, books, name, unit, levels)
 }
 
-/// Records a unit, and hands its locks over.
-fn record_unit<T: LockStore, K: Keeper>(
+/// What a session has drawn, and behind it the numbers of a stock.
+fn draws_and(alloc: Global, session: &Session, stock: &[Num]) -> Result<Vec<Num>, NoMemory>
+    ensures { IfOk result (λ numbers. numbers.items ≡ session.now.draws ++ stock.now) }
+{
+    let mut numbers = Vec::from_slice(alloc, session.draws.as_slice())?;
+    numbers.extend_from_slice(stock)?;
+    Ok(numbers)
+}
+
+/// Records a unit whose locks are handed over: its list goes into the backup file first, and then the unit into the store.
+fn record_unit<T: LockStore, K: Keeper, D: Disk, L: Link>(
     alloc: Global,
     sessions: &mut Sessions,
-    locks: &mut T,
+    locks: &mut EnqServer<T, D, L>,
     books: &mut Books<K>,
     name: &Name,
     unit: Unit,
@@ -256,20 +352,58 @@ fn record_unit<T: LockStore, K: Keeper>(
     requires new { IsNewUnit books.old.ledger unit }
     requires store { MayStore books.old.ledger levels.items unit.numbers }
     requires young { AllByRecursion (IsYoung 262145) sessions.old }
-    ensures outcome { RecordsUnit sessions.old sessions.new (T.table locks.old).entries (T.table locks.new).entries books.old.ledger books.new.ledger
+    requires commits { IsOfCommit books.old.ledger unit locks.old.table.entries }
+    requires filed { HasOpenLists D.tells D.reads D.may_leave books.old.ledger locks.old.file }
+    ensures outcome { RecordsUnit sessions.old sessions.new locks.old.table.entries locks.new.table.entries books.old.ledger books.new.ledger
         name.now unit levels.items result }
-    ensures limit { (T.table locks.new).limit ≡ (T.table locks.old).limit }
+    ensures limit { locks.new.table.limit ≡ locks.old.table.limit }
+    ensures file { FilesAs D.tells D.reads D.may_leave D.faults books.new.ledger locks.old.file locks.new.file result }
+    ensures follower { KeepsOn L.faults L.refusals locks.old.copy locks.new.copy }
     ensures sessions { OnFailure result (sessions.new ≡ sessions.old) }
     ensures store { EndsAs K.held K.is_open K.may_leave K.faults books.old books.new result }
 {
-    match write_unit(alloc, books, &unit, levels.as_slice()) {
+    let Ok(prepared) = prepare_unit(alloc, books, &unit, levels.as_slice()) else {
+        return Written::Answered(Reply::Refused(Refusal::NoMemory));
+    };
+    match locks.save(alloc, &unit.key) {
+        Ok(_) => record_saved(alloc, sessions, locks, books, name, unit, levels, prepared),
+        Err(WriteFault::NoMemory) => Written::Answered(Reply::Refused(Refusal::NoMemory)),
+        Err(WriteFault::Failed) => Written::Unfiled,
+    }
+}
+
+/// Records a unit that was made ready and whose list the backup file has. Then its locks are flagged as handed over.
+fn record_saved<T: LockStore, K: Keeper, D: Disk, L: Link>(
+    alloc: Global,
+    sessions: &mut Sessions,
+    locks: &mut EnqServer<T, D, L>,
+    books: &mut Books<K>,
+    name: &Name,
+    unit: Unit,
+    levels: Vec<StoredInterval>,
+    prepared: Prepared,
+) -> Written
+    requires usable { IsUsable K.held K.is_open books.old }
+    requires ready { IsReady K.held K.has_room books.old prepared }
+    requires step { prepared.step ≡ Record unit levels.items }
+    requires young { AllByRecursion (IsYoung 262145) sessions.old }
+    requires saved { IsSaved D.tells D.reads D.may_leave books.old.ledger (with_intervals levels.items (with_unit books.old.ledger unit)) locks.old.file }
+    ensures outcome { RecordsUnit sessions.old sessions.new locks.old.table.entries locks.new.table.entries books.old.ledger books.new.ledger
+        name.now unit levels.items result }
+    ensures limit { locks.new.table.limit ≡ locks.old.table.limit }
+    ensures file { FilesAs D.tells D.reads D.may_leave D.faults books.new.ledger locks.old.file locks.new.file result }
+    ensures answered { IsUnrefused result }
+    ensures follower { KeepsOn L.faults L.refusals locks.old.copy locks.new.copy }
+    ensures sessions { OnFailure result (sessions.new ≡ sessions.old) }
+    ensures store { EndsAs K.held K.is_open K.may_leave K.faults books.old books.new result }
+{
+    match write(books, prepared) {
         Ok(()) => {
-            locks.hand(&unit.key);
+            locks.flag(&unit.key);
             sessions.begin_unit(alloc, name);
             Written::Answered(Reply::Unit(unit.key))
         }
-        Err(KeepFault::NoMemory) => Written::Answered(Reply::Refused(Refusal::NoMemory)),
-        Err(KeepFault::Failed) => {
+        Err(_) => {
             let levels = Items::from_vec(levels);
             Written::Failed(Some(InFlight::Unit { unit, levels }))
         }
@@ -321,6 +455,7 @@ pub(crate) fn read<K: Keeper>(
     ensures act { (s : State) → s.sessions ≡ sessions.now → s.told ≡ is_some (K.held books.old.keeper)
         → s.stored ≡ books.old.ledger → s.pending ≡ None → Admits s
         → IsWritten s (command.Read name.now table.now key.now) (record s { stored = books.new.ledger }) result }
+    ensures levels { ChangesLevels books.old.ledger books.new.ledger result }
     ensures ledger { books.new.ledger ≡ books.old.ledger }
     ensures usable { OnAnswer result (IsUsable K.held K.is_open books.new) }
     ensures told { is_some (K.held books.new.keeper) ≡ is_some (K.held books.old.keeper) }
@@ -338,11 +473,12 @@ pub(crate) fn read<K: Keeper>(
     }
 }
 
-/// Cancels a unit that waits for its V1 part, or of which a part was refused. The locks of one that waits go.
-pub(crate) fn cancel<T: LockStore, K: Keeper>(
+/// Cancels a unit that waits for its V1 part, or of which a part was refused. The locks of one that waits end, in the backup
+/// file and then in the table.
+pub(crate) fn cancel<T: LockStore, K: Keeper, D: Disk, L: Link>(
     alloc: Global,
     orders: &[Option<UnitKey>],
-    locks: &mut T,
+    locks: &mut EnqServer<T, D, L>,
     books: &mut Books<K>,
     unit: UnitKey,
     max_marks: u32,
@@ -350,13 +486,16 @@ pub(crate) fn cancel<T: LockStore, K: Keeper>(
     requires usable { IsUsable K.held K.is_open books.old }
     requires limited { max_marks ≤ 1048576 }
     requires places { length orders.now ≡ 256 }
-    ensures act { (s : State) → s.orders ≡ orders.now → s.locks ≡ (T.table locks.old).entries
+    requires filed { HasOpenLists D.tells D.reads D.may_leave books.old.ledger locks.old.file }
+    ensures act { (s : State) → s.orders ≡ orders.now → s.locks ≡ locks.old.table.entries
         → s.stored ≡ books.old.ledger → s.mark_limit ≡ max_marks → Admits s
         → IsWritten s (command.Cancel unit)
-        (record s { locks = (T.table locks.new).entries; stored = books.new.ledger })
+        (record s { locks = locks.new.table.entries; stored = books.new.ledger })
         result }
-    ensures limit { (T.table locks.new).limit ≡ (T.table locks.old).limit }
-    ensures ledger { OnFailure result (books.new.ledger ≡ books.old.ledger) }
+    ensures limit { locks.new.table.limit ≡ locks.old.table.limit }
+    ensures file { FilesAs D.tells D.reads D.may_leave D.faults books.new.ledger locks.old.file locks.new.file result }
+    ensures follower { KeepsOn L.faults L.refusals locks.old.copy locks.new.copy }
+    ensures ledger { OnStoreFailure result (books.new.ledger ≡ books.old.ledger) }
     ensures usable { OnAnswer result (IsUsable K.held K.is_open books.new) }
     ensures told { is_some (K.held books.new.keeper) ≡ is_some (K.held books.old.keeper) }
     ensures left { LeavesWritten K.held K.may_leave books.new result }
@@ -371,10 +510,10 @@ pub(crate) fn cancel<T: LockStore, K: Keeper>(
         return Written::Answered(Reply::Refused(Refusal::NoMemory));
     };
     match books.write(prepared) {
-        Ok(()) => {
-            free_cancelled(locks, unit, status);
-            Written::Answered(Reply::Unit(unit))
-        }
+        Ok(()) => match end_locks(locks, &unit, is_open(status)) {
+            Ok(()) => Written::Answered(Reply::Unit(unit)),
+            Err(Failed) => Written::Unfiled,
+        },
         Err(_) => Written::Failed(Some(InFlight::Cancel(unit))),
     }
 }
@@ -413,21 +552,17 @@ fn may_cancel(status: Status) -> bool
     matches!(status, Status::Open | Status::Bad | Status::Bad2)
 }
 
-/// Frees the locks of a unit that waited for its V1 part when it was cancelled. Any other has none.
-fn free_cancelled<T: LockStore>(locks: &mut T, unit: UnitKey, status: Status)
-    ensures { T.table locks.new ≡ with_entries (T.table locks.old) (step.locks_without status (T.table locks.old).entries unit) }
+fn is_open(status: Status) -> bool
+    ensures { result ≡ is_open status }
 {
-    if let Status::Open = status {
-        let owner = Owner::Upd(unit);
-        locks.free_owner(&owner);
-    }
+    matches!(status, Status::Open)
 }
 
 /// Tries the part of a unit again that was refused. For its V1 part the unit's stored locks have to stand again, all or
 /// none; the unit waits behind all others.
-pub(crate) fn resubmit<T: LockStore, K: Keeper>(
+pub(crate) fn resubmit<T: LockStore, K: Keeper, D: Disk, L: Link>(
     alloc: Global,
-    locks: &mut T,
+    locks: &mut EnqServer<T, D, L>,
     books: &mut Books<K>,
     unit: UnitKey,
     max_marks: u32,
@@ -435,13 +570,16 @@ pub(crate) fn resubmit<T: LockStore, K: Keeper>(
     requires usable { IsUsable K.held K.is_open books.old }
     requires limited { max_marks ≤ 1048576 }
     requires stored { AllByRecursion HasGoodLocks books.old.ledger.units }
-    ensures act { (s : State) → s.locks ≡ (T.table locks.old).entries → s.limit ≡ (T.table locks.old).limit
+    requires filed { HasOpenLists D.tells D.reads D.may_leave books.old.ledger locks.old.file }
+    ensures act { (s : State) → s.locks ≡ locks.old.table.entries → s.limit ≡ locks.old.table.limit
         → s.stored ≡ books.old.ledger → s.mark_limit ≡ max_marks → Admits s
         → IsWritten s (command.Resubmit unit)
-        (record s { locks = (T.table locks.new).entries; stored = books.new.ledger })
+        (record s { locks = locks.new.table.entries; stored = books.new.ledger })
         result }
-    ensures limit { (T.table locks.new).limit ≡ (T.table locks.old).limit }
-    ensures ledger { OnFailure result (books.new.ledger ≡ books.old.ledger) }
+    ensures limit { locks.new.table.limit ≡ locks.old.table.limit }
+    ensures file { FilesAs D.tells D.reads D.may_leave D.faults books.new.ledger locks.old.file locks.new.file result }
+    ensures follower { KeepsOn L.faults L.refusals locks.old.copy locks.new.copy }
+    ensures ledger { OnStoreFailure result (books.new.ledger ≡ books.old.ledger) }
     ensures usable { OnAnswer result (IsUsable K.held K.is_open books.new) }
     ensures told { is_some (K.held books.new.keeper) ≡ is_some (K.held books.old.keeper) }
     ensures left { LeavesWritten K.held K.may_leave books.new result }
@@ -456,9 +594,9 @@ pub(crate) fn resubmit<T: LockStore, K: Keeper>(
 }
 
 /// The same of a unit whose V1 part was refused.
-fn reopen<T: LockStore, K: Keeper>(
+fn reopen<T: LockStore, K: Keeper, D: Disk, L: Link>(
     alloc: Global,
-    locks: &mut T,
+    locks: &mut EnqServer<T, D, L>,
     books: &mut Books<K>,
     unit: UnitKey,
 ) -> Written
@@ -466,14 +604,17 @@ fn reopen<T: LockStore, K: Keeper>(
     requires stored { AllByRecursion HasGoodLocks books.old.ledger.units }
     requires marks { HasMarksLeft books.old.ledger }
     requires follows { MayGet books.old.ledger unit Again1 }
-    ensures act { (s : State) → s.locks ≡ (T.table locks.old).entries → s.limit ≡ (T.table locks.old).limit
+    requires filed { HasOpenLists D.tells D.reads D.may_leave books.old.ledger locks.old.file }
+    ensures act { (s : State) → s.locks ≡ locks.old.table.entries → s.limit ≡ locks.old.table.limit
         → s.stored ≡ books.old.ledger → step.to_resubmit books.old.ledger s.mark_limit unit ≡ Ok Status.Bad
         → Admits s
         → IsWritten s (command.Resubmit unit)
-        (record s { locks = (T.table locks.new).entries; stored = books.new.ledger })
+        (record s { locks = locks.new.table.entries; stored = books.new.ledger })
         result }
-    ensures limit { (T.table locks.new).limit ≡ (T.table locks.old).limit }
-    ensures ledger { OnFailure result (books.new.ledger ≡ books.old.ledger) }
+    ensures limit { locks.new.table.limit ≡ locks.old.table.limit }
+    ensures file { FilesAs D.tells D.reads D.may_leave D.faults books.new.ledger locks.old.file locks.new.file result }
+    ensures follower { KeepsOn L.faults L.refusals locks.old.copy locks.new.copy }
+    ensures ledger { OnStoreFailure result (books.new.ledger ≡ books.old.ledger) }
     ensures usable { OnAnswer result (IsUsable K.held K.is_open books.new) }
     ensures told { is_some (K.held books.new.keeper) ≡ is_some (K.held books.old.keeper) }
     ensures left { LeavesWritten K.held K.may_leave books.new result }
@@ -487,8 +628,8 @@ fn reopen<T: LockStore, K: Keeper>(
         return Written::Answered(Reply::Refused(Refusal::NoMemory));
     };
     let owners = owners_of(&unit);
-    if let Err(fault) = locks.readmit(alloc, &owners, entries.as_slice()) {
-        return Written::Answered(Reply::Refused(refusal_of(fault)));
+    if let Err(fault) = locks.readmit(alloc, &owners, &unit, entries.as_slice()) {
+        return ungranted(fault);
     }
     match books.write(prepared) {
         Ok(()) => Written::Answered(Reply::Unit(unit)),
@@ -496,20 +637,33 @@ fn reopen<T: LockStore, K: Keeper>(
     }
 }
 
+/// How a call ends whose locks aren't granted again, or aren't written into the backup file.
+fn ungranted(fault: ServerFault) -> Written
+    ensures { result ≡ ungranted fault }
+{
+    match fault {
+        ServerFault::Ask(fault) => Written::Answered(Reply::Refused(table_refusal_of(fault))),
+        ServerFault::Failed => Written::Unfiled,
+        ServerFault::NoMemory => Written::Answered(Reply::Refused(Refusal::NoMemory)),
+    }
+}
+
 /// The same of a unit whose V2 part was refused. It has no locks.
-fn repost<T: LockStore, K: Keeper>(
+fn repost<T: LockStore, K: Keeper, D: Disk, L: Link>(
     alloc: Global,
-    locks: &T,
+    locks: &EnqServer<T, D, L>,
     books: &mut Books<K>,
     unit: UnitKey,
 ) -> Written
     requires usable { IsUsable K.held K.is_open books.old }
     requires marks { HasMarksLeft books.old.ledger }
     requires follows { MayGet books.old.ledger unit Again2 }
-    ensures act { (s : State) → s.locks ≡ (T.table locks.now).entries → s.stored ≡ books.old.ledger
+    requires filed { HasOpenLists D.tells D.reads D.may_leave books.old.ledger locks.now.file }
+    ensures file { FilesAs D.tells D.reads D.may_leave D.faults books.new.ledger locks.now.file locks.now.file result }
+    ensures act { (s : State) → s.locks ≡ locks.now.table.entries → s.stored ≡ books.old.ledger
         → step.to_resubmit books.old.ledger s.mark_limit unit ≡ Ok Status.Bad2 → Admits s
         → IsWritten s (command.Resubmit unit)
-        (record s { locks = (T.table locks.now).entries; stored = books.new.ledger })
+        (record s { locks = locks.now.table.entries; stored = books.new.ledger })
         result }
     ensures ledger { OnFailure result (books.new.ledger ≡ books.old.ledger) }
     ensures usable { OnAnswer result (IsUsable K.held K.is_open books.new) }
@@ -576,34 +730,35 @@ fn effects_in(parts: &Parts) -> usize
 }
 
 /// The unit that a session has open, with its locks as they are handed over.
-fn unit_of<T: LockStore>(
+fn unit_of<T: LockStore, D: Disk, L: Link>(
     alloc: Global,
     start: u32,
-    locks: &T,
+    locks: &EnqServer<T, D, L>,
     session: &Session,
     parts: &Parts,
+    numbers: Vec<Num>,
 ) -> Result<Unit, NoMemory>
-    ensures unit { IfOk result (λ unit. unit ≡ step.unit_of start (T.table locks.now).entries session.now parts.now session.now.draws) }
-    ensures good { IfOk result (λ _. IsTable (T.table locks.now)) }
+    ensures unit { IfOk result (λ unit. unit ≡ step.unit_of start locks.now.table.entries session.now parts.now numbers.items) }
+    ensures good { IfOk result (λ _. IsTable locks.now.table) }
 {
     let key = unit_key(start, session);
     Ok(Unit {
         key,
         user: session.user,
-        numbers: Items::from_vec(Vec::from_slice(alloc, session.draws.as_slice())?),
+        numbers: Items::from_vec(numbers),
         parts: parts.copy(alloc)?,
         entries: Items::from_vec(handed_locks(alloc, locks, &key)?),
     })
 }
 
 /// The locks of a unit as they stand once they are handed over to the update.
-fn handed_locks<T: LockStore>(
+fn handed_locks<T: LockStore, D: Disk, L: Link>(
     alloc: Global,
-    locks: &T,
+    locks: &EnqServer<T, D, L>,
     unit: &UnitKey,
 ) -> Result<Vec<Entry>, NoMemory>
-    ensures locks { IfOk result (λ entries. entries.items ≡ step.handed_locks (T.table locks.now).entries unit.now) }
-    ensures good { IfOk result (λ _. IsTable (T.table locks.now)) }
+    ensures locks { IfOk result (λ entries. entries.items ≡ step.handed_locks locks.now.table.entries unit.now) }
+    ensures good { IfOk result (λ _. IsTable locks.now.table) }
 {
     let mut entries = locks.entries_of(alloc, &Owner::Upd(*unit))?;
     hand_over(&mut entries, unit);

@@ -1,32 +1,34 @@
-ghost use Rattle.std.specs.Prelude.{◌≤◌, ◌∷◌, []};
+ghost use Rattle.std.specs.Prelude.{◌≡◌, ◌≤◌, ◌∷◌, [], IfErr, IfOk};
 ghost use Rattle.hall.specs.Storing.{TriesStep};
 ghost use Rattle.posting.specs.Intervals.{MayStore};
-ghost use Rattle.posting.specs.Shelf.{IsReady, IsUsable};
+ghost use Rattle.posting.specs.Shelf.{IsReady, IsUnmoved, IsUsable};
 ghost use Rattle.posting.specs.Steps.{HasMarksLeft, IsDrawing, IsNewUnit};
 ghost use Rattle.posting.specs.declared.prepared.Step.TheVariants.{Draw, Level, Record};
 
-use enq_base::{Num, UnitKey};
+use enq_base::{NoMemory, Num, UnitKey};
 use keeper_api::{KeepFault, Keeper};
 use posting::{Books, Prepared};
 use std::alloc::Global;
 use update_records::{StoredInterval, Unit};
 
-/// Records a unit, with the levels of the intervals that its numbers are of.
-pub(crate) fn write_unit<K: Keeper>(
+/// Makes ready to record a unit, with the levels of the intervals that its numbers are of.
+pub(crate) fn prepare_unit<K: Keeper>(
     alloc: Global,
     books: &mut Books<K>,
     unit: &Unit,
     levels: &[StoredInterval],
-) -> Result<(), KeepFault>
+) -> Result<Prepared, NoMemory>
     requires usable { IsUsable K.held K.is_open books.old }
     requires marks { HasMarksLeft books.old.ledger }
     requires unit { IsNewUnit books.old.ledger unit.now }
     requires store { MayStore books.old.ledger levels.now unit.now.numbers }
-    ensures { TriesStep K.held K.is_open K.may_leave K.faults books.old books.new (Record unit.now levels.now) result }
+    ensures ready { IfOk result (λ p. IsReady K.held K.has_room books.new p) }
+    ensures step { IfOk result (λ p. p.step ≡ Record unit.now levels.now) }
+    ensures usable { IsUsable K.held K.is_open books.new }
+    ensures unmoved { IsUnmoved K.held K.may_leave K.faults books.old books.new }
 {
     let recorded = unit.copy(alloc)?;
-    let prepared = books.prepare_unit(alloc, recorded, levels)?;
-    write(books, prepared)
+    books.prepare_unit(alloc, recorded, levels)
 }
 
 /// Records numbers of a unit alone, with the levels of their intervals.
@@ -63,10 +65,11 @@ pub(crate) fn write_level<K: Keeper>(
 }
 
 /// Writes what was prepared last.
-fn write<K: Keeper>(books: &mut Books<K>, prepared: Prepared) -> Result<(), KeepFault>
+pub(crate) fn write<K: Keeper>(books: &mut Books<K>, prepared: Prepared) -> Result<(), KeepFault>
     requires usable { IsUsable K.held K.is_open books.old }
     requires ready { IsReady K.held K.has_room books.old prepared }
-    ensures { TriesStep K.held K.is_open K.may_leave K.faults books.old books.new prepared.step result }
+    ensures tried { TriesStep K.held K.is_open K.may_leave K.faults books.old books.new prepared.step result }
+    ensures failed { IfErr result (λ fault. fault ≡ KeepFault.Failed) }
 {
     match books.write(prepared) {
         Ok(()) => Ok(()),

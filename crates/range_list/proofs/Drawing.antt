@@ -86,7 +86,7 @@ all_with P [] x y after f h = (f h.0, h.1)
 all_with P (z ∷ before) x y after f h = (h.0, all_with P before x y after f h.1)
 
 -- an interval of which both have the same numbers sees no difference
-same_as : (buffered : Bool) (i : Interval) (next : ℕ) (before : List (List Num)) (x y : List Num) (after : List (List Num)) (committed : List Num) → drawn_from i x ≡ drawn_from i y
+pub same_as : (buffered : Bool) (i : Interval) (next : ℕ) (before : List (List Num)) (x y : List Num) (after : List (List Num)) (committed : List Num) → drawn_from i x ≡ drawn_from i y
     → IsDrawnAs buffered i next (before ++ x ∷ after) committed → IsDrawnAs buffered i next (before ++ y ∷ after) committed
 same_as false i next before x y after committed same h =
     let many = same_drawn i x y same in
@@ -159,7 +159,7 @@ plain_more i before x after number front back is within h =
     let c = at_most_one (has_drawn i y) in
     record { begun = h.begun; sole = omega (arith, whole, a, b, c); runs = all_with (IsRun i) before x y after (run_more i x number is within) h.runs }
 
-known_more : (intervals : List Interval) (i : Interval) (x : List Num) (number : ℕ) → Contains intervals i → AreOfOne intervals x → AreOfOne intervals (x ++ num_of i number ∷ [])
+pub known_more : (intervals : List Interval) (i : Interval) (x : List Num) (number : ℕ) → Contains intervals i → AreOfOne intervals x → AreOfOne intervals (x ++ num_of i number ∷ [])
 known_more intervals i x number among h = all_append (IsOfOne intervals) x (num_of i number ∷ []) h (of_one intervals i (num_of i number) among refl, tt)
 
 module _ (ranges : List NumberRange) (levels : Levels) (before : List (List Num)) (x : List Num) (after : List (List Num)) (committed : List Num) (i : Interval) (number : ℕ)

@@ -10,5 +10,7 @@ pub mod Sessions
 pub mod HandedOut
 pub mod Drawing
 pub mod Recording
+pub mod Stocks
 pub mod Owners
 pub mod Presents
+pub mod Behind

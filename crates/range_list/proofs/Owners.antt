@@ -11,18 +11,20 @@ use Rattle.posting.specs.Intervals.{MayStore, with_levels}
 use Rattle.update_records.specs.Business.{numbers_of}
 use Rattle.update_records.specs.Grammar.{HasDigits, IsNr}
 use Rattle.update_records.specs.Ledger.{Ledger, Levels}
-use Rattle.range_list.specs.Drawn.{AreDrawnRight, AreOfOne, IsOfOne, drawn_of, handed_out, has_drawn, num_of, settled_rows}
-use Rattle.range_list.specs.Levels.{AreIntervals, intervals_of, level_in}
+use Rattle.range_list.specs.Drawn.{AreDrawnRight, AreOfOne, IsOfOne, IsStock, drawn_of, handed_out, has_drawn, num_of, passed, settled_rows}
+use Rattle.range_list.specs.Levels.{AreIntervals, intervals_of, level_in, present}
 use Rattle.range_list.specs.declared.range.NumberRange.{NumberRange}
 use Rattle.range_list.proofs.Fits.{unused_in}
 use Rattle.range_list.proofs.Owning.{one_of_these}
-use Rattle.range_list.proofs.Storing.{may_commit}
+use Rattle.range_list.proofs.Storing.{Takes, TakesAs, all_take, may_commit}
 use Rattle.module_effects.specs.Rows.{RowName}
-use Rattle.std.proofs.lemmas.List.Elements.{All-from_recursion}
+use Rattle.std.proofs.lemmas.List.Elements.{All-contains, All-from_recursion}
 use Rattle.range_list.proofs.Counting.{all_of, all_right, bit, count_append, count_cons}
 use Rattle.range_list.proofs.Drawing.{buffered_drawn, plain_drawn}
 use Rattle.range_list.proofs.Recording.{commit_drawn}
+use Rattle.range_list.proofs.HandedOut.{passed_intervals}
 use Rattle.range_list.proofs.Sessions.{fewer_drawn, fewer_given_back}
+use Rattle.range_list.proofs.Stocks.{settled_passed, stock_drawn}
 
 none_of_bit : (b : Bool) → bit b ≡ 0 → b ≡ false
 none_of_bit true h = cc
@@ -169,3 +171,48 @@ module _ {S : Type 0} (draws_of : S → List Num) (test : S → Bool) (change : 
       let known = subst (AllByRecursion (AreOfOne (intervals_of ranges))) draws_before h.known in
       All-from_recursion HasDigits (draws_of x) (all_of (IsOfOne (intervals_of ranges)) HasDigits (has_digits (intervals_of ranges) h.intervals) (draws_of x)
       (all_right (AreOfOne (intervals_of ranges)) (map draws_of split.before) (draws_of x ∷ map draws_of split.after) known).0)
+
+  -- ---- the same with numbers of a stock behind those that it drew
+
+  module _ (ranges : List NumberRange) (levels : Levels) (committed stock : List Num) (fits : IsStock (intervals_of ranges) levels (map draws_of sessions) committed stock)
+      (h : AreDrawnRight ranges levels (map draws_of sessions) committed) where
+    abbrev numbers : List Num
+    numbers = draws_of x ++ stock
+
+    with_stock : AreDrawnRight (passed stock ranges) levels (map draws_of split.before ++ numbers ∷ map draws_of split.after) committed
+    with_stock =
+        stock_drawn ranges levels (map draws_of split.before) (draws_of x) (map draws_of split.after) committed stock
+        (subst (λ ds. IsStock (intervals_of ranges) levels ds committed stock) draws_before fits)
+        (subst (λ ds. AreDrawnRight ranges levels ds committed) draws_before h)
+
+    pub session_commits_stock : draws_of (change x) ≡ []
+        → AreDrawnRight (passed stock ranges) (with_levels (settled_rows levels ranges numbers) levels) (map draws_of now) (committed ++ numbers)
+    session_commits_stock none =
+        subst (λ rows. AreDrawnRight (passed stock ranges) (with_levels rows levels) (map draws_of now) (committed ++ numbers)) (settled_passed levels ranges stock numbers)
+        (subst (λ ds. AreDrawnRight (passed stock ranges) (with_levels (settled_rows levels (passed stock ranges) numbers) levels) ds (committed ++ numbers)) (sym (draws_now [] none))
+        (commit_drawn (passed stock ranges) levels (map draws_of split.before) numbers (map draws_of split.after) committed with_stock))
+
+    -- they don't pass the end of an interval without a buffer
+    pub session_stock_fits : (i : Interval) → Contains (intervals_of ranges) i → is_buffered i ≡ false → level_in levels i + drawn_of (present levels i) numbers ≤ i.to
+    session_stock_fits i among plain =
+        let takes = subst (AllByRecursion (Takes levels numbers committed)) (passed_intervals stock ranges)
+        (all_take levels (map draws_of split.before) numbers (map draws_of split.after) committed (passed stock ranges) with_stock.each) in
+        run_of (is_buffered i) plain (All-contains (Takes levels numbers committed) (intervals_of ranges) i (All-from_recursion (Takes levels numbers committed) (intervals_of ranges) takes) among)
+      where
+        run_of : (b : Bool) → b ≡ false → TakesAs b (present levels i) numbers committed → level_in levels i + drawn_of (present levels i) numbers ≤ i.to
+        run_of true e take = cc
+        run_of false e run = run.within
+
+    pub session_stock_digits : All HasDigits numbers
+    session_stock_digits =
+        All-from_recursion HasDigits numbers (all_of (IsOfOne (intervals_of (passed stock ranges))) HasDigits (has_digits (intervals_of (passed stock ranges)) with_stock.intervals) numbers
+        (all_right (AreOfOne (intervals_of (passed stock ranges))) (map draws_of split.before) (numbers ∷ map draws_of split.after) with_stock.known).0)
+
+  pub session_may_commit_stock : (ledger : Ledger) (ranges : List NumberRange) (stock : List Num)
+      → IsStock (intervals_of ranges) ledger.levels (map draws_of sessions) (numbers_of ledger.units ledger.marks) stock
+      → AreDrawnRight ranges ledger.levels (map draws_of sessions) (numbers_of ledger.units ledger.marks)
+      → MayStore ledger (settled_rows ledger.levels ranges (draws_of x ++ stock)) (draws_of x ++ stock)
+  session_may_commit_stock ledger ranges stock fits h =
+      subst (λ rows. MayStore ledger rows (draws_of x ++ stock)) (settled_passed ledger.levels ranges stock (draws_of x ++ stock))
+      (may_commit ledger (passed stock ranges) (map draws_of split.before) (draws_of x ++ stock) (map draws_of split.after)
+      (with_stock ranges ledger.levels (numbers_of ledger.units ledger.marks) stock fits h))

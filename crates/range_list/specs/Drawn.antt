@@ -1,13 +1,13 @@
 -- Numbers that sessions have drawn from intervals, beside those that are committed. The draws of each session are one list.
-use Rattle.std.specs.Prelude.{◌≡◌, ◌≤◌, ◌<◌, ◌+◌, IsTrue, ℕ, Bool, true, false, not, ◌&&◌, nat_eq, nat_lt, List, count_by, map, sum_by, if◌then◌else◌}
-use Rattle.std.specs.List.{AllByRecursion, filter, list_any, range_with_len}
+use Rattle.std.specs.Prelude.{◌≡◌, ◌≤◌, ◌<◌, ◌+◌, Contains, IsSomeAnd, IsTrue, ℕ, Bool, true, false, not, ◌&&◌, nat_eq, nat_lt, List, count_by, fold, map, max, sum_by, if◌then◌else◌}
+use Rattle.std.specs.List.{AllByRecursion, filter, find, list_any, range_with_len}
 use Rattle.enq_base.specs.declared.unit.Num.{Num}
 use Rattle.number_ranges.specs.Intervals.{is_buffered, is_named, with_level}
 use Rattle.number_ranges.specs.declared.interval.Interval.{Interval}
 use Rattle.update_records.specs.Business.{numbers_from}
 use Rattle.update_records.specs.Ledger.{Levels}
 use Rattle.update_records.specs.declared.stored.StoredInterval.{StoredInterval}
-use Rattle.range_list.specs.Levels.{AreIntervals, FitLevels, intervals_of, name_of, present}
+use Rattle.range_list.specs.Levels.{AreIntervals, FitLevels, intervals_of, level_in, name_of, present}
 use Rattle.range_list.specs.declared.range.NumberRange.{NumberRange}
 
 abbrev pub num_of : Interval → ℕ → Num
@@ -84,6 +84,32 @@ handed_out_of object nr r = if is_named object nr r.interval then record r { nex
 
 abbrev pub handed_out : Interval → List NumberRange → List NumberRange
 handed_out i ranges = map (handed_out_of i.object i.nr) ranges
+
+-- ---- numbers of a stock, which threads share beside the sessions' draws
+
+-- memory hands out what is behind this number
+abbrev pub passed_by : Num → NumberRange → NumberRange
+passed_by num r = if is_named num.object num.nr r.interval then record r { next = max r.next (num.number + 1) } else r
+
+-- and what is behind all of these
+abbrev pub passed : List Num → List NumberRange → List NumberRange
+passed nums ranges = fold (λ rs num. map (passed_by num) rs) ranges nums
+
+-- the interval has a buffer, and the number is one of those up to its level
+pub record IsUpToLevel (levels : Levels) (number : ℕ) (i : Interval) : Type 0 where
+  pub buffered : is_buffered i ≡ true
+  pub first : i.from ≤ number
+  pub last : number ≤ level_in levels i
+
+abbrev pub IsReserved : List Interval → Levels → Num → Type 0
+IsReserved intervals levels num = IsSomeAnd (find (is_named num.object num.nr) intervals) (IsUpToLevel levels num.number)
+
+-- Numbers of a stock that may be committed: each is reserved, none stands among them twice, none is committed, and no
+-- session has drawn one of them.
+pub record IsStock (intervals : List Interval) (levels : Levels) (draws : List (List Num)) (committed : List Num) (stock : List Num) : Type 0 where
+  pub reserved : AllByRecursion (IsReserved intervals levels) stock
+  pub once : (i : Interval) → Contains intervals i → (number : ℕ) → times i number stock ≤ 1
+  pub fresh : (i : Interval) → Contains intervals i → (number : ℕ) → 1 ≤ times i number stock → times_given i draws committed number ≡ 0
 
 -- ---- rows that are written
 

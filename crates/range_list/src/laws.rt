@@ -1,13 +1,13 @@
 ghost use Rattle.std.specs.Prelude.{◌≡◌, ◌≤◌, ◌+◌, ◌&&◌, ℕ, Bool, false, true, not, List, [], ◌∷◌, ◌++◌, Contains, IfSome, None, Some, count_by, map};
 ghost use Rattle.std.specs.FinMap.{get};
-ghost use Rattle.std.specs.List.{All, filter, find, list_any};
+ghost use Rattle.std.specs.List.{All, filter, find, list_any, range_with_len};
 ghost use Rattle.enq_base.specs.declared.unit.Num.{Num};
 ghost use Rattle.lock_entry.specs.Freeing.{replace_first};
 ghost use Rattle.module_effects.specs.Rows.{RowName};
 ghost use Rattle.number_ranges.specs.Intervals.{IsInterval, is_buffered, with_level};
 ghost use Rattle.number_ranges.specs.declared.interval.Interval.{Interval};
 ghost use Rattle.posting.specs.Intervals.{MayStore, with_levels};
-ghost use Rattle.range_list.specs.Drawn.{AreDrawnRight, drawn_of, handed_out, has_drawn, num_of, settled_rows, stored_as};
+ghost use Rattle.range_list.specs.Drawn.{AreDrawnRight, IsStock, drawn_of, handed_out, has_drawn, num_of, passed, settled_rows, stored_as};
 ghost use Rattle.range_list.specs.Levels.{AreIntervals, FitLevels, FitRows, first_ranges, intervals_of, level_in, present, range_at};
 ghost use Rattle.range_list.specs.declared.range.NumberRange.{NumberRange};
 ghost use Rattle.update_records.specs.Business.{numbers_of};
@@ -23,7 +23,8 @@ pub fn rows_fit_by_name()
 {}
 
 /// What sessions have drawn may be stored: the numbers of a session together with the rows that they settle, and a
-/// higher level of an interval with a buffer.
+/// higher level of an interval with a buffer. The numbers that memory has yet to hand out, up to the level, may be those of
+/// a stock.
 pub fn draws_may_be_stored()
     ensures commit { (ledger : Ledger) (ranges : List NumberRange)
         (before : List (List Num)) (nums : List Num) (after : List (List Num))
@@ -32,6 +33,10 @@ pub fn draws_may_be_stored()
     ensures level { (ledger : Ledger) (intervals : List Interval) (i : Interval) (level : ℕ)
         → AreIntervals intervals → FitLevels intervals ledger.levels → Contains intervals i → is_buffered i ≡ true
         → level_in ledger.levels i ≤ level → level ≤ i.to → MayStore ledger (stored_as (with_level level i) ∷ []) [] }
+    ensures stock { (ranges : List NumberRange) (levels : Levels) (draws : List (List Num)) (committed : List Num) (r : NumberRange) (first count : ℕ)
+        → AreDrawnRight ranges levels draws committed → Contains ranges r → is_buffered r.interval ≡ true
+        → r.next ≤ first → first + count ≤ level_in levels r.interval + 1
+        → IsStock (intervals_of ranges) levels draws committed (map (num_of r.interval) (range_with_len first count)) }
 {}
 
 /// What sessions have drawn is right at the start, and stays so as they come, go, and give back what they drew.
@@ -49,8 +54,8 @@ pub fn draws_outlast_sessions()
         → AreDrawnRight ranges levels (before ++ own ∷ after) committed → AreDrawnRight ranges levels (before ++ [] ∷ after) committed }
 {}
 
-/// It stays so as a session draws one number more, as the level of an interval with a buffer rises, and as a session's
-/// numbers are committed.
+/// It stays so as a session draws one number more or has numbers of a stock, as the level of an interval with a buffer
+/// rises, and as a session's numbers are committed.
 pub fn draws_stay_right()
     ensures plain { (ranges : List NumberRange) (levels : Levels)
         (before : List (List Num)) (own : List Num) (after : List (List Num)) (committed : List Num) (i : Interval) (number : ℕ)
@@ -63,6 +68,11 @@ pub fn draws_stay_right()
         → Contains ranges r → is_buffered r.interval ≡ true → r.next ≤ level_in levels r.interval
         → AreDrawnRight ranges levels (before ++ own ∷ after) committed
         → AreDrawnRight (handed_out r.interval ranges) levels (before ++ (own ++ num_of r.interval r.next ∷ []) ∷ after) committed }
+    ensures stock { (ranges : List NumberRange) (levels : Levels)
+        (before : List (List Num)) (own : List Num) (after : List (List Num)) (committed : List Num) (stock : List Num)
+        → IsStock (intervals_of ranges) levels (before ++ own ∷ after) committed stock
+        → AreDrawnRight ranges levels (before ++ own ∷ after) committed
+        → AreDrawnRight (passed stock ranges) levels (before ++ (own ++ stock) ∷ after) committed }
     ensures raised { (ranges : List NumberRange) (levels : Levels) (draws : List (List Num)) (committed : List Num)
         (i : Interval) (level : ℕ)
         → Contains (intervals_of ranges) i → is_buffered i ≡ true → level_in levels i ≤ level → level ≤ i.to
@@ -102,8 +112,19 @@ pub fn draws_follow_sessions<S>()
         → AreDrawnRight ranges levels (map draws_of sessions) committed
         → AreDrawnRight ranges (with_levels (settled_rows levels ranges (draws_of x)) levels)
         (map draws_of (replace_first test (λ s. change s ∷ []) sessions)) (committed ++ draws_of x) }
+    ensures commits_stock { (draws_of : S → List Num) (test : S → Bool) (change : S → S) (sessions : List S) (x : S)
+        → find test sessions ≡ Some x → (ranges : List NumberRange) (levels : Levels) (committed stock : List Num) → draws_of (change x) ≡ []
+        → IsStock (intervals_of ranges) levels (map draws_of sessions) committed stock
+        → AreDrawnRight ranges levels (map draws_of sessions) committed
+        → AreDrawnRight (passed stock ranges) (with_levels (settled_rows levels ranges (draws_of x ++ stock)) levels)
+        (map draws_of (replace_first test (λ s. change s ∷ []) sessions)) (committed ++ (draws_of x ++ stock)) }
     ensures may_commit { (draws_of : S → List Num) (test : S → Bool) (sessions : List S) (x : S)
         → find test sessions ≡ Some x → (ledger : Ledger) (ranges : List NumberRange)
         → AreDrawnRight ranges ledger.levels (map draws_of sessions) (numbers_of ledger.units ledger.marks)
         → MayStore ledger (settled_rows ledger.levels ranges (draws_of x)) (draws_of x) × All HasDigits (draws_of x) }
+    ensures may_commit_stock { (draws_of : S → List Num) (test : S → Bool) (sessions : List S) (x : S)
+        → find test sessions ≡ Some x → (ledger : Ledger) (ranges : List NumberRange) (stock : List Num)
+        → IsStock (intervals_of ranges) ledger.levels (map draws_of sessions) (numbers_of ledger.units ledger.marks) stock
+        → AreDrawnRight ranges ledger.levels (map draws_of sessions) (numbers_of ledger.units ledger.marks)
+        → MayStore ledger (settled_rows ledger.levels ranges (draws_of x ++ stock)) (draws_of x ++ stock) × All HasDigits (draws_of x ++ stock) }
 {}

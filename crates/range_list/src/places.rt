@@ -1,15 +1,17 @@
-ghost use Rattle.std.specs.Prelude.{◌≡◌, ◌<◌, ◌+◌, ◌^◌, OnOk, IfOk, IfSome, Some, List, ℕ, if◌then◌else◌, length, map, slice_get, slice_set};
+ghost use Rattle.std.specs.Prelude.{◌≡◌, ◌<◌, ◌+◌, ◌^◌, OnOk, IfOk, IfSome, Some, List, ℕ, if◌then◌else◌, length, map, max, slice_get, slice_set};
 ghost use Rattle.std.specs.HashMap.{get};
+ghost use Rattle.std.specs.List.{AllByRecursion};
 ghost use Rattle.std.specs.Option.{option_copied};
+ghost use Rattle.enq_base.specs.declared.unit.Num.{Num};
 ghost use Rattle.number_ranges.specs.Intervals.{is_named};
-ghost use Rattle.range_list.specs.Drawn.{handed_out_of};
+ghost use Rattle.range_list.specs.Drawn.{handed_out_of, passed, passed_by};
 ghost use Rattle.range_list.specs.Levels.{AreApart, intervals_of, range_at};
 ghost use Rattle.range_list.specs.Places.{ArePlaces, range_id, same_range};
 ghost use Rattle.range_list.specs.declared.range.NumberRange.{NumberRange};
 
 use crate::range::NumberRange;
 use crate::range_id::{RangeId, range_id};
-use enq_base::{Name, NoMemory};
+use enq_base::{Name, NoMemory, Num};
 use number_ranges::Interval;
 use std::alloc::Global;
 use std::collections::HashMap;
@@ -85,6 +87,38 @@ fn hand_out_at(ranges: &mut [NumberRange], place: usize)
 {
     let range = &mut ranges[place];
     range.next += 1;
+}
+
+/// The ranges of these numbers hand out what is behind them.
+pub fn pass_all(ranges: &mut [NumberRange], places: &HashMap<RangeId, usize>, numbers: &[Num])
+    requires places { ArePlaces places.now (intervals_of ranges.old) }
+    requires apart { AreApart (intervals_of ranges.old) }
+    requires room { AllByRecursion (λ (num : Num). num.number + 1 < 2 ^ 64) numbers.now }
+    ensures { ranges.new ≡ passed numbers.now ranges.old }
+{
+    for num in numbers {
+        pass(ranges, places, num);
+    }
+}
+
+fn pass(ranges: &mut [NumberRange], places: &HashMap<RangeId, usize>, num: &Num)
+    requires places { ArePlaces places.now (intervals_of ranges.old) }
+    requires apart { AreApart (intervals_of ranges.old) }
+    requires room { num.now.number + 1 < 2 ^ 64 }
+    ensures { ranges.new ≡ map (passed_by num.now) ranges.old }
+{
+    if let Some(place) = place_of(places, &num.object, num.nr) {
+        pass_at(ranges, place, num.number);
+    }
+}
+
+fn pass_at(ranges: &mut [NumberRange], place: usize, number: u64)
+    requires within { place < length ranges.old }
+    requires room { number + 1 < 2 ^ 64 }
+    ensures { (r : NumberRange) → slice_get ranges.old place ≡ Some r → ranges.new ≡ slice_set ranges.old place (record r { next = max r.next (number + 1) }) }
+{
+    let range = &mut ranges[place];
+    range.next = range.next.max(number + 1);
 }
 
 fn range_in(ranges: &[NumberRange], place: usize) -> Option<&NumberRange>

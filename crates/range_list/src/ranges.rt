@@ -1,16 +1,17 @@
 ghost use Rattle.std.specs.Prelude.{◌≡◌, ◌<◌, ◌+◌, ◌^◌, IfErr, IfOk, IfSome, OnOk, length, map, not, true};
-ghost use Rattle.std.specs.List.{list_all, position};
+ghost use Rattle.std.specs.List.{AllByRecursion, list_all, position};
 ghost use Rattle.std.specs.Option.{option_copied};
+ghost use Rattle.enq_base.specs.declared.unit.Num.{Num};
 ghost use Rattle.posting.specs.Intervals.{in_row_order};
-ghost use Rattle.range_list.specs.Drawn.{handed_out_of};
+ghost use Rattle.range_list.specs.Drawn.{handed_out_of, passed};
 ghost use Rattle.range_list.specs.Levels.{AreIntervals, FitRows, IsLevelFault, first_ranges, fits, intervals_of, range_at};
 ghost use Rattle.update_records.specs.declared.stored.StoredInterval.{StoredInterval};
 
-use crate::places::{find_range, hand_out, places_of};
+use crate::places::{find_range, hand_out, pass_all, places_of};
 use crate::range::{LevelFault, NumberRange};
 use crate::range_id::RangeId;
 use crate::starting::{fresh_ranges, is_row_of, start_all};
-use enq_base::{Name, NoMemory};
+use enq_base::{Name, NoMemory, Num};
 use keeper_api::Keeper;
 use number_ranges::Interval;
 use posting::Books;
@@ -82,6 +83,14 @@ impl Ranges {
         ensures { self.new ≡ map (handed_out_of object.now nr) self.old }
     {
         hand_out(self.list.as_mut_slice(), &self.places, object, nr);
+    }
+
+    /// Memory hands out what is behind these numbers of their intervals: they were taken from a stock.
+    pub fn pass(&mut self, numbers: &[Num])
+        requires { AllByRecursion (λ (num : Num). num.number + 1 < 2 ^ 64) numbers.now }
+        ensures { self.new ≡ passed numbers.now self.old }
+    {
+        pass_all(self.list.as_mut_slice(), &self.places, numbers);
     }
 
     /// Whether each stored row is that of an interval, and where it isn't, the first such row.

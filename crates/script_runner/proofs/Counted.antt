@@ -1,9 +1,9 @@
--- The store's count of faults, line by line.
+-- A device's count of faults, line by line.
 use Rattle.std.proofs.Common.{◌≡◌, ℕ, ◌≤◌, Bool, true, false, List, [], ◌∷◌, ◌++◌, refl, ◌∙◌, subst, arith}
 use Rattle.std.specs.Prelude.{◌||◌}
 use Rattle.std.specs.List.{list_any}
 use Rattle.enq_base.specs.Causes.{Rose}
-use Rattle.script_runner.specs.Run.{Turn, store_fails, store_fails_in}
+use Rattle.script_runner.specs.Run.{Turn}
 use Rattle.hall.specs.Leaving.{HasCounted}
 use Rattle.script_runner.specs.Turns.{CountsEach}
 
@@ -17,18 +17,18 @@ or_none : (b : Bool) → (b || false) ≡ b
 or_none true = refl
 or_none false = refl
 
--- the count of the store over more lines
+-- the count over more lines
 counted_on : (a b : Bool) (f g h : ℕ) → HasCounted a f g → HasCounted b g h → HasCounted (a || b) f h
 counted_on true true f g h j k = (omega (arith, j.0, k.0), rose_on f g h j.1 k.0)
 counted_on true false f g h j k = (omega (arith, j.0, k), rose_on f g h j.1 (omega (arith, k)))
 counted_on false true f g h j k = (omega (arith, j, k.0), rose_from f g h (omega (arith, j)) k.1)
 counted_on false false f g h j k = k ∙ j
 
--- where the store failed in no line its count stands still
-pub all_counted : (turns : List Turn) (f g : ℕ) → CountsEach turns f g → HasCounted (list_any store_fails_in turns) f g
-all_counted [] f g h = h
-all_counted (t ∷ ts) f g h = counted_on (store_fails_in t) (list_any store_fails_in ts) f h.0 g h.1.0 (all_counted ts h.0 g h.1.1)
+-- where the device failed in no line its count stands still
+pub all_counted : (fails : Turn → Bool) (turns : List Turn) (f g : ℕ) → CountsEach fails turns f g → HasCounted (list_any fails turns) f g
+all_counted fails [] f g h = h
+all_counted fails (t ∷ ts) f g h = counted_on (fails t) (list_any fails ts) f h.0 g h.1.0 (all_counted fails ts h.0 g h.1.1)
 
-pub counted_more : (turns : List Turn) (turn : Turn) (f g h : ℕ) → CountsEach turns f g → HasCounted (store_fails turn.outcome) g h → CountsEach (turns ++ turn ∷ []) f h
-counted_more [] turn f g h none k = (h, (subst (λ n. HasCounted (store_fails turn.outcome) n h) none k, refl))
-counted_more (t ∷ ts) turn f g h each k = (each.0, (each.1.0, counted_more ts turn each.0 g h each.1.1 k))
+pub counted_more : (fails : Turn → Bool) (turns : List Turn) (turn : Turn) (f g h : ℕ) → CountsEach fails turns f g → HasCounted (fails turn) g h → CountsEach fails (turns ++ turn ∷ []) f h
+counted_more fails [] turn f g h none k = (h, (subst (λ n. HasCounted (fails turn) n h) none k, refl))
+counted_more fails (t ∷ ts) turn f g h each k = (each.0, (each.1.0, counted_more fails ts turn each.0 g h each.1.1 k))

@@ -159,7 +159,7 @@ meaning_logged w (line.Ins s part table key text) h = effect_logged w (line.Ins 
 meaning_logged w (line.Del s part table key) h = effect_logged w (line.Del s part table key) s part verb.Del table key [] h
 meaning_logged w (line.Add s part table key number) h = effect_logged w (line.Add s part table key number) s part verb.Add table key number h
 meaning_logged w (line.Commit s) h =
-    session_logged w (line.Commit s) s (Calls (command.Commit s (parts_of w.sides s))) (λ d n. settled_logged (line.Commit s) _ w.hall.sessions _ w.sides (λ m off. step_keeps d w.hall n (command.Commit s (parts_of w.sides s)) m refl) tt h)
+    session_logged w (line.Commit s) s (Calls (command.Commit s (parts_of w.sides s) [])) (λ d n. settled_logged (line.Commit s) _ w.hall.sessions _ w.sides (λ m off. step_keeps d w.hall n (command.Commit s (parts_of w.sides s) []) m refl) tt h)
 meaning_logged w (line.Take1 worker) h =
     λ d n. settled_logged (line.Take1 worker) (step d w.hall n (command.Take1 worker)).reply w.hall.sessions _ w.sides (λ m off. step_keeps d w.hall n (command.Take1 worker) m refl) tt h
 meaning_logged w (line.Do1 worker) h =

@@ -4,14 +4,15 @@ use Rattle.std.specs.Prelude.{Option, Some, None, is_some, IsTrue}
 use Rattle.enq_base.specs.declared.refusal.Refusal.TheVariants as refusal
 use Rattle.hall.specs.declared.command.Reply.{Reply}
 use Rattle.hall.specs.declared.command.Reply.TheVariants as reply
-use Rattle.hall.specs.Devices.{DeviceOutcome, Event, AllWell, Wanting, StoreFails, Reading, all_well, is_store_failure}
+use Rattle.hall.specs.Devices.{DeviceOutcome, Event, AllWell, Wanting, StoreFails, BackupFails, Reading, all_well, is_file_failure, is_store_failure}
 use Rattle.script_lang.specs.declared.script_line.ScriptLine.{ScriptLine}
 use Rattle.script_runner.specs.declared.runner.Why.{Why}
 use Rattle.script_runner.specs.declared.runner.Why.TheVariants.{NoMemory}
 use Rattle.script_runner.specs.Lines.{Meaning, Silent, Shows, Calls, Declines, Changes, line_in, meaning}
-use Rattle.script_runner.specs.Run.{CallMayHave, LineOutcome, MayHave, NoRoom, Called, answered, does, done, said, line_does, store_fails}
+use Rattle.script_runner.specs.Run.{CallMayHave, LineOutcome, MayHave, NoRoom, Called, answered, does, done, said, file_fails, line_does, store_fails}
 use Rattle.script_runner.specs.Whole.{IsCalm}
 use Rattle.script_runner.specs.World.{World}
+use Rattle.script_runner.proofs.Makings.{MayMake, line_may}
 
 -- a run that goes on, or ends for want of memory
 abbrev pub IsFine : Option Why → Type 0
@@ -41,36 +42,39 @@ abbrev calmed_by : Event → Reading → DeviceOutcome
 calmed_by AllWell reading = record { event = AllWell; reading = reading }
 calmed_by Wanting reading = all_well
 calmed_by StoreFails reading = record { event = StoreFails; reading = reading }
+calmed_by BackupFails reading = record { event = BackupFails; reading = reading }
 
 abbrev pub calmed : LineOutcome → LineOutcome
 calmed NoRoom = Called all_well
 calmed (Called outcome) = Called (calmed_by outcome.event outcome.reading)
 
-calm_event : (e : Event) (g : Reading) → is_store_failure e ≡ false → (calmed_by e g).event ≡ AllWell
-calm_event AllWell g off = refl
-calm_event Wanting g off = refl
-calm_event StoreFails g off = absurd (cc)
+calm_event : (e : Event) (g : Reading) → is_store_failure e ≡ false → is_file_failure e ≡ false → (calmed_by e g).event ≡ AllWell
+calm_event AllWell g off unfiled = refl
+calm_event Wanting g off unfiled = refl
+calm_event StoreFails g off unfiled = absurd (cc)
+calm_event BackupFails g off unfiled = absurd (cc)
 
-pub calmed_calm : (o : LineOutcome) → store_fails o ≡ false → IsCalm (calmed o)
-calmed_calm NoRoom off = refl
-calmed_calm (Called o) off = calm_event o.event o.reading off
+pub calmed_calm : (o : LineOutcome) → store_fails o ≡ false → file_fails o ≡ false → IsCalm (calmed o)
+calmed_calm NoRoom off unfiled = refl
+calmed_calm (Called o) off unfiled = calm_event o.event o.reading off unfiled
 
 -- where the devices do nothing out of the common the line may have it
-well_may : (w : World) (m : Meaning) → CallMayHave w all_well m
-well_may w Silent = refl
-well_may w (Shows m) = refl
-well_may w (Calls c) = record { reading = tt; event = tt }
-well_may w (Declines r) = refl
-well_may w (Changes sides) = refl
+well_may : (w : World) (m : Meaning) → MayMake w.hall m → CallMayHave w all_well m
+well_may w Silent may = refl
+well_may w (Shows m) may = refl
+well_may w (Calls c) may = record { call = may; possible = record { reading = tt; event = tt } }
+well_may w (Declines r) may = refl
+well_may w (Changes sides) may = refl
 
 all_well_may : (w : World) (lists : Bool) (known : Option ScriptLine) → MayHave w lists known (Called all_well)
 all_well_may w lists None = refl
-all_well_may w lists (Some l) = well_may w (meaning w l)
+all_well_may w lists (Some l) = well_may w (meaning w l) (line_may w l w.hall)
 
 event_may : (w : World) (lists : Bool) (known : Option ScriptLine) (e : Event) (g : Reading) → MayHave w lists known (Called (record { event = e; reading = g })) → MayHave w lists known (Called (calmed_by e g))
 event_may w lists known AllWell g h = h
 event_may w lists known Wanting g h = all_well_may w lists known
 event_may w lists known StoreFails g h = h
+event_may w lists known BackupFails g h = h
 
 pub calmed_may : (w : World) (lists : Bool) (known : Option ScriptLine) (o : LineOutcome) → MayHave w lists known o → MayHave w lists known (calmed o)
 calmed_may w lists known NoRoom h = all_well_may w lists known
@@ -87,6 +91,7 @@ event_well : (w : World) (n : ℕ) (l : ScriptLine) (e : Event) (g : Reading) �
 event_well w n l AllWell g h = refl
 event_well w n l Wanting g h = wanting_stops w n l g (meaning w l) h
 event_well w n l StoreFails g h = refl
+event_well w n l BackupFails g h = refl
 
 said_well : (w : World) (n : ℕ) (known : Option ScriptLine) (outcome : LineOutcome) → (said w n known outcome).stop ≡ None → said w n known outcome ≡ said w n known (calmed outcome)
 said_well w n known NoRoom h = cc

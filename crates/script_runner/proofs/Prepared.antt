@@ -17,13 +17,13 @@ use Rattle.script_runner.specs.Lines.{Calls, grows, meaning}
 use Rattle.script_runner.specs.Preparing.{HasRoomFor, IsPrepared, MayEnter}
 use Rattle.script_runner.specs.Sides.{AreLoggedOn, SidesView, side_of}
 use Rattle.script_runner.specs.Turns.{IsDone}
-use Rattle.script_runner.specs.World.{StoreView, World, world}
+use Rattle.script_runner.specs.World.{DeviceView, World, world}
 use Rattle.script_runner.specs.declared.preparing.Prepared.{Prepared}
 use Rattle.script_runner.proofs.LoggedSides.{no_side}
 use Rattle.script_runner.proofs.TurnLemmas.{declined, wanting}
 
 -- a line that is refused before any call
-pub refused_line : {a : StoreView} (w : World) (sides : List Private) (n : ℕ) (l : ScriptLine) (r : Refusal) → IsPrepared (meaning w l) (grows l) w.sides sides (Err r) → IsDone w (world w.objects w.hall sides) a a n l (reply.Refused r)
+pub refused_line : {a : DeviceView} (w : World) (sides : List Private) (n : ℕ) (l : ScriptLine) (r : Refusal) → IsPrepared (meaning w l) (grows l) w.sides sides (Err r) → IsDone w (world w.objects w.hall sides) a a n l (reply.Refused r)
 refused_line {a} w sides n l refusal.NoMemory h =
     subst (λ xs. IsDone w (world w.objects w.hall xs) a a n l (reply.Refused refusal.NoMemory)) (sym h.1) (wanting w n l h.0)
 refused_line {a} w sides n l r h =

@@ -9,8 +9,8 @@ use Rattle.std.specs.List.{AllByRecursion, list_any}
 use Rattle.io_edge.specs.Lines.{lines_of, onto_first, is_ended, IsUnbroken}
 use Rattle.script_lang.specs.Memory.{holds_lists}
 use Rattle.script_runner.specs.declared.runner.Why.{Why}
-use Rattle.script_runner.specs.declared.runner.Why.TheVariants.{Done, BadWords, BadLandscape, BadLine, SourceFault, SinkFault, LongLine, ManyLines, StoreFault, BadStore, NoStart, NoMemory}
-use Rattle.script_runner.specs.Run.{AreAllowed, Turn, Progress, begun, next, run, moved, after_turn, line_does, store_fails_in}
+use Rattle.script_runner.specs.declared.runner.Why.TheVariants.{Done, BadWords, BadLandscape, BadLine, SourceFault, SinkFault, LongLine, ManyLines, StoreFault, BackupFault, BadStore, BadBackup, NoStart, NoMemory}
+use Rattle.script_runner.specs.Run.{AreAllowed, Turn, Progress, begun, next, run, moved, after_turn, file_fails_in, line_does, store_fails_in}
 use Rattle.script_runner.specs.World.{World}
 use Rattle.script_runner.specs.Replay.{Replays, Seen, IsEnd, IsReadToEnd}
 use Rattle.hall.specs.Leaving.{HasCounted}
@@ -126,10 +126,12 @@ run_well p (t ∷ ts) h =
     let goes = run_stops (next p t) ts h in
     run_well (next p t) ts h ∙ ap (λ q. run_on q (map calm_turn ts)) (next_well p t goes)
 
-run_calm : (turns : List Turn) → list_any store_fails_in turns ≡ false → AllByRecursion (λ t. IsCalm t.outcome) (map calm_turn turns)
-run_calm [] off = tt
-run_calm (t ∷ ts) off =
-    (calmed_calm t.outcome (or_left (store_fails_in t) (list_any store_fails_in ts) off), run_calm ts (or_right (store_fails_in t) (list_any store_fails_in ts) off))
+run_calm : (turns : List Turn) → list_any store_fails_in turns ≡ false → list_any file_fails_in turns ≡ false → AllByRecursion (λ t. IsCalm t.outcome) (map calm_turn turns)
+run_calm [] off unfiled = tt
+run_calm (t ∷ ts) off unfiled = (
+  calmed_calm t.outcome (or_left (store_fails_in t) (list_any store_fails_in ts) off) (or_left (file_fails_in t) (list_any file_fails_in ts) unfiled),
+  run_calm ts (or_right (store_fails_in t) (list_any store_fails_in ts) off) (or_right (file_fails_in t) (list_any file_fails_in ts) unfiled),
+)
 
 run_allowed : (p : Progress) (turns : List Turn) → (run_on p turns).stop ≡ None → AreAllowed p turns → AreAllowed p (map calm_turn turns)
 run_allowed p [] h allowed = tt
@@ -143,7 +145,7 @@ same_lines : (turns : List Turn) → lines_in (map calm_turn turns) ≡ lines_in
 same_lines [] = refl
 same_lines (t ∷ ts) = ap (λ ls. t.line ∷ ls) (same_lines ts)
 
--- the store's count stood still, so that it didn't fail
+-- a device's count stood still, so that it didn't fail
 none_failed : (b : Bool) (f g : ℕ) → HasCounted b f g → (Rose f g → ⊥) → b ≡ false
 none_failed true f g h quiet = absurd (quiet h.1)
 none_failed false f g h quiet = refl
@@ -189,44 +191,47 @@ too_long xs ys rest left e long unbroken all =
     omega (arith, good.fits.fits, l.long)
 
 -- what is seen at the end, over bytes that the source told
-all_done : (before after : World) (bytes left rest : List ℕ) (turns : List Turn) (old new : Seen) → AreAllowed (begun before) turns → new.left ≡ Some left → lines_of bytes ≡ lines_in turns ++ lines_of (rest ++ left) → list_any store_fails_in turns ≡ false → after ≡ (run before turns).world → IsReadToEnd before turns rest old new → IsAllDone before after.hall bytes old.written new.written
-all_done before after bytes left rest turns old new allowed is all off hall end =
+all_done : (before after : World) (bytes left rest : List ℕ) (turns : List Turn) (old new : Seen) → AreAllowed (begun before) turns → new.left ≡ Some left → lines_of bytes ≡ lines_in turns ++ lines_of (rest ++ left) → list_any store_fails_in turns ≡ false → list_any file_fails_in turns ≡ false → after ≡ (run before turns).world → IsReadToEnd before turns rest old new → IsAllDone before after.hall bytes old.written new.written
+all_done before after bytes left rest turns old new allowed is all off unfiled hall end =
     let at_end : left ≡ [] = subst IsAtEnd is end.1 in
     let each : lines_of bytes ≡ lines_in turns = all ∙ ap (λ x. lines_in turns ++ lines_of x) (ap (λ x. x ++ left) end.0 ∙ at_end) ∙ append-nil (lines_in turns) in
     let same : run before turns ≡ run before (map calm_turn turns) = run_well (begun before) turns end.2 in
     record {
       turns = map calm_turn turns;
       each = same_lines turns ∙ sym each;
-      calm = run_calm turns off;
+      calm = run_calm turns off unfiled;
       allowed = run_allowed (begun before) turns end.2 allowed;
       state = ap (λ (x : World). x.hall) hall ∙ ap (λ (p : Progress). p.world.hall) same;
       text = subst (λ (p : Progress). Appends old.written new.written p.text) same end.3;
     }
 
-ends : (before after : World) (bytes left lines rest : List ℕ) (turns : List Turn) (old new : Seen) (why : Why) → AreAllowed (begun before) turns → new.left ≡ Some left → lines_of bytes ≡ lines_in turns ++ lines_of (rest ++ left) → IsScript bytes → (Rose old.source_faults new.source_faults → ⊥) → (Rose old.sink_faults new.sink_faults → ⊥) → list_any store_fails_in turns ≡ false → after ≡ (run before turns).world → IsEnd before turns rest old new why → IsComplete before after.hall bytes old.written new.written why
-ends before after bytes left lines rest turns old new Done allowed is all script quiet_source quiet_sink off hall end =
-    all_done before after bytes left rest turns old new allowed is all off hall end.0
-ends before after bytes left lines rest turns old new (StoreFault k) allowed is all script quiet_source quiet_sink off hall end =
-    (sym (run_doubt (begun before) turns off) ∙ end.1, all_done before after bytes left rest turns old new allowed is all off hall end.0)
-ends before after bytes left lines rest turns old new (BadStore table row) allowed is all script quiet_source quiet_sink off hall end = absurd end
-ends before after bytes left lines rest turns old new NoStart allowed is all script quiet_source quiet_sink off hall end = absurd end
-ends before after bytes left lines rest turns old new BadWords allowed is all script quiet_source quiet_sink off hall end = absurd end
-ends before after bytes left lines rest turns old new (BadLandscape rule place) allowed is all script quiet_source quiet_sink off hall end = absurd end
-ends before after bytes left lines rest turns old new (BadLine n) allowed is all script quiet_source quiet_sink off hall end =
+ends : (before after : World) (bytes left lines rest : List ℕ) (turns : List Turn) (old new : Seen) (why : Why) → AreAllowed (begun before) turns → new.left ≡ Some left → lines_of bytes ≡ lines_in turns ++ lines_of (rest ++ left) → IsScript bytes → (Rose old.source_faults new.source_faults → ⊥) → (Rose old.sink_faults new.sink_faults → ⊥) → list_any store_fails_in turns ≡ false → list_any file_fails_in turns ≡ false → after ≡ (run before turns).world → IsEnd before turns rest old new why → IsComplete before after.hall bytes old.written new.written why
+ends before after bytes left lines rest turns old new Done allowed is all script quiet_source quiet_sink off unfiled hall end =
+    all_done before after bytes left rest turns old new allowed is all off unfiled hall end.0
+ends before after bytes left lines rest turns old new (StoreFault k) allowed is all script quiet_source quiet_sink off unfiled hall end =
+    (sym (run_doubt (begun before) turns off unfiled) ∙ end.1, all_done before after bytes left rest turns old new allowed is all off unfiled hall end.0)
+ends before after bytes left lines rest turns old new (BackupFault k) allowed is all script quiet_source quiet_sink off unfiled hall end =
+    (sym (run_doubt (begun before) turns off unfiled) ∙ end.1, all_done before after bytes left rest turns old new allowed is all off unfiled hall end.0)
+ends before after bytes left lines rest turns old new (BadStore table row) allowed is all script quiet_source quiet_sink off unfiled hall end = absurd end
+ends before after bytes left lines rest turns old new (BadBackup place) allowed is all script quiet_source quiet_sink off unfiled hall end = absurd end
+ends before after bytes left lines rest turns old new NoStart allowed is all script quiet_source quiet_sink off unfiled hall end = absurd end
+ends before after bytes left lines rest turns old new BadWords allowed is all script quiet_source quiet_sink off unfiled hall end = absurd end
+ends before after bytes left lines rest turns old new (BadLandscape rule place) allowed is all script quiet_source quiet_sink off unfiled hall end = absurd end
+ends before after bytes left lines rest turns old new (BadLine n) allowed is all script quiet_source quiet_sink off unfiled hall end =
     let good = recursion_from_All IsGood (lines_of bytes) script.each in
     let fine = run_fine (begun before) turns (good_front (lines_in turns) (lines_of (rest ++ left)) (subst (AllByRecursion IsGood) all good)) (inl refl) in
     let memory : BadLine n ≡ NoMemory = memory_is (BadLine n) (subst IsFine end.1 fine) in
     absurd (cc)
-ends before after bytes left lines rest turns old new SourceFault allowed is all script quiet_source quiet_sink off hall end = absurd (quiet_source end.1)
-ends before after bytes left lines rest turns old new SinkFault allowed is all script quiet_source quiet_sink off hall end = absurd (quiet_sink end.1)
-ends before after bytes left lines rest turns old new (LongLine n) allowed is all script quiet_source quiet_sink off hall end =
+ends before after bytes left lines rest turns old new SourceFault allowed is all script quiet_source quiet_sink off unfiled hall end = absurd (quiet_source end.1)
+ends before after bytes left lines rest turns old new SinkFault allowed is all script quiet_source quiet_sink off unfiled hall end = absurd (quiet_sink end.1)
+ends before after bytes left lines rest turns old new (LongLine n) allowed is all script quiet_source quiet_sink off unfiled hall end =
     absurd (too_long (lines_in turns) (lines_of bytes) rest left all end.1 end.2 (recursion_from_All IsGood (lines_of bytes) script.each))
-ends before after bytes left lines rest turns old new ManyLines allowed is all script quiet_source quiet_sink off hall end =
+ends before after bytes left lines rest turns old new ManyLines allowed is all script quiet_source quiet_sink off unfiled hall end =
     let counted = run_counts (begun before) turns in
     let some = some_tail rest left end.1 in
     let total = count_lines bytes turns (lines_of (rest ++ left)) all in
     absurd (omega (arith, end.0, script.few))
-ends before after bytes left lines rest turns old new NoMemory allowed is all script quiet_source quiet_sink off hall end = tt
+ends before after bytes left lines rest turns old new NoMemory allowed is all script quiet_source quiet_sink off unfiled hall end = tt
 
 pub told : (bytes taken : List ℕ) (left : Option (List ℕ)) → Consumes (Some bytes) left taken → (rest : List ℕ) × (left ≡ Some rest) × (bytes ≡ taken ++ rest)
 told bytes taken None h = absurd h
@@ -240,8 +245,8 @@ known_whole lines rest left told is (inl ended) = inl ended
 known_whole lines rest left told is (inr h) = inr (h.0, at_end_of told left is h.1)
 
 -- a run over a script that is in order from the first line to the last
-pub completes : (before after : World) (old new : Seen) (why : Why) (bytes : List ℕ) → Replays before after old new why → old.left ≡ Some bytes → IsScript bytes → (Rose old.source_faults new.source_faults → ⊥) → (Rose old.sink_faults new.sink_faults → ⊥) → (Rose old.store_faults new.store_faults → ⊥) → IsComplete before after.hall bytes old.written new.written why
-completes before after old new why bytes h is script quiet_source quiet_sink quiet_store =
+pub completes : (before after : World) (old new : Seen) (why : Why) (bytes : List ℕ) → Replays before after old new why → old.left ≡ Some bytes → IsScript bytes → (Rose old.source_faults new.source_faults → ⊥) → (Rose old.sink_faults new.sink_faults → ⊥) → (Rose old.store_faults new.store_faults → ⊥) → (Rose old.file_faults new.file_faults → ⊥) → IsComplete before after.hall bytes old.written new.written why
+completes before after old new why bytes h is script quiet_source quiet_sink quiet_store quiet_file =
     let rest = told bytes (h.lines ++ h.rest) new.left (subst (λ o. Consumes o new.left (h.lines ++ h.rest)) is h.read) in
     let all = begins bytes h.lines h.rest rest.0 h.turns rest.2 (known_whole h.lines h.rest rest.0 new.left rest.1 h.whole) h.each in
-    ends before after bytes rest.0 h.lines h.rest h.turns old new why h.allowed rest.1 all script quiet_source quiet_sink (none_failed _ _ _ (all_counted h.turns _ _ h.store) quiet_store) h.world h.end
+    ends before after bytes rest.0 h.lines h.rest h.turns old new why h.allowed rest.1 all script quiet_source quiet_sink (none_failed _ _ _ (all_counted store_fails_in h.turns _ _ h.store) quiet_store) (none_failed _ _ _ (all_counted file_fails_in h.turns _ _ h.file) quiet_file) h.world h.end

@@ -4,7 +4,7 @@ use Rattle.std.specs.List.{AllByRecursion}
 use Rattle.io_edge.specs.Lines.{lines_of}
 use Rattle.script_runner.specs.declared.runner.Why.{Why}
 use Rattle.script_runner.specs.declared.runner.Why.TheVariants.{Done, BadWords, BadLandscape, BadLine, SourceFault, SinkFault}
-use Rattle.script_runner.specs.declared.runner.Why.TheVariants.{LongLine, ManyLines, StoreFault, BadStore, NoStart, NoMemory}
+use Rattle.script_runner.specs.declared.runner.Why.TheVariants.{LongLine, ManyLines, StoreFault, BackupFault, BadStore, BadBackup, NoStart, NoMemory}
 use Rattle.script_runner.specs.Lines.{line_in}
 
 -- the line of this number, with the lines before it and behind it
@@ -45,5 +45,7 @@ IsToBlame SourceFault bytes = Unit {0}
 IsToBlame SinkFault bytes = Unit {0}
 IsToBlame (StoreFault k) bytes = Unit {0}
 IsToBlame (BadStore table row) bytes = Unit {0}
+IsToBlame (BackupFault call) bytes = Unit {0}
+IsToBlame (BadBackup place) bytes = Unit {0}
 IsToBlame NoStart bytes = Unit {0}
 IsToBlame NoMemory bytes = Unit {0}

@@ -7,7 +7,7 @@ use Rattle.hall.specs.State.{State}
 use Rattle.io_edge.specs.Lines.{lines_of, IsLine}
 use Rattle.script_runner.specs.declared.runner.Why.{Why}
 use Rattle.script_runner.specs.declared.runner.Why.TheVariants.{Done, BadWords, BadLandscape, BadLine, SourceFault, SinkFault}
-use Rattle.script_runner.specs.declared.runner.Why.TheVariants.{LongLine, ManyLines, StoreFault, BadStore, NoStart, NoMemory}
+use Rattle.script_runner.specs.declared.runner.Why.TheVariants.{LongLine, ManyLines, StoreFault, BackupFault, BadStore, BadBackup, NoStart, NoMemory}
 use Rattle.script_runner.specs.Lines.{line_in}
 use Rattle.script_runner.specs.Replay.{doubt_of}
 use Rattle.script_runner.specs.Run.{AreAllowed, Called, LineOutcome, NoRoom, Turn, begun, run}
@@ -42,6 +42,8 @@ abbrev pub IsComplete : World → State → List ℕ → Option (List ℕ) → O
 IsComplete before after bytes old new Done = IsAllDone before after bytes old new
 IsComplete before after bytes old new (StoreFault k) =
     (doubt_of before.hall ≡ Some k) × IsAllDone before after bytes old new
+IsComplete before after bytes old new (BackupFault k) =
+    (doubt_of before.hall ≡ Some k) × IsAllDone before after bytes old new
 IsComplete before after bytes old new NoMemory = Unit {0}
 IsComplete before after bytes old new BadWords = ⊥
 IsComplete before after bytes old new (BadLandscape rule place) = ⊥
@@ -51,4 +53,5 @@ IsComplete before after bytes old new SinkFault = ⊥
 IsComplete before after bytes old new (LongLine n) = ⊥
 IsComplete before after bytes old new ManyLines = ⊥
 IsComplete before after bytes old new (BadStore table row) = ⊥
+IsComplete before after bytes old new (BadBackup place) = ⊥
 IsComplete before after bytes old new NoStart = ⊥

@@ -4,12 +4,14 @@ ghost use Rattle.script_runner.specs.Shown.{monitor_text};
 ghost use Rattle.script_runner.specs.Turns.{IsShown};
 
 use crate::runner::Why;
+use bk_disk::Disk;
 use enq_base::NoMemory;
 use hall::Hall;
 use io_edge::{Sink, put_all};
 use keeper_api::Keeper;
 use lock_entry::LockStore;
 use monitors::{Bytes, ServerView, audit, sm12, sm13, snro};
+use replica_link::Link;
 use script_lang::ScriptLine;
 use std::alloc::Global;
 
@@ -47,11 +49,11 @@ pub(crate) fn line_kind(line: &ScriptLine) -> LineKind
 }
 
 /// Writes what a monitor shows. The whole text is made before any of it is written.
-pub(crate) fn show<W: Sink, T: LockStore, K: Keeper>(
+pub(crate) fn show<W: Sink, T: LockStore, K: Keeper, D: Disk, L: Link>(
     alloc: Global,
     number: u32,
     monitor: Monitor,
-    hall: &Hall<T, K>,
+    hall: &Hall<T, K, D, L>,
     sink: &mut W,
 ) -> Result<(), Why>
     ensures shown { IsShown (W.written sink.old) (W.written sink.new) (W.faults sink.old) (W.faults sink.new)
@@ -67,11 +69,11 @@ pub(crate) fn show<W: Sink, T: LockStore, K: Keeper>(
     }
 }
 
-fn text_of<T: LockStore, K: Keeper>(
+fn text_of<T: LockStore, K: Keeper, D: Disk, L: Link>(
     alloc: Global,
     number: u32,
     monitor: Monitor,
-    hall: &Hall<T, K>,
+    hall: &Hall<T, K, D, L>,
 ) -> Result<Bytes, NoMemory>
     ensures { IfOk result (λ text. text ≡ monitor_text number monitor hall.now.state) }
 {
@@ -89,10 +91,10 @@ fn text_of<T: LockStore, K: Keeper>(
     }
 }
 
-fn locks_text<T: LockStore, K: Keeper>(
+fn locks_text<T: LockStore, K: Keeper, D: Disk, L: Link>(
     alloc: Global,
     number: u32,
-    hall: &Hall<T, K>,
+    hall: &Hall<T, K, D, L>,
 ) -> Result<Bytes, NoMemory>
     ensures { IfOk result (λ text. text ≡ monitor_text number Monitor.Sm12 hall.now.state) }
 {
@@ -105,10 +107,10 @@ fn locks_text<T: LockStore, K: Keeper>(
     sm12(alloc, number, &view, entries.as_slice())
 }
 
-fn counts_text<T: LockStore, K: Keeper>(
+fn counts_text<T: LockStore, K: Keeper, D: Disk, L: Link>(
     alloc: Global,
     number: u32,
-    hall: &Hall<T, K>,
+    hall: &Hall<T, K, D, L>,
 ) -> Result<Bytes, NoMemory>
     ensures { IfOk result (λ text. text ≡ monitor_text number Monitor.Audit hall.now.state) }
 {

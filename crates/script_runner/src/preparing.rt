@@ -280,7 +280,11 @@ fn commit(alloc: Global, sides: &Sides, session: Name) -> Result<Prepared, Refus
     let Ok(parts) = sides.parts(alloc, &session) else {
         return Err(Refusal::NoMemory);
     };
-    Ok(Prepared::Call(Command::Commit { session, parts }))
+    Ok(Prepared::Call(Command::Commit {
+        session,
+        parts,
+        stock: Items::from_vec(Vec::new(alloc)),
+    }))
 }
 
 /// A call for a number of an interval, with the memory for the variable that it is for.

@@ -1,7 +1,8 @@
-use crate::runs::{LANDSCAPE, Script, empty_store, has_rows, run_over, run_with, source_of, word};
+use crate::runs::{
+    LANDSCAPE, Script, empty_store, has_rows, run_over, run_with, run_words, source_of, word,
+};
 use crate::starts::put_row;
-use enq_cmd::{Site, Why, enqueue_main};
-use io_edge::{MemSink, Source};
+use enq_cmd::Why;
 use keeper_api::Keeper;
 use keeper_mem::MemKeeper;
 use std::alloc::Global;
@@ -119,28 +120,20 @@ fn the_landscape_names_objects_and_limits(rt: HostRuntime) -> Result<(), Fail> {
 fn a_landscape_that_cannot_be_read_leaves_all_untouched(rt: HostRuntime) -> Result<(), Fail> {
     let alloc = rt.alloc();
     let words = word(alloc, b"replay")?;
-    let mut landscape = source_of(alloc, LANDSCAPE.as_bytes(), &[1])?;
-    let mut script = source_of(alloc, b"A LOGON MILLER\n", &[])?;
-    let mut sink = MemSink::new(alloc, Vec::new(alloc))?;
-    let site = Site {
-        keeper: empty_store(alloc)?,
-    };
-    let ended = enqueue_main(
+    let landscape = source_of(alloc, LANDSCAPE.as_bytes(), &[1])?;
+    let script = source_of(alloc, b"A LOGON MILLER\n", &[])?;
+    let keeper = empty_store(alloc)?;
+    let writes = Vec::new(alloc);
+    let mut run = run_words(alloc, words.as_slice(), landscape, script, writes, keeper)?;
+    assert_eq!(rt; run.why, Why::SourceFault);
+    assert_eq!(rt; run.status, 5);
+    assert_eq!(rt; (run.calls, run.replies.len()), (0, 0));
+    has_rows(
+        &rt,
         alloc,
-        words.as_slice(),
-        &mut landscape,
-        &mut script,
-        &mut sink,
-        site,
-    );
-    assert_eq!(rt; ended.why, Why::SourceFault);
-    assert_eq!(rt; ended.status, 5);
-    assert_eq!(rt; (ended.past.as_slice().len(), sink.bytes().len()), (0, 0));
-    let mut first = [0; 2];
-    assert_eq!(rt; script.read(&mut first), Ok(2));
-    assert_eq!(rt; &first, b"A ");
-    let mut keeper = ended.site.keeper;
-    has_rows(&rt, alloc, &mut keeper, &[(0, b"S", FIRST_START, false)])
+        &mut run.keeper,
+        &[(0, b"S", FIRST_START, false)],
+    )
 }
 
 const FIRST_START: &[u8] = b"\0\0\0\x01\0\0\0\0\0\0\0\0";

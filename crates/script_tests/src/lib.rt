@@ -13,6 +13,8 @@ mod ends;
 #[cfg(test)]
 mod faults;
 #[cfg(test)]
+mod handover;
+#[cfg(test)]
 mod landscapes;
 #[cfg(test)]
 mod limits;

@@ -1,10 +1,12 @@
-use crate::runs::{Script, empty_store};
+use crate::runs::{Script, empty_disk, empty_store, new_link};
+use bk_disk::MemDisk;
 use enq_base::{Items, Name, read_name};
 use hall::Hall;
 use io_edge::{MemSink, MemSource};
 use keeper_mem::MemKeeper;
 use lock_objects::{Field, KeyTable, LockObject};
 use lock_table::ListTable;
+use replica_link::MemLink;
 use script_runner::replay;
 use std::alloc::Global;
 use std::test::*;
@@ -73,8 +75,18 @@ fn orders(alloc: Global) -> Result<LockObject, Fail> {
     }
 }
 
-fn small_hall(alloc: Global) -> Result<Hall<ListTable, MemKeeper>, Fail> {
-    match Hall::open(alloc, empty_store(alloc)?, 1, 2, Vec::new(alloc)) {
+fn small_hall(alloc: Global) -> Result<Hall<ListTable, MemKeeper, MemDisk, MemLink>, Fail> {
+    let disk = empty_disk(alloc)?;
+    let link = new_link(alloc)?;
+    match Hall::open(
+        alloc,
+        empty_store(alloc)?,
+        disk,
+        link,
+        1,
+        2,
+        Vec::new(alloc),
+    ) {
         Ok(hall) => Ok(hall),
         Err(_) => Err(Fail::from("no hall")),
     }

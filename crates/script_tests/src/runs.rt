@@ -1,8 +1,10 @@
+use bk_disk::MemDisk;
 use enq_base::Items;
 use enq_cmd::{Site, Why, enqueue_main};
 use io_edge::{MemSink, MemSource};
 use keeper_api::Keeper;
 use keeper_mem::MemKeeper;
+use replica_link::MemLink;
 use std::alloc::Global;
 use std::process::Abort;
 use std::test::*;
@@ -51,10 +53,20 @@ pub(crate) struct Run {
     pub(crate) why: Why,
     pub(crate) status: u8,
     pub(crate) keeper: MemKeeper,
+    pub(crate) disk: MemDisk,
 }
 
 pub(crate) fn empty_store(alloc: Global) -> Result<MemKeeper, Fail> {
     Ok(MemKeeper::new(alloc, Vec::new(alloc), Vec::new(alloc))?)
+}
+
+// A disk without a byte.
+pub(crate) fn empty_disk(alloc: Global) -> Result<MemDisk, Fail> {
+    Ok(MemDisk::new(alloc, Vec::new(alloc), Vec::new(alloc))?)
+}
+
+pub(crate) fn new_link(alloc: Global) -> Result<MemLink, Fail> {
+    Ok(MemLink::new(alloc, Vec::new(alloc))?)
 }
 
 // A source of these bytes, in which the calls of these numbers fail.
@@ -62,7 +74,7 @@ pub(crate) fn source_of(alloc: Global, bytes: &[u8], fails: &[u64]) -> Result<Me
     Ok(MemSource::new(bytes.to_vec(alloc)?, fails.to_vec(alloc)?)?)
 }
 
-// Does these words over these devices.
+// Does these words over these devices and a disk without a byte.
 pub(crate) fn run_words(
     alloc: Global,
     words: &[Items<u8>],
@@ -71,10 +83,27 @@ pub(crate) fn run_words(
     writes: Vec<u64>,
     keeper: MemKeeper,
 ) -> Result<Run, Fail> {
+    let disk = empty_disk(alloc)?;
+    run_site(alloc, words, landscape, script, writes, keeper, disk)
+}
+
+fn run_site(
+    alloc: Global,
+    words: &[Items<u8>],
+    landscape: MemSource,
+    script: MemSource,
+    writes: Vec<u64>,
+    keeper: MemKeeper,
+    disk: MemDisk,
+) -> Result<Run, Fail> {
     let mut landscape = landscape;
     let mut script = script;
     let mut sink = MemSink::new(alloc, writes)?;
-    let site = Site { keeper };
+    let site = Site {
+        keeper,
+        disk,
+        link: new_link(alloc)?,
+    };
     let ended = enqueue_main(alloc, words, &mut landscape, &mut script, &mut sink, site);
     let replies = sink.bytes().to_vec(alloc)?;
     Ok(Run {
@@ -83,6 +112,7 @@ pub(crate) fn run_words(
         why: ended.why,
         status: ended.status,
         keeper: ended.site.keeper,
+        disk: ended.site.disk,
     })
 }
 
@@ -113,6 +143,38 @@ pub(crate) fn run_with(
 // Replays a script over a store.
 pub(crate) fn run_over(alloc: Global, script: &[u8], keeper: MemKeeper) -> Result<Run, Fail> {
     run_with(alloc, LANDSCAPE.as_bytes(), script, keeper)
+}
+
+// Replays a script over a store and its backup file.
+pub(crate) fn run_on(
+    alloc: Global,
+    script: &[u8],
+    keeper: MemKeeper,
+    disk: MemDisk,
+) -> Result<Run, Fail> {
+    let words = word(alloc, b"replay")?;
+    let landscape = source_of(alloc, LANDSCAPE.as_bytes(), &[])?;
+    let script = source_of(alloc, script, &[])?;
+    let writes = Vec::new(alloc);
+    run_site(
+        alloc,
+        words.as_slice(),
+        landscape,
+        script,
+        writes,
+        keeper,
+        disk,
+    )
+}
+
+// Whether the bytes have these among them.
+pub(crate) fn contains(bytes: &[u8], part: &[u8]) -> bool {
+    for at in 0..bytes.len() {
+        if bytes[at..].starts_with(part) {
+            return true;
+        }
+    }
+    false
 }
 
 // Replays scripts, each over an empty store and in order to its end.

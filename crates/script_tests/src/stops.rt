@@ -1,4 +1,4 @@
-use crate::runs::{Run, empty_store, has_rows, run_over};
+use crate::runs::{Run, contains, empty_store, has_rows, run_on, run_over};
 use enq_cmd::Why;
 use keeper_mem::MemKeeper;
 use std::alloc::Global;
@@ -40,15 +40,6 @@ const REST: &[u8] = b"@1 TAKE1\n@1 DO1\n@1 TAKE1\n@1 DO1\n@1 TAKE1\n@1 DO1\n\
 
 // More calls of the store than the script makes.
 const CALLS: u64 = 40;
-
-fn contains(bytes: &[u8], part: &[u8]) -> bool {
-    for at in 0..bytes.len() {
-        if bytes[at..].starts_with(part) {
-            return true;
-        }
-    }
-    false
-}
 
 // Whether the unit of this commit is there: it was answered as recorded, or the stop fell into its commit and the store
 // kept that.
@@ -98,7 +89,7 @@ fn has_units(
 fn goes_on(rt: &impl Abort, alloc: Global, stopped: Run, kept: bool) -> Result<(), Fail> {
     let units = units_there(stopped.replies.as_slice(), kept);
     let keeper = stopped.keeper.again(Vec::new(alloc), Vec::new(alloc));
-    let mut run = run_over(alloc, REST, keeper)?;
+    let mut run = run_on(alloc, REST, keeper, stopped.disk)?;
     assert_eq!(rt; run.why, Why::Done);
     has_units(rt, alloc, &mut run.keeper, units)
 }

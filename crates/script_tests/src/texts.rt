@@ -1,6 +1,13 @@
+use enq_base::{BackupBad, UnitKey};
 use enq_cmd::Why;
 use enqd_texts::{EndLine, help_text, usage_text, version_text};
 use std::test::*;
+
+const UNIT: UnitKey = UnitKey {
+    start: 1,
+    session: 2,
+    luw: 3,
+};
 
 #[test]
 fn each_end_has_its_line(rt: HostRuntime) -> Result<(), Fail> {
@@ -17,6 +24,22 @@ fn each_end_has_its_line(rt: HostRuntime) -> Result<(), Fail> {
         (Why::LongLine(1), "enqd: line 1 is too long"),
         (Why::ManyLines, "enqd: too many lines"),
         (Why::StoreFault(4), "enqd: store fault in command 4"),
+        (Why::BackupFault(4), "enqd: backup fault in command 4"),
+        (
+            Why::BadBackup(BackupBad::Bytes { at: 9 }),
+            "enqd: bad backup at 9",
+        ),
+        (
+            Why::BadBackup(BackupBad::Missing { unit: UNIT, at: 2 }),
+            "enqd: backup lacks a lock of unit 1.2.3 at 2",
+        ),
+        (
+            Why::BadBackup(BackupBad::Clash {
+                first: 1,
+                second: 2,
+            }),
+            "enqd: backup entries 1 and 2 clash",
+        ),
         (
             Why::BadStore { table: 6, row: 1 },
             "enqd: bad store, table 6 row 1",

@@ -1,4 +1,4 @@
-use crate::runs::{Row, Script, are_answered, empty_store, has_rows, run_over};
+use crate::runs::{Row, Script, are_answered, empty_store, has_rows, run_on, run_over};
 use std::alloc::Global;
 use std::process::Abort;
 use std::test::*;
@@ -240,7 +240,7 @@ fn the_store_has_what_was_recorded_and_posted(rt: HostRuntime) -> Result<(), Fai
     for (script, rows) in LEFT {
         let mut run = run_over(alloc, script, empty_store(alloc)?)?;
         has_rows(&rt, alloc, &mut run.keeper, rows)?;
-        let run = run_over(alloc, b"@1 TAKE1\n@1 DROP\n", run.keeper)?;
+        let run = run_on(alloc, b"@1 TAKE1\n@1 DROP\n", run.keeper, run.disk)?;
         assert_eq!(rt; run.status, 0);
     }
     Ok(())

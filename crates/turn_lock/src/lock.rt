@@ -19,6 +19,12 @@ const NOW_SERVING: usize = 1;
 // The one slot, where the state lies while nobody holds it.
 const STATE: usize = 0;
 
+// How often a caller that finds the lock taken looks again before it takes its ticket.
+const LOOKS_BEFORE_TICKET: u32 = 16;
+
+// How many times it pauses between two of these looks: about a microsecond.
+const PAUSES: u32 = 64;
+
 // How often a caller looks for its turn before it yields the processor.
 const SPINS: u32 = 100;
 
@@ -35,6 +41,21 @@ impl<S: History> TurnLock<S> {
     ghost use Rattle.turn_lock.specs.Rule.{waits, took, gave, IsServed};
     ghost use Rattle.turn_lock.specs.Passes.{known, IsPassOf, IsTurn};
 
+    // Stands back while the lock is taken, a few times and no more. So whoever runs can take turn after turn, where
+    // handing each to another processor costs several times as much, and far more where that caller doesn't run.
+    fn stand_back(&self) {
+        for _ in 0..LOOKS_BEFORE_TICKET {
+            let next = self.table.shared.peek(NEXT_TICKET);
+            if self.table.shared.peek(NOW_SERVING) == next {
+                return;
+            }
+            for _ in 0..PAUSES {
+                hint::spin_loop();
+            }
+            thread::yield_now();
+        }
+    }
+
     // Takes a ticket. After 2^64 - 1 tickets it waits for ever.
     fn take_ticket<W: Wait>(&self, rt: &W, seat: &mut Seat<Option<S>, View<S::Entry>>) -> u64
         requires own { seat.old.table_id ≡ self.now.table.shared.table_id }
@@ -42,6 +63,7 @@ impl<S: History> TurnLock<S> {
         ensures own { seat.new.table_id ≡ seat.old.table_id }
         ensures waits { seat.new.me ≡ (waits result seat.old.me.0, seat.old.me.1) }
     {
+        self.stand_back();
         for _ in rt.forever() {
             let next = self.table.shared.peek(NEXT_TICKET);
             if next < u64::MAX {

@@ -15,4 +15,4 @@ pub returns-clause-act : goal.returns-clause-act
 returns-clause-act g c s started sessions locks room =
     frees s c.args.start c.args.sessions.now c.args.name.now c.in_ok-session.session.now c.pair_of.result c.args.requests.now _
     (record { started = started; sessions_are = sessions; found = c.in_ok-session.ensures.found; pair_is = c.pair_of.ensures })
-    room (ap (λ t. t.entries) c.free_requests.ensures ∙ ap (λ l. fold freed l (halves c.pair_of.result c.args.requests.now)) (sym locks))
+    room (ap (λ t. t.entries) c.free_requests.ensures.table ∙ ap (λ l. fold freed l (halves c.pair_of.result c.args.requests.now)) (sym locks))

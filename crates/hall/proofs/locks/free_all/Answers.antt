@@ -15,4 +15,4 @@ returns-clause-act g c s started sessions locks room =
     frees_all s c.args.start c.args.sessions.now c.args.name.now c.in_ok-session.session.now c.pair_of.result _
     (record { started = started; sessions_are = sessions; found = c.in_ok-session.ensures.found; pair_is = c.pair_of.ensures })
     room
-    (ap (λ t. t.entries) c.free_pair.ensures ∙ ap (λ l. freed_owner (freed_owner l c.pair_of.result.dialogue) c.pair_of.result.update) (sym locks))
+    (ap (λ t. t.entries) c.free_pair.ensures.table ∙ ap (λ l. freed_owner (freed_owner l c.pair_of.result.dialogue) c.pair_of.result.update) (sym locks))

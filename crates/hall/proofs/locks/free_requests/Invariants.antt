@@ -1,10 +1,13 @@
 use Rattle.std.proofs.Common.{◌≡◌, drop, fold}
+use Rattle.enq_server.specs.Following.{KeepsOn}
 use Rattle.lock_entry.specs.Freeing.{freed}
 use Rattle.lock_entry.specs.Names.{halves}
 use Rattle.hall.proofs.locks.free_requests.Given as goal
 
 abbrev pub invariant-loop-request : goal.invariant-loop-request
 invariant-loop-request g l = record {
-  rest : fold freed (g.T.LockStore.table l.locks).entries (halves l.pair (drop l.request-index l.requests)) ≡ fold freed (g.T.LockStore.table l.initial.locks).entries (halves l.pair l.requests);
-  limit : (g.T.LockStore.table l.locks).limit ≡ (g.T.LockStore.table l.initial.locks).limit;
+  rest : fold freed l.locks.table.entries (halves l.pair (drop l.request-index l.requests)) ≡ fold freed l.initial.locks.table.entries (halves l.pair l.requests);
+  limit : l.locks.table.limit ≡ l.initial.locks.table.limit;
+  file : l.locks.file ≡ l.initial.locks.file;
+  follower : KeepsOn g.L.Link.faults g.L.Link.refusals l.initial.locks.copy l.locks.copy;
 }

@@ -9,7 +9,7 @@ use Rattle.hall.specs.Storing.{EndsAs}
 use Rattle.hall.proofs.Calls.{at_state}
 use Rattle.hall.proofs.Draws.{buffered_so, draws_buffered, draws_plain, draws_unraised, plain_of}
 use Rattle.hall.proofs.Leaves.{untouched_keeps}
-use Rattle.hall.proofs.NextDraws.{next_high, next_is, next_low, next_room, next_stored}
+use Rattle.hall.proofs.NextDraws.{draw_still, next_high, next_is, next_low, next_room, next_stored}
 use Rattle.hall.proofs.Storing.{quiet_ends}
 use Rattle.hall.proofs.numbers.draw.Goals as goal
 use Rattle.hall.proofs.numbers.draw.Goals.{then-draw-gt0+in_default, else-draw-gt0}
@@ -77,4 +77,19 @@ returns-clause-store g c =
       | else-draw-gt0 w ↦
           subst (λ b. EndsAs g.K.Keeper.held g.K.Keeper.is_open g.K.Keeper.may_leave g.K.Keeper.faults c.args.books.now b (Answered answer)) (sym w.books-is)
           (quiet_ends g.K.Keeper.held g.K.Keeper.is_open g.K.Keeper.may_leave g.K.Keeper.faults g.met.K.Keeper.settled c.args.books.now c.requires.usable answer (λ n. refl) (λ k. tt))
+    ]
+
+pub returns-in-Err-raise-clause-keeper : goal.returns-in-Err-raise-clause-keeper
+returns-in-Err-raise-clause-keeper g c s e l off =
+    c.raise.ensures.still (draw_still c.args.sessions.now c.args.ranges.now c.args.books.now.ledger c.args.name.now c.args.object.now c.args.nr c.in-Ok.draw.interval c.in-Ok.draw.number c.in-Ok.draw.level c.in-Ok.draw.draws.items c.in-Ok.ensures.draw
+    (buffered_so _ c.if-draw-gt0.true) s e l off)
+
+pub returns-clause-keeper : goal.returns-clause-keeper
+returns-clause-keeper g c s e l off =
+    elim c.if-draw-gt0.branch [
+      | then-draw-gt0+in_default w ↦
+          ap (λ (b : Shelf g.row.K.Denot). b.keeper) w.books-is
+          ∙ w.raise.ensures.still (draw_still c.args.sessions.now c.args.ranges.now c.args.books.now.ledger c.args.name.now c.args.object.now c.args.nr c.in-Ok.draw.interval c.in-Ok.draw.number c.in-Ok.draw.level c.in-Ok.draw.draws.items c.in-Ok.ensures.draw
+          (buffered_so _ w.if-draw-gt0.true) s e l off)
+      | else-draw-gt0 w ↦ ap (λ (b : Shelf g.row.K.Denot). b.keeper) w.books-is
     ]

@@ -1,7 +1,7 @@
 use Rattle.hall.specs.declared.command.Reply.TheVariants as reply
 use Rattle.hall.proofs.Draws.{reserves, reserves_unraised}
 use Rattle.hall.proofs.Leaves.{untouched_keeps}
-use Rattle.hall.proofs.NextDraws.{reserve_high, reserve_is, reserve_stored}
+use Rattle.hall.proofs.NextDraws.{reserve_high, reserve_is, reserve_still, reserve_stored}
 use Rattle.hall.proofs.Storing.{quiet_ends}
 use Rattle.hall.proofs.numbers.reserve.Goals as goal
 
@@ -27,3 +27,9 @@ returns-in-Err-raise-clause-act g c s e f l room =
     reserves_unraised s c.args.sessions.now c.args.ranges.now c.args.books.now.ledger c.args.name.now c.args.object.now c.args.nr
     (record { own_sessions = e; own_ranges = f; own_ledger = l; admits = room }) c.args.upto c.in-Ok.found.0 c.in-Ok.found.1 c.in-Ok.ensures.interval
     c.in-Err-raise.failed c.in-Err-raise.ensures.fault c.raise.new.books.ledger c.in-Err-raise.ensures.kept
+
+pub returns-in-Ok-raise-clause-keeper : goal.returns-in-Ok-raise-clause-keeper
+returns-in-Ok-raise-clause-keeper g c s e l off = c.raise.ensures.still (reserve_still c.args.sessions.now c.args.ranges.now c.args.books.now.ledger c.args.name.now c.args.object.now c.args.nr c.args.upto c.in-Ok.found.0 c.in-Ok.found.1 c.in-Ok.ensures.interval s e l off)
+
+pub returns-in-Err-raise-clause-keeper : goal.returns-in-Err-raise-clause-keeper
+returns-in-Err-raise-clause-keeper g c s e l off = c.raise.ensures.still (reserve_still c.args.sessions.now c.args.ranges.now c.args.books.now.ledger c.args.name.now c.args.object.now c.args.nr c.args.upto c.in-Ok.found.0 c.in-Ok.found.1 c.in-Ok.ensures.interval s e l off)

@@ -8,4 +8,4 @@ pub returns-clause-locks : goal.returns-clause-locks
 returns-clause-locks g c =
     c.hand_over.ensures
     ∙ ap (λ es. handed_over es c.args.unit.now) c.in_ok-entries.ensures.entries
-    ∙ handed_over-own (Upd c.args.unit.now) (g.T.LockStore.table c.args.locks.now).entries
+    ∙ handed_over-own (Upd c.args.unit.now) c.args.locks.now.table.entries

@@ -1,26 +1,34 @@
-use Rattle.std.proofs.Common.{◌≤◌, sym, refl, ap, ◌∙◌, subst}
-use Rattle.std.specs.Prelude.{None, Some, is_some, slice_set}
+use Rattle.std.proofs.Common.{◌≤◌, inl, inr, sym, refl, ap, ◌∙◌, subst}
+use Rattle.std.specs.Prelude.{nat_eq, None, Some, is_some, slice_set}
+use Rattle.enq_base.specs.declared.refusal.Refusal.TheVariants as refusal
 use Rattle.enq_base.specs.Causes.{Rose}
 use Rattle.posting.specs.Posts.{kind_for}
 use Rattle.posting.specs.Steps.{after_step}
 use Rattle.update_records.specs.Growing.{with_mark}
 use Rattle.hall.proofs.Claims.{held_for}
-use Rattle.hall.proofs.Writes.{below_limit, landed_where_told, may_come, posts, posts_full, posts_in_doubt, posts_none, posts_wanting}
+use Rattle.hall.proofs.Writes.{below_limit, landed_where_told, may_come, posts, posts_full, posts_in_doubt, posts_none, posts_unfiled, posts_wanting}
 use Rattle.hall.specs.Leaving.{HasStoreCause, KeepsStore}
 use Rattle.hall.proofs.Leaves.{answered_leaves, failed_leaves, posted_keeps, posted_quiet, told_too, unread_leaves}
 use Rattle.hall.specs.Acts.{IsAct, post_of}
 use Rattle.hall.specs.declared.units.InFlight.TheVariants as flight
 use Rattle.hall.specs.Orders.{order_for, order_of}
+use Rattle.hall.specs.Coming.{outcome_in}
+use Rattle.hall.specs.Filing.{FilesAs, lists_ended}
+use Rattle.hall.specs.OpenUnits.{AgreeAll, AreOpenLists}
+use Rattle.hall.specs.Step.{posted_reply}
+use Rattle.hall.specs.declared.units.Written.TheVariants.{Answered}
+use Rattle.hall.proofs.Filing.{failed_before, half_written_files, posted_file, posted_keeps_file, refused_files, same_file, written_files}
+use Rattle.hall.proofs.Listing.{posted_agree, posted_half, posted_lists}
 use Rattle.hall.proofs.units.post.Goals as goal
 
 pub returns-in_default-clause-act : goal.returns-in_default-clause-act
 returns-in_default-clause-act g c s t e f l m room =
-    posts_none c.args.part s c.args.orders.now.items (g.T.LockStore.table c.args.locks.now).entries c.args.books.now.ledger c.args.worker c.requires.part e f l room
+    posts_none c.args.part s c.args.orders.now.items c.args.locks.now.table.entries c.args.books.now.ledger c.args.worker c.requires.part e f l room
     (ap (λ xs. order_for c.args.part c.args.books.now.ledger xs c.args.worker) (sym c.as_slice.ensures.value) ∙ sym c.order_for.ensures ∙ c.in_default.is)
 
 pub returns-then-is_full-clause-act : goal.returns-then-is_full-clause-act
 returns-then-is_full-clause-act g c s t e f l m room =
-    posts_full c.args.part s c.args.orders.now.items (g.T.LockStore.table c.args.locks.now).entries c.args.books.now.ledger c.args.max_marks c.args.worker c.in-Some.unit c.requires.part e f l m room
+    posts_full c.args.part s c.args.orders.now.items c.args.locks.now.table.entries c.args.books.now.ledger c.args.max_marks c.args.worker c.in-Some.unit c.requires.part e f l m room
     (ap (λ xs. order_for c.args.part c.args.books.now.ledger xs c.args.worker) (sym c.as_slice.ensures.value) ∙ sym c.order_for.ensures ∙ c.in-Some.is)
     (sym c.is_full.ensures ∙ c.if-is_full.true)
 
@@ -43,7 +51,7 @@ prepare-requires-clause-waits g c =
 
 pub returns-in-Err-NoMemory-clause-act : goal.returns-in-Err-NoMemory-clause-act
 returns-in-Err-NoMemory-clause-act g c s t e f l m room =
-    posts_wanting c.args.part s c.args.orders.now.items (g.T.LockStore.table c.args.locks.now).entries c.args.books.now.ledger c.prepare.new.books.ledger c.args.worker c.in-Some.unit c.requires.part e f l c.prepare.ensures.ledger room
+    posts_wanting c.args.part s c.args.orders.now.items c.args.locks.now.table.entries c.args.books.now.ledger c.prepare.new.books.ledger c.args.worker c.in-Some.unit c.requires.part e f l c.prepare.ensures.ledger room
     (ap (λ xs. order_for c.args.part c.args.books.now.ledger xs c.args.worker) (sym c.as_slice.ensures.value) ∙ sym c.order_for.ensures ∙ c.in-Some.is)
 
 pub returns-in-Err-Failed-clause-act : goal.returns-in-Err-Failed-clause-act
@@ -52,17 +60,26 @@ returns-in-Err-Failed-clause-act g c s t e f l m room =
     (ap (λ xs. order_for c.args.part c.args.books.now.ledger xs c.args.worker) (sym c.as_slice.ensures.value) ∙ sym c.order_for.ensures ∙ c.in-Some.is)
     (sym c.is_full.ensures ∙ c.if-is_full.false)
 
-pub returns-in-Ok-write-clause-act : goal.returns-in-Ok-write-clause-act
-returns-in-Ok-write-clause-act g c s t e f l m room =
-    let table = g.T.LockStore.table in
+pub returns-in-Ok-end_locks-clause-act : goal.returns-in-Ok-end_locks-clause-act
+returns-in-Ok-end_locks-clause-act g c s t e f l m room =
     let kind = kind_for c.args.part c.in-Ok.ready.1 in
     let new = c.in-Ok-write.ensures.done ∙ ap (after_step c.prepare.new.books.ledger) c.in-Ok.ensures.step ∙ ap (λ x. with_mark x c.in-Some.unit kind) c.in-Ok.ensures.ledger in
-    subst (λ r. IsAct s (post_of c.args.part c.args.worker) (record s { orders = slice_set c.args.orders.now.items c.args.worker None; locks = (table c.free_behind.new.locks).entries; stored = c.write.new.self.ledger }) r) (sym c.posted.ensures)
-    (posts c.args.part s (is_some (g.K.Keeper.held c.args.books.now.keeper)) c.args.orders.now.items _ (table c.args.locks.now).entries (table c.free_behind.new.locks).entries c.args.books.now.ledger c.write.new.self.ledger c.args.max_marks c.args.worker c.in-Some.unit c.in-Ok.ready.1 c.requires.part t e f l m room
+    subst (λ r. IsAct s (post_of c.args.part c.args.worker) (record s { orders = slice_set c.args.orders.now.items c.args.worker None; locks = c.end_locks.new.locks.table.entries; stored = c.write.new.self.ledger }) r) (sym c.posted.ensures)
+    (posts c.args.part s (is_some (g.K.Keeper.held c.args.books.now.keeper)) c.args.orders.now.items _ c.args.locks.now.table.entries c.end_locks.new.locks.table.entries c.args.books.now.ledger c.write.new.self.ledger c.args.max_marks c.args.worker c.in-Some.unit c.in-Ok.ready.1 c.requires.part t e f l m room
     (ap (λ xs. order_for c.args.part c.args.books.now.ledger xs c.args.worker) (sym c.as_slice.ensures.value) ∙ sym c.order_for.ensures ∙ c.in-Some.is)
     (sym c.is_full.ensures ∙ c.if-is_full.false)
     (may_come c.args.part _ (g.K.Keeper.held c.args.books.now.keeper) c.args.books.now.ledger c.in-Some.unit c.in-Ok.ready.1 refl c.in-Ok.ensures.outcome c.in-Ok.ensures.possible)
-    refl (ap (λ t. t.entries) c.free_behind.ensures) new)
+    refl (ap (λ t. t.entries) c.in-Ok-end_locks.ensures.table) new)
+
+pub returns-in-Err-end_locks-clause-act : goal.returns-in-Err-end_locks-clause-act
+returns-in-Err-end_locks-clause-act g c s t e f l m room =
+    let kind = kind_for c.args.part c.in-Ok.ready.1 in
+    let new = c.in-Ok-write.ensures.done ∙ ap (after_step c.prepare.new.books.ledger) c.in-Ok.ensures.step ∙ ap (λ x. with_mark x c.in-Some.unit kind) c.in-Ok.ensures.ledger in
+    posts_unfiled c.args.part s (is_some (g.K.Keeper.held c.args.books.now.keeper)) c.args.orders.now.items c.args.books.now.ledger c.write.new.self.ledger c.args.max_marks c.args.worker c.in-Some.unit c.in-Ok.ready.1 c.requires.part c.in-Err-end_locks.ensures.file.needed t e l m room
+    (ap (λ xs. order_for c.args.part c.args.books.now.ledger xs c.args.worker) (sym c.as_slice.ensures.value) ∙ sym c.order_for.ensures ∙ c.in-Some.is)
+    (sym c.is_full.ensures ∙ c.if-is_full.false)
+    (may_come c.args.part _ (g.K.Keeper.held c.args.books.now.keeper) c.args.books.now.ledger c.in-Some.unit c.in-Ok.ready.1 refl c.in-Ok.ensures.outcome c.in-Ok.ensures.possible)
+    new
 
 pub returns-in-Err-clause-act : goal.returns-in-Err-clause-act
 returns-in-Err-clause-act g c s t e f l m room =
@@ -105,14 +122,14 @@ pub returns-in-Err-Failed-clause-cause : goal.returns-in-Err-Failed-clause-cause
 returns-in-Err-Failed-clause-cause g c =
     (c.prepare.ensures.cause.later, rw c.in-Err-Failed.field-0-is at c.in-Err-Failed.ensures.cause.failed)
 
-pub returns-in-Ok-write-clause-told : goal.returns-in-Ok-write-clause-told
-returns-in-Ok-write-clause-told g c = c.write.ensures.told ∙ c.prepare.ensures.told
+pub returns-in-Ok-end_locks-clause-told : goal.returns-in-Ok-end_locks-clause-told
+returns-in-Ok-end_locks-clause-told g c = c.write.ensures.told ∙ c.prepare.ensures.told
 
-pub returns-in-Ok-write-clause-left : goal.returns-in-Ok-write-clause-left
-returns-in-Ok-write-clause-left g c = answered_leaves g.K.Keeper.held g.K.Keeper.is_open g.K.Keeper.may_leave c.write.new.self g.met.K.Keeper.settled c.in-Ok-write.ensures.usable
+pub returns-in-Ok-end_locks-clause-left : goal.returns-in-Ok-end_locks-clause-left
+returns-in-Ok-end_locks-clause-left g c = answered_leaves g.K.Keeper.held g.K.Keeper.is_open g.K.Keeper.may_leave c.write.new.self g.met.K.Keeper.settled c.in-Ok-write.ensures.usable
 
-pub returns-in-Ok-write-clause-cause : goal.returns-in-Ok-write-clause-cause
-returns-in-Ok-write-clause-cause g c =
+pub returns-in-Ok-end_locks-clause-cause : goal.returns-in-Ok-end_locks-clause-cause
+returns-in-Ok-end_locks-clause-cause g c =
     let faults = g.K.Keeper.faults in
     subst (HasStoreCause (faults c.args.books.now.keeper) (faults c.write.new.self.keeper)) (sym c.posted.ensures)
     (posted_quiet c.args.part c.in-Some.unit c.in-Ok.ready.1 _ _ (c.in-Ok-write.ensures.cause.quiet ∙ c.in-Ok.ensures.cause.quiet))
@@ -150,10 +167,61 @@ returns-in-Err-NoMemory-clause-kept g c =
 pub returns-in-Err-Failed-clause-kept : goal.returns-in-Err-Failed-clause-kept
 returns-in-Err-Failed-clause-kept g c = tt
 
-pub returns-in-Ok-write-clause-kept : goal.returns-in-Ok-write-clause-kept
-returns-in-Ok-write-clause-kept g c =
+pub returns-in-Ok-end_locks-clause-kept : goal.returns-in-Ok-end_locks-clause-kept
+returns-in-Ok-end_locks-clause-kept g c =
     subst (KeepsStore g.K.Keeper.held g.K.Keeper.may_leave c.args.books.now.keeper c.write.new.self.keeper) (sym c.posted.ensures)
     (posted_keeps g.K.Keeper.held g.K.Keeper.may_leave _ _ c.args.part c.in-Some.unit c.in-Ok.ready.1)
 
 pub returns-in-Err-clause-kept : goal.returns-in-Err-clause-kept
 returns-in-Err-clause-kept g c = tt
+
+pub returns-in_default-clause-file : goal.returns-in_default-clause-file
+returns-in_default-clause-file g c =
+    refused_files g.D.Disk.tells g.D.Disk.reads g.D.Disk.may_leave g.D.Disk.faults c.args.books.now.ledger c.args.books.now.ledger c.args.locks.now.file c.args.locks.now.file refusal.NoOrder c.requires.filed (same_file c.args.locks.now.file) refl (inl refl)
+
+pub returns-then-is_full-clause-file : goal.returns-then-is_full-clause-file
+returns-then-is_full-clause-file g c =
+    refused_files g.D.Disk.tells g.D.Disk.reads g.D.Disk.may_leave g.D.Disk.faults c.args.books.now.ledger c.args.books.now.ledger c.args.locks.now.file c.args.locks.now.file (refusal.StoreFull c.args.max_marks) c.requires.filed (same_file c.args.locks.now.file) refl (inl refl)
+
+pub returns-in-Err-NoMemory-clause-file : goal.returns-in-Err-NoMemory-clause-file
+returns-in-Err-NoMemory-clause-file g c =
+    refused_files g.D.Disk.tells g.D.Disk.reads g.D.Disk.may_leave g.D.Disk.faults c.args.books.now.ledger c.prepare.new.books.ledger c.args.locks.now.file c.args.locks.now.file refusal.NoMemory c.requires.filed (same_file c.args.locks.now.file) c.prepare.ensures.ledger (inr refl)
+
+pub returns-in-Err-Failed-clause-file : goal.returns-in-Err-Failed-clause-file
+returns-in-Err-Failed-clause-file g c =
+    let ledger = c.args.books.now.ledger in
+    failed_before g.D.Disk.tells g.D.Disk.reads g.D.Disk.may_leave g.D.Disk.faults ledger c.prepare.new.books.ledger c.args.locks.now.file (Some (flight.Post c.in-Some.unit c.args.part)) c.requires.filed c.prepare.ensures.ledger
+    (λ lists just. posted_agree c.args.part c.requires.part ledger c.in-Some.unit (outcome_in ledger c.args.part c.in-Some.unit) lists just.agree)
+
+pub returns-in-Err-clause-file : goal.returns-in-Err-clause-file
+returns-in-Err-clause-file g c =
+    let ledger = c.args.books.now.ledger in
+    failed_before g.D.Disk.tells g.D.Disk.reads g.D.Disk.may_leave g.D.Disk.faults ledger c.write.new.self.ledger c.args.locks.now.file (Some (flight.Post c.in-Some.unit c.args.part)) c.requires.filed (c.in-Err.ensures.kept ∙ c.in-Ok.ensures.ledger)
+    (λ lists just. posted_agree c.args.part c.requires.part ledger c.in-Some.unit (outcome_in ledger c.args.part c.in-Some.unit) lists just.agree)
+
+pub returns-in-Ok-end_locks-clause-file : goal.returns-in-Ok-end_locks-clause-file
+returns-in-Ok-end_locks-clause-file g c =
+    let ledger = c.args.books.now.ledger in
+    let unit = c.in-Some.unit in
+    let outcome = c.in-Ok.ready.1 in
+    let new = c.in-Ok-write.ensures.done ∙ ap (after_step c.prepare.new.books.ledger) c.in-Ok.ensures.step ∙ ap (λ x. with_mark x unit (kind_for c.args.part outcome)) c.in-Ok.ensures.ledger in
+    let waits = (held_for c.args.part ledger (order_of c.args.orders.now.items c.args.worker) unit
+    (ap (λ xs. order_for c.args.part ledger xs c.args.worker) (sym c.as_slice.ensures.value) ∙ sym c.order_for.ensures ∙ c.in-Some.is)).1 in
+    let freed = c.in-Ok-end_locks.ensures.file in
+    subst (λ r. FilesAs g.D.Disk.tells g.D.Disk.reads g.D.Disk.may_leave g.D.Disk.faults c.write.new.self.ledger c.args.locks.now.file c.end_locks.new.locks.file (Answered r)) (sym c.posted.ensures)
+    (written_files g.D.Disk.tells g.D.Disk.reads g.D.Disk.may_leave g.D.Disk.faults ledger c.write.new.self.ledger (λ lists. lists_ended (nat_eq c.args.part 1) lists unit) c.args.locks.now.file c.end_locks.new.locks.file (posted_reply c.args.part unit outcome) c.requires.filed
+    freed.usable freed.freed (λ lists just. subst (λ l. AreOpenLists l (lists_ended (nat_eq c.args.part 1) lists unit)) (sym new) (posted_lists c.args.part c.requires.part ledger unit outcome waits lists just)) freed.cause.quiet
+    (λ n m same. posted_file c.args.part unit outcome n m same) (posted_keeps_file c.args.locks.now.file c.end_locks.new.locks.file c.args.part unit outcome))
+
+pub returns-in-Err-end_locks-clause-file : goal.returns-in-Err-end_locks-clause-file
+returns-in-Err-end_locks-clause-file g c =
+    let ledger = c.args.books.now.ledger in
+    let unit = c.in-Some.unit in
+    let outcome = c.in-Ok.ready.1 in
+    let new = c.in-Ok-write.ensures.done ∙ ap (after_step c.prepare.new.books.ledger) c.in-Ok.ensures.step ∙ ap (λ x. with_mark x unit (kind_for c.args.part outcome)) c.in-Ok.ensures.ledger in
+    let freed = c.in-Err-end_locks.ensures.file in
+    half_written_files g.D.Disk.tells g.D.Disk.reads g.D.Disk.may_leave g.D.Disk.faults ledger c.write.new.self.ledger (λ lists. lists_ended (nat_eq c.args.part 1) lists unit) c.args.locks.now.file c.end_locks.new.locks.file c.requires.filed freed.images
+    (λ lists just.
+    subst (λ l. AgreeAll l lists × AgreeAll l (lists_ended (nat_eq c.args.part 1) lists unit)) (sym new)
+    (posted_agree c.args.part c.requires.part ledger unit outcome lists just.agree, posted_half c.args.part c.requires.part ledger unit outcome lists just.agree))
+    (freed.cause.later, freed.cause.failed)

@@ -1,4 +1,9 @@
-use Rattle.std.proofs.Common.{refl, ap, ◌∙◌}
+use Rattle.std.proofs.Common.{inr, Some, refl, sym, ap, ◌∙◌, subst}
+use Rattle.enq_base.specs.declared.refusal.Refusal.TheVariants as refusal
+use Rattle.hall.specs.declared.command.Reply.TheVariants as reply
+use Rattle.hall.specs.OpenUnits.{AreOpenLists}
+use Rattle.hall.proofs.Filing.{failed_before, refused_files, same_file, written_files}
+use Rattle.hall.proofs.Listing.{again2_agree, again2_lists}
 use Rattle.enq_base.specs.declared.unit.Status.TheVariants.{Bad2}
 use Rattle.posting.specs.Steps.{after_step}
 use Rattle.update_records.specs.Growing.{with_mark}
@@ -10,7 +15,7 @@ use Rattle.hall.proofs.units.repost.Goals as goal
 
 pub returns-in_default-clause-act : goal.returns-in_default-clause-act
 returns-in_default-clause-act g c s f l h room =
-    resubmits_wanting s (g.T.LockStore.table c.args.locks.now).entries c.args.books.now.ledger c.prepare_mark.new.self.ledger s.mark_limit c.args.unit Bad2 f l refl room
+    resubmits_wanting s c.args.locks.now.table.entries c.args.books.now.ledger c.prepare_mark.new.self.ledger s.mark_limit c.args.unit Bad2 f l refl room
     h c.prepare_mark.ensures.unmoved.ledger
 
 pub returns-in-Ok-write-clause-act : goal.returns-in-Ok-write-clause-act
@@ -18,7 +23,7 @@ returns-in-Ok-write-clause-act g c s f l h room =
     let new =
     c.in-Ok-write.ensures.done ∙ ap (after_step c.prepare_mark.new.self.ledger) c.in-Ok.ensures.step
     ∙ ap (λ ledger. with_mark ledger c.args.unit Again2) c.prepare_mark.ensures.unmoved.ledger in
-    reposts s (g.T.LockStore.table c.args.locks.now).entries c.args.books.now.ledger c.write.new.self.ledger s.mark_limit c.args.unit f l refl room h new
+    reposts s c.args.locks.now.table.entries c.args.books.now.ledger c.write.new.self.ledger s.mark_limit c.args.unit f l refl room h new
 
 pub returns-in-Err-clause-act : goal.returns-in-Err-clause-act
 returns-in-Err-clause-act g c s f l h room =
@@ -40,3 +45,20 @@ returns-in-Ok-write-clause-kept g c = tt
 
 pub returns-in-Err-clause-kept : goal.returns-in-Err-clause-kept
 returns-in-Err-clause-kept g c = tt
+
+pub returns-in_default-clause-file : goal.returns-in_default-clause-file
+returns-in_default-clause-file g c =
+    refused_files g.D.Disk.tells g.D.Disk.reads g.D.Disk.may_leave g.D.Disk.faults c.args.books.now.ledger c.prepare_mark.new.self.ledger c.args.locks.now.file c.args.locks.now.file refusal.NoMemory c.requires.filed (same_file c.args.locks.now.file) c.prepare_mark.ensures.unmoved.ledger (inr refl)
+
+pub returns-in-Ok-write-clause-file : goal.returns-in-Ok-write-clause-file
+returns-in-Ok-write-clause-file g c =
+    let ledger = c.args.books.now.ledger in
+    let new = c.in-Ok-write.ensures.done ∙ ap (after_step c.prepare_mark.new.self.ledger) c.in-Ok.ensures.step ∙ ap (λ l. with_mark l c.args.unit Again2) c.prepare_mark.ensures.unmoved.ledger in
+    written_files g.D.Disk.tells g.D.Disk.reads g.D.Disk.may_leave g.D.Disk.faults ledger c.write.new.self.ledger (λ lists. lists) c.args.locks.now.file c.args.locks.now.file (reply.Unit c.args.unit) c.requires.filed
+    c.requires.filed.usable (λ t lists ready. ready) (λ lists just. subst (λ l. AreOpenLists l lists) (sym new) (again2_lists ledger c.args.unit c.requires.follows.follows lists just)) refl (λ n m same. same) tt
+
+pub returns-in-Err-clause-file : goal.returns-in-Err-clause-file
+returns-in-Err-clause-file g c =
+    let ledger = c.args.books.now.ledger in
+    failed_before g.D.Disk.tells g.D.Disk.reads g.D.Disk.may_leave g.D.Disk.faults ledger c.write.new.self.ledger c.args.locks.now.file (Some (flight.Again c.args.unit 2)) c.requires.filed (c.in-Err.ensures.kept ∙ c.prepare_mark.ensures.unmoved.ledger)
+    (λ lists just. again2_agree ledger c.args.unit c.requires.follows.follows lists just.agree)

@@ -13,4 +13,4 @@ pub returns : goal.returns
 returns g c =
     ready_tries g.K.Keeper.held g.K.Keeper.is_open g.K.Keeper.may_leave g.K.Keeper.faults
     c.args.books.now c.prepare_numbers.new.self c.write.new.books c.in_ok-prepared.prepared.step _ c.write.result
-    c.in_ok-prepared.ensures.step c.prepare_numbers.ensures.unmoved c.write.ensures
+    c.in_ok-prepared.ensures.step c.prepare_numbers.ensures.unmoved c.write.ensures.tried

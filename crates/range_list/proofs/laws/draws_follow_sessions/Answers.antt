@@ -1,6 +1,6 @@
 use Rattle.std.proofs.Common.{map}
 use Rattle.std.specs.List.{filter}
-use Rattle.range_list.proofs.Owners.{session_commits, session_draws_buffered, session_draws_plain, session_gives_back, session_has_digits, session_may_commit}
+use Rattle.range_list.proofs.Owners.{session_commits, session_commits_stock, session_draws_buffered, session_draws_plain, session_gives_back, session_has_digits, session_may_commit, session_may_commit_stock, session_stock_digits}
 use Rattle.range_list.proofs.Sessions.{fewer_drawn, fewer_left}
 use Rattle.range_list.proofs.laws.draws_follow_sessions.Goals as goal
 
@@ -23,3 +23,11 @@ returns-clause-commits g c = session_commits
 pub returns-clause-may_commit : goal.returns-clause-may_commit
 returns-clause-may_commit g c = λ draws_of test sessions x found ledger ranges h.
     (session_may_commit draws_of test (λ s. s) sessions x found ledger ranges h, session_has_digits draws_of test (λ s. s) sessions x found ranges ledger.levels _ h)
+
+pub returns-clause-commits_stock : goal.returns-clause-commits_stock
+returns-clause-commits_stock g c = λ draws_of test change sessions x found ranges levels committed stock none fits h.
+    session_commits_stock draws_of test change sessions x found ranges levels committed stock fits h none
+
+pub returns-clause-may_commit_stock : goal.returns-clause-may_commit_stock
+returns-clause-may_commit_stock g c = λ draws_of test sessions x found ledger ranges stock fits h.
+    (session_may_commit_stock draws_of test (λ s. s) sessions x found ledger ranges stock fits h, session_stock_digits draws_of test (λ s. s) sessions x found ranges ledger.levels _ stock fits h)

@@ -1,5 +1,6 @@
 use Rattle.range_list.proofs.Drawing.{buffered_drawn, plain_drawn}
 use Rattle.range_list.proofs.Recording.{commit_drawn, raised_drawn}
+use Rattle.range_list.proofs.Stocks.{stock_drawn}
 use Rattle.range_list.proofs.laws.draws_stay_right.Goals as goal
 
 pub returns-clause-plain : goal.returns-clause-plain
@@ -13,3 +14,6 @@ returns-clause-raised c = raised_drawn
 
 pub returns-clause-committed : goal.returns-clause-committed
 returns-clause-committed c = commit_drawn
+
+pub returns-clause-stock : goal.returns-clause-stock
+returns-clause-stock c = stock_drawn

@@ -1,6 +1,6 @@
 use Rattle.std.proofs.Common.{◌<◌, ◌+◌, ◌^◌, IfSome, sym, subst, ◌∙◌}
 use Rattle.range_list.specs.declared.range.NumberRange.{NumberRange}
-use Rattle.range_list.proofs.HandedOut.{handed_at, none_placed}
+use Rattle.range_list.proofs.HandedOut.{handed_at, none_handed}
 use Rattle.range_list.proofs.places.hand_out.Goals as goal
 
 pub hand_out_at-requires : goal.hand_out_at-requires
@@ -16,9 +16,9 @@ pub returns-in-Some : goal.returns-in-Some
 returns-in-Some c =
     let is = handed_at c.args.object.now c.args.nr c.args.ranges.now c.in-Some.place c.requires.apart
     (sym (c.requires.places c.args.object.now c.args.nr) ∙ sym c.place_of.ensures ∙ c.in-Some.is) in
-    c.hand_out_at.ensures is.range is.found ∙ is.handed
+    c.hand_out_at.ensures is.range is.found ∙ is.changed
 
 pub returns-in_default : goal.returns-in_default
 returns-in_default c =
-    none_placed c.args.object.now c.args.nr c.args.ranges.now
+    none_handed c.args.object.now c.args.nr c.args.ranges.now
     (sym (c.requires.places c.args.object.now c.args.nr) ∙ sym c.place_of.ensures ∙ c.in_default.is)

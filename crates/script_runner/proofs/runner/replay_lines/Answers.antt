@@ -20,13 +20,13 @@ take_turn-requires g c =
 
 pub lines-preserved : goal.lines-preserved
 lines-preserved g c = (
-  goes_on _ _ _ _ _ _ _ _ _ _ _ _ _ refl c.lines.invariant.0
+  goes_on _ _ _ _ _ _ _ _ _ _ _ _ _ refl refl c.lines.invariant.0
       (λ e. rw c.in-Ok-true.field-0-test at (c.in-Ok-true.ensures.reads e))
       (rw c.in-Ok-true.field-0-test at c.in-Ok-true.ensures.again)
       c.next.ensures.later
       (taken_at _ _ _ _ _ _ _ _ _ _ _ _ _ c.number.ensures c.line.ensures c.in_default.ensures.turn)
       c.take_turn.ensures.later,
-  c.in_default.ensures.turn.store.told ∙ c.lines.invariant.1,
+  c.in_default.ensures.turn.devices.told ∙ c.lines.invariant.1,
 )
 
 pub returns-in-Ok-false-clause-run : goal.returns-in-Ok-false-clause-run
@@ -35,7 +35,7 @@ returns-in-Ok-false-clause-run g c =
     (λ e. rw c.in-Ok-false.field-0-test at (c.in-Ok-false.ensures.reads e))
     (λ n. ap g.S.Source.left (c.next.ensures.untouched n))
     (λ n. ap g.S.Source.faults (c.next.ensures.untouched n))
-    _ (c.end_of.ensures ∙ ap end_of c.condition.ensures)
+    _ (c.end_of.ensures ∙ (λ i. end_of (c.condition.ensures i) (c.past.ensures i)))
 
 pub returns-in-Err-clause-run : goal.returns-in-Err-clause-run
 returns-in-Err-clause-run g c =
@@ -43,10 +43,10 @@ returns-in-Err-clause-run g c =
 
 pub returns-in-Err-take_turn-clause-run : goal.returns-in-Err-take_turn-clause-run
 returns-in-Err-take_turn-clause-run g c =
-    ends_turn _ _ _ _ _ _ _ _ _ _ _ _ _ _ refl c.lines.invariant.0
+    ends_turn _ _ _ _ _ _ _ _ _ _ _ _ _ _ refl refl c.lines.invariant.0
     (λ e. rw c.in-Ok-true.field-0-test at (c.in-Ok-true.ensures.reads e))
     (rw c.in-Ok-true.field-0-test at c.in-Ok-true.ensures.again)
     (taken_at _ _ _ _ _ _ _ _ _ _ _ _ _ c.number.ensures c.line.ensures c.in-Err-take_turn.ensures.turn)
 
 pub returns-in-Err-take_turn-clause-told : goal.returns-in-Err-take_turn-clause-told
-returns-in-Err-take_turn-clause-told g c = c.in-Err-take_turn.ensures.turn.store.told ∙ c.lines.invariant.1
+returns-in-Err-take_turn-clause-told g c = c.in-Err-take_turn.ensures.turn.devices.told ∙ c.lines.invariant.1

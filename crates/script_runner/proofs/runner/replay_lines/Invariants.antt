@@ -8,8 +8,8 @@ use Rattle.script_runner.proofs.runner.replay_lines.Given as goal
 abbrev pub invariant-lines : goal.invariant-lines
 invariant-lines g l =
     GoesOn (world l.objects l.initial.hall.state l.initial.sides.items) (world l.objects l.hall.state l.sides.items)
-    (seen (g.S.Source.left l.initial.source) (g.W.Sink.written l.initial.sink) (g.S.Source.faults l.initial.source) (g.W.Sink.faults l.initial.sink) (g.K.Keeper.faults l.initial.hall.keeper))
-    (seen (g.S.Source.left l.source) (g.W.Sink.written l.sink) (g.S.Source.faults l.source) (g.W.Sink.faults l.sink) (g.K.Keeper.faults l.hall.keeper))
+    (seen (g.S.Source.left l.initial.source) (g.W.Sink.written l.initial.sink) (g.S.Source.faults l.initial.source) (g.W.Sink.faults l.initial.sink) (g.K.Keeper.faults l.initial.hall.keeper) (g.D.Disk.faults l.initial.hall.file.disk))
+    (seen (g.S.Source.left l.source) (g.W.Sink.written l.sink) (g.S.Source.faults l.source) (g.W.Sink.faults l.sink) (g.K.Keeper.faults l.hall.keeper) (g.D.Disk.faults l.hall.file.disk))
     l.reader
     × (is_some (g.K.Keeper.held l.hall.keeper) ≡ is_some (g.K.Keeper.held l.initial.hall.keeper))
 

@@ -1,6 +1,6 @@
 use Rattle.std.proofs.Common.{◌≡◌, [], ◌∙◌, None, refl, sym, subst, is_some}
 use Rattle.enq_base.specs.declared.condition.Condition.TheVariants.{Up}
-use Rattle.hall.proofs.Beginning.{first_kept}
+use Rattle.hall.proofs.FirstState.{first_kept}
 use Rattle.hall.specs.Kept.{IsKept}
 use Rattle.hall.specs.Serving.{with_calls}
 use Rattle.hall.specs.State.{State, state_of}
@@ -10,7 +10,7 @@ use Rattle.hall.proofs.hall.Hall.first.Goals as goal
 pub invariant_of-result : goal.invariant_of-result
 invariant_of-result g c =
     let told = is_some (g.K.Keeper.held c.args.books.keeper) in
-    let table = g.T.LockStore.table c.args.tables.locks in
+    let table = c.args.locks.table in
     let orders = c.args.tables.orders.items in
     let past = c.args.tables.past.items in
     let intervals = intervals_of c.args.ranges in

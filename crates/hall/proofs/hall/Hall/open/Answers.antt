@@ -1,10 +1,11 @@
-use Rattle.std.proofs.Common.{◌≡◌, ◌∙◌, sym, ap, subst, is_some, true}
+use Rattle.std.proofs.Common.{◌≡◌, ◌∙◌, refl, sym, ap, subst, is_some, true}
 use Rattle.std.specs.Prelude.{IfSome}
+use Rattle.keeper_api.specs.Keeping.{IsWithin}
 use Rattle.posting.specs.Reopening.{HasStood, IsRaised}
 use Rattle.range_list.specs.Levels.{intervals_of}
 use Rattle.store_reading.specs.Good.{IsSound}
-use Rattle.hall.proofs.Refused.{books_why, err_two, held_more, ok_more, ok_two, ranges_why, where_held}
-use Rattle.hall.specs.Faults.{IsHallFault, IsRangesFault}
+use Rattle.hall.proofs.Refused.{books_file, books_file_counts, books_why, err_more, err_two, held_more, late_bad, late_counts, late_file, late_kept, late_may, late_why, ok_more, ok_two, where_held}
+use Rattle.hall.specs.Faults.{CountsFileFault, IsBadFile, IsHallFault, IsLateFault}
 use Rattle.hall.specs.State.{State, opened}
 use Rattle.hall.proofs.hall.Hall.open.Goals as goal
 
@@ -40,6 +41,8 @@ pub returns-in-Ok-open-clause-fault : goal.returns-in-Ok-open-clause-fault
 returns-in-Ok-open-clause-fault g c =
     let held = g.K.Keeper.held in
     let before = g.K.Keeper.may_leave c.args.keeper in
+    let tells = g.D.Disk.tells in
+    let bytes = g.D.Disk.reads c.args.disk in
     let intervals = c.args.intervals.items in
     let books = c.in-Ok-open.books in
     let are : intervals_of c.in-Ok-new.ranges ≡ intervals = c.in-Ok-new.ensures ∙ c.as_slice.ensures.value in
@@ -47,9 +50,57 @@ returns-in-Ok-open-clause-fault g c =
     (λ e f k.
     subst (λ q. IfSome (held q) (λ rows. IsHallFault intervals before rows e.0)) (sym k)
     (where_held (held books.keeper) _ _
-    (λ rows stood. ranges_why intervals before rows books.ledger e.0 stood (subst (λ is. IsRangesFault is books.ledger.levels e.0) are f))
+    (λ rows stood. late_why intervals before rows books.ledger tells bytes e.0 stood (subst (λ is. IsLateFault is books.ledger tells bytes e.0) are f))
     c.in-Ok-open.ensures.ledger))
     c.over.ensures.fault c.over.ensures.kept
+
+pub returns-in-Ok-open-clause-untold_fault : goal.returns-in-Ok-open-clause-untold_fault
+returns-in-Ok-open-clause-untold_fault g c =
+    err_more c.over.result _ _
+    (λ e f. late_may (intervals_of c.in-Ok-new.ranges) c.in-Ok-open.books.ledger g.D.Disk.tells (g.D.Disk.reads c.args.disk) e.0 f)
+    c.over.ensures.fault
+
+pub returns-in-Ok-open-clause-found : goal.returns-in-Ok-open-clause-found
+returns-in-Ok-open-clause-found g c =
+    err_more c.over.result _ _
+    (λ e f. late_bad (intervals_of c.in-Ok-new.ranges) c.in-Ok-open.books.ledger g.D.Disk.tells (g.D.Disk.reads c.args.disk) e.0 (IfSome (g.K.Keeper.held e.1) (g.K.Keeper.may_leave c.args.keeper)) f)
+    c.over.ensures.fault
+
+pub returns-in-Ok-open-clause-unchanged : goal.returns-in-Ok-open-clause-unchanged
+returns-in-Ok-open-clause-unchanged g c =
+    err_more c.over.result _ _
+    (λ e f. late_kept (intervals_of c.in-Ok-new.ranges) c.in-Ok-open.books.ledger g.D.Disk.tells (g.D.Disk.reads c.args.disk) e.0 (IsWithin (g.K.Keeper.may_leave e.1) (g.K.Keeper.may_leave c.args.keeper)) f)
+    c.over.ensures.fault
+
+pub returns-in-Ok-open-clause-cause : goal.returns-in-Ok-open-clause-cause
+returns-in-Ok-open-clause-cause g c =
+    let faults = g.K.Keeper.faults in
+    err_two c.over.result _ _ _
+    (λ e f k. late_counts (intervals_of c.in-Ok-new.ranges) c.in-Ok-open.books.ledger g.D.Disk.tells (g.D.Disk.reads c.args.disk) e.0 (faults c.args.keeper) (faults e.1) f
+    (ap faults k ∙ c.in-Ok-open.ensures.counts))
+    c.over.ensures.fault c.over.ensures.kept
+
+pub returns-in-Ok-open-clause-file_fault : goal.returns-in-Ok-open-clause-file_fault
+returns-in-Ok-open-clause-file_fault g c = λ t.
+    let held = g.K.Keeper.held in
+    let before = g.K.Keeper.may_leave c.args.keeper in
+    let books = c.in-Ok-open.books in
+    err_two c.over.result _ _ _
+    (λ e f k. late_file (intervals_of c.in-Ok-new.ranges) books.ledger (held e.1) before g.D.Disk.tells (g.D.Disk.reads c.args.disk) e.0 c.in-Ok-open.ensures.sound
+    (subst (λ q. IfSome (held q) (λ _. IsRaised (HasStood before) true books.ledger)) (sym k) c.in-Ok-open.ensures.ledger) t f)
+    c.over.ensures.fault c.over.ensures.kept
+
+pub returns-clause-file_fault : goal.returns-clause-file_fault
+returns-clause-file_fault g c = λ t.
+    let told = g.K.Keeper.held c.in-Err.keeper in
+    let before = g.K.Keeper.may_leave c.args.keeper in
+    let bytes = g.D.Disk.reads c.args.disk in
+    subst (IsBadFile told before bytes) (sym c.fault_of.ensures) (books_file told before bytes c.in-Err.fault)
+
+pub returns-clause-file_cause : goal.returns-clause-file_cause
+returns-clause-file_cause g c =
+    let count = g.D.Disk.faults c.args.disk in
+    subst (λ f. CountsFileFault f count count) (sym c.fault_of.ensures) (books_file_counts c.in-Err.fault count count refl)
 
 pub returns-clause-fault : goal.returns-clause-fault
 returns-clause-fault g c =

@@ -1,12 +1,37 @@
-use Rattle.std.proofs.Common.{ap, ◌∙◌, is_some}
+use Rattle.std.proofs.Common.{inl, refl, ap, subst, ◌∙◌, is_some}
+use Rattle.enq_server.specs.Server.{IsRecovered}
 use Rattle.range_list.specs.Levels.{intervals_of}
+use Rattle.hall.proofs.OpenLists.{recovered_lists}
+use Rattle.hall.proofs.Refused.{ranges_file_counts}
 use Rattle.hall.specs.State.{opened}
 use Rattle.hall.proofs.hall.Hall.over.Goals as goal
 
-pub returns-in-Ok-clause-state : goal.returns-in-Ok-clause-state
-returns-in-Ok-clause-state g c =
+pub returns-in-Err-clause-fault : goal.returns-in-Err-clause-fault
+returns-in-Err-clause-fault g c = inl (c.ranges_fault_of.ensures (intervals_of c.args.ranges) c.args.books.ledger.levels c.in-Err.ensures.fault)
+
+pub returns-in-Err-clause-file_cause : goal.returns-in-Err-clause-file_cause
+returns-in-Err-clause-file_cause g c =
+    let count = g.D.Disk.faults c.args.disk in
+    let levels = c.args.books.ledger.levels in
+    ranges_file_counts (intervals_of c.args.ranges) levels c.ranges_fault_of.result count count
+    (c.ranges_fault_of.ensures (intervals_of c.args.ranges) levels c.in-Err.ensures.fault) refl
+
+pub first-requires-clause-filed : goal.first-requires-clause-filed
+first-requires-clause-filed g c =
+    let reads = g.D.Disk.reads in
+    let may_leave = g.D.Disk.may_leave in
+    let bytes = reads c.args.disk in
+    let ledger = c.args.books.ledger in
+    let file = c.in-Ok-first_locks.locks.file in
+    let are = c.as_slice.ensures.value ∙ c.in-Ok.ensures in
+    record {
+      usable = c.in-Ok-first_locks.ensures.usable;
+      ready = λ t.
+          let h = recovered_lists reads may_leave bytes ledger file (subst (λ us. IsRecovered reads may_leave bytes us file) are (c.in-Ok-first_locks.ensures.file t)) in
+          record { lists = h.0; ready = h.1; just = h.2 };
+    }
+
+pub returns-in-Ok-first_locks-clause-state : goal.returns-in-Ok-first_locks-clause-state
+returns-in-Ok-first_locks-clause-state g c =
     c.first.ensures.state
     ∙ ap (λ is. opened c.args.max_locks c.args.max_marks is (is_some (g.K.Keeper.held c.args.books.keeper)) c.args.books.ledger) c.take_levels.ensures.intervals
-
-pub returns-in-Err-clause-fault : goal.returns-in-Err-clause-fault
-returns-in-Err-clause-fault g c = c.ranges_fault_of.ensures (intervals_of c.args.ranges) c.args.books.ledger.levels c.in-Err.ensures.fault

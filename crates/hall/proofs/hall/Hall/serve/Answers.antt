@@ -5,7 +5,10 @@ use Rattle.hall.proofs.Frames.{noted_step}
 use Rattle.hall.proofs.Replies.{given_act}
 use Rattle.hall.specs.History.{IsStep, entry_of}
 use Rattle.hall.specs.Kept.{IsKept}
+use Rattle.hall.specs.Calls.{call_of}
 use Rattle.hall.specs.Serving.{with_calls}
+use Rattle.hall.specs.State.{View}
+use Rattle.hall.specs.Stocks.{MayCall}
 use Rattle.hall.proofs.hall.Hall.serve.Goals as goal
 
 pub invariant_of-self : goal.invariant_of-self
@@ -23,11 +26,12 @@ invariant_of-self-2 g c =
     let after = with_calls c.serve-reply.new.self.state past in
     let given = c.told_twice-noted.result.1 in
     let on = sym c.is_unrecorded.ensures ∙ c.if-is_unrecorded.false in
+    let asked : MayCall s (call_of c.args.command) = subst (λ (v : View g.row.K.Denot g.row.D.Denot g.row.L.Denot). MayCall v.state (call_of c.args.command)) (sym c.self.view_is) c.requires in
     let act = given_act s c.args.command after c.serve-reply.result given c.told_twice-noted.ensures.given c.serve-reply.ensures.call in
     let noted = c.note.ensures.noted ∙ (λ i. past ++ entry_of c.args.line c.args.command (c.told_twice-noted.ensures.twice i) (c.after-after.ensures i) ∷ []) in (
       search rules,
       subst (λ p. IsKept (with_calls c.serve-reply.new.self.state p)) (sym noted)
-          (kept_call s c.args.line c.args.command after given c.self.invariant.1 (c.serve-reply.ensures.room on) act),
+          (kept_call s c.args.line c.args.command after given asked c.self.invariant.1 (c.serve-reply.ensures.room on) act),
     )
 
 pub returns-clause-step : goal.returns-clause-step
@@ -37,8 +41,9 @@ returns-clause-step g c =
     let after = with_calls c.serve-reply.new.self.state past in
     let given = c.told_twice-noted.result.1 in
     let on = sym c.is_unrecorded.ensures ∙ c.if-is_unrecorded.false in
+    let asked : MayCall s (call_of c.args.command) = subst (λ (v : View g.row.K.Denot g.row.D.Denot g.row.L.Denot). MayCall v.state (call_of c.args.command)) (sym c.self.view_is) c.requires in
     let act = given_act s c.args.command after c.serve-reply.result given c.told_twice-noted.ensures.given c.serve-reply.ensures.call in
     let noted = c.note.ensures.noted ∙ (λ i. past ++ entry_of c.args.line c.args.command (c.told_twice-noted.ensures.twice i) (c.after-after.ensures i) ∷ []) in
     subst (λ v. IsStep v.state (with_calls c.serve-reply.new.self.state c.note.new.past.items) c.args.line c.args.command given) c.self.view_is
     (subst (λ p. IsStep s (with_calls c.serve-reply.new.self.state p) c.args.line c.args.command given) (sym noted)
-    (noted_step s c.args.line c.args.command after given act (given_noted c.serve-reply.result given c.told_twice-noted.ensures.given on)))
+    (noted_step s c.args.line c.args.command after given asked act (given_noted c.serve-reply.result given c.told_twice-noted.ensures.given on)))

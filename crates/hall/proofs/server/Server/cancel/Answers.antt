@@ -1,8 +1,10 @@
 use Rattle.std.proofs.Common.{[], refl, sym, subst, is_some}
 use Rattle.enq_base.specs.declared.condition.Condition.{Condition}
 use Rattle.enq_base.specs.declared.condition.Condition.TheVariants.{Up}
-use Rattle.hall.proofs.Endings.{due_up, state_with, written_call}
+use Rattle.hall.proofs.Endings.{due_up, no_flight, state_with, written_call}
+use Rattle.hall.proofs.Filing.{recovers_after}
 use Rattle.hall.proofs.Leaves.{also_failed, leaves_after, usable_after}
+use Rattle.hall.specs.Filing.{MayFile}
 use Rattle.hall.specs.Leaving.{HasStoreCause, KeepsStore}
 use Rattle.hall.specs.Serving.{IsDue, Serves}
 use Rattle.hall.specs.State.{State}
@@ -17,12 +19,15 @@ invariant_of-self g c =
     let due = subst (λ v. IsDue v.state c.args.past.now.items) (sym c.self.view_is) c.requires in (
       usable_after _ old.condition ended.new.condition _ called.result (due_up _ _ due) ended.ensures.condition called.ensures.usable,
       leaves_after g.K.Keeper.held g.K.Keeper.may_leave called.new.books old.pending ended.new.pending called.result ended.ensures.pending called.ensures.left,
+      usable_after _ old.condition ended.new.condition _ called.result (due_up _ _ due) ended.ensures.condition called.ensures.file.lists,
+      recovers_after g.D.Disk.tells g.D.Disk.reads g.D.Disk.may_leave g.D.Disk.faults called.new.books.ledger called.new.locks.file old.pending ended.new.pending old.condition ended.new.condition _ called.result
+          (no_flight (is_some (g.K.Keeper.held old.books.keeper)) old.condition old.sessions old.next_session old.orders.items old.locks.table old.max_locks old.max_marks old.ranges old.books.ledger old.pending c.args.past.now.items due)
+          ended.ensures.pending (due_up _ _ due) ended.ensures.condition called.ensures.file.images,
     )
 
 pub returns : goal.returns
 returns g c =
     let old = c.self.inside in
-    let table = g.T.LockStore.table in
     let held = g.K.Keeper.held in
     let may_leave = g.K.Keeper.may_leave in
     let faults = g.K.Keeper.faults in
@@ -30,12 +35,12 @@ returns g c =
     let ended = c.ended in
     let past = c.args.past.now.items in
     let due = subst (λ v. IsDue v.state past) (sym c.self.view_is) c.requires in
-    let before : Condition → State = λ k. state_with (is_some (held old.books.keeper)) k old.sessions old.next_session old.orders.items (table old.locks) old.max_locks old.max_marks old.ranges old.books.ledger old.pending past in
-    let new : State = state_with (is_some (held called.new.books.keeper)) ended.new.condition old.sessions old.next_session old.orders.items (table called.new.locks) old.max_locks old.max_marks old.ranges called.new.books.ledger ended.new.pending [] in
-    subst (λ v. Serves held may_leave faults v (record { state = new; keeper = called.new.books.keeper }) past (command.Cancel c.args.unit) ended.result) c.self.view_is
+    let before : Condition → State = λ k. state_with (is_some (held old.books.keeper)) k old.sessions old.next_session old.orders.items old.locks.table old.max_locks old.max_marks old.ranges old.books.ledger old.pending past in
+    let new : State = state_with (is_some (held called.new.books.keeper)) ended.new.condition old.sessions old.next_session old.orders.items called.new.locks.table old.max_locks old.max_marks old.ranges called.new.books.ledger ended.new.pending [] in
+    subst (λ v. Serves held may_leave faults g.D.Disk.faults g.L.Link.faults g.L.Link.refusals v (record { state = new; keeper = called.new.books.keeper; file = called.new.locks.file; follower = called.new.locks.copy }) past (command.Cancel c.args.unit) ended.result) c.self.view_is
     (record {
       call =
-          written_call (is_some (held old.books.keeper)) (is_some (held called.new.books.keeper)) old.condition ended.new.condition old.sessions old.sessions old.next_session old.orders.items old.orders.items (table old.locks) (table called.new.locks) old.max_locks old.max_marks old.ranges old.ranges old.books.ledger called.new.books.ledger
+          written_call (is_some (held old.books.keeper)) (is_some (held called.new.books.keeper)) old.condition ended.new.condition old.sessions old.sessions old.next_session old.orders.items old.orders.items old.locks.table called.new.locks.table old.max_locks old.max_marks old.ranges old.ranges old.books.ledger called.new.books.ledger
           old.pending ended.new.pending past called.result (command.Cancel c.args.unit) ended.result due
           called.ensures.told ended.ensures.condition ended.ensures.pending ended.ensures.reply called.ensures.limit (also_failed _ called.result refl) (also_failed _ called.result refl) called.ensures.ledger
           (also_failed _ called.result refl)
@@ -45,4 +50,6 @@ returns g c =
         cause = subst (HasStoreCause (faults old.books.keeper) (faults called.new.books.keeper)) (sym ended.ensures.reply) called.ensures.cause;
         kept = subst (KeepsStore held may_leave old.books.keeper called.new.books.keeper) (sym ended.ensures.reply) called.ensures.kept;
       };
+      file = subst (MayFile g.D.Disk.faults old.locks.file called.new.locks.file) (sym ended.ensures.reply) called.ensures.file.does;
+      follower = called.ensures.follower;
     })

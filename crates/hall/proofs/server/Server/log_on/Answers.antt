@@ -1,6 +1,7 @@
 use Rattle.std.proofs.Common.{[], refl, is_some}
 use Rattle.enq_base.specs.declared.condition.Condition.{Condition}
 use Rattle.enq_base.specs.declared.condition.Condition.TheVariants.{Up}
+use Rattle.enq_server.proofs.Following.{keeps_none}
 use Rattle.hall.proofs.Endings.{serves_beside, state_with}
 use Rattle.hall.specs.Serving.{with_calls}
 use Rattle.hall.specs.State.{View}
@@ -10,16 +11,19 @@ use Rattle.hall.proofs.server.Server.log_on.Goals as goal
 pub returns : goal.returns
 returns g c =
     let old = c.self.inside in
-    let table = g.T.LockStore.table in
     let told = is_some (g.K.Keeper.held old.books.keeper) in
-    let before : Condition → View g.row.K.Denot = λ k. record {
-      state = state_with told k old.sessions old.next_session old.orders.items (table old.locks) old.max_locks old.max_marks old.ranges old.books.ledger old.pending [];
+    let before : Condition → View g.row.K.Denot g.row.D.Denot g.row.L.Denot = λ k. record {
+      state = state_with told k old.sessions old.next_session old.orders.items old.locks.table old.max_locks old.max_marks old.ranges old.books.ledger old.pending [];
       keeper = old.books.keeper;
+      file = old.locks.file;
+      follower = old.locks.copy;
     } in
-    let after : Condition → View g.row.K.Denot = λ k. record {
-      state = state_with told k c.log_on.new.sessions c.log_on.new.next old.orders.items (table old.locks) old.max_locks old.max_marks old.ranges old.books.ledger old.pending [];
+    let after : Condition → View g.row.K.Denot g.row.D.Denot g.row.L.Denot = λ k. record {
+      state = state_with told k c.log_on.new.sessions c.log_on.new.next old.orders.items old.locks.table old.max_locks old.max_marks old.ranges old.books.ledger old.pending [];
       keeper = old.books.keeper;
+      file = old.locks.file;
+      follower = old.locks.copy;
     } in
-    serves_beside g.K.Keeper.held g.K.Keeper.may_leave g.K.Keeper.faults before after old.condition c.args.self.now c.args.past.now.items (command.Logon c.args.session c.args.user) _ _
-    c.self.view_is refl refl c.requires refl c.of.ensures
+    serves_beside g.K.Keeper.held g.K.Keeper.may_leave g.K.Keeper.faults g.D.Disk.faults g.L.Link.faults g.L.Link.refusals before after old.condition c.args.self.now c.args.past.now.items (command.Logon c.args.session c.args.user) _ _
+    c.self.view_is refl refl refl (keeps_none g.L.Link.faults g.L.Link.refusals old.locks.copy) c.requires refl refl c.of.ensures
     (λ room. c.log_on.ensures.act (with_calls (before Up).state c.args.past.now.items) refl refl room)

@@ -12,12 +12,12 @@ pub shown_ranges-requires : goal.shown_ranges-requires
 shown_ranges-requires g c =
     let old = c.self.inside in
     let books = old.books.ledger in
-    let drawn = subst (λ (v : View _). IsDrawn v.state) (sym c.self.view_is) c.requires.drawn in
+    let drawn = subst (λ (v : View _ _ _). IsDrawn v.state) (sym c.self.view_is) c.requires.drawn in
     subst (λ rs. AreDrawnRight rs books.levels (draws_in old.sessions) (numbers_of books.units books.marks)) (sym c.as_slice.ensures) drawn
 
 pub returns : goal.returns
 returns g c =
     let old = c.self.inside in
-    subst (λ (v : View _). IfOk c.shown_ranges.result (λ shown. shown.items ≡ ranges_shown v.state)) c.self.view_is
+    subst (λ (v : View _ _ _). IfOk c.shown_ranges.result (λ shown. shown.items ≡ ranges_shown v.state)) c.self.view_is
     (subst (λ xs. IfOk c.shown_ranges.result (λ shown. shown.items ≡ xs))
     (ap (map (range_shown old.sessions old.books.ledger.levels)) c.as_slice.ensures) c.shown_ranges.ensures)

@@ -1,8 +1,12 @@
 use Rattle.std.proofs.Common.{[], refl, sym, subst, is_some}
 use Rattle.enq_base.specs.declared.condition.Condition.{Condition}
 use Rattle.enq_base.specs.declared.condition.Condition.TheVariants.{Up}
-use Rattle.hall.proofs.Endings.{due_up, state_with, written_call}
-use Rattle.hall.proofs.Leaves.{also_failed, leaves_after, usable_after}
+use Rattle.enq_server.proofs.Following.{keeps_none}
+use Rattle.hall.proofs.Endings.{due_up, no_flight, state_with, written_call}
+use Rattle.hall.proofs.Filing.{beside_images, beside_lists, recovers_after}
+use Rattle.hall.proofs.Leaves.{also_failed, also_store_failed, leaves_after, usable_after}
+use Rattle.hall.specs.Filing.{HasOpenLists}
+use Rattle.hall.specs.Kept.{WhileUp}
 use Rattle.hall.specs.Leaving.{HasStoreCause, KeepsStore}
 use Rattle.hall.specs.Serving.{IsDue, Serves}
 use Rattle.hall.specs.State.{State}
@@ -14,15 +18,21 @@ invariant_of-self g c =
     let old = c.self.inside in
     let called = c.read-written in
     let ended = c.ended in
-    let due = subst (λ v. IsDue v.state c.args.past.now.items) (sym c.self.view_is) c.requires in (
+    let due = subst (λ v. IsDue v.state c.args.past.now.items) (sym c.self.view_is) c.requires in
+    let filed = subst (λ k. WhileUp k (HasOpenLists g.D.Disk.tells g.D.Disk.reads g.D.Disk.may_leave old.books.ledger old.locks.file)) (due_up _ _ due) c.self.invariant.2 in (
       usable_after _ old.condition ended.new.condition _ called.result (due_up _ _ due) ended.ensures.condition called.ensures.usable,
       leaves_after g.K.Keeper.held g.K.Keeper.may_leave called.new.books old.pending ended.new.pending called.result ended.ensures.pending called.ensures.left,
+      usable_after _ old.condition ended.new.condition _ called.result (due_up _ _ due) ended.ensures.condition
+          (beside_lists g.D.Disk.tells g.D.Disk.reads g.D.Disk.may_leave g.D.Disk.faults old.books.ledger called.new.books.ledger old.locks.file called.result called.ensures.levels filed),
+      recovers_after g.D.Disk.tells g.D.Disk.reads g.D.Disk.may_leave g.D.Disk.faults called.new.books.ledger old.locks.file old.pending ended.new.pending old.condition ended.new.condition _ called.result
+          (no_flight (is_some (g.K.Keeper.held old.books.keeper)) old.condition old.sessions old.next_session old.orders.items old.locks.table old.max_locks old.max_marks old.ranges old.books.ledger old.pending c.args.past.now.items due)
+          ended.ensures.pending (due_up _ _ due) ended.ensures.condition
+          (beside_images g.D.Disk.tells g.D.Disk.reads g.D.Disk.may_leave g.D.Disk.faults old.books.ledger called.new.books.ledger old.locks.file called.result called.ensures.levels filed),
     )
 
 pub returns : goal.returns
 returns g c =
     let old = c.self.inside in
-    let table = g.T.LockStore.table in
     let held = g.K.Keeper.held in
     let may_leave = g.K.Keeper.may_leave in
     let faults = g.K.Keeper.faults in
@@ -30,14 +40,14 @@ returns g c =
     let ended = c.ended in
     let past = c.args.past.now.items in
     let due = subst (λ v. IsDue v.state past) (sym c.self.view_is) c.requires in
-    let before : Condition → State = λ k. state_with (is_some (held old.books.keeper)) k old.sessions old.next_session old.orders.items (table old.locks) old.max_locks old.max_marks old.ranges old.books.ledger old.pending past in
-    let new : State = state_with (is_some (held called.new.books.keeper)) ended.new.condition old.sessions old.next_session old.orders.items (table old.locks) old.max_locks old.max_marks old.ranges called.new.books.ledger ended.new.pending [] in
-    subst (λ v. Serves held may_leave faults v (record { state = new; keeper = called.new.books.keeper }) past (command.Read c.args.session.now c.args.table.now c.args.key.now) ended.result) c.self.view_is
+    let before : Condition → State = λ k. state_with (is_some (held old.books.keeper)) k old.sessions old.next_session old.orders.items old.locks.table old.max_locks old.max_marks old.ranges old.books.ledger old.pending past in
+    let new : State = state_with (is_some (held called.new.books.keeper)) ended.new.condition old.sessions old.next_session old.orders.items old.locks.table old.max_locks old.max_marks old.ranges called.new.books.ledger ended.new.pending [] in
+    subst (λ v. Serves held may_leave faults g.D.Disk.faults g.L.Link.faults g.L.Link.refusals v (record { state = new; keeper = called.new.books.keeper; file = old.locks.file; follower = old.locks.copy }) past (command.Read c.args.session.now c.args.table.now c.args.key.now) ended.result) c.self.view_is
     (record {
       call =
-          written_call (is_some (held old.books.keeper)) (is_some (held called.new.books.keeper)) old.condition ended.new.condition old.sessions old.sessions old.next_session old.orders.items old.orders.items (table old.locks) (table old.locks) old.max_locks old.max_marks old.ranges old.ranges old.books.ledger called.new.books.ledger
+          written_call (is_some (held old.books.keeper)) (is_some (held called.new.books.keeper)) old.condition ended.new.condition old.sessions old.sessions old.next_session old.orders.items old.orders.items old.locks.table old.locks.table old.max_locks old.max_marks old.ranges old.ranges old.books.ledger called.new.books.ledger
           old.pending ended.new.pending past called.result (command.Read c.args.session.now c.args.table.now c.args.key.now) ended.result due
-          called.ensures.told ended.ensures.condition ended.ensures.pending ended.ensures.reply refl (also_failed _ called.result refl) (also_failed _ called.result refl) (also_failed _ called.result called.ensures.ledger)
+          called.ensures.told ended.ensures.condition ended.ensures.pending ended.ensures.reply refl (also_failed _ called.result refl) (also_failed _ called.result refl) (also_store_failed _ called.result called.ensures.ledger)
           (also_failed _ called.result refl)
           (λ none room. called.ensures.act (before Up) refl refl refl none room);
       store = record {
@@ -45,4 +55,6 @@ returns g c =
         cause = subst (HasStoreCause (faults old.books.keeper) (faults called.new.books.keeper)) (sym ended.ensures.reply) called.ensures.cause;
         kept = subst (KeepsStore held may_leave old.books.keeper called.new.books.keeper) (sym ended.ensures.reply) called.ensures.kept;
       };
+      file = refl;
+      follower = keeps_none g.L.Link.faults g.L.Link.refusals old.locks.copy;
     })

@@ -11,16 +11,19 @@ use Rattle.hall.proofs.server.Server.roll_back.Goals as goal
 pub returns : goal.returns
 returns g c =
     let old = c.self.inside in
-    let table = g.T.LockStore.table in
     let told = is_some (g.K.Keeper.held old.books.keeper) in
-    let before : Condition → View g.row.K.Denot = λ k. record {
-      state = state_with told k old.sessions old.next_session old.orders.items (table old.locks) old.max_locks old.max_marks old.ranges old.books.ledger old.pending [];
+    let before : Condition → View g.row.K.Denot g.row.D.Denot g.row.L.Denot = λ k. record {
+      state = state_with told k old.sessions old.next_session old.orders.items old.locks.table old.max_locks old.max_marks old.ranges old.books.ledger old.pending [];
       keeper = old.books.keeper;
+      file = old.locks.file;
+      follower = old.locks.copy;
     } in
-    let after : Condition → View g.row.K.Denot = λ k. record {
-      state = state_with told k c.roll_back.new.sessions old.next_session old.orders.items (table c.roll_back.new.locks) old.max_locks old.max_marks old.ranges old.books.ledger old.pending [];
+    let after : Condition → View g.row.K.Denot g.row.D.Denot g.row.L.Denot = λ k. record {
+      state = state_with told k c.roll_back.new.sessions old.next_session old.orders.items c.roll_back.new.locks.table old.max_locks old.max_marks old.ranges old.books.ledger old.pending [];
       keeper = old.books.keeper;
+      file = c.roll_back.new.locks.file;
+      follower = c.roll_back.new.locks.copy;
     } in
-    serves_beside g.K.Keeper.held g.K.Keeper.may_leave g.K.Keeper.faults before after old.condition c.args.self.now c.args.past.now.items (command.Rollback c.args.session.now) _ _
-    c.self.view_is refl refl c.requires refl c.of.ensures
+    serves_beside g.K.Keeper.held g.K.Keeper.may_leave g.K.Keeper.faults g.D.Disk.faults g.L.Link.faults g.L.Link.refusals before after old.condition c.args.self.now c.args.past.now.items (command.Rollback c.args.session.now) _ _
+    c.self.view_is refl refl c.roll_back.ensures.file c.roll_back.ensures.follower c.requires refl refl c.of.ensures
     (λ room. at_state _ _ _ _ _ (λ i. record (with_calls (after Up).state c.args.past.now.items) { limit = sym c.roll_back.ensures.limit i }) (c.roll_back.ensures.act (with_calls (before Up).state c.args.past.now.items) (sym c.start-start.ensures) refl refl room))

@@ -1,5 +1,5 @@
 use Rattle.std.proofs.Common.{sym, ◌∙◌}
-use Rattle.hall.proofs.Endings.{any_store, barred_call, barred_room, barred_store, due_of, same_keeper}
+use Rattle.hall.proofs.Endings.{any_call_file, any_store, barred_call, barred_file, barred_room, barred_store, due_of, same_as_filed, same_keeper}
 use Rattle.hall.proofs.Few.{has_room}
 use Rattle.hall.specs.Serving.{with_calls}
 use Rattle.hall.proofs.server.Server.serve.Goals as goal
@@ -22,11 +22,25 @@ returns-in-None-clause-store g c =
 
 pub returns-in-None-clause-keeper : goal.returns-in-None-clause-keeper
 returns-in-None-clause-keeper g c =
-    same_keeper g.K.Keeper.held g.K.Keeper.may_leave g.K.Keeper.faults c.args.self.now.keeper c.act.new.self.keeper c.args.command.now c.act.result c.act.ensures.store
+    same_keeper g.K.Keeper.held g.K.Keeper.may_leave g.K.Keeper.faults c.args.self.now.keeper c.act.new.self.keeper c.args.self.now.state c.args.command.now c.act.result c.act.ensures.store
 
 pub returns-in-None-clause-room : goal.returns-in-None-clause-room
 returns-in-None-clause-room g c =
     λ noted. has_room (with_calls c.args.self.now.state c.args.past.now.items) (sym c.barred.ensures ∙ c.in-None.is)
 
 pub act-requires : goal.act-requires
-act-requires g c = due_of c.args.self.now.state c.args.past.now.items c.requires (sym c.barred.ensures ∙ c.in-None.is)
+act-requires g c = record {
+  due = due_of c.args.self.now.state c.args.past.now.items c.requires.kept (sym c.barred.ensures ∙ c.in-None.is);
+  call = c.requires.call;
+}
+
+pub returns-in-Some-clause-file : goal.returns-in-Some-clause-file
+returns-in-Some-clause-file g c =
+    barred_file g.D.Disk.faults c.args.self.now.file (with_calls c.args.self.now.state c.args.past.now.items) c.in-Some.refusal (sym c.barred.ensures ∙ c.in-Some.is)
+
+pub returns-in-None-clause-file : goal.returns-in-None-clause-file
+returns-in-None-clause-file g c =
+    any_call_file g.D.Disk.faults c.args.self.now.file c.act.new.self.file (with_calls c.args.self.now.state c.args.past.now.items) c.args.command.now (with_calls c.act.new.self.state c.args.past.now.items) c.act.result c.act.ensures.call c.act.ensures.file
+
+pub returns-in-None-clause-unfiled : goal.returns-in-None-clause-unfiled
+returns-in-None-clause-unfiled g c = same_as_filed g.D.Disk.faults c.args.self.now.file c.act.new.self.file c.args.command.now c.act.result c.act.ensures.file

@@ -1,0 +1,197 @@
+-- The locks of the open units as the store has them: they stand together, and a start begins with just them.
+use Rattle.std.proofs.Common.{◌≡◌, ◌↔◌, ◌⊎◌, ℕ, Bool, true, false, not, List, [], ◌∷◌, ◌++◌, map, inl, inr, refl, sym, ap, ◌∙◌, subst}
+use Rattle.std.specs.Prelude.{Contains}
+use Rattle.std.specs.List.{AllByRecursion, filter, list_all}
+use Rattle.std.proofs.lemmas.Bool.{and_parts}
+use Rattle.std.proofs.lemmas.List.{append-nil}
+use Rattle.std.proofs.lemmas.List.Concat.{flat_map-cons}
+use Rattle.std.proofs.lemmas.List.Elements.{All-from_recursion, filter-append}
+use Rattle.enq_base.specs.Owners.{same_owner, same_unit}
+use Rattle.enq_base.specs.declared.owner.Owner.{Owner}
+use Rattle.enq_base.specs.declared.owner.Owner.TheVariants.{Dlg, Upd}
+use Rattle.enq_base.specs.declared.owner.UnitKey.{UnitKey}
+use Rattle.enq_server.proofs.Held.{held_stand}
+use Rattle.enq_server.specs.Held.{owner_of}
+use Rattle.enq_server.specs.Recovery.{joined}
+use Rattle.lock_entry.proofs.Naming.{same_owner-refl}
+use Rattle.lock_entry.specs.Names.{all_pairs, is_of}
+use Rattle.lock_entry.specs.Sound.{IsSound}
+use Rattle.lock_entry.specs.declared.entry.Entry.{Entry}
+use Rattle.lock_entry.specs.declared.entry.UnitLocks.{UnitLocks}
+use Rattle.posting.specs.Posts.{entries_of}
+use Rattle.posting.specs.Steps.{IsOpenUnit, waiting_for}
+use Rattle.posting.specs.Views.{locks_of, open_locks}
+use Rattle.update_records.proofs.Status.{flip}
+use Rattle.update_records.specs.Ledger.{Ledger}
+use Rattle.hall.specs.Kept.{HasGoodLocks, HasItsUser, IsKnown, IsOwned, MayHold, OfLock, is_firm, may_hold}
+use Rattle.hall.specs.OpenUnits.{HoldsOpenUnits, IsOpenIfHanded, IsOpenOwner, open_entries}
+use Rattle.hall.proofs.Beginning.{IsFirst, first_known, first_stored, first_users}
+use Rattle.hall.proofs.LockLists.{Among, all_among, among_from, contains_from, filter_source, kept_filter, kept_left, kept_map, kept_right}
+use Rattle.hall.proofs.Owned.{every_at, every_by, every_stored, may_be_readmitted, stored_firm, stored_owner}
+use Rattle.hall.proofs.OwnLocks.{filter_all, none_of_others}
+use Rattle.hall.proofs.Users.{every_map}
+use Rattle.hall.proofs.Waiting.{all_open, differ, open_listed, open_owners_differ, waiting_differ}
+
+-- ---- one unit behind the other
+
+joined_more : (u : UnitLocks) (units : List UnitLocks) → joined (u ∷ units) ≡ u.entries ++ joined units
+joined_more u units = flat_map-cons (λ (v : UnitLocks). v.entries) u units
+
+among_joined : (units : List UnitLocks) (u : UnitLocks) (e : Entry) → Among units u → Among u.entries e → Among (joined units) e
+among_joined [] u e k j = absurd k
+among_joined (v ∷ units) u e (inl is) j =
+    subst (λ es. Among es e) (sym (joined_more v units)) (kept_left v.entries (joined units) e (subst (λ (w : UnitLocks). Among w.entries e) (sym is) j))
+among_joined (v ∷ units) u e (inr k) j =
+    subst (λ es. Among es e) (sym (joined_more v units)) (kept_right v.entries (joined units) e (among_joined units u e k j))
+
+in_either : (xs ys : List Entry) (e : Entry) → Among (xs ++ ys) e → Among xs e ⊎ Among ys e
+in_either [] ys e k = inr k
+in_either (x ∷ xs) ys e (inl is) = inl (inl is)
+in_either (x ∷ xs) ys e (inr k) = elim (in_either xs ys e k) [ inl j ↦ inl (inr j) | inr j ↦ inr j ]
+
+-- the locks of units of these keys
+abbrev entries_at : Ledger → List UnitKey → List Entry
+entries_at ledger keys = joined (map (locks_of ledger) keys)
+
+source_among : (ledger : Ledger) (keys : List UnitKey) (e : Entry) → Among (entries_at ledger keys) e
+    → (key : UnitKey) × Among keys key × Among (entries_of ledger.units key) e
+source_among ledger [] e k = absurd k
+source_among ledger (key ∷ keys) e k =
+    let rest = entries_at ledger keys in
+    elim (in_either (entries_of ledger.units key) rest e (subst (λ es. Among es e) (joined_more (locks_of ledger key) (map (locks_of ledger) keys)) k)) [
+      | inl j ↦ (key, inl refl, j)
+      | inr j ↦ let r = source_among ledger keys e j in (r.0, inr r.1, r.2)
+    ]
+
+-- each is stored with an open unit
+open_source : (ledger : Ledger) (e : Entry) → Among (open_entries ledger) e → (key : UnitKey) × IsOpenUnit ledger key × Among (entries_of ledger.units key) e
+open_source ledger e k =
+    let r = source_among ledger (waiting_for 1 ledger) e k in
+    (r.0, every_at (IsOpenUnit ledger) (waiting_for 1 ledger) r.0 (all_open ledger) r.1, r.2)
+
+open_among : (ledger : Ledger) (key : UnitKey) (e : Entry) → IsOpenUnit ledger key → Among (entries_of ledger.units key) e → Among (open_entries ledger) e
+open_among ledger key e waits k =
+    among_joined (open_locks ledger) (locks_of ledger key) e (kept_map (locks_of ledger) (waiting_for 1 ledger) key (open_listed ledger key waits)) k
+
+every_open : (P : Entry → Type 0) (ledger : Ledger)
+    → ((key : UnitKey) → IsOpenUnit ledger key → (e : Entry) → Among (entries_of ledger.units key) e → P e) → AllByRecursion P (open_entries ledger)
+every_open P ledger h = every_by P (open_entries ledger) (λ e k. let r = open_source ledger e k in h r.0 r.1 e r.2)
+
+-- ---- they stand together
+
+abbrev Fits : List Entry → UnitLocks → Type 0
+Fits locks u = u.entries ≡ filter (is_of (owner_of u)) locks
+
+-- where they stand in a sound table
+pub open_stands : (locks : List Entry) (ledger : Ledger) → IsSound locks → HoldsOpenUnits locks ledger → IsSound (open_entries ledger)
+open_stands locks ledger sound h =
+    held_stand locks (open_locks ledger) (record {
+      sound = sound;
+      distinct = open_owners_differ ledger;
+      entries = All-from_recursion (Fits locks) (open_locks ledger)
+          (every_map (IsOpenUnit ledger) (Fits locks) (locks_of ledger) (λ key waits. sym (h.units key waits)) (waiting_for 1 ledger) (all_open ledger));
+    })
+
+-- ---- they are the locks that were handed over
+
+by_owner : (locks : List Entry) (ledger : Ledger) (e : Entry) (owner : Owner) → HoldsOpenUnits locks ledger → Among locks e → e.owner ≡ owner
+    → IsOpenOwner ledger owner → Among (open_entries ledger) e
+by_owner locks ledger e (Dlg start session) h k is waits = absurd waits
+by_owner locks ledger e (Upd unit) h k is waits =
+    let own : is_of (Upd unit) e ≡ true = ap (λ o. same_owner o (Upd unit)) is ∙ same_owner-refl (Upd unit) in
+    open_among ledger unit e waits (subst (λ es. Among es e) (h.units unit waits) (kept_filter (is_of (Upd unit)) locks e own k))
+
+handed_open : (locks : List Entry) (ledger : Ledger) (e : Entry) → HoldsOpenUnits locks ledger → Among locks e → e.handed ≡ true
+    → Among (open_entries ledger) e
+handed_open locks ledger e h k handed = by_owner locks ledger e e.owner h k refl (every_at (IsOpenIfHanded ledger) locks e h.handed k handed)
+
+stored_handed : (ledger : Ledger) (key : UnitKey) (e : Entry) → AllByRecursion HasGoodLocks ledger.units → Among (entries_of ledger.units key) e
+    → e.handed ≡ true
+stored_handed ledger key e good k = (and_parts e.handed _ (all_among is_firm (entries_of ledger.units key) e (stored_firm ledger.units key good) k)).0
+
+open_handed : (locks : List Entry) (ledger : Ledger) (e : Entry) → AllByRecursion HasGoodLocks ledger.units → HoldsOpenUnits locks ledger
+    → Among (open_entries ledger) e → Among locks e × (e.handed ≡ true)
+open_handed locks ledger e good h k =
+    let r = open_source ledger e k in
+    let key = r.0 in
+    ((filter_source (is_of (Upd key)) locks e (subst (λ es. Among es e) (sym (h.units key r.1)) r.2)).0, stored_handed ledger key e good r.2)
+
+-- the handed locks of the table are just these
+pub handed_are_open : (locks : List Entry) (ledger : Ledger) → AllByRecursion HasGoodLocks ledger.units → HoldsOpenUnits locks ledger → (e : Entry)
+    → (Contains locks e × (e.handed ≡ true)) ↔ Contains (open_entries ledger) e
+handed_are_open locks ledger good h e = (
+  (λ k. contains_from (open_entries ledger) e (handed_open locks ledger e h (among_from locks e k.0) k.1)),
+  (λ k. let r = open_handed locks ledger e good h (among_from (open_entries ledger) e k) in (contains_from locks e r.0, r.1)),
+)
+
+-- ---- a table with just these
+
+own_entries : (ledger : Ledger) (key : UnitKey) → AllByRecursion HasGoodLocks ledger.units → list_all (is_of (Upd key)) (entries_of ledger.units key) ≡ true
+own_entries ledger key good = (may_be_readmitted ledger.units key good).owners
+
+apart_by_test : (b : Bool) → not b ≡ true → b ≡ false
+apart_by_test true h = cc
+apart_by_test false h = refl
+
+one_more : (ledger : Ledger) (o : Owner) (key : UnitKey) (keys : List UnitKey)
+    → filter (is_of o) (entries_at ledger (key ∷ keys)) ≡ filter (is_of o) (entries_of ledger.units key) ++ filter (is_of o) (entries_at ledger keys)
+one_more ledger o key keys =
+    ap (filter (is_of o)) (joined_more (locks_of ledger key) (map (locks_of ledger) keys))
+    ∙ filter-append (is_of o) (entries_of ledger.units key) (entries_at ledger keys)
+
+-- a unit that isn't among these
+none_at : (ledger : Ledger) (unit : UnitKey) (keys : List UnitKey) → AllByRecursion HasGoodLocks ledger.units → list_all (differ unit) keys ≡ true
+    → filter (is_of (Upd unit)) (entries_at ledger keys) ≡ []
+none_at ledger unit [] good h = refl
+none_at ledger unit (key ∷ keys) good h =
+    let parts = and_parts (differ unit key) (list_all (differ unit) keys) h in
+    let apart : same_unit key unit ≡ false = flip key unit (apart_by_test (same_unit unit key) parts.0) in
+    one_more ledger (Upd unit) key keys
+    ∙ ap (λ es. es ++ filter (is_of (Upd unit)) (entries_at ledger keys))
+    (none_of_others (Upd unit) (Upd key) (entries_of ledger.units key) apart (own_entries ledger key good))
+    ∙ none_at ledger unit keys good parts.1
+
+differs_from : (unit : UnitKey) (keys : List UnitKey) (key : UnitKey) → list_all (differ unit) keys ≡ true → Among keys key → same_unit unit key ≡ false
+differs_from unit keys key h k = apart_by_test (same_unit unit key) (all_among (differ unit) keys key h k)
+
+-- one that is among them, once
+its_entries : (ledger : Ledger) (unit : UnitKey) (keys : List UnitKey) → AllByRecursion HasGoodLocks ledger.units → all_pairs differ keys ≡ true
+    → Among keys unit → filter (is_of (Upd unit)) (entries_at ledger keys) ≡ entries_of ledger.units unit
+its_entries ledger unit [] good h k = absurd k
+its_entries ledger unit (key ∷ keys) good h (inl is) =
+    let parts = and_parts (list_all (differ key) keys) (all_pairs differ keys) h in
+    let own = entries_of ledger.units unit in
+    one_more ledger (Upd unit) key keys
+    ∙ ap (λ u. filter (is_of (Upd unit)) (entries_of ledger.units u) ++ filter (is_of (Upd unit)) (entries_at ledger keys)) is
+    ∙ ap (λ es. es ++ filter (is_of (Upd unit)) (entries_at ledger keys)) (filter_all (is_of (Upd unit)) own (own_entries ledger unit good))
+    ∙ ap (λ es. own ++ es) (none_at ledger unit keys good (subst (λ u. list_all (differ u) keys ≡ true) is parts.0))
+    ∙ append-nil own
+its_entries ledger unit (key ∷ keys) good h (inr k) =
+    let parts = and_parts (list_all (differ key) keys) (all_pairs differ keys) h in
+    one_more ledger (Upd unit) key keys
+    ∙ ap (λ es. es ++ filter (is_of (Upd unit)) (entries_at ledger keys))
+    (none_of_others (Upd unit) (Upd key) (entries_of ledger.units key) (differs_from key keys unit parts.0 k) (own_entries ledger key good))
+    ∙ its_entries ledger unit keys good parts.1 k
+
+-- the table with which a start begins
+pub first_held : (ledger : Ledger) → AllByRecursion HasGoodLocks ledger.units → HoldsOpenUnits (open_entries ledger) ledger
+first_held ledger good = record {
+  units = λ unit waits. its_entries ledger unit (waiting_for 1 ledger) good (waiting_differ ledger) (open_listed ledger unit waits);
+  handed = every_open (IsOpenIfHanded ledger) ledger (λ key waits e k handed. subst (IsOpenOwner ledger) (sym (stored_owner ledger.units key e good k)) waits);
+}
+
+-- whose its locks are
+pub first_owned : (ledger : Ledger) → IsFirst ledger → IsOwned ledger 1 [] (open_entries ledger)
+first_owned ledger first =
+    let good = first_stored ledger first in
+    let stored = first_known ledger first in
+    let Known : Owner → List ℕ → Type 0 = λ owner user. IsKnown ledger.start 1 owner in
+    record {
+      known = every_open (OfLock Known) ledger
+          (λ key waits e k. every_at (OfLock Known) (entries_of ledger.units key) e (every_stored Known ledger.units key stored) k);
+      users = every_open (OfLock (HasItsUser ledger.start [])) ledger (λ key waits e k. tt);
+      holders = every_open (OfLock (λ owner user. MayHold ledger owner)) ledger
+          (λ key waits e k. subst (MayHold ledger) (sym (stored_owner ledger.units key e good k)) (ap may_hold waits));
+      stored_known = stored;
+      stored_users = first_users ledger;
+    }

@@ -1,0 +1,16 @@
+use Rattle.std.proofs.Common.{◌≡◌, ◌++◌, length, take, drop, sym, ap, subst, ◌∙◌, arith}
+use Rattle.std.proofs.Math.Seq.{take-append_seam}
+use Rattle.range_list.specs.Levels.{AreIntervals, intervals_of}
+use Rattle.range_list.specs.Places.{ArePlaces}
+use Rattle.range_list.proofs.HandedOut.{passed_intervals}
+use Rattle.range_list.proofs.ranges.Ranges.pass.Goals as goal
+
+pub invariant_of-self : goal.invariant_of-self
+invariant_of-self c =
+    let long : c.self.inside.list.len ≡ length c.pass_all.new.ranges = omega (arith, c.as_mut_slice.ensures.len, c.pass_all.auto.ranges) in
+    let whole : take c.self.inside.list.len (c.pass_all.new.ranges ++ drop (length c.pass_all.new.ranges) c.self.inside.list.items) ≡ c.pass_all.new.ranges =
+    ap (λ n. take n (c.pass_all.new.ranges ++ drop (length c.pass_all.new.ranges) c.self.inside.list.items)) long
+    ∙ take-append_seam c.pass_all.new.ranges (drop (length c.pass_all.new.ranges) c.self.inside.list.items) in
+    let same : intervals_of c.pass_all.new.ranges ≡ intervals_of c.self.inside.list.items =
+    ap intervals_of c.pass_all.ensures ∙ passed_intervals c.args.numbers.now c.as_mut_slice.result.now ∙ ap intervals_of c.as_mut_slice.ensures.value in
+    subst (λ is. AreIntervals is × ArePlaces c.self.inside.places is) (sym (ap intervals_of whole ∙ same)) c.self.invariant
