@@ -89,23 +89,15 @@ impl<D: Disk> Backup<D> {
         ensures quiet { IfOk result (λ found. D.faults found.0.disk ≡ D.faults disk) }
         ensures cause { IfErr result (λ e. CountsFault e.0 (D.faults disk) (D.faults e.1)) }
     {
-        let mut disk = disk;
-        match open_file(alloc, &mut disk) {
-            Ok(found) => {
-                let backup = Backup {
-                    disk,
-                    gate: found.gate,
-                    units: found.units,
-                    failed: false,
-                };
-                Ok((backup, found.lists))
-            }
-            Err(fault) => Err((fault, disk)),
+        let mut backup = Backup::unread(alloc, disk);
+        match backup.reopen(alloc) {
+            Ok(lists) => Ok((backup, lists)),
+            Err(fault) => Err((fault, backup.into_disk())),
         }
     }
 
-    /// A file that was not opened, or not again: only `into_disk` is allowed. It takes no memory.
-    pub fn shut(alloc: Global, disk: D) -> Backup<D>
+    /// A file that is yet to be read: only `reopen` and `into_disk` are allowed. It takes no memory.
+    pub fn unread(alloc: Global, disk: D) -> Backup<D>
         ensures disk { result.disk ≡ disk }
         ensures failed { result.failed ≡ true }
     {
@@ -117,8 +109,51 @@ impl<D: Disk> Backup<D> {
         }
     }
 
+    /// Reads the file anew, also one that failed, and gives the lists as `open` does. After an error only `reopen` and
+    /// `into_disk` are allowed.
+    pub fn reopen(&mut self, alloc: Global) -> Result<Vec<Handed>, BackFault>
+        ensures lists { IsTrue D.tells → IfOk result (λ lists. Stands (D.reads self.old.disk) lists.items) }
+        ensures ready { IsTrue D.tells
+            → IfOk result (λ lists. IsReady D.reads D.may_leave self.new lists.items) }
+        ensures units { IfOk result (λ lists. AreUnits self.new.units lists.items) }
+        ensures fresh { OnOk result (self.new.failed ≡ false) }
+        ensures shut { OnErr result (self.new.failed ≡ true) }
+        ensures anew { IsTrue D.tells → IsShort (D.reads self.old.disk)
+            → OnOk result (D.reads self.new.disk ≡ new_file) }
+        ensures stays { IsTrue D.tells → IsLong (D.reads self.old.disk)
+            → OnOk result (D.reads self.new.disk ≡ D.reads self.old.disk) }
+
+        // Where the file stands for nothing its bytes stay.
+        ensures bad { IsTrue D.tells
+            → IfErr result (OnBad (λ at. IsBad (D.reads self.old.disk) at × (D.reads self.new.disk ≡ D.reads self.old.disk))) }
+
+        // Each image stands for the lists of an image before the call.
+        ensures images { IsTrue D.tells → Follows Keeps (D.may_leave self.old.disk) (D.may_leave self.new.disk) }
+        ensures quiet { OnOk result (D.faults self.new.disk ≡ D.faults self.old.disk) }
+        ensures cause { IfErr result (λ fault. CountsFault fault (D.faults self.old.disk) (D.faults self.new.disk)) }
+    {
+        self.shut();
+        match open_file(alloc, &mut self.disk) {
+            Ok(found) => {
+                self.gate = found.gate;
+                self.units = found.units;
+                self.failed = false;
+                Ok(found.lists)
+            }
+            Err(fault) => Err(fault),
+        }
+    }
+
+    /// Nothing is written any more: only `reopen` and `into_disk` are allowed. It takes no memory.
+    pub fn shut(&mut self)
+        ensures disk { self.new.disk ≡ self.old.disk }
+        ensures failed { self.new.failed ≡ true }
+    {
+        self.failed = true;
+    }
+
     /// Writes the list of a unit, which becomes the last. It takes its memory before any write, and answers want of
-    /// memory too where the list is too long for its record. After `Failed` only `into_disk` is allowed.
+    /// memory too where the list is too long for its record. After `Failed` only `reopen` and `into_disk` are allowed.
     pub fn hand(
         &mut self,
         alloc: Global,
@@ -173,7 +208,7 @@ impl<D: Disk> Backup<D> {
     }
 
     /// Writes a unit's list that was made ready; it becomes the last. It takes no memory. After `Failed` only
-    /// `into_disk` is allowed.
+    /// `reopen` and `into_disk` are allowed.
     pub fn write_hand(&mut self, ready: ReadyHand) -> Result<(), Failed>
         requires usable { self.old.failed ≡ false }
         requires room { 1 ≤ self.old.room }
@@ -198,7 +233,8 @@ impl<D: Disk> Backup<D> {
         Ok(())
     }
 
-    /// Takes the list of a unit away, which stands. It takes no memory. After `Failed` only `into_disk` is allowed.
+    /// Takes the list of a unit away, which stands. It takes no memory. After `Failed` only `reopen` and
+    /// `into_disk` are allowed.
     pub fn free(&mut self, unit: &UnitKey) -> Result<(), Failed>
         requires usable { self.old.failed ≡ false }
         requires stands { IsTrue (is_known unit.now self.old.units) }

@@ -1,10 +1,6 @@
-ghost use Rattle.std.specs.Prelude.{◌≡◌, false, IfOk};
-
 use crate::servers::{Act, F1, F2, Server, disk_of, link_of, make, opened_over};
-use bk_disk::MemDisk;
-use enq_server::{OverFault, Wreck};
+use enq_server::OverFault;
 use lock_entry::{Entry, Mode};
-use replica_link::MemLink;
 use std::alloc::Global;
 use std::test::*;
 
@@ -20,9 +16,7 @@ const ACTS: [Act; 7] = [
 ];
 
 /// A server whose replica was attached before these acts. The calls of the link with these numbers fail.
-fn followed(alloc: Global, fails: &[u64], acts: &[Act]) -> Result<Server, Fail>
-    ensures { IfOk result (λ s. s.file.failed ≡ false) }
-{
+fn followed(alloc: Global, fails: &[u64], acts: &[Act]) -> Result<Server, Fail> {
     let mut server = opened_over(alloc, disk_of(alloc, b"")?, link_of(alloc, fails)?, &[])?;
     let _ = server.attach(alloc);
     for act in acts {
@@ -31,27 +25,20 @@ fn followed(alloc: Global, fails: &[u64], acts: &[Act]) -> Result<Server, Fail>
     Ok(server)
 }
 
-/// Takes the table of a killed server over from its replica.
-fn over(alloc: Global, server: Server) -> Result<Server, (OverFault, Wreck<MemDisk, MemLink>)>
-    requires { server.file.failed ≡ false }
-{
-    server.kill().fail_over(alloc, 100)
-}
-
 /// The table after these acts, and the one that the replica gives.
 fn both(alloc: Global, acts: &[Act]) -> Result<(Vec<Entry>, Vec<Entry>), Fail> {
-    let server = followed(alloc, &[], acts)?;
+    let mut server = followed(alloc, &[], acts)?;
     let table = server.list(alloc)?;
     if !server.attached() {
         return Err(Fail::from("not attached"));
     }
-    let Ok(again) = over(alloc, server) else {
+    let Ok(()) = server.fail_over(alloc, 100) else {
         return Err(Fail::from("not taken over"));
     };
-    if again.attached() {
+    if server.attached() {
         return Err(Fail::from("still attached"));
     }
-    let given = again.list(alloc)?;
+    let given = server.list(alloc)?;
     Ok((table, given))
 }
 
@@ -68,26 +55,19 @@ fn the_table_is_taken_over_from_the_replica(rt: HostRuntime) -> Result<(), Fail>
 #[test]
 fn a_replica_that_missed_a_change_is_not_asked(rt: HostRuntime) -> Result<(), Fail> {
     let alloc = rt.alloc();
-    let server = followed(alloc, &[3], &ACTS)?;
+    let mut server = followed(alloc, &[3], &ACTS)?;
     assert!(rt; !server.attached());
-    let Err((fault, _)) = over(alloc, server) else {
-        panic!(rt; "taken over");
-    };
-    assert_eq!(rt; fault, OverFault::NotAttached);
+    assert_eq!(rt; server.fail_over(alloc, 100), Err(OverFault::NotAttached));
     Ok(())
 }
 
 #[test]
 fn a_server_is_made_anew_where_the_link_fails(rt: HostRuntime) -> Result<(), Fail> {
     let alloc = rt.alloc();
-    let Err((fault, wreck)) = over(alloc, followed(alloc, &[3], &ACTS[..1])?) else {
-        panic!(rt; "taken over");
-    };
-    assert_eq!(rt; fault, OverFault::Link);
-    let again: Result<Server, _> = wreck.restart(alloc, 100, &[]);
-    let Ok(again) = again else {
-        panic!(rt; "not made anew");
-    };
-    assert_eq!(rt; again.len(), 0);
+    let mut server = followed(alloc, &[3], &ACTS[..1])?;
+    assert_eq!(rt; server.fail_over(alloc, 100), Err(OverFault::Link));
+    assert_eq!(rt; server.len(), 1);
+    assert_eq!(rt; server.restart(alloc, 100, &[]), Ok(()));
+    assert_eq!(rt; server.len(), 0);
     Ok(())
 }

@@ -2,6 +2,7 @@ ghost use Rattle.std.specs.Prelude.{◌≡◌, false, IfOk, OnOk};
 ghost use Rattle.enq_base.specs.declared.owner.Owner.TheVariants.{Upd};
 ghost use Rattle.lock_entry.specs.Pairs.{IsPair};
 
+use backup_file::WriteFault;
 use bk_disk::MemDisk;
 use enq_base::{BackupBad, Items, Name, Owner, Pattern, UnitKey, read_name};
 use enq_server::{EnqServer, OpenFault, ServerFault};
@@ -169,7 +170,7 @@ fn locks_that_were_handed_over_outlive_the_table(rt: HostRuntime) -> Result<(), 
     let server = handed(alloc)?;
     assert_eq!(rt; server.list(alloc)?.as_slice(), [lock].as_slice());
     let known = locks_of(alloc, &UNIT, &[lock])?;
-    let mut server = opened(alloc, server.kill().into_parts().0, &[known])?;
+    let mut server = opened(alloc, server.into_parts().0, &[known])?;
     assert_eq!(rt; server.len(), 1);
     assert_eq!(rt; server.at(1), Some(lock));
     assert_eq!(rt; server.at(0), None);
@@ -190,7 +191,7 @@ fn the_list_of_a_unit_that_ended_is_freed(rt: HostRuntime) -> Result<(), Fail> {
     assert_eq!(rt; server.len(), 0);
     let known = locks_of(alloc, &UNIT, &[lock_of(&UNIT, F1, Mode::E)?])?;
     assert_eq!(rt;
-        refused(alloc, server.kill().into_parts().0, &[known])?,
+        refused(alloc, server.into_parts().0, &[known])?,
         OpenFault::Bad(BackupBad::Missing { unit: UNIT, at: 1 })
     );
     Ok(())
@@ -199,11 +200,11 @@ fn the_list_of_a_unit_that_ended_is_freed(rt: HostRuntime) -> Result<(), Fail> {
 #[test]
 fn the_list_of_a_unit_that_is_not_open_is_freed(rt: HostRuntime) -> Result<(), Fail> {
     let alloc = rt.alloc();
-    let server = opened(alloc, handed(alloc)?.kill().into_parts().0, &[])?;
+    let server = opened(alloc, handed(alloc)?.into_parts().0, &[])?;
     assert_eq!(rt; server.len(), 0);
     let known = locks_of(alloc, &UNIT, &[lock_of(&UNIT, F1, Mode::E)?])?;
     assert_eq!(rt;
-        refused(alloc, server.kill().into_parts().0, &[known])?,
+        refused(alloc, server.into_parts().0, &[known])?,
         OpenFault::Bad(BackupBad::Missing { unit: UNIT, at: 1 })
     );
     Ok(())
@@ -214,27 +215,54 @@ fn a_list_that_is_longer_or_differs_is_told_by_its_place(rt: HostRuntime) -> Res
     let alloc = rt.alloc();
     let none = locks_of(alloc, &UNIT, &[])?;
     assert_eq!(rt;
-        refused(alloc, handed(alloc)?.kill().into_parts().0, &[none])?,
+        refused(alloc, handed(alloc)?.into_parts().0, &[none])?,
         OpenFault::Bad(BackupBad::Missing { unit: UNIT, at: 1 })
     );
     let first = lock_of(&UNIT, F1, Mode::E)?;
     let more = locks_of(alloc, &UNIT, &[first, lock_of(&UNIT, F2, Mode::E)?])?;
     assert_eq!(rt;
-        refused(alloc, handed(alloc)?.kill().into_parts().0, &[more])?,
+        refused(alloc, handed(alloc)?.into_parts().0, &[more])?,
         OpenFault::Bad(BackupBad::Missing { unit: UNIT, at: 2 })
     );
     Ok(())
 }
 
 /// A server in which an E lock of unit 1 of session 1 was granted again.
-fn returned(alloc: Global) -> Result<Server, Fail> {
+fn returned(alloc: Global) -> Result<Server, Fail>
+    ensures { IfOk result (λ s. s.file.failed ≡ false) }
+{
     let mut server = opened(alloc, disk_of(alloc, b"")?, &[])?;
     let lock = lock_of(&UNIT, F1, Mode::E)?;
-    let answer: Result<(), ServerFault> = server.readmit(alloc, &asker(1), &UNIT, &[lock]);
-    if answer.is_err() {
+    let Ok(()) = server.readmit(alloc, &asker(1), &UNIT, &[lock]) else {
         return Err(Fail::from("refused"));
-    }
+    };
     Ok(server)
+}
+
+/// The disk of a file that has an E lock of the same argument for two units, which no table has at one time.
+fn clashing(alloc: Global) -> Result<MemDisk, Fail> {
+    let mut server = returned(alloc)?;
+    server.free_owner(&Owner::Upd(UNIT));
+    let lock = lock_of(&OTHER, F1, Mode::E)?;
+    let Ok(()) = server.readmit(alloc, &asker(2), &OTHER, &[lock]) else {
+        return Err(Fail::from("refused"));
+    };
+    Ok(server.into_parts().0)
+}
+
+#[test]
+fn lists_that_clash_are_told_by_their_places(rt: HostRuntime) -> Result<(), Fail> {
+    let alloc = rt.alloc();
+    let first = locks_of(alloc, &UNIT, &[lock_of(&UNIT, F1, Mode::E)?])?;
+    let second = locks_of(alloc, &OTHER, &[lock_of(&OTHER, F1, Mode::E)?])?;
+    assert_eq!(rt;
+        refused(alloc, clashing(alloc)?, &[first, second])?,
+        OpenFault::Bad(BackupBad::Clash {
+            first: 1,
+            second: 2
+        })
+    );
+    Ok(())
 }
 
 #[test]
@@ -244,8 +272,43 @@ fn locks_that_return_stand_in_the_file_again(rt: HostRuntime) -> Result<(), Fail
     let server = returned(alloc)?;
     assert_eq!(rt; server.at(1), Some(lock));
     let known = locks_of(alloc, &UNIT, &[lock_of(&UNIT, F1, Mode::E)?])?;
-    let server = opened(alloc, server.kill().into_parts().0, &[known])?;
+    let server = opened(alloc, server.into_parts().0, &[known])?;
     assert_eq!(rt; server.at(1), Some(lock));
+    Ok(())
+}
+
+#[test]
+fn the_table_is_made_anew_from_the_file(rt: HostRuntime) -> Result<(), Fail> {
+    let alloc = rt.alloc();
+    let lock = lock_of(&UNIT, F1, Mode::E)?;
+    let known = [locks_of(alloc, &UNIT, &[lock])?];
+    let mut server = handed(alloc)?;
+    assert_eq!(rt; server.restart(alloc, 100, &known), Ok(()));
+    assert_eq!(rt; server.list(alloc)?.as_slice(), [lock].as_slice());
+    assert_eq!(rt; server.restart(alloc, 100, &[]), Ok(()));
+    assert_eq!(rt; server.len(), 0);
+    assert_eq!(rt;
+        server.restart(alloc, 100, &known),
+        Err(OpenFault::Bad(BackupBad::Missing { unit: UNIT, at: 1 }))
+    );
+    assert_eq!(rt; server.len(), 0);
+    Ok(())
+}
+
+#[test]
+fn a_file_that_failed_is_read_anew(rt: HostRuntime) -> Result<(), Fail> {
+    let alloc = rt.alloc();
+    let disk = MemDisk::new(alloc, Vec::new(alloc), vec![in alloc; 8]?)?;
+    let mut server = opened(alloc, disk, &[])?;
+    let asked = asked(F1, Mode::E)?;
+    assert!(rt; is_granted(alloc, &mut server, 1, &asked)?);
+    assert_eq!(rt; server.save(alloc, &UNIT), Err(WriteFault::Failed));
+    let Ok(()) = server.restart(alloc, 100, &[]) else {
+        return Err(Fail::from("not made anew"));
+    };
+    assert_eq!(rt; server.len(), 0);
+    assert!(rt; is_granted(alloc, &mut server, 1, &asked)?);
+    assert_eq!(rt; server.save(alloc, &UNIT), Ok(1));
     Ok(())
 }
 
@@ -278,16 +341,12 @@ const ACTS: [(Act, &[Mode]); 5] = [
     (Act::FreeAll, &[]),
 ];
 
-fn convert(alloc: Global, server: &mut Server, asked: &Asked) -> Result<(), ServerFault>
-    ensures { server.new.file ≡ server.old.file }
-{
+fn convert(alloc: Global, server: &mut Server, asked: &Asked) -> Result<(), ServerFault> {
     server.convert(alloc, &asker(1), &[*asked])
 }
 
 /// Does the act, and tells whether it was granted.
-pub fn make(alloc: Global, server: &mut Server, act: Act) -> Result<bool, Fail>
-    ensures { OnOk result (server.new.file ≡ server.old.file) }
-{
+pub fn make(alloc: Global, server: &mut Server, act: Act) -> Result<bool, Fail> {
     match act {
         Act::Ask(argument, mode) => is_granted(alloc, server, 1, &asked(argument, mode)?),
         Act::Convert(argument) => { Ok(convert(alloc, server, &asked(argument, Mode::O)?).is_ok()) }

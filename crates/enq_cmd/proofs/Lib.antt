@@ -1,3 +1,6 @@
+pub mod Generated
+pub mod WordLists
+pub mod Served
 pub mod Lands
 pub mod Numbers
 pub mod Openings

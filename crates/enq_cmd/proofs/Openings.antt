@@ -38,10 +38,10 @@ use Rattle.update_records.specs.Ledger.{IsGood, Ledger}
 use Rattle.hall.specs.declared.command.PastEntry.{PastEntry}
 use Rattle.hall.specs.declared.opening.HallFault.{HallFault}
 use Rattle.hall.specs.declared.opening.HallFault.TheVariants as fault
-use Rattle.hall.specs.Faults.{CountsFileFault, CountsHallFault, IsBadFile, IsHallFault, MayBeHallFault, OnBadStore, OnKept, StoodUnfit, StoodUnlike}
+use Rattle.hall.specs.Faults.{CountsFileFault, CountsHallFault, FreesUnlike, IsBadFile, IsHallFault, LeavesFileOf, MayBeHallFault, OnBadStore, OnKept, OnStore, StoodUnfit, StoodUnlike}
 use Rattle.script_runner.specs.Replay.{Seen}
 use Rattle.script_runner.specs.declared.runner.Why.{Why}
-use Rattle.enq_cmd.specs.Main.{CountsFiling, CountsOpening, EndsComplete, FitAll, HasNoStart, StoodAtLast, IsBadStore, IsGoodFile, IsOpeningEnd, IsRead, IsUnfitEnd, IsUnopened, MayRemain, opening_end}
+use Rattle.enq_cmd.specs.Main.{CountsFiling, CountsOpening, EndsComplete, FitAll, HasNoStart, StoodAtLast, IsBadStore, IsGoodFile, FreesOthersOf, IsOpeningEnd, IsRead, IsUnfitEnd, IsUnopened, MayRemain, MayRemainFiled, OnStoreEnd, opening_end}
 
 opening_ends : (f : HallFault) → MayBeHallFault f → IsOpeningEnd (opening_end f)
 opening_ends fault.Store h = refl
@@ -89,12 +89,44 @@ filing_counts fault.NoStart n m h = h
 filing_counts (fault.Interval row) n m h = h
 filing_counts fault.NoMemory n m h = h
 
+-- the backup file of a store that isn't opened
+store_end : (f : HallFault) (P : Type 0) → OnStore f P → OnStoreEnd (opening_end f) P
+store_end fault.Store P h = h
+store_end fault.Backup P h = tt
+store_end (fault.Bad (bad.Store table row)) P h = h
+store_end (fault.Bad (bad.Backup place)) P h = tt
+store_end (fault.Bad (bad.Replica first second)) P h = tt
+store_end fault.NoStart P h = h
+store_end (fault.Interval row) P h = h
+store_end fault.NoMemory P h = tt
+
+remains_filed : (f : HallFault) (t : Bool) (o : Option Rows) (before : Rows → Type 0) (images images_now : List ℕ → Type 0) → is_some o ≡ t → LeavesFileOf o before f images images_now → MayRemainFiled t before (opening_end f) images images_now
+remains_filed fault.Store t o before images images_now told h = h
+remains_filed fault.Backup t o before images images_now told h = record {
+  ledger = h.ledger;
+  sound = h.sound;
+  stood = λ yes. told_left o (IsRaised (HasStood before) true h.ledger) (subst (λ b. IsTrue b) (sym told) yes) h.stood;
+  frees = h.frees;
+}
+remains_filed (fault.Bad (bad.Store table row)) t o before images images_now told h = h
+remains_filed (fault.Bad (bad.Backup place)) t o before images images_now told h = h
+remains_filed (fault.Bad (bad.Replica first second)) t o before images images_now told h = h
+remains_filed fault.NoStart t o before images images_now told h = h
+remains_filed (fault.Interval row) t o before images images_now told h = h
+remains_filed fault.NoMemory t o before images images_now told h = h
+
+-- what is known of the backup file of a store that isn't opened
+pub record IsFileLeft {D : Type 0} (may_leave : D → List ℕ → Type 0) (tells : Bool) (o : Option Rows) (before : Rows → Type 0) (f : HallFault) (disk disk_now : D) : Type 0 where
+  pub unfiled : OnStore f (disk_now ≡ disk)
+  pub images : IsTrue tells → LeavesFileOf o before f (may_leave disk) (may_leave disk_now)
+
 -- the store wasn't opened
-pub unopened : (f : HallFault) (t : Bool) (o : Option Rows) (before after : Rows → Type 0) (old new : Seen) (past : List PastEntry) (why : Why)
+pub unopened : {D : Type 0} (f : HallFault) (t : Bool) (o : Option Rows) (before after : Rows → Type 0) (tells : Bool) (may_leave : D → List ℕ → Type 0) (disk disk_now : D) (old new : Seen) (past : List PastEntry) (why : Why)
     → why ≡ opening_end f → is_some o ≡ t → record new { store_faults = old.store_faults; file_faults = old.file_faults } ≡ old → MayBeHallFault f → CountsHallFault f old.store_faults new.store_faults → CountsFileFault f old.file_faults new.file_faults → past ≡ []
     → IfSome o (λ _. (rows : Rows) → after rows → MayBeLeftBy before true rows) → OnKept f (IsWithin after before)
-    → IsUnopened t before after old new past why
-unopened f t o before after old new past why is told same may counts file_counts none left kept = record {
+    → IsFileLeft may_leave tells o before f disk disk_now
+    → IsUnopened t before after tells may_leave disk disk_now old new past why
+unopened f t o before after tells may_leave disk disk_now old new past why is told same may counts file_counts none left kept file = record {
   end = subst IsOpeningEnd (sym is) (opening_ends f may);
   same = same;
   counts = subst (λ w. CountsOpening w old.store_faults new.store_faults) (sym is) (opening_counts f old.store_faults new.store_faults counts);
@@ -103,6 +135,8 @@ unopened f t o before after old new past why is told same may counts file_counts
   left = λ yes rows may_be.
       let all = told_left o ((rows : Rows) → after rows → MayBeLeftBy before true rows) (subst (λ b. IsTrue b) (sym told) yes) left in
       subst (λ w. MayRemain w before rows) (sym is) (remains f before after all kept rows may_be);
+  unfiled = subst (λ w. OnStoreEnd w (disk_now ≡ disk)) (sym is) (store_end f (disk_now ≡ disk) file.unfiled);
+  filed = λ yes. subst (λ w. MayRemainFiled t before w (may_leave disk) (may_leave disk_now)) (sym is) (remains_filed f t o before (may_leave disk) (may_leave disk_now) told (file.images yes));
 }
 
 -- a good store has no bad place

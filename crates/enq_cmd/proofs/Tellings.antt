@@ -179,43 +179,45 @@ follows_on may_leave s left next found =
     let one : found.0 ≡ survives.ledger = one_ledger stood.0 found.0 survives.ledger stood.2 survives.stand in
     (survives.ledger, survives.known, found.2 ∙ ap (λ (l : Ledger). with_start l (l.start + 1)) one)
 
--- all that is said of a program that opened its store
-pub served_as : (land : Landscape) (t : Bool) (l : Ledger) (may_be may_leave : Rows → Type 0) (tells : Bool) (bytes : List ℕ) (images : List ℕ → Type 0) (before after : State) (objects : List Object) (old new : Seen) (past : List PastEntry) (why : Why)
+-- all that is said of a program that opened its store, and the state to which its calls lead
+pub served_with : (land : Landscape) (t : Bool) (l : Ledger) (may_be may_leave : Rows → Type 0) (tells : Bool) (bytes : List ℕ) (images : List ℕ → Type 0) (before after : State) (objects : List Object) (old new : Seen) (past : List PastEntry) (why : Why)
     → HasLimits land → IsRaised IsSound true l → (IsTrue t → IsRaised (HasStood may_be) true l) → FitRows land.ranges l.levels → IsFirstTable land.max_locks l → (IsTrue tells → HadHanded bytes l)
     → HasRun land t l before after objects old new past why
     → (IsTrue t → (rows : Rows) → may_leave rows → StandForState rows after)
     → (IsTrue tells → (image : List ℕ) → images image → RecoversFrom after.condition after.stored after.pending image) → HasOpenUnits after
-    → IsServed land t may_be may_leave tells bytes images old new past why
-served_as land t l may_be may_leave tells bytes images before after objects old new past why limits good found fit table filed h left lists units =
+    → (s : IsServed land t may_be may_leave tells bytes images old new past why) × (after ≡ state_after (first_state land t s.stored) s.made)
+served_with land t l may_be may_leave tells bytes images before after objects old new past why limits good found fit table filed h left lists units =
     let first = first_state land t l in
     let told = told_by land t l before after objects old new past why h in
     let made : List Made = told.made in
     let answers = told-answers first after told in
     let agree : AgreeWith land.ranges l = record { good = landed_intervals land limits; fit = fit } in
     let left_after : IsTrue t → (rows : Rows) → may_leave rows → SurvivesStop rows (state_after first made) =
-    λ yes rows may. subst (SurvivesStop rows) told.state (survives rows after (left yes rows may)) in
-    record {
-      stored = l;
-      good = good;
-      found = found;
-      filed = filed;
-      fit = fit;
-      made = made;
-      calls = h.history ∙ told.calls;
-      run = ran land t l before after objects old new past why h told;
-      history = answers;
-      sound = stays_sound land.max_locks land.max_marks land.ranges t l made table limits.marks agree good answers;
-      stand = locks_stand land.max_locks land.max_marks land.ranges t l made table limits.marks agree good answers;
-      back = locks_return land.max_locks land.max_marks land.ranges t l made table limits.marks agree good answers;
-      held = λ earlier later whole.
-          handed_held land.max_locks land.max_marks land.ranges t l earlier table limits.marks agree good (answers_before first made earlier later answers whole);
-      numbers = λ earlier later whole.
-          numbers_right land.max_locks land.max_marks land.ranges t l earlier table limits.marks agree good (answers_before first made earlier later answers whole);
-      left = λ yes rows may. left_after yes rows may;
-      handed = λ yes image may. subst (HasHanded image) told.state (handed_in image after units (lists yes image may));
-      opens = λ yes tells image may. good_next may_leave (state_after first made) image (left_after yes) (subst (HasHanded image) told.state (handed_in image after units (lists tells image may)));
-      next = λ yes. follows_on may_leave (state_after first made) (left_after yes);
-    }
+    λ yes rows may. subst (SurvivesStop rows) told.state (survives rows after (left yes rows may)) in (
+      record {
+        stored = l;
+        good = good;
+        found = found;
+        filed = filed;
+        fit = fit;
+        made = made;
+        calls = h.history ∙ told.calls;
+        run = ran land t l before after objects old new past why h told;
+        history = answers;
+        sound = stays_sound land.max_locks land.max_marks land.ranges t l made table limits.marks agree good answers;
+        stand = locks_stand land.max_locks land.max_marks land.ranges t l made table limits.marks agree good answers;
+        back = locks_return land.max_locks land.max_marks land.ranges t l made table limits.marks agree good answers;
+        held = λ earlier later whole.
+            handed_held land.max_locks land.max_marks land.ranges t l earlier table limits.marks agree good (answers_before first made earlier later answers whole);
+        numbers = λ earlier later whole.
+            numbers_right land.max_locks land.max_marks land.ranges t l earlier table limits.marks agree good (answers_before first made earlier later answers whole);
+        left = λ yes rows may. left_after yes rows may;
+        handed = λ yes image may. subst (HasHanded image) told.state (handed_in image after units (lists yes image may));
+        opens = λ yes tells image may. good_next may_leave (state_after first made) image (left_after yes) (subst (HasHanded image) told.state (handed_in image after units (lists tells image may)));
+        next = λ yes. follows_on may_leave (state_after first made) (left_after yes);
+      },
+      told.state,
+    )
 
 -- the same of what was seen, under other names
 pub served_seen : (land : Landscape) (t : Bool) (may_be may_leave : Rows → Type 0) (tells : Bool) (bytes : List ℕ) (images : List ℕ → Type 0) (old new older newer : Seen) (past : List PastEntry) (why end : Why)

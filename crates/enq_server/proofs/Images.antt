@@ -1,19 +1,16 @@
 -- What a crash leaves of the lists in a file that is opened.
-use Rattle.std.proofs.Common.{◌≡◌, ℕ, List, [], sym, subst}
+use Rattle.std.proofs.Common.{ℕ, List, [], sym, subst}
 use Rattle.bk_disk.specs.Disk.{Follows}
 use Rattle.gate_log.proofs.Logs.{stands_once, stands_unbroken}
 use Rattle.lock_entry.specs.declared.entry.UnitLocks.{UnitLocks}
 use Rattle.backup_file.specs.File.{Keeps, Stands, grammar}
-use Rattle.backup_file.specs.Opening as file
 use Rattle.backup_file.specs.Reading.{record_at}
 use Rattle.backup_file.specs.declared.fault.BackFault.{BackFault}
 use Rattle.backup_file.specs.declared.fault.BackFault.TheVariants as back
 use Rattle.backup_file.specs.declared.handed.Handed.{Handed}
 use Rattle.backup_file.proofs.Records.{record_reader}
-use Rattle.enq_server.specs.Faults.{CountsFault, IsRecoveryFault, Leaves, opening_fault}
+use Rattle.enq_server.specs.Faults.{Leaves, opening_fault}
 use Rattle.enq_server.specs.Recovery.{FreesOthers, StandsLess}
-use Rattle.enq_server.specs.declared.fault.OpenFault.{OpenFault}
-use Rattle.enq_server.specs.declared.fault.OpenFault.TheVariants as opening
 use Rattle.enq_server.proofs.Others.{left_none}
 
 less : (units : List UnitLocks) (old new : List ℕ) → Keeps old new → FreesOthers units old new
@@ -27,21 +24,6 @@ pub opening_leaves : (units : List UnitLocks) (fault : BackFault) (old new : Lis
 opening_leaves units back.Failed old new h = λ c may. let at = h c may in (at.0, at.1, less units at.0 c at.2)
 opening_leaves units (back.Bad at) old new h = h
 opening_leaves units back.NoMemory old new h = h
-
-pub recovery_leaves : (l : List Handed) (units : List UnitLocks) (fault : OpenFault) (old new : List ℕ → Type 0) → IsRecoveryFault l units fault → Follows Keeps old new → Follows (Leaves units fault) old new
-recovery_leaves l units opening.Failed old new is h = absurd is
-recovery_leaves l units (opening.Bad why) old new is h = h
-recovery_leaves l units opening.NoMemory old new is h = h
-
-pub opening_counts : (fault : BackFault) (before now : ℕ) → file.CountsFault fault before now → CountsFault (opening_fault fault) before now
-opening_counts back.Failed before now h = h
-opening_counts (back.Bad at) before now h = h
-opening_counts back.NoMemory before now h = h
-
-pub recovery_counts : (l : List Handed) (units : List UnitLocks) (fault : OpenFault) (before now : ℕ) → IsRecoveryFault l units fault → now ≡ before → CountsFault fault before now
-recovery_counts l units opening.Failed before now is h = absurd is
-recovery_counts l units (opening.Bad why) before now is h = h
-recovery_counts l units opening.NoMemory before now is h = h
 
 -- where the bytes that were read stood for lists, of which some of other units are gone
 pub some_left : (units : List UnitLocks) (bytes : List ℕ) (found : List Handed) (old new : List ℕ → Type 0) → Stands bytes found → old bytes

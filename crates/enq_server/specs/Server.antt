@@ -37,11 +37,6 @@ recovered limit units = record { entries = joined units; limit = larger limit (l
 abbrev pub replicated : ℕ → List Entry → Table
 replicated limit entries = record { entries = entries; limit = larger limit (length entries) }
 
--- what is left of a server whose table is gone
-pub record Wrecked (D L : Type 0) : Type 0 where
-  pub file : BackupView D
-  pub copy : Following L
-
 -- the bytes stood for lists with which the units agree, and the file is ready with those of these units alone
 pub record IsRecovered {D : Type 0} (reads : D → List ℕ) (may_leave : D → List ℕ → Type 0) (bytes : List ℕ) (units : List UnitLocks) (file : BackupView D) : Type 0 where
   pub lists : List Handed

@@ -2,10 +2,12 @@ ghost use Rattle.std.specs.Prelude.{◌≡◌};
 ghost use Rattle.enq_server.specs.declared.fault.OpenFault.TheVariants as opening;
 ghost use Rattle.enq_server.specs.declared.fault.ServerFault.TheVariants as server;
 ghost use Rattle.enq_server.specs.Faults.{opening_fault, refusal};
+ghost use Rattle.enq_server.specs.Following.{over_fault};
 
 use backup_file::BackFault;
 use enq_base::{BackupBad, Failed, NoMemory};
 use lock_entry::AskFault;
+use replica_link::LinkFault;
 use std::alloc::{AllocError, AllocFailed};
 
 /// Why a server isn't opened.
@@ -65,6 +67,17 @@ impl<T: Drop> From<AllocFailed<T>> for OpenFault {
 
     fn from(_e: AllocFailed<T>) -> OpenFault {
         OpenFault::NoMemory
+    }
+}
+
+impl From<LinkFault> for OverFault {
+    ghost from_gives = { λ f e. e ≡ over_fault f };
+
+    fn from(fault: LinkFault) -> OverFault {
+        match fault {
+            LinkFault::Failed => OverFault::Link,
+            LinkFault::NoMemory => OverFault::NoMemory,
+        }
     }
 }
 

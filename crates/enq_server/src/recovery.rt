@@ -1,13 +1,14 @@
-ghost use Rattle.std.specs.Prelude.{◌≡◌, ◌↔◌, ℕ, List, false, None, IsTrue, IfOk, IfErr, IfSome, OnOk};
+ghost use Rattle.std.specs.Prelude.{◌≡◌, ◌↔◌, ℕ, List, true, false, None, IsTrue, IfOk, IfErr, IfSome, OnOk, OnErr, MatchResult};
 ghost use Rattle.std.specs.List.{All};
 ghost use Rattle.enq_base.specs.Causes.{HasCause};
-ghost use Rattle.lock_entry.specs.Table.{IsTable};
+ghost use Rattle.bk_disk.specs.Disk.{Follows};
+ghost use Rattle.lock_entry.specs.Table.{IsLoadFault, IsTable};
 ghost use Rattle.backup_file.specs.Backup.{IsReady};
 ghost use Rattle.backup_file.specs.declared.handed.Handed.{Handed};
 ghost use Rattle.lock_entry.specs.declared.entry.UnitLocks.{UnitLocks};
-ghost use Rattle.enq_server.specs.Faults.{IsRecoveryFault};
-ghost use Rattle.enq_server.specs.Recovery.{Agrees, AreKnown, ArePlaces, IsFirstDifference, IsMissing, StandsLess, joined, lists_among};
-ghost use Rattle.enq_server.specs.Server.{larger, recovered};
+ghost use Rattle.enq_server.specs.Faults.{CountsFault, IsOpenFault, IsRecoveryFault, Leaves, OnBytes};
+ghost use Rattle.enq_server.specs.Recovery.{Agrees, AreKnown, ArePlaces, FreesOthers, IsFirstDifference, IsMissing, StandsLess, joined, lists_among};
+ghost use Rattle.enq_server.specs.Server.{IsRecovered, larger, recovered, replicated};
 
 use crate::fault::OpenFault;
 use crate::places::{entries_of, is_known, known_units, places_of};
@@ -75,7 +76,7 @@ fn joined(alloc: Global, units: &[UnitLocks]) -> Result<Vec<Entry>, NoMemory>
 }
 
 /// The larger of the two.
-pub fn larger(limit: u32, count: u32) -> u32
+fn larger(limit: u32, count: u32) -> u32
     ensures { result ≡ larger limit count }
 {
     if limit <= count { count } else { limit }
@@ -83,7 +84,7 @@ pub fn larger(limit: u32, count: u32) -> u32
 
 /// The table of the units' entries, where the lists agree with them, and these units. More entries than 32 bits count
 /// are told as want of memory.
-pub fn recover<T: LockStore>(
+fn recover<T: LockStore>(
     alloc: Global,
     limit: u32,
     lists: &[Handed],
@@ -122,10 +123,7 @@ fn load<T: LockStore>(alloc: Global, limit: u32, units: &[UnitLocks]) -> Result<
     let Ok(entries) = joined(alloc, units) else {
         return Err(OpenFault::NoMemory);
     };
-    let Ok(count) = u32::try_from(entries.len()) else {
-        return Err(OpenFault::NoMemory);
-    };
-    match T::load(alloc, larger(limit, count), entries) {
+    match load_list(alloc, limit, entries) {
         Ok(table) => Ok(table),
         Err(LoadFault::Clash { first, second }) => {
             Err(OpenFault::Bad(BackupBad::Clash { first, second }))
@@ -134,14 +132,31 @@ fn load<T: LockStore>(alloc: Global, limit: u32, units: &[UnitLocks]) -> Result<
     }
 }
 
+/// The table of a list. More entries than 32 bits count are told as want of memory.
+pub fn load_list<T: LockStore>(
+    alloc: Global,
+    limit: u32,
+    entries: Vec<Entry>,
+) -> Result<T, LoadFault>
+    ensures table { IfOk result (λ table. T.table table ≡ replicated limit entries.items) }
+    ensures good { IfOk result (λ table. IsTable (T.table table)) }
+    ensures fault { IfErr result (IsLoadFault entries.items) }
+{
+    let Ok(count) = u32::try_from(entries.len()) else {
+        return Err(LoadFault::NoMemory);
+    };
+    T::load(alloc, larger(limit, count), entries)
+}
+
 /// Frees each list in the file whose unit isn't among these.
-pub fn free_others<D: Disk>(
+fn free_others<D: Disk>(
     backup: &mut Backup<D>,
     lists: &[Handed],
     known: &HashSet<UnitId>,
 ) -> Result<(), Failed>
     requires usable { backup.old.failed ≡ false }
     ensures usable { OnOk result (backup.new.failed ≡ false) }
+    ensures failed { OnErr result (backup.new.failed ≡ true) }
     ensures freed { IsTrue D.tells → (units : List UnitLocks) → AreKnown known.now.keys units
         → IsReady D.reads D.may_leave backup.old lists.now
         → OnOk result (IsReady D.reads D.may_leave backup.new (lists_among units lists.now)) }
@@ -156,4 +171,44 @@ pub fn free_others<D: Disk>(
         }
     }
     Ok(())
+}
+
+/// Reads the file anew, also one that failed, and makes the table of the units' entries, with which its lists must agree.
+/// Lists of other units are freed.
+pub fn read_anew<T: LockStore, D: Disk>(
+    alloc: Global,
+    backup: &mut Backup<D>,
+    limit: u32,
+    units: &[UnitLocks],
+) -> Result<T, OpenFault>
+    ensures table { IfOk result (λ table. T.table table ≡ recovered limit units.now) }
+    ensures good { IfOk result (λ table. IsTable (T.table table)) }
+    ensures usable { OnOk result (backup.new.failed ≡ false) }
+    ensures shut { OnErr result (backup.new.failed ≡ true) }
+    ensures file { IsTrue D.tells
+        → OnOk result (IsRecovered D.reads D.may_leave (D.reads backup.old.disk) units.now backup.new) }
+    ensures fault { IsTrue D.tells → IfErr result (IsOpenFault (D.reads backup.old.disk) units.now) }
+    ensures bad { IsTrue D.tells
+        → IfErr result (λ fault. OnBytes fault (D.reads backup.new.disk ≡ D.reads backup.old.disk)) }
+    ensures images { IsTrue D.tells → MatchResult result
+        (λ _. Follows (FreesOthers units.now) (D.may_leave backup.old.disk) (D.may_leave backup.new.disk))
+        (λ fault. Follows (Leaves units.now fault) (D.may_leave backup.old.disk) (D.may_leave backup.new.disk)) }
+    ensures quiet { OnOk result (D.faults backup.new.disk ≡ D.faults backup.old.disk) }
+    ensures cause { IfErr result (λ fault. CountsFault fault (D.faults backup.old.disk) (D.faults backup.new.disk)) }
+{
+    let lists = match backup.reopen(alloc) {
+        Ok(lists) => lists,
+        Err(fault) => return Err(OpenFault::from(fault)),
+    };
+    let (table, known) = match recover(alloc, limit, lists.as_slice(), units) {
+        Ok(found) => found,
+        Err(fault) => {
+            backup.shut();
+            return Err(fault);
+        }
+    };
+    match free_others(backup, lists.as_slice(), &known) {
+        Ok(()) => Ok(table),
+        Err(Failed) => Err(OpenFault::Failed),
+    }
 }

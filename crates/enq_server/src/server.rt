@@ -9,7 +9,7 @@ ghost use Rattle.lock_entry.specs.Converting.{converted};
 ghost use Rattle.lock_entry.specs.Freeing.{freed, freed_owner, handed_over};
 ghost use Rattle.lock_entry.specs.Granting as granting;
 ghost use Rattle.lock_entry.specs.Names.{is_of, named};
-ghost use Rattle.enq_server.specs.Following.{KeepsOn};
+ghost use Rattle.enq_server.specs.Following.{IsLater, IsOverFault, KeepsOn};
 ghost use Rattle.lock_entry.specs.Pairs.{IsPair};
 ghost use Rattle.lock_entry.specs.Sound.{ReadmitsOnly};
 ghost use Rattle.lock_entry.specs.Table.{IsTable, entry_at, with_entries};
@@ -21,17 +21,16 @@ ghost use Rattle.backup_file.specs.declared.handed.Handed.{Handed};
 ghost use Rattle.enq_server.specs.Faults.{CountsFault, HasCallCause, IsOpenFault, IsReadmission, IsRefusal, Leaves, OnBytes};
 ghost use Rattle.enq_server.specs.declared.fault.ServerFault.TheVariants as server;
 ghost use Rattle.enq_server.specs.Recovery.{FreesOthers};
-ghost use Rattle.enq_server.specs.Server.{IsConverted, IsRecovered, lasting, recovered, with_list};
+ghost use Rattle.enq_server.specs.Server.{IsConverted, IsRecovered, lasting, recovered, replicated, with_list};
 
-use crate::fault::{OpenFault, ServerFault};
+use crate::fault::{OpenFault, OverFault, ServerFault};
 use crate::follower::Follower;
-use crate::recovery::{free_others, recover};
+use crate::recovery::{load_list, read_anew};
 use crate::shipping::{ship_drops, ship_freed, ship_granted, ship_owner, ship_puts, ship_turns};
-use crate::wreck::Wreck;
 use backup_file::{Backup, WriteFault};
 use bk_disk::Disk;
 use enq_base::{Failed, Name, NoMemory, Owner, UnitKey};
-use lock_entry::{Asked, Asker, Entry, LockStore, Mode, Request, UnitLocks};
+use lock_entry::{Asked, Asker, Entry, LoadFault, LockStore, Mode, Request, UnitLocks};
 use replica_link::{Link, LinkFault, TableOp};
 use std::alloc::Global;
 use std::marker::Model;
@@ -88,21 +87,76 @@ impl<T: LockStore, D: Disk, L: Link> EnqServer<T, D, L> {
         ensures quiet { IfOk result (λ s. D.faults s.file.disk ≡ D.faults disk) }
         ensures cause { IfErr result (λ e. CountsFault e.0 (D.faults disk) (D.faults e.1)) }
     {
-        let (mut backup, lists) = match Backup::open(alloc, disk) {
-            Ok(opened) => opened,
-            Err((fault, disk)) => return Err((OpenFault::from(fault), disk, link)),
-        };
-        let (table, known) = match recover(alloc, limit, lists.as_slice(), units) {
-            Ok(found) => found,
-            Err(fault) => return Err((fault, backup.into_disk(), link)),
-        };
-        match free_others(&mut backup, lists.as_slice(), &known) {
-            Ok(()) => Ok(EnqServer {
+        let mut backup = Backup::unread(alloc, disk);
+        match read_anew(alloc, &mut backup, limit, units) {
+            Ok(table) => Ok(EnqServer {
                 table,
                 backup,
                 follower: Follower::new(alloc, link),
             }),
-            Err(Failed) => Err((OpenFault::Failed, backup.into_disk(), link)),
+            Err(fault) => Err((fault, backup.into_disk(), link)),
+        }
+    }
+
+    /// Makes the table and the backup file anew from the file's lists and these units, as `open` does, also where the
+    /// file failed. No replica follows then, whatever the answer is; the link isn't called. After an error the table
+    /// stays, and the file takes no write until it is made anew.
+    pub fn restart(
+        &mut self,
+        alloc: Global,
+        limit: u32,
+        units: &[UnitLocks],
+    ) -> Result<(), OpenFault>
+        ensures table { OnOk result (self.new.table ≡ recovered limit units.now) }
+        ensures kept { OnErr result (self.new.table ≡ self.old.table) }
+        ensures good { IsTable self.new.table }
+        ensures usable { OnOk result (self.new.file.failed ≡ false) }
+        ensures shut { OnErr result (self.new.file.failed ≡ true) }
+        ensures file { IsTrue D.tells
+            → OnOk result (IsRecovered D.reads D.may_leave (D.reads self.old.file.disk) units.now self.new.file) }
+        ensures fault { IsTrue D.tells → IfErr result (IsOpenFault (D.reads self.old.file.disk) units.now) }
+        ensures bad { IsTrue D.tells
+            → IfErr result (λ fault. OnBytes fault (D.reads self.new.file.disk ≡ D.reads self.old.file.disk)) }
+        ensures images { IsTrue D.tells → MatchResult result
+            (λ _. Follows (FreesOthers units.now) (D.may_leave self.old.file.disk) (D.may_leave self.new.file.disk))
+            (λ fault. Follows (Leaves units.now fault) (D.may_leave self.old.file.disk) (D.may_leave self.new.file.disk)) }
+        ensures detached { self.new.copy.attached ≡ false }
+        ensures link { self.new.copy.link ≡ self.old.copy.link }
+        ensures quiet { OnOk result (D.faults self.new.file.disk ≡ D.faults self.old.file.disk) }
+        ensures cause { IfErr result (λ fault. CountsFault fault (D.faults self.old.file.disk) (D.faults self.new.file.disk)) }
+    {
+        self.follower.detach();
+        self.table = read_anew(alloc, &mut self.backup, limit, units)?;
+        Ok(())
+    }
+
+    /// Takes the table over from the replica, which then follows no longer. The limit is the larger of `limit` and the
+    /// number of entries. After an error the table stays; after `Link` and `Clash` the replica follows no longer either.
+    pub fn fail_over(&mut self, alloc: Global, limit: u32) -> Result<(), OverFault>
+        ensures table { OnOk result (self.new.table ≡ replicated limit (L.gives self.old.copy.link)) }
+        ensures kept { OnErr result (self.new.table ≡ self.old.table) }
+        ensures good { IsTable self.new.table }
+        ensures followed { OnOk result (self.old.copy.attached ≡ true) }
+        ensures detached { OnOk result (self.new.copy.attached ≡ false) }
+        ensures file { self.new.file ≡ self.old.file }
+        ensures fault { IfErr result (IsOverFault L.faults L.gives L.applied self.old.copy self.new.copy) }
+        ensures later { IsLater L.faults L.refusals self.old.copy self.new.copy }
+    {
+        if !self.follower.attached() {
+            return Err(OverFault::NotAttached);
+        }
+        let list = self.follower.hand_over()?;
+        match load_list(alloc, limit, list) {
+            Ok(table) => {
+                self.follower.detach();
+                self.table = table;
+                Ok(())
+            }
+            Err(LoadFault::Clash { first, second }) => {
+                self.follower.detach();
+                Err(OverFault::Clash { first, second })
+            }
+            Err(LoadFault::NoMemory) => Err(OverFault::NoMemory),
         }
     }
 
@@ -177,7 +231,7 @@ impl<T: LockStore, D: Disk, L: Link> EnqServer<T, D, L> {
 
     /// Writes the list of the unit's S, E and X entries into the file, and tells how many there are. Where there are
     /// none nothing is written. The table is as before: `flag` is the rest of the handover. It takes its memory before
-    /// any write. After `Failed` only `len`, `at` and `kill` are allowed.
+    /// any write. After `Failed` the file takes no write until `restart`.
     pub fn save(&mut self, alloc: Global, unit: &UnitKey) -> Result<u32, WriteFault>
         requires usable { self.old.file.failed ≡ false }
         ensures count { IfOk result (λ n. n ≡ length (lasting unit.now self.old.table.entries)) }
@@ -247,7 +301,7 @@ impl<T: LockStore, D: Disk, L: Link> EnqServer<T, D, L> {
 
     /// Grants the entries as they are, in place of those of the asker's update owner, all or none, and writes them as
     /// the list of its unit. Where there are none nothing is written. It takes its memory before it grants. After
-    /// `Failed` the entries are granted, and only `len`, `at` and `kill` are allowed.
+    /// `Failed` the entries are granted, and the file takes no write until `restart`.
     pub fn readmit(
         &mut self,
         alloc: Global,
@@ -290,7 +344,7 @@ impl<T: LockStore, D: Disk, L: Link> EnqServer<T, D, L> {
     }
 
     /// Frees the unit's list in the file, where it stands, and then removes the entries of its update owner. After
-    /// `Failed` only `len`, `at` and `kill` are allowed.
+    /// `Failed` the file takes no write until `restart`.
     pub fn end_unit(&mut self, unit: &UnitKey) -> Result<(), Failed>
         requires usable { self.old.file.failed ≡ false }
         ensures table { OnOk result (self.new.table ≡ with_entries self.old.table (freed_owner self.old.table.entries (Upd unit.now))) }
@@ -366,13 +420,10 @@ impl<T: LockStore, D: Disk, L: Link> EnqServer<T, D, L> {
         self.follower.attached()
     }
 
-    /// Takes the table away. It takes no memory.
-    pub fn kill(self) -> Wreck<D, L>
-        ensures file { result.file ≡ self.file }
-        ensures copy { result.copy ≡ self.copy }
-        // What a replica that follows gives is the table.
-        ensures given { self.copy.attached ≡ true
-            → IfSome (L.applied result.copy.link) (λ _. L.gives result.copy.link ≡ self.table.entries) }
+    /// The disk and the link. It takes no memory.
+    pub fn into_parts(self) -> (D, L)
+        ensures disk { result.0 ≡ self.file.disk }
+        ensures link { result.1 ≡ self.copy.link }
     {
         let EnqServer {
             table,
@@ -380,22 +431,7 @@ impl<T: LockStore, D: Disk, L: Link> EnqServer<T, D, L> {
             follower,
         } = self;
         drop(table);
-        Wreck::new(backup, follower)
-    }
-
-    /// A table, a file and a replica that doesn't follow.
-    pub(crate) fn made(table: T, backup: Backup<D>, follower: Follower<L>) -> EnqServer<T, D, L>
-        requires table { IsTable (T.table table) }
-        requires detached { follower.attached ≡ false }
-        ensures table { result.table ≡ T.table table }
-        ensures file { result.file ≡ backup }
-        ensures copy { result.copy ≡ follower }
-    {
-        EnqServer {
-            table,
-            backup,
-            follower,
-        }
+        (backup.into_disk(), follower.into_link())
     }
 }
 

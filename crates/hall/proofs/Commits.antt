@@ -1,7 +1,7 @@
 -- What a commit records: the rows of the settled intervals, a unit, and numbers alone.
-use Rattle.std.proofs.Common.{◌≡◌, ℕ, ◌+◌, ◌≤◌, ◌<◌, Bool, true, false, cond, List, [], ◌∷◌, ◌++◌, map, length, take, get_or, refl, sym, ap, ◌∙◌, subst, arith}
+use Rattle.std.proofs.Common.{◌≡◌, ℕ, zero, suc, ◌+◌, ◌-◌, ◌≤◌, ◌<◌, Bool, true, false, cond, List, [], ◌∷◌, ◌++◌, map, length, take, get_or, refl, sym, ap, ◌∙◌, subst, arith}
 use Rattle.std.specs.Prelude.{◌&&◌, ◌||◌, not, nat_eq, nat_le, nat_lt, Contains, Some}
-use Rattle.std.specs.List.{All, AllByRecursion, filter}
+use Rattle.std.specs.List.{All, AllByRecursion, filter, slice_get}
 use Rattle.std.proofs.lemmas.Bool.Decides.{nat_tests}
 use Rattle.std.proofs.lemmas.List.{length-append, map-append, take_more}
 use Rattle.std.proofs.lemmas.List.Elements.{filter-append}
@@ -68,21 +68,6 @@ settled_not_drawn : (i : Interval) (nums : List Number) (drawn : ℕ) → drawn 
 settled_not_drawn i nums drawn none is =
     ap (λ b. not (nat_lt 0 i.buffer) && b) (is_none (drawn_of i nums) (sym is ∙ none)) ∙ no_both (not (nat_lt 0 i.buffer))
 
--- without numbers there is no row
-settled_nothing : (levels : Levels) (ranges : List NumberRange) → settled_rows levels ranges [] ≡ []
-settled_nothing levels [] = refl
-settled_nothing levels (r ∷ ranges) =
-    let i = present levels r.interval in
-    let rest : List Interval = filter (is_settled_by []) (map (present levels) (intervals_of ranges)) in
-    elim (is_buffered i) as (λ b. map (λ j. stored_as (with_level_behind [] j)) (cond (not b && false) (i ∷ rest) rest) ≡ []) [
-      | true ↦ settled_nothing levels ranges
-      | false ↦ settled_nothing levels ranges
-    ]
-
-pub nothing_settled : (levels : Levels) (ranges : List NumberRange) (nums : List Number) → length nums ≡ 0 → settled_rows levels ranges nums ≡ []
-nothing_settled levels ranges [] h = settled_nothing levels ranges
-nothing_settled levels ranges (n ∷ nums) h = absurd (omega (arith, h))
-
 module _ (levels : Levels) (nums : List Number) where
   abbrev row_of : Interval → StoredInterval
   row_of i = stored_as (with_level_behind nums i)
@@ -138,6 +123,42 @@ module _ (levels : Levels) (nums : List Number) where
       → before ≡ settled_rows levels (take k ranges) nums → now ≡ before → now ≡ settled_rows levels (take (k + 1) ranges) nums
   settled_none ranges k r drawn before now within at none is so_far same =
       settled_same ranges k r before now within at (settled_not_drawn (present levels r.interval) nums drawn none is) so_far same
+
+-- ---- intervals without numbers
+
+record IsElement {X : Type 0} (xs : List X) (k : ℕ) (x : X) : Type 0 where
+  found : slice_get xs k ≡ Some x
+  read : x ≡ get_or xs k x
+
+element_at : {X : Type 0} (xs : List X) (k : ℕ) → k < length xs → (x : X) × IsElement xs k x
+element_at [] k within = absurd (omega (arith, within))
+element_at (x ∷ xs) zero within = (x, record { found = refl; read = refl })
+element_at (x ∷ xs) (suc k) within = let e = element_at xs k (omega (arith, within)) in (e.0, record { found = e.1.found; read = e.1.read })
+
+module _ (levels : Levels) (nums : List Number) (ranges : List NumberRange) where
+  -- there are no numbers of the intervals of these places
+  abbrev pub AreNone : ℕ → ℕ → Type 0
+  AreNone from to = (k : ℕ) (r : NumberRange) → from ≤ k → k < to → slice_get ranges k ≡ Some r → drawn_of r.interval nums ≡ 0
+
+  none_of_next : (from n : ℕ) → from + n ≤ length ranges → AreNone from (from + n) → settled_rows levels (take from ranges) nums ≡ settled_rows levels (take (from + n) ranges) nums
+  none_of_next from zero within none = let same : from ≡ from + zero = omega arith in ap (λ k. settled_rows levels (take k ranges) nums) same
+  none_of_next from (suc n) within none =
+      let e = element_at ranges (from + n) (omega (arith, within)) in
+      let r = e.0 in
+      let last : from + n + 1 ≡ from + suc n = omega arith in
+      let drawn : 0 ≡ drawn_of r.interval nums = sym (none (from + n) r (omega arith) (omega arith) e.1.found) in
+      none_of_next from n (omega (arith, within)) (λ k x low high at. none k x low (omega (arith, high)) at)
+      ∙ settled_same levels nums ranges (from + n) r (settled_rows levels (take (from + n) ranges) nums) (settled_rows levels (take (from + n) ranges) nums) (omega (arith, within)) e.1.read
+      (settled_not_drawn (present levels r.interval) nums 0 refl drawn) refl refl
+      ∙ ap (λ k. settled_rows levels (take k ranges) nums) last
+
+  -- the rows up to a place are those up to a later one where there are no numbers between
+  pub settled_between : (from to : ℕ) → from ≤ to → to ≤ length ranges → AreNone from to → settled_rows levels (take from ranges) nums ≡ settled_rows levels (take to ranges) nums
+  settled_between from to low high none =
+      let n : ℕ = to - from in
+      let same : from + n ≡ to = omega (arith, low) in
+      none_of_next from n (omega (arith, same, high)) (subst (AreNone from) (sym same) none)
+      ∙ ap (λ k. settled_rows levels (take k ranges) nums) same
 
 -- ---- what a session has drawn, with numbers of a stock
 

@@ -1,6 +1,8 @@
 -- Why a hall isn't opened, by why its books, its ranges or its backup file aren't.
-use Rattle.std.proofs.Common.{◌≡◌, inl, inr, ℕ, Bool, Option, Some, None, IfSome, List, subst, arith}
+use Rattle.std.proofs.Common.{◌≡◌, refl, inl, inr, ℕ, Bool, Option, Some, None, IfSome, List, subst, arith}
 use Rattle.enq_base.specs.declared.condition.Bad.TheVariants as bad
+use Rattle.bk_disk.specs.Disk.{Follows}
+use Rattle.backup_file.specs.File.{Keeps}
 use Rattle.enq_server.specs.Faults as files
 use Rattle.enq_server.specs.Faults.{IsOpenFault}
 use Rattle.enq_server.specs.declared.fault.OpenFault.{OpenFault}
@@ -17,7 +19,7 @@ use Rattle.posting.specs.Views.{open_locks}
 use Rattle.range_list.specs.Levels.{IsFirstUnfit}
 use Rattle.store_reading.specs.Good.{IsSound}
 use Rattle.update_records.specs.Ledger.{Ledger, Levels}
-use Rattle.hall.specs.Faults.{CountsFileFault, CountsHallFault, IsBadFile, IsFileFault, IsHallFault, IsLateFault, IsRangesFault, MayBeHallFault, OnBadStore, OnKept, file_fault, hall_fault}
+use Rattle.hall.specs.Faults.{CountsFileFault, CountsHallFault, FreesUnlike, IsBadFile, IsFileFault, IsHallFault, IsLateFault, IsRangesFault, LeavesFile, LeavesFileOf, MayBeHallFault, OnBadStore, OnKept, OnStore, file_fault, hall_fault}
 use Rattle.hall.specs.declared.opening.HallFault.{HallFault}
 use Rattle.hall.specs.declared.opening.HallFault.TheVariants as hall
 use Rattle.std.specs.Prelude.{true, Result, Ok, Err, IfOk, IfErr, IsTrue}
@@ -145,6 +147,54 @@ file_told ledger told before tells bytes hall.Backup sound stood t h = tt
 file_told ledger told before tells bytes (hall.Bad (bad.Backup place)) sound stood t h = record { ledger = ledger; sound = sound; stood = stood; fault = h t }
 file_told ledger told before tells bytes hall.NoMemory sound stood t h = tt
 file_told ledger told before tells bytes _ sound stood t h = absurd h
+
+-- ---- what is left of the backup file
+
+-- a file that isn't touched
+pub images_stay : (images : List ℕ → Type 0) → Follows Keeps images images
+images_stay images = λ bytes may_be. (bytes, may_be, record { states = λ lists stands. stands; bytes = λ at broken. refl })
+
+pub file_left : (units : List UnitLocks) (f : OpenFault) (old new : List ℕ → Type 0) → Follows (files.Leaves units f) old new → LeavesFile units (file_fault f) old new
+file_left units opening.Failed old new h = h
+file_left units (opening.Bad place) old new h = h
+file_left units opening.NoMemory old new h = h
+
+pub ranges_left : (intervals : List Interval) (levels : Levels) (units : List UnitLocks) (f : HallFault) (images : List ℕ → Type 0) → IsRangesFault intervals levels f → LeavesFile units f images images
+ranges_left intervals levels units (hall.Interval row) images h = images_stay images
+ranges_left intervals levels units _ images h = absurd h
+
+pub file_not_store : (tells : Bool) (bytes : List ℕ) (units : List UnitLocks) (f : HallFault) (P : Type 0) → IsFileFault tells bytes units f → OnStore f P
+file_not_store tells bytes units hall.Backup P h = tt
+file_not_store tells bytes units (hall.Bad (bad.Backup place)) P h = tt
+file_not_store tells bytes units hall.NoMemory P h = tt
+file_not_store tells bytes units _ P h = absurd h
+
+pub on_store : (f : HallFault) (P : Type 0) → P → OnStore f P
+on_store hall.Store P h = h
+on_store hall.Backup P h = tt
+on_store (hall.Bad (bad.Store table row)) P h = h
+on_store (hall.Bad (bad.Backup place)) P h = tt
+on_store (hall.Bad (bad.Replica first second)) P h = tt
+on_store hall.NoStart P h = h
+on_store (hall.Interval row) P h = h
+on_store hall.NoMemory P h = tt
+
+-- where the books aren't opened
+pub books_left : (told : Option Rows) (before : Rows → Type 0) (f : BooksFault) (images : List ℕ → Type 0) → LeavesFileOf told before (hall_fault f) images images
+books_left told before books.StoreFault images = images_stay images
+books_left told before (books.BadStore table row) images = images_stay images
+books_left told before books.NoStart images = images_stay images
+books_left told before books.NoMemory images = images_stay images
+
+-- behind the books
+pub late_left : (ledger : Ledger) (told : Option Rows) (before : Rows → Type 0) (f : HallFault) (old new : List ℕ → Type 0) → IsRaised IsSound true ledger → IfSome told (λ _. IsRaised (HasStood before) true ledger)
+    → LeavesFile (open_locks ledger) f old new → LeavesFileOf told before f old new
+late_left ledger told before hall.Store old new sound stood h = h
+late_left ledger told before hall.Backup old new sound stood h = record { ledger = ledger; sound = sound; stood = stood; frees = h }
+late_left ledger told before (hall.Bad place) old new sound stood h = h
+late_left ledger told before hall.NoStart old new sound stood h = h
+late_left ledger told before (hall.Interval row) old new sound stood h = h
+late_left ledger told before hall.NoMemory old new sound stood h = h
 
 -- ---- one of both
 

@@ -3,7 +3,10 @@ use Rattle.std.specs.Prelude.{ℕ, ◌≡◌, ◌⊎◌, ◌≤◌, ◌<◌, Boo
 use Rattle.enq_base.specs.Causes.{Rose}
 use Rattle.enq_base.specs.declared.condition.BackupBad.{BackupBad}
 use Rattle.enq_base.specs.declared.condition.Bad.TheVariants as bad
+use Rattle.bk_disk.specs.Disk.{Follows}
+use Rattle.backup_file.specs.File.{Keeps}
 use Rattle.enq_server.specs.Faults.{IsOpenFault}
+use Rattle.enq_server.specs.Recovery.{FreesOthers}
 use Rattle.enq_server.specs.declared.fault.OpenFault.{OpenFault}
 use Rattle.enq_server.specs.declared.fault.OpenFault.TheVariants as opening
 use Rattle.keeper_api.specs.Rows.{Rows}
@@ -62,6 +65,35 @@ pub record StoodUnlike (told : Option Rows) (before : Rows → Type 0) (bytes : 
 abbrev pub IsBadFile : Option Rows → (Rows → Type 0) → List ℕ → HallFault → Type 0
 IsBadFile told before bytes (hall.Bad (bad.Backup place)) = StoodUnlike told before bytes place
 IsBadFile told before bytes fault = Unit {0}
+
+-- what a stop may leave of the backup file where it isn't opened for the locks of these units, by what it might have left
+-- before: all that was there, and only where the disk failed less lists of other units
+abbrev pub LeavesFile : List UnitLocks → HallFault → (images images_now : List ℕ → Type 0) → Type 0
+LeavesFile units hall.Backup images images_now = Follows (FreesOthers units) images images_now
+LeavesFile units fault images images_now = Follows Keeps images images_now
+
+-- the same for the units that wait in a store whose rows, where they are told, were some of those before
+pub record FreesUnlike (told : Option Rows) (before : Rows → Type 0) (images images_now : List ℕ → Type 0) : Type 0 where
+  pub ledger : Ledger
+  pub sound : IsRaised IsSound true ledger
+  pub stood : IfSome told (λ _. IsRaised (HasStood before) true ledger)
+  pub frees : Follows (FreesOthers (open_locks ledger)) images images_now
+
+-- What a stop may leave of the backup file of a hall that isn't opened: all that it might have left before. Only where the
+-- disk failed lists of units that don't wait may be gone.
+abbrev pub LeavesFileOf : Option Rows → (Rows → Type 0) → HallFault → (images images_now : List ℕ → Type 0) → Type 0
+LeavesFileOf told before hall.Backup images images_now = FreesUnlike told before images images_now
+LeavesFileOf told before fault images images_now = Follows Keeps images images_now
+
+-- what is said of a hall that is refused by its store, before its backup file is touched
+abbrev pub OnStore : HallFault → Type 0 → Type 0
+OnStore hall.Store P = P
+OnStore hall.Backup P = Unit {0}
+OnStore (hall.Bad (bad.Store table row)) P = P
+OnStore (hall.Bad place) P = Unit {0}
+OnStore hall.NoStart P = P
+OnStore (hall.Interval row) P = P
+OnStore hall.NoMemory P = Unit {0}
 
 -- the disk's count of faults has risen just where the fault is the disk's
 abbrev pub CountsFileFault : HallFault → ℕ → ℕ → Type 0

@@ -293,7 +293,8 @@ fn draws_with(alloc: Global, session: &Session, num: Num) -> Result<Vec<Num>, No
     Ok(draws)
 }
 
-/// The rows of the intervals without a buffer of which there are numbers, their levels at the last of them.
+/// The rows of the intervals without a buffer of which there are numbers, their levels at the last of them, in the order
+/// of the landscape. Only the intervals of the numbers are looked at.
 pub(crate) fn settled_rows<K: Keeper>(
     alloc: Global,
     ranges: &Ranges,
@@ -305,15 +306,15 @@ pub(crate) fn settled_rows<K: Keeper>(
     ensures { IfOk result (λ rows. rows.items ≡ settled_rows books.now.ledger.levels ranges.now numbers.now) }
 {
     let mut rows = Vec::new(alloc);
-    if numbers.is_empty() {
-        return Ok(rows);
-    }
-    for range in ranges.as_slice() {
-        let interval = present(range, books);
+    let list = ranges.as_slice();
+    let mut place = ranges.next_place(numbers, 0);
+    while place < list.len() {
+        let interval = present(&list[place], books);
         let drawn = drawn_of(&interval, numbers);
         if interval.buffer == 0 && drawn > 0 {
             rows.push(stored_at(&interval, interval.level + drawn))?;
         }
+        place = ranges.next_place(numbers, place + 1);
     }
     Ok(rows)
 }

@@ -1,6 +1,6 @@
 ghost use Rattle.std.specs.Prelude.{◌≡◌, ◌≤◌, List, [], false, None, IsTrue, IfOk, IfErr, MatchResult, replicate, vec_capacity};
 ghost use Rattle.enq_server.specs.Server.{IsRecovered, recovered};
-ghost use Rattle.hall.specs.Faults.{CountsFileFault, IsFileFault, IsRangesFault, file_fault, hall_fault};
+ghost use Rattle.hall.specs.Faults.{CountsFileFault, IsFileFault, IsRangesFault, LeavesFile, file_fault, hall_fault};
 ghost use Rattle.posting.specs.Intervals.{in_row_order};
 ghost use Rattle.range_list.specs.Levels.{IsLevelFault};
 ghost use Rattle.number_ranges.specs.declared.interval.Interval.{Interval};
@@ -106,6 +106,8 @@ pub(crate) fn first_locks<T: LockStore, D: Disk, L: Link>(
     ensures link { MatchResult result (λ locks. locks.copy.link ≡ link) (λ e. e.2 ≡ link) }
     ensures counts { IfOk result (λ locks. D.faults locks.file.disk ≡ D.faults disk) }
     ensures fault { IfErr result (λ e. IsFileFault D.tells (D.reads disk) units.now e.0) }
+    // What is left of the file then.
+    ensures images { IsTrue D.tells → IfErr result (λ e. LeavesFile units.now e.0 (D.may_leave disk) (D.may_leave e.1)) }
     ensures cause { IfErr result (λ e. CountsFileFault e.0 (D.faults disk) (D.faults e.1)) }
 {
     match EnqServer::open(alloc, disk, link, max_locks, units) {

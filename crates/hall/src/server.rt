@@ -208,7 +208,7 @@ impl<T: LockStore, K: Keeper, D: Disk, L: Link> Server<T, K, D, L> {
         ensures disk { result.1 ≡ self.file.disk }
         ensures link { result.2 ≡ self.follower.link }
     {
-        let (disk, link) = self.locks.kill().into_parts();
+        let (disk, link) = self.locks.into_parts();
         (self.books.into_keeper(), disk, link)
     }
 

@@ -8,6 +8,7 @@ pub mod Settling
 pub mod Storing
 pub mod Sessions
 pub mod HandedOut
+pub mod Nexts
 pub mod Drawing
 pub mod Recording
 pub mod Stocks

@@ -1,10 +1,10 @@
-ghost use Rattle.std.specs.Prelude.{◌≡◌, ◌<◌, ◌+◌, ◌^◌, OnOk, IfOk, IfSome, Some, List, ℕ, if◌then◌else◌, length, map, max, slice_get, slice_set};
+ghost use Rattle.std.specs.Prelude.{◌≡◌, ◌<◌, ◌≤◌, ◌+◌, ◌^◌, OnOk, IfOk, IfSome, Some, List, ℕ, false, if◌then◌else◌, length, map, max, slice_get, slice_set};
 ghost use Rattle.std.specs.HashMap.{get};
 ghost use Rattle.std.specs.List.{AllByRecursion};
 ghost use Rattle.std.specs.Option.{option_copied};
 ghost use Rattle.enq_base.specs.declared.unit.Num.{Num};
 ghost use Rattle.number_ranges.specs.Intervals.{is_named};
-ghost use Rattle.range_list.specs.Drawn.{handed_out_of, passed, passed_by};
+ghost use Rattle.range_list.specs.Drawn.{drawn_of, handed_out_of, passed, passed_by};
 ghost use Rattle.range_list.specs.Levels.{AreApart, intervals_of, range_at};
 ghost use Rattle.range_list.specs.Places.{ArePlaces, range_id, same_range};
 ghost use Rattle.range_list.specs.declared.range.NumberRange.{NumberRange};
@@ -119,6 +119,48 @@ fn pass_at(ranges: &mut [NumberRange], place: usize, number: u64)
 {
     let range = &mut ranges[place];
     range.next = range.next.max(number + 1);
+}
+
+/// The first place, from this one on, of a range that one of these numbers is of. Where there is none it is the one behind
+/// all ranges.
+pub fn next_place(
+    ranges: &[NumberRange],
+    places: &HashMap<RangeId, usize>,
+    numbers: &[Num],
+    from: usize,
+) -> usize
+    requires places { ArePlaces places.now (intervals_of ranges.now) }
+    requires apart { AreApart (intervals_of ranges.now) }
+    requires within { from ≤ length ranges.now }
+    ensures low { from ≤ result }
+    ensures high { result ≤ length ranges.now }
+    ensures none { (k : ℕ) (r : NumberRange) → from ≤ k → k < result → slice_get ranges.now k ≡ Some r → drawn_of r.interval numbers.now ≡ 0 }
+{
+    let mut next = ranges.len();
+    for num in numbers {
+        next = next.min(place_from(ranges, places, num, from));
+    }
+    next
+}
+
+/// The place of the range that a number is of, where it isn't before this one, or the place behind all ranges.
+fn place_from(
+    ranges: &[NumberRange],
+    places: &HashMap<RangeId, usize>,
+    num: &Num,
+    from: usize,
+) -> usize
+    requires places { ArePlaces places.now (intervals_of ranges.now) }
+    requires apart { AreApart (intervals_of ranges.now) }
+    requires within { from ≤ length ranges.now }
+    ensures low { from ≤ result }
+    ensures high { result ≤ length ranges.now }
+    ensures none { (k : ℕ) (r : NumberRange) → from ≤ k → k < result → slice_get ranges.now k ≡ Some r → is_named num.now.object num.now.nr r.interval ≡ false }
+{
+    match place_of(places, &num.object, num.nr) {
+        Some(place) if place >= from => place,
+        _ => ranges.len(),
+    }
 }
 
 fn range_in(ranges: &[NumberRange], place: usize) -> Option<&NumberRange>

@@ -1,13 +1,14 @@
-ghost use Rattle.std.specs.Prelude.{◌≡◌, ◌<◌, ◌+◌, ◌^◌, IfErr, IfOk, IfSome, OnOk, length, map, not, true};
+ghost use Rattle.std.specs.Prelude.{◌≡◌, ◌<◌, ◌≤◌, ◌+◌, ◌^◌, ℕ, IfErr, IfOk, IfSome, OnOk, Some, length, map, not, slice_get, true};
 ghost use Rattle.std.specs.List.{AllByRecursion, list_all, position};
 ghost use Rattle.std.specs.Option.{option_copied};
 ghost use Rattle.enq_base.specs.declared.unit.Num.{Num};
 ghost use Rattle.posting.specs.Intervals.{in_row_order};
-ghost use Rattle.range_list.specs.Drawn.{handed_out_of, passed};
+ghost use Rattle.range_list.specs.Drawn.{drawn_of, handed_out_of, passed};
 ghost use Rattle.range_list.specs.Levels.{AreIntervals, FitRows, IsLevelFault, first_ranges, fits, intervals_of, range_at};
+ghost use Rattle.range_list.specs.declared.range.NumberRange.{NumberRange};
 ghost use Rattle.update_records.specs.declared.stored.StoredInterval.{StoredInterval};
 
-use crate::places::{find_range, hand_out, pass_all, places_of};
+use crate::places::{find_range, hand_out, next_place, pass_all, places_of};
 use crate::range::{LevelFault, NumberRange};
 use crate::range_id::RangeId;
 use crate::starting::{fresh_ranges, is_row_of, start_all};
@@ -91,6 +92,17 @@ impl Ranges {
         ensures { self.new ≡ passed numbers.now self.old }
     {
         pass_all(self.list.as_mut_slice(), &self.places, numbers);
+    }
+
+    /// The first place, from this one on, of an interval that one of these numbers is of. Where there is none it is the one
+    /// behind all intervals.
+    pub fn next_place(&self, numbers: &[Num], from: usize) -> usize
+        requires { from ≤ length self.now }
+        ensures low { from ≤ result }
+        ensures high { result ≤ length self.now }
+        ensures none { (k : ℕ) (r : NumberRange) → from ≤ k → k < result → slice_get self.now k ≡ Some r → drawn_of r.interval numbers.now ≡ 0 }
+    {
+        next_place(self.list.as_slice(), &self.places, numbers, from)
     }
 
     /// Whether each stored row is that of an interval, and where it isn't, the first such row.

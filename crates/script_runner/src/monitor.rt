@@ -1,6 +1,6 @@
 ghost use Rattle.std.specs.Prelude.{◌≡◌, ◌≤◌, IfOk};
 ghost use Rattle.script_runner.specs.Lines.{line_kind};
-ghost use Rattle.script_runner.specs.Shown.{monitor_text};
+ghost use Rattle.script_runner.specs.Shown.{audit_shown, monitor_text};
 ghost use Rattle.script_runner.specs.Turns.{IsShown};
 
 use crate::runner::Why;
@@ -67,6 +67,20 @@ pub(crate) fn show<W: Sink, T: LockStore, K: Keeper, D: Disk, L: Link>(
         Ok(()) => Ok(()),
         Err(_) => Err(Why::SinkFault),
     }
+}
+
+/// Writes the audit of a hall, as the answer of the line of this number.
+pub fn write_audit<W: Sink, T: LockStore, K: Keeper, D: Disk, L: Link>(
+    alloc: Global,
+    number: u32,
+    hall: &Hall<T, K, D, L>,
+    sink: &mut W,
+) -> Result<(), Why>
+    ensures shown { IsShown (W.written sink.old) (W.written sink.new) (W.faults sink.old) (W.faults sink.new)
+        (audit_shown number hall.now.state) result }
+    ensures later { W.faults sink.old ≤ W.faults sink.new }
+{
+    show(alloc, number, Monitor::Audit, hall, sink)
 }
 
 fn text_of<T: LockStore, K: Keeper, D: Disk, L: Link>(

@@ -1,40 +1,17 @@
-//! Tests of scripts, from their words, landscape and first line to what they leave and the starts that come after, and of
-//! the texts around them.
+//! Tests of scripts that look at more than their replies and what they leave: at the history, at what is read of a device, at
+//! a hall that is handed in, at the images that a crash may leave, and at the texts around a script. All others are text, in
+//! `script_rows`.
 #![tactic(auto)]
 
 #[cfg(test)]
-mod again;
-#[cfg(test)]
-mod cancels;
-#[cfg(test)]
-mod effects;
-#[cfg(test)]
 mod ends;
-#[cfg(test)]
-mod faults;
 #[cfg(test)]
 mod handover;
 #[cfg(test)]
-mod landscapes;
-#[cfg(test)]
 mod limits;
 #[cfg(test)]
-mod locks;
-#[cfg(test)]
-mod numbers;
-#[cfg(test)]
-mod reads;
+mod loads;
 #[cfg(test)]
 mod runs;
 #[cfg(test)]
-mod second_parts;
-#[cfg(test)]
-mod shown;
-#[cfg(test)]
-mod starts;
-#[cfg(test)]
-mod stops;
-#[cfg(test)]
 mod texts;
-#[cfg(test)]
-mod units;

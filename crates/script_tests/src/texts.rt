@@ -57,7 +57,7 @@ fn each_end_has_its_line(rt: HostRuntime) -> Result<(), Fail> {
 fn texts_name_program_command_and_files(rt: HostRuntime) -> Result<(), Fail> {
     let alloc = rt.alloc();
     let help = help_text(alloc)?;
-    for word in ["replay", "landscape.toml", "enq.db"] {
+    for word in ["replay", "landscape.toml", "enq.db", "gen", "load"] {
         assert!(rt; help.contains(word), "{word}");
     }
     assert!(rt; !help.contains("Print this message"));

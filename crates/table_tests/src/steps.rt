@@ -172,7 +172,12 @@ fn readmit<T: LockStore>(
     Ok(0)
 }
 
-fn take<T: LockStore>(
+/// The entry of an owner at a place, if it stands.
+pub(crate) fn find<T: LockStore>(table: &T, who: Who, place: Place) -> Result<Option<Entry>, Fail> {
+    Ok(table.find(&owner(who), &asked(place)?))
+}
+
+pub(crate) fn take<T: LockStore>(
     alloc: Global,
     table: &mut T,
     act: Act,

@@ -6,4 +6,6 @@ mod landscapes;
 #[cfg(test)]
 mod replies;
 #[cfg(test)]
+mod scripts;
+#[cfg(test)]
 mod views;

@@ -1,6 +1,6 @@
 use Rattle.std.proofs.Common.{sym, subst}
-use Rattle.hall.proofs.Refused.{file_counts, file_why}
-use Rattle.hall.specs.Faults.{CountsFileFault, IsFileFault}
+use Rattle.hall.proofs.Refused.{file_counts, file_left, file_why}
+use Rattle.hall.specs.Faults.{CountsFileFault, IsFileFault, LeavesFile}
 use Rattle.hall.proofs.opening.first_locks.Goals as goal
 
 pub returns-in-Err-clause-fault : goal.returns-in-Err-clause-fault
@@ -13,3 +13,10 @@ returns-in-Err-clause-cause g c =
     let faults = g.D.Disk.faults in
     subst (λ f. CountsFileFault f (faults c.args.disk) (faults c.in-Err.disk)) (sym c.file_fault_of.ensures)
     (file_counts c.in-Err.fault (faults c.args.disk) (faults c.in-Err.disk) c.in-Err.ensures.cause)
+
+pub returns-in-Err-clause-images : goal.returns-in-Err-clause-images
+returns-in-Err-clause-images g c = λ t.
+    let may_leave = g.D.Disk.may_leave in
+    let units = c.args.units.now in
+    subst (λ f. LeavesFile units f (may_leave c.args.disk) (may_leave c.in-Err.disk)) (sym c.file_fault_of.ensures)
+    (file_left units c.in-Err.fault (may_leave c.args.disk) (may_leave c.in-Err.disk) (c.in-Err.ensures.images t))

@@ -4,7 +4,7 @@ use Rattle.keeper_api.specs.Keeping.{IsWithin}
 use Rattle.posting.specs.Reopening.{HasStood, IsRaised}
 use Rattle.range_list.specs.Levels.{intervals_of}
 use Rattle.store_reading.specs.Good.{IsSound}
-use Rattle.hall.proofs.Refused.{books_file, books_file_counts, books_why, err_more, err_two, held_more, late_bad, late_counts, late_file, late_kept, late_may, late_why, ok_more, ok_two, where_held}
+use Rattle.hall.proofs.Refused.{books_file, books_file_counts, books_why, err_more, err_two, held_more, late_bad, late_counts, late_file, late_kept, late_left, late_may, late_why, ok_more, ok_two, where_held}
 use Rattle.hall.specs.Faults.{CountsFileFault, IsBadFile, IsHallFault, IsLateFault}
 use Rattle.hall.specs.State.{State, opened}
 use Rattle.hall.proofs.hall.Hall.open.Goals as goal
@@ -89,6 +89,17 @@ returns-in-Ok-open-clause-file_fault g c = λ t.
     (λ e f k. late_file (intervals_of c.in-Ok-new.ranges) books.ledger (held e.1) before g.D.Disk.tells (g.D.Disk.reads c.args.disk) e.0 c.in-Ok-open.ensures.sound
     (subst (λ q. IfSome (held q) (λ _. IsRaised (HasStood before) true books.ledger)) (sym k) c.in-Ok-open.ensures.ledger) t f)
     c.over.ensures.fault c.over.ensures.kept
+
+pub returns-in-Ok-open-clause-images : goal.returns-in-Ok-open-clause-images
+returns-in-Ok-open-clause-images g c = λ t.
+    let held = g.K.Keeper.held in
+    let before = g.K.Keeper.may_leave c.args.keeper in
+    let may_leave = g.D.Disk.may_leave in
+    let books = c.in-Ok-open.books in
+    err_two c.over.result _ _ _
+    (λ e f k. late_left books.ledger (held e.1) before e.0 (may_leave c.args.disk) (may_leave e.2) c.in-Ok-open.ensures.sound
+    (subst (λ q. IfSome (held q) (λ _. IsRaised (HasStood before) true books.ledger)) (sym k) c.in-Ok-open.ensures.ledger) f)
+    (c.over.ensures.images t) c.over.ensures.kept
 
 pub returns-clause-file_fault : goal.returns-clause-file_fault
 returns-clause-file_fault g c = λ t.

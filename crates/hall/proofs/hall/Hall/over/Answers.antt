@@ -2,7 +2,8 @@ use Rattle.std.proofs.Common.{inl, refl, ap, subst, ◌∙◌, is_some}
 use Rattle.enq_server.specs.Server.{IsRecovered}
 use Rattle.range_list.specs.Levels.{intervals_of}
 use Rattle.hall.proofs.OpenLists.{recovered_lists}
-use Rattle.hall.proofs.Refused.{ranges_file_counts}
+use Rattle.posting.specs.Views.{open_locks}
+use Rattle.hall.proofs.Refused.{ranges_file_counts, ranges_left}
 use Rattle.hall.specs.State.{opened}
 use Rattle.hall.proofs.hall.Hall.over.Goals as goal
 
@@ -15,6 +16,12 @@ returns-in-Err-clause-file_cause g c =
     let levels = c.args.books.ledger.levels in
     ranges_file_counts (intervals_of c.args.ranges) levels c.ranges_fault_of.result count count
     (c.ranges_fault_of.ensures (intervals_of c.args.ranges) levels c.in-Err.ensures.fault) refl
+
+pub returns-in-Err-clause-images : goal.returns-in-Err-clause-images
+returns-in-Err-clause-images g c = λ t.
+    let levels = c.args.books.ledger.levels in
+    ranges_left (intervals_of c.args.ranges) levels (open_locks c.args.books.ledger) c.ranges_fault_of.result (g.D.Disk.may_leave c.args.disk)
+    (c.ranges_fault_of.ensures (intervals_of c.args.ranges) levels c.in-Err.ensures.fault)
 
 pub first-requires-clause-filed : goal.first-requires-clause-filed
 first-requires-clause-filed g c =

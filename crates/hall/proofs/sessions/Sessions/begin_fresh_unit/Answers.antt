@@ -16,7 +16,7 @@ invariant_of-self c =
           let at = sym (ap option_copied_mut w.in-Some.is) ∙ c.get_mut.ensures.value in
           let is =
           ap (λ s. s.by_name.entries) w.self-inside-is
-          ∙ ap (λ d. (c.get_mut.follows.lender (record x { luw = x.luw + 1; draws = d; lost = false })).entries) w.no_numbers.ensures
+          ∙ ap (λ d. (c.get_mut.follows.lender (record x { luw = x.luw + 1; draws = d; lost = false })).entries) c.no_numbers-no_draws.ensures
           ∙ (c.get_mut.follows.holds (with_fresh_unit x)).0 in
           subst (AreNamed (λ x. x.name)) (sym is) (are_named_changed (λ x. x.name) c.args.name.now es x (with_fresh_unit x) c.self.invariant at refl)
       | in_default w ↦
@@ -33,7 +33,7 @@ returns c =
           let at = sym (ap option_copied_mut w.in-Some.is) ∙ c.get_mut.ensures.value in
           let is =
           ap (λ s. s.by_name.entries) w.self-inside-is
-          ∙ ap (λ d. (c.get_mut.follows.lender (record x { luw = x.luw + 1; draws = d; lost = false })).entries) w.no_numbers.ensures
+          ∙ ap (λ d. (c.get_mut.follows.lender (record x { luw = x.luw + 1; draws = d; lost = false })).entries) c.no_numbers-no_draws.ensures
           ∙ (c.get_mut.follows.holds (with_fresh_unit x)).0 in
           ap values_of is ∙ changed_by_name (λ x. x.name) c.args.name.now with_fresh_unit es x (with_fresh_unit x) c.self.invariant at refl
           ∙ ap (with_session c.args.name.now with_fresh_unit) c.self.view_is

@@ -1,0 +1,171 @@
+-- What a program does whose site was opened, and what it does whose site wasn't.
+use Rattle.std.proofs.Common.{◌≡◌, ◌⊎◌, inl, inr, Bool, ℕ, List, [], Option, Some, None, refl, sym, ap, ◌∙◌, subst, arith}
+use Rattle.std.specs.Prelude.{is_some, IfSome, IsTrue}
+use Rattle.enq_base.specs.Causes.{Rose}
+use Rattle.hall.specs.Filing.{AllRecover, LeavesLists}
+use Rattle.hall.specs.Leaving.{LeavesState, StandForState}
+use Rattle.hall.specs.Kept.{HasOpenUnits}
+use Rattle.hall.specs.Recall.{state_after}
+use Rattle.hall.specs.State.{State, View}
+use Rattle.hall.specs.declared.command.PastEntry.{PastEntry}
+use Rattle.keeper_api.specs.Rows.{Rows}
+use Rattle.landscape.proofs.Limits.{read_limits}
+use Rattle.lock_objects.specs.Objects.{Object}
+use Rattle.script_runner.specs.Replay.{RunsScript, Seen, seen}
+use Rattle.script_runner.specs.Shown.{audit_shown}
+use Rattle.script_runner.specs.declared.runner.Why.{Why}
+use Rattle.script_runner.specs.declared.runner.Why.TheVariants.{Done, BadWords, BadLandscape, BadLine, SourceFault, SinkFault, LongLine, ManyLines, StoreFault, BackupFault, BadStore, BadBackup, NoStart, NoMemory}
+use Rattle.enq_cmd.proofs.Tellings.{HasRun, served_with, where_told}
+use Rattle.enq_cmd.specs.Writing.{WritesText}
+use Rattle.enq_cmd.specs.Main.{EndsComplete, HasLandscape, IsFaultless, IsBadDocument, IsBadStore, IsLandEnd, IsUnfitEnd, IsServed, IsUnopened, IsUntouched, first_state}
+use Rattle.enq_cmd.specs.Loading.{HasLoaded, IsRunEnd, IsSilent, RunsLoad, ShowsCounts, unheard}
+use Rattle.enq_cmd.specs.Opening.{IsLandedAlone, IsOpened, IsUnlanded}
+
+-- an open server, whose calls led to another state, and its devices then
+pub served_by : {K D L : Type 0} (held : K → Option Rows) (may_leave : K → Rows → Type 0) (faults : K → ℕ) (tells : Bool) (reads : D → List ℕ) (images : D → List ℕ → Type 0) (file_faults : D → ℕ)
+    (left : Option (List ℕ)) (keeper : K) (disk : D) (hall : View K D L) (objects : List Object) (o : IsOpened held may_leave faults tells reads file_faults left keeper disk hall objects)
+    (after : View K D L) (keeper_now : K) (disk_now : D) → keeper_now ≡ after.keeper → disk_now ≡ after.file.disk → is_some (held after.keeper) ≡ is_some (held hall.keeper)
+    → LeavesState held may_leave after → LeavesLists tells images after → HasOpenUnits after.state
+    → (known : List Object) (old new : Seen) (past : List PastEntry) (why : Why) → HasRun o.land (is_some (held keeper)) hall.state.stored hall.state after.state known old new past why
+    → (s : IsServed o.land (is_some (held keeper)) (may_leave keeper) (may_leave keeper_now) tells (reads disk) (images disk_now) old new past why) × (after.state ≡ state_after (first_state o.land (is_some (held keeper)) s.stored) s.made)
+served_by held may_leave faults tells reads images file_faults left keeper disk hall objects o after keeper_now disk_now kept kept_disk told leaves lists units known old new past why run =
+    served_with o.land (is_some (held keeper)) hall.state.stored (may_leave keeper) (may_leave keeper_now) tells (reads disk) (images disk_now) hall.state after.state known old new past why
+    (read_limits o.read.bytes o.land o.read.gives)
+    o.sound
+    (λ yes. where_told _ (held hall.keeper) (subst IsTrue (sym o.told) yes) o.stored)
+    o.fits o.table o.filed run
+    (λ yes. subst (λ k. (rows : Rows) → may_leave k rows → StandForState rows after.state) (sym kept) (where_told _ (held after.keeper) (subst IsTrue (sym (told ∙ o.told)) yes) leaves))
+    (subst (λ d. AllRecover tells images after.state.condition after.state.stored after.state.pending (record after.file { disk = d })) (sym kept_disk) lists)
+    units
+
+-- a run of a script in memory, with the devices as they were given and as they are given back
+pub load_run : {K D L : Type 0} (held : K → Option Rows) (may_leave : K → Rows → Type 0) (faults : K → ℕ) (tells : Bool) (reads : D → List ℕ) (file_faults : D → ℕ)
+    (left : Option (List ℕ)) (keeper : K) (disk : D) (hall : View K D L) (objects : List Object) (o : IsOpened held may_leave faults tells reads file_faults left keeper disk hall objects)
+    (after : View K D L) (keeper_now : K) (disk_now : D) → keeper_now ≡ after.keeper → disk_now ≡ after.file.disk
+    → (known : List Object) → known ≡ objects → (past : List PastEntry) → past ≡ after.state.past
+    → (source text : List ℕ) → source ≡ text → (written written_now : Option (List ℕ)) (sink_faults sink_faults_now : ℕ) (why : Why)
+    → (r : RunsLoad known source hall.state after.state (faults hall.keeper) (faults after.keeper) (file_faults hall.file.disk) (file_faults after.file.disk) written written_now sink_faults sink_faults_now why)
+    → HasRun o.land (is_some (held keeper)) hall.state.stored hall.state after.state known (unheard text (faults keeper) (file_faults disk)) (unheard r.rest (faults keeper_now) (file_faults disk_now)) past r.end
+load_run held may_leave faults tells reads file_faults left keeper disk hall objects o after keeper_now disk_now kept kept_disk known same past history source text is written written_now sink_faults sink_faults_now why r =
+    let before = unheard source (faults hall.keeper) (file_faults hall.file.disk) in
+    let behind = unheard r.rest (faults after.keeper) (file_faults after.file.disk) in
+    let old = unheard text (faults keeper) (file_faults disk) in
+    let new = unheard r.rest (faults keeper_now) (file_faults disk_now) in
+    let from : before ≡ old = (λ i. unheard (is i) (o.counts i) (o.file_counts i)) in
+    let to : behind ≡ new = (λ i. unheard r.rest (faults (sym kept i)) (file_faults (sym kept_disk i))) in
+    record {
+      first = o.first;
+      known = same ∙ o.known;
+      history = history;
+      runs = subst (λ s. RunsScript known hall.state after.state s new r.end) from (subst (λ s. RunsScript known hall.state after.state before s r.end) to r.runs);
+      complete = λ bytes left script calm. r.complete bytes (ap (λ x. x.left) from ∙ left) script (subst (λ s. IsFaultless s behind) (sym from) (subst (λ s. IsFaultless old s) (sym to) calm));
+    }
+
+-- no device of a script in memory, and none of these, failed
+pub calm_load : (text rest : List ℕ) (store store_now file file_now : ℕ) → (Rose store store_now → ⊥) → (Rose file file_now → ⊥) → IsFaultless (unheard text store file) (unheard rest store_now file_now)
+calm_load text rest store store_now file file_now kept still = record { source = λ rose. omega (arith, rose); sink = λ rose. omega (arith, rose); store = kept; file = still }
+
+counts_end : (may_be : Rows → Type 0) (old new : Option (List ℕ)) (before now : ℕ) (text : List ℕ) (why : Why) → WritesText old new before now text why → (Rose before now → ⊥) → EndsComplete may_be why
+counts_end may_be old new before now text Done h quiet = inl refl
+counts_end may_be old new before now text SinkFault h quiet = absurd (quiet h.1)
+counts_end may_be old new before now text NoMemory h quiet = inr (inl refl)
+counts_end may_be old new before now text BadWords h quiet = absurd h
+counts_end may_be old new before now text (BadLandscape rule place) h quiet = absurd h
+counts_end may_be old new before now text (BadLine n) h quiet = absurd h
+counts_end may_be old new before now text SourceFault h quiet = absurd h
+counts_end may_be old new before now text (LongLine n) h quiet = absurd h
+counts_end may_be old new before now text ManyLines h quiet = absurd h
+counts_end may_be old new before now text (StoreFault k) h quiet = absurd h
+counts_end may_be old new before now text (BackupFault k) h quiet = absurd h
+counts_end may_be old new before now text (BadStore table row) h quiet = absurd h
+counts_end may_be old new before now text (BadBackup place) h quiet = absurd h
+counts_end may_be old new before now text NoStart h quiet = absurd h
+
+-- where a run is done, and its counts are written by a sink that doesn't fail, the program is done
+pub load_ends : (may_be : Rows → Type 0) (end why : Why) (after : State) (old new : Option (List ℕ)) (before now : ℕ) → EndsComplete may_be end → ShowsCounts end after old new before now why → (Rose before now → ⊥) → EndsComplete may_be why
+load_ends may_be end why after old new before now (inl done) shown quiet =
+    counts_end may_be old new before now (audit_shown 0 after) why (subst (λ e. ShowsCounts e after old new before now why) done shown) quiet
+load_ends may_be end why after old new before now (inr (inl memory)) shown quiet =
+    let silent : IsSilent NoMemory old new before now why = subst (λ e. ShowsCounts e after old new before now why) memory shown in inr (inl silent.0)
+load_ends may_be end why after old new before now (inr (inr last)) shown quiet =
+    let silent : IsSilent NoStart old new before now why = subst (λ e. ShowsCounts e after old new before now why) last.0 shown in inr (inr (silent.0, last.1))
+
+-- a site of which no server came, beside a script and a sink that nobody touched
+pub unserved : {S T K D : Type 0} (held : K → Option Rows) (may_leave : K → Rows → Type 0) (faults : K → ℕ) (tells : Bool) (bytes : List ℕ) (images : D → List ℕ → Type 0) (file_faults : D → ℕ)
+    (left : Option (List ℕ)) (before now : ℕ) (script : S) (sink : T) (keeper keeper_now : K) (disk disk_now : D) (rest written : Option (List ℕ)) (source_faults sink_faults : ℕ) (past : List PastEntry) (why : Why)
+    → past ≡ []
+    → IsUnlanded before now keeper keeper_now disk disk_now why ⊎ IsLandedAlone held may_leave faults tells images file_faults left keeper keeper_now disk disk_now why
+    → HasLandscape left (is_some (held keeper)) (may_leave keeper) (may_leave keeper_now) tells bytes images disk disk_now
+    (seen rest written source_faults sink_faults (faults keeper) (file_faults disk)) (seen rest written source_faults sink_faults (faults keeper_now) (file_faults disk_now)) past why
+    ⊎ (IsLandEnd before now why × IsUntouched script script sink sink keeper keeper_now disk disk_now past)
+unserved held may_leave faults tells bytes images file_faults left before now script sink keeper keeper_now disk disk_now rest written source_faults sink_faults past why none (inl u) =
+    inr (u.end, record { reading = refl; writing = refl; storing = u.storing; filing = u.filing; none = none })
+unserved held may_leave faults tells bytes images file_faults left before now script sink keeper keeper_now disk disk_now rest written source_faults sink_faults past why none (inr a) =
+    inl (record {
+      land = a.land;
+      read = a.read;
+      serves = inr (subst (λ p. IsUnopened (is_some (held keeper)) (may_leave keeper) (may_leave keeper_now) tells images disk disk_now
+          (seen rest written source_faults sink_faults (faults keeper) (file_faults disk)) (seen rest written source_faults sink_faults (faults keeper_now) (file_faults disk_now)) p why) (sym none)
+          (a.unopened rest written source_faults sink_faults));
+    })
+
+-- the same of one whose script is made from a number
+pub unloaded : {T K D : Type 0} (held : K → Option Rows) (may_leave : K → Rows → Type 0) (faults : K → ℕ) (tells : Bool) (bytes : List ℕ) (images : D → List ℕ → Type 0) (file_faults : D → ℕ)
+    (units : ℕ) (left : Option (List ℕ)) (before now : ℕ) (sink : T) (keeper keeper_now : K) (disk disk_now : D) (written : Option (List ℕ)) (sink_faults : ℕ) (past : List PastEntry) (why : Why)
+    → past ≡ []
+    → IsUnlanded before now keeper keeper_now disk disk_now why ⊎ IsLandedAlone held may_leave faults tells images file_faults left keeper keeper_now disk disk_now why
+    → HasLoaded units left (is_some (held keeper)) (may_leave keeper) (may_leave keeper_now) tells bytes images disk disk_now
+    (seen None written 0 sink_faults (faults keeper) (file_faults disk)) (seen None written 0 sink_faults (faults keeper_now) (file_faults disk_now)) past why
+    ⊎ (IsLandEnd before now why × (sink ≡ sink) × (keeper_now ≡ keeper) × (disk_now ≡ disk) × (past ≡ []))
+unloaded held may_leave faults tells bytes images file_faults units left before now sink keeper keeper_now disk disk_now written sink_faults past why none (inl u) =
+    inr (u.end, refl, u.storing, u.filing, none)
+unloaded held may_leave faults tells bytes images file_faults units left before now sink keeper keeper_now disk disk_now written sink_faults past why none (inr a) =
+    inl (record {
+      land = a.land;
+      read = a.read;
+      loads = inr (subst (λ p. IsUnopened (is_some (held keeper)) (may_leave keeper) (may_leave keeper_now) tells images disk disk_now
+          (seen None written 0 sink_faults (faults keeper) (file_faults disk)) (seen None written 0 sink_faults (faults keeper_now) (file_faults disk_now)) p why) (sym none)
+          (a.unopened None written 0 sink_faults));
+    })
+
+-- the same of the number that the words name, and of a script that nobody touched
+pub loaded_as : {S T K D : Type 0} (m n : ℕ) → m ≡ n → (left : Option (List ℕ)) (told : Bool) (before after : Rows → Type 0) (tells : Bool) (bytes : List ℕ) (images : D → List ℕ → Type 0) (disk disk_now : D) (old new : Seen)
+    (faults faults_now : ℕ) (script script_now : S) (sink sink_now : T) (keeper keeper_now : K) (past : List PastEntry) (why : Why) → script_now ≡ script
+    → HasLoaded m left told before after tells bytes images disk disk_now old new past why ⊎ (IsLandEnd faults faults_now why × (sink_now ≡ sink) × (keeper_now ≡ keeper) × (disk_now ≡ disk) × (past ≡ []))
+    → HasLoaded n left told before after tells bytes images disk disk_now old new past why ⊎ (IsLandEnd faults faults_now why × IsUntouched script script_now sink sink_now keeper keeper_now disk disk_now past)
+loaded_as m n same left told before after tells bytes images disk disk_now old new faults faults_now script script_now sink sink_now keeper keeper_now past why still (inl h) =
+    inl (subst (λ k. HasLoaded k left told before after tells bytes images disk disk_now old new past why) same h)
+loaded_as m n same left told before after tells bytes images disk disk_now old new faults faults_now script script_now sink sink_now keeper keeper_now past why still (inr h) =
+    inr (h.0, record { reading = still; writing = h.1; storing = h.2; filing = h.3; none = h.4 })
+
+-- ---- the ends of a run
+
+by_run : (P : Why → Type 0) (why : Why) → IsRunEnd why → P Done → ((n : ℕ) → P (BadLine n)) → P SourceFault → P SinkFault → ((n : ℕ) → P (LongLine n)) → P ManyLines → ((k : ℕ) → P (StoreFault k)) → ((k : ℕ) → P (BackupFault k)) → P NoMemory → P why
+by_run P Done h done bad source sink long many store file memory = done
+by_run P BadWords h done bad source sink long many store file memory = absurd h
+by_run P (BadLandscape rule place) h done bad source sink long many store file memory = absurd h
+by_run P (BadLine n) h done bad source sink long many store file memory = bad n
+by_run P SourceFault h done bad source sink long many store file memory = source
+by_run P SinkFault h done bad source sink long many store file memory = sink
+by_run P (LongLine n) h done bad source sink long many store file memory = long n
+by_run P ManyLines h done bad source sink long many store file memory = many
+by_run P (StoreFault k) h done bad source sink long many store file memory = store k
+by_run P (BackupFault k) h done bad source sink long many store file memory = file k
+by_run P (BadStore table row) h done bad source sink long many store file memory = absurd h
+by_run P (BadBackup place) h done bad source sink long many store file memory = absurd h
+by_run P NoStart h done bad source sink long many store file memory = absurd h
+by_run P NoMemory h done bad source sink long many store file memory = memory
+
+some_of : {A : Type 0} (P : A → Type 0) (o : Option A) → ((x : A) → P x) → IfSome o P
+some_of P None h = tt
+some_of P (Some x) h = h x
+
+-- none of them tells a rule, a bad place or a last start
+pub run_unfit : (o : Option Rows) (left : Option (List ℕ)) (may_be : Rows → Type 0) (why : Why) → IsRunEnd why → IfSome o (λ _. IsUnfitEnd left may_be why)
+run_unfit o left may_be why h = some_of _ o (λ rows. by_run (IsUnfitEnd left may_be) why h tt (λ n. tt) tt tt (λ n. tt) tt (λ k. tt) (λ k. tt) tt)
+
+pub run_place : (o : Option Rows) (why : Why) → IsRunEnd why → IfSome o (λ rows. IsBadStore rows why)
+run_place o why h = some_of _ o (λ rows. by_run (IsBadStore rows) why h tt (λ n. tt) tt tt (λ n. tt) tt (λ k. tt) (λ k. tt) tt)
+
+pub run_document : (why : Why) → IsRunEnd why → IsBadDocument why → ⊥
+run_document why h = by_run (λ w. IsBadDocument w → ⊥) why h (λ d. d) (λ n d. d) (λ d. d) (λ d. d) (λ n d. d) (λ d. d) (λ k d. d) (λ k d. d) (λ d. d)

@@ -1,0 +1,47 @@
+use Rattle.std.proofs.Common.{◌≡◌, inl, sym, ◌∙◌}
+use Rattle.std.specs.Prelude.{is_some}
+use Rattle.script_runner.specs.Replay.{seen}
+use Rattle.enq_cmd.proofs.Served.{served_by, unserved}
+use Rattle.enq_cmd.proofs.Tellings.{HasRun, served_seen}
+use Rattle.enq_cmd.proofs.replaying.replay_site.Goals as goal
+
+pub returns-in-Ok-clause-served : goal.returns-in-Ok-clause-served
+returns-in-Ok-clause-served g c =
+    let source = g.S.Source in
+    let sink = g.T.Sink in
+    let held = g.K.Keeper.held in
+    let may_leave = g.K.Keeper.may_leave in
+    let faults = g.K.Keeper.faults in
+    let disk_faults = g.D.Disk.faults in
+    let o = c.in-Ok.ensures.opened in
+    let kept = c.make_ended.ensures.keeper ∙ c.into_site-keeper.ensures.keeper in
+    let kept_disk = c.make_ended.ensures.disk ∙ c.into_site-keeper.ensures.disk in
+    let t = is_some (held c.args.site.keeper) in
+    let run : HasRun o.land t _ _ _ _ _ _ _ _ = record {
+      first = o.first;
+      known = c.as_slice.ensures ∙ o.known;
+      history = c.make_ended.ensures.past ∙ c.into_site-keeper.ensures.past;
+      runs = c.replay-why.ensures.run;
+      complete = λ bytes left script calm. c.replay-why.ensures.complete bytes left script calm.source calm.sink calm.store calm.file;
+    } in
+    let from : seen _ _ _ _ (faults c.in-Ok.hall.keeper) (disk_faults c.in-Ok.hall.file.disk) ≡ seen _ _ _ _ (faults c.args.site.keeper) (disk_faults c.args.site.disk) =
+    (λ i. seen (source.left c.args.script.now) (sink.written c.args.sink.now) (source.faults c.args.script.now) (sink.faults c.args.sink.now) (o.counts i) (o.file_counts i)) in
+    let to : seen _ _ _ _ (faults c.replay-why.new.hall.keeper) (disk_faults c.replay-why.new.hall.file.disk) ≡ seen _ _ _ _ (faults c.make_ended.result.site.keeper) (disk_faults c.make_ended.result.site.disk) =
+    (λ i. seen (source.left c.replay-why.new.source) (sink.written c.replay-why.new.sink) (source.faults c.replay-why.new.source) (sink.faults c.replay-why.new.sink) (faults (sym kept i)) (disk_faults (sym kept_disk i))) in
+    let served = served_by held may_leave faults g.D.Disk.tells g.D.Disk.reads g.D.Disk.may_leave disk_faults _ c.args.site.keeper c.args.site.disk c.in-Ok.hall c.in-Ok.objects o
+    c.replay-why.new.hall c.make_ended.result.site.keeper c.make_ended.result.site.disk kept kept_disk c.replay-why.ensures.told
+    c.into_site-keeper.ensures.left c.into_site-keeper.ensures.lists c.into_site-keeper.ensures.open_units _ _ _ _ _ run in
+    inl (record {
+      land = o.land;
+      read = o.read;
+      serves = inl (served_seen o.land t (may_leave c.args.site.keeper) (may_leave c.make_ended.result.site.keeper) g.D.Disk.tells (g.D.Disk.reads c.args.site.disk) (g.D.Disk.may_leave c.make_ended.result.site.disk) _ _ _ _ _ _ _ from to (sym c.make_ended.ensures.why) served.0);
+    })
+
+pub returns-in-Err-clause-served : goal.returns-in-Err-clause-served
+returns-in-Err-clause-served g c =
+    unserved g.K.Keeper.held g.K.Keeper.may_leave g.K.Keeper.faults g.D.Disk.tells (g.D.Disk.reads c.args.site.disk) g.D.Disk.may_leave g.D.Disk.faults _ _ _ c.args.script.now c.args.sink.now
+    c.args.site.keeper c.in-Err.ended.site.keeper c.args.site.disk c.in-Err.ended.site.disk _ _ _ _ _ _ c.in-Err.ensures.past c.in-Err.ensures.unserved
+
+pub returns-in-Err-clause-complete : goal.returns-in-Err-clause-complete
+returns-in-Err-clause-complete g c bytes left script document told_document other gives told good fit tells file steady calm quiet kept still =
+    c.in-Err.ensures.complete document told_document other gives told good fit tells file steady kept still

@@ -1,0 +1,126 @@
+ghost use Rattle.std.specs.Prelude.{◌≡◌, ◌≢◌, ◌⊎◌, ◌≤◌, ℕ, List, [], None, Some, Ok, IfOk, IfSome, is_some, IsTrue};
+ghost use Rattle.enq_base.specs.Causes.{Rose};
+ghost use Rattle.enq_cmd.specs.Loading.{HasLoaded, IsRunEnd, RunsLoad, end_of};
+ghost use Rattle.enq_cmd.specs.Main.{EndsComplete, FitAll, HasNoStart, IsBadDocument, IsBadStore, IsFirstBroken, IsGoodFile, IsLandEnd, IsUnfitEnd, status_of};
+ghost use Rattle.keeper_api.specs.Rows.{Rows};
+ghost use Rattle.landscape.specs.Landscape.{landscape_of};
+ghost use Rattle.landscape.specs.declared.landscape.Landscape.{Landscape};
+ghost use Rattle.load_gen.specs.Script.{script_of};
+ghost use Rattle.script_runner.specs.LineFaults.{IsToBlame};
+ghost use Rattle.script_runner.specs.Replay.{HasDoubtCause, seen};
+ghost use Rattle.update_records.specs.Ledger.{IsGood};
+
+use crate::blind_sink::BlindSink;
+use crate::ends::{left_alone, make_ended};
+use crate::opening::open_hall;
+use crate::{Ended, Site};
+use bk_disk::Disk;
+use enq_base::NoMemory;
+use hall::Hall;
+use io_edge::{Sink, Source, SureSource};
+use keeper_api::Keeper;
+use load_gen::script_of;
+use lock_index::IndexTable;
+use lock_objects::LockObject;
+use replica_link::Link;
+use script_runner::{Why, replay, write_audit};
+use std::alloc::Global;
+
+/// Opens the site with its landscape, does the script of so many units, and writes the counts of the server behind it.
+pub(crate) fn load_site<A: Source, T: Sink, K: Keeper, D: Disk, L: Link>(
+    alloc: Global,
+    landscape: &mut A,
+    units: u32,
+    sink: &mut T,
+    site: Site<K, D, L>,
+) -> Ended<K, D, L>
+    requires count { units ≤ 10000 }
+    ensures status { result.status ≡ status_of result.why }
+    ensures words { result.why ≢ Why.BadWords }
+    ensures loaded { HasLoaded units (A.left landscape.old) (is_some (K.held site.keeper)) (K.may_leave site.keeper) (K.may_leave result.site.keeper)
+        D.tells (D.reads site.disk) D.may_leave site.disk result.site.disk
+        (seen None (T.written sink.old) 0 (T.faults sink.old) (K.faults site.keeper) (D.faults site.disk))
+        (seen None (T.written sink.new) 0 (T.faults sink.new) (K.faults result.site.keeper) (D.faults result.site.disk))
+        result.past result.why
+        ⊎ (IsLandEnd (A.faults landscape.old) (A.faults landscape.new) result.why × (sink.new ≡ sink.old)
+        × (result.site.keeper ≡ site.keeper) × (result.site.disk ≡ site.disk) × (result.past ≡ [])) }
+    ensures told { is_some (K.held result.site.keeper) ≡ is_some (K.held site.keeper) }
+    ensures broken_rule { (bytes : List ℕ) → A.left landscape.old ≡ Some bytes → IsFirstBroken bytes result.why }
+    ensures unfit_interval { IfSome (K.held result.site.keeper)
+        (λ _. IsUnfitEnd (A.left landscape.old) (K.may_leave site.keeper) result.why) }
+    ensures no_landing { (A.faults landscape.new ≢ A.faults landscape.old) ⊎ IsBadDocument result.why
+        → (sink.new ≡ sink.old) × (result.site.keeper ≡ site.keeper) × (result.site.disk ≡ site.disk) × (result.past ≡ []) }
+    // No line of the script is to blame.
+    ensures line_fault { (bytes : List ℕ) → IsToBlame result.why bytes }
+    ensures complete { (document : List ℕ) → A.left landscape.old ≡ Some document → (land : Landscape) → landscape_of document ≡ Ok land
+        → IsTrue (is_some (K.held site.keeper)) → ((rows : Rows) → K.may_leave site.keeper rows → IsGood rows)
+        → FitAll land (K.may_leave site.keeper)
+        → IsTrue D.tells → IsGoodFile (K.may_leave site.keeper) (D.reads site.disk)
+        → ¬ Rose (A.faults landscape.old) (A.faults landscape.new) → ¬ Rose (T.faults sink.old) (T.faults sink.new)
+        → ¬ Rose (K.faults site.keeper) (K.faults result.site.keeper)
+        → ¬ Rose (D.faults site.disk) (D.faults result.site.disk)
+        → EndsComplete (K.may_leave site.keeper) result.why }
+    ensures source_fault { result.why ≡ Why.SourceFault → Rose (A.faults landscape.old) (A.faults landscape.new) }
+    ensures sink_fault { result.why ≡ Why.SinkFault → Rose (T.faults sink.old) (T.faults sink.new) }
+    ensures store_fault { (call : ℕ) → result.why ≡ Why.StoreFault call → Rose (K.faults site.keeper) (K.faults result.site.keeper) }
+    ensures backup_fault { (call : ℕ) → result.why ≡ Why.BackupFault call → Rose (D.faults site.disk) (D.faults result.site.disk) }
+    ensures bad_store { IfSome (K.held result.site.keeper) (λ rows. IsBadStore rows result.why) }
+    ensures no_start { IfSome (K.held result.site.keeper) (λ rows. HasNoStart rows result.why) }
+{
+    let Ok(mut source) = source_of(alloc, units) else {
+        return left_alone(alloc, Why::NoMemory, site);
+    };
+    match open_hall(alloc, landscape, site) {
+        Ok((mut hall, objects)) => {
+            let why = load(alloc, &mut source, sink, &mut hall, objects.as_slice());
+            let (keeper, disk, link, past) = hall.into_site();
+            make_ended(why, past, keeper, disk, link)
+        }
+        Err(ended) => ended,
+    }
+}
+
+/// The script of so many units, in memory.
+fn source_of(alloc: Global, units: u32) -> Result<SureSource, NoMemory>
+    ensures { IfOk result (λ source. source ≡ script_of units) }
+{
+    SureSource::new(script_of(alloc, units)?)
+}
+
+/// Does a script in memory, whose replies nobody reads. Where it was done to its end the counts of the server are written, as
+/// the answer of line 0.
+fn load<T: Sink, K: Keeper, D: Disk, L: Link>(
+    alloc: Global,
+    source: &mut SureSource,
+    sink: &mut T,
+    hall: &mut Hall<IndexTable, K, D, L>,
+    objects: &[LockObject],
+) -> Why
+    ensures run { RunsLoad objects.now source.old hall.old.state hall.new.state (K.faults hall.old.keeper) (K.faults hall.new.keeper)
+        (D.faults hall.old.file.disk) (D.faults hall.new.file.disk)
+        (T.written sink.old) (T.written sink.new) (T.faults sink.old) (T.faults sink.new) result }
+    ensures kind { IsRunEnd result }
+    ensures line_fault { IsToBlame result source.old }
+    ensures source_fault { result ≢ Why.SourceFault }
+    ensures sink_fault { result ≡ Why.SinkFault → Rose (T.faults sink.old) (T.faults sink.new) }
+    ensures store_fault { (k : ℕ) → result ≡ Why.StoreFault k
+        → HasDoubtCause hall.old.state k (K.faults hall.old.keeper) (K.faults hall.new.keeper) }
+    ensures backup_fault { (k : ℕ) → result ≡ Why.BackupFault k
+        → HasDoubtCause hall.old.state k (D.faults hall.old.file.disk) (D.faults hall.new.file.disk) }
+    ensures told { is_some (K.held hall.new.keeper) ≡ is_some (K.held hall.old.keeper) }
+{
+    match replay(alloc, source, &mut BlindSink, hall, objects) {
+        Why::Done => end_of(write_audit(alloc, 0, hall, sink)),
+        why => why,
+    }
+}
+
+/// Why the program ends behind its script.
+fn end_of(written: Result<(), Why>) -> Why
+    ensures { result ≡ end_of written }
+{
+    match written {
+        Ok(()) => Why::Done,
+        Err(why) => why,
+    }
+}

@@ -1,0 +1,76 @@
+ghost use Rattle.std.specs.Prelude.{◌≡◌, ◌≢◌, ◌⊎◌, ℕ, List, Some, Ok, Err, IfSome, is_some, IsTrue};
+ghost use Rattle.enq_base.specs.Causes.{Rose};
+ghost use Rattle.enq_cmd.specs.Main.{EndsComplete, FitAll, HasLandscape, HasNoStart, IsBadDocument, IsBadStore, IsFirstBroken, IsGoodFile, IsLandEnd, IsUnfitEnd, IsUntouched, TellsBroken, status_of};
+ghost use Rattle.keeper_api.specs.Rows.{Rows};
+ghost use Rattle.landscape.specs.Broken.{Broken};
+ghost use Rattle.landscape.specs.Landscape.{landscape_of};
+ghost use Rattle.landscape.specs.declared.landscape.Landscape.{Landscape};
+ghost use Rattle.script_runner.specs.LineFaults.{IsToBlame};
+ghost use Rattle.script_runner.specs.Replay.{seen};
+ghost use Rattle.script_runner.specs.Whole.{IsScript};
+ghost use Rattle.update_records.specs.Ledger.{IsGood};
+
+use crate::ends::make_ended;
+use crate::opening::open_hall;
+use crate::{Ended, Site};
+use bk_disk::Disk;
+use io_edge::{Sink, Source};
+use keeper_api::Keeper;
+use replica_link::Link;
+use script_runner::{Why, replay};
+use std::alloc::Global;
+
+/// Opens the site with its landscape, and does the script line by line.
+pub(crate) fn replay_site<A: Source, S: Source, T: Sink, K: Keeper, D: Disk, L: Link>(
+    alloc: Global,
+    landscape: &mut A,
+    script: &mut S,
+    sink: &mut T,
+    site: Site<K, D, L>,
+) -> Ended<K, D, L>
+    ensures status { result.status ≡ status_of result.why }
+    ensures words { result.why ≢ Why.BadWords }
+    ensures served { HasLandscape (A.left landscape.old) (is_some (K.held site.keeper)) (K.may_leave site.keeper) (K.may_leave result.site.keeper)
+        D.tells (D.reads site.disk) D.may_leave site.disk result.site.disk
+        (seen (S.left script.old) (T.written sink.old) (S.faults script.old) (T.faults sink.old) (K.faults site.keeper) (D.faults site.disk))
+        (seen (S.left script.new) (T.written sink.new) (S.faults script.new) (T.faults sink.new) (K.faults result.site.keeper) (D.faults result.site.disk))
+        result.past result.why
+        ⊎ (IsLandEnd (A.faults landscape.old) (A.faults landscape.new) result.why
+        × IsUntouched script.old script.new sink.old sink.new site.keeper result.site.keeper site.disk result.site.disk result.past) }
+    ensures told { is_some (K.held result.site.keeper) ≡ is_some (K.held site.keeper) }
+    ensures bad_landscape { (bytes : List ℕ) → A.left landscape.old ≡ Some bytes
+        → (broken : Broken) → landscape_of bytes ≡ Err broken
+        → TellsBroken broken (A.faults landscape.old) (A.faults landscape.new) result.why }
+    ensures broken_rule { (bytes : List ℕ) → A.left landscape.old ≡ Some bytes → IsFirstBroken bytes result.why }
+    ensures unfit_interval { IfSome (K.held result.site.keeper)
+        (λ _. IsUnfitEnd (A.left landscape.old) (K.may_leave site.keeper) result.why) }
+    ensures no_landing { (A.faults landscape.new ≢ A.faults landscape.old) ⊎ IsBadDocument result.why
+        → IsUntouched script.old script.new sink.old sink.new site.keeper result.site.keeper site.disk result.site.disk result.past }
+    ensures line_fault { (bytes : List ℕ) → S.left script.old ≡ Some bytes → IsToBlame result.why bytes }
+    ensures complete { (bytes : List ℕ) → S.left script.old ≡ Some bytes → IsScript bytes
+        → (document : List ℕ) → A.left landscape.old ≡ Some document → (land : Landscape) → landscape_of document ≡ Ok land
+        → IsTrue (is_some (K.held site.keeper)) → ((rows : Rows) → K.may_leave site.keeper rows → IsGood rows)
+        → FitAll land (K.may_leave site.keeper)
+        → IsTrue D.tells → IsGoodFile (K.may_leave site.keeper) (D.reads site.disk)
+        → ¬ Rose (A.faults landscape.old) (A.faults landscape.new)
+        → ¬ Rose (S.faults script.old) (S.faults script.new) → ¬ Rose (T.faults sink.old) (T.faults sink.new)
+        → ¬ Rose (K.faults site.keeper) (K.faults result.site.keeper)
+        → ¬ Rose (D.faults site.disk) (D.faults result.site.disk)
+        → EndsComplete (K.may_leave site.keeper) result.why }
+    ensures source_fault { result.why ≡ Why.SourceFault
+        → Rose (A.faults landscape.old) (A.faults landscape.new) ⊎ Rose (S.faults script.old) (S.faults script.new) }
+    ensures sink_fault { result.why ≡ Why.SinkFault → Rose (T.faults sink.old) (T.faults sink.new) }
+    ensures store_fault { (call : ℕ) → result.why ≡ Why.StoreFault call → Rose (K.faults site.keeper) (K.faults result.site.keeper) }
+    ensures backup_fault { (call : ℕ) → result.why ≡ Why.BackupFault call → Rose (D.faults site.disk) (D.faults result.site.disk) }
+    ensures bad_store { IfSome (K.held result.site.keeper) (λ rows. IsBadStore rows result.why) }
+    ensures no_start { IfSome (K.held result.site.keeper) (λ rows. HasNoStart rows result.why) }
+{
+    match open_hall(alloc, landscape, site) {
+        Ok((mut hall, objects)) => {
+            let why = replay(alloc, script, sink, &mut hall, objects.as_slice());
+            let (keeper, disk, link, past) = hall.into_site();
+            make_ended(why, past, keeper, disk, link)
+        }
+        Err(ended) => ended,
+    }
+}

@@ -1,7 +1,0 @@
-use Rattle.std.proofs.Common.{◌∙◌}
-use Rattle.store_reading.proofs.Batches.{one_put}
-use Rattle.script_tests.proofs.starts.put_row.Goals as goal
-
-pub room-requires-clause-batch : goal.room-requires-clause-batch
-room-requires-clause-batch c =
-    one_put c.as_slice.result.now _ _ c.args.key.now _ _ (c.as_slice.ensures.value ∙ c.in_ok-batch.ensures.items) (c.from_vec.ensures ∙ c.in_ok-from_slice.ensures.items) c.is_empty.ensures c.if-is_empty.false

@@ -1,0 +1,153 @@
+use crate::runs::{LANDSCAPE, empty_disk, empty_store, new_link, source_of};
+use enq_base::Items;
+use enq_cmd::{Site, Why, enqueue_main};
+use io_edge::MemSink;
+use std::alloc::Global;
+use std::process::Abort;
+use std::test::*;
+
+// The words of a command line, which writes fail, how the program then ends, after so many calls of the hall, and what it
+// has written.
+struct Row {
+    words: &'static [u8],
+    writes: &'static [u64],
+    why: Why,
+    status: u8,
+    calls: usize,
+    text: &'static [u8],
+}
+
+const ROWS: [Row; 5] = [
+    Row {
+        words: b"gen 1",
+        writes: &[],
+        why: Why::Done,
+        status: 0,
+        calls: 0,
+        text: b"S1 LOGON U1\n\
+            S2 LOGON U2\n\
+            S3 LOGON U3\n\
+            S4 LOGON U4\n\
+            S1 ENQ EZORDER E 2 MANDT=100 ORDNR=0000000001\n\
+            S1 NUM ZORDNR 01 N\n\
+            S1 V1 INS VBAK $N ORDER 1\n\
+            S1 V1 INS VBAP $N-10 ITEM 1\n\
+            S1 V2 ADD STAT ORDERS 1\n\
+            S1 COMMIT\n\
+            @1 TAKE1\n\
+            @1 DO1\n\
+            @1 TAKE2\n\
+            @1 DO2\n",
+    },
+    Row {
+        words: b"gen 1",
+        writes: &[1],
+        why: Why::SinkFault,
+        status: 6,
+        calls: 0,
+        text: b"",
+    },
+    Row {
+        words: b"load 3",
+        writes: &[],
+        why: Why::Done,
+        status: 0,
+        calls: 25,
+        text: b"0 UNITS 3 OPEN 0 POSTED 0 BAD 0 CLOSED 3 BAD2 0 CANCELLED 0 MARKS 9 NUMBERS 3\n0 END\n",
+    },
+    Row {
+        words: b"load 1",
+        writes: &[1],
+        why: Why::SinkFault,
+        status: 6,
+        calls: 11,
+        text: b"",
+    },
+    Row {
+        words: b"load 1000",
+        writes: &[],
+        why: Why::Done,
+        status: 0,
+        calls: 7004,
+        text: b"0 UNITS 1000 OPEN 0 POSTED 0 BAD 0 CLOSED 1000 BAD2 0 CANCELLED 0 MARKS 3000 NUMBERS 1000\n0 END\n",
+    },
+];
+
+const BAD_WORDS: [&[u8]; 12] = [
+    b"gen",
+    b"load",
+    b"gen 0",
+    b"load 0",
+    b"gen 01",
+    b"load +1",
+    b"load -1",
+    b"gen 10001",
+    b"load 10001",
+    b"gen 1 2",
+    b"Gen 1",
+    b"replay 1",
+];
+
+fn words_of(alloc: Global, text: &[u8]) -> Result<Vec<Items<u8>>, Fail> {
+    let mut words = Vec::new(alloc);
+    for word in text.split(|byte| *byte == b' ') {
+        words.push(Items::from_vec(word.to_vec(alloc)?))?;
+    }
+    Ok(words)
+}
+
+// What was written, how many calls were made, and how it ended.
+#[derive(Drop)]
+struct Run {
+    replies: Vec<u8>,
+    calls: usize,
+    why: Why,
+    status: u8,
+}
+
+// Does these words, with a script that nobody is to read.
+fn run_row(alloc: Global, text: &[u8], writes: &[u64]) -> Result<Run, Fail> {
+    let words = words_of(alloc, text)?;
+    let mut landscape = source_of(alloc, LANDSCAPE.as_bytes(), &[])?;
+    let mut script = source_of(alloc, b"A LOGON MILLER\n", &[])?;
+    let mut sink = MemSink::new(alloc, writes.to_vec(alloc)?)?;
+    let site = Site {
+        keeper: empty_store(alloc)?,
+        disk: empty_disk(alloc)?,
+        link: new_link(alloc)?,
+    };
+    let words = words.as_slice();
+    let ended = enqueue_main(alloc, words, &mut landscape, &mut script, &mut sink, site);
+    Ok(Run {
+        replies: sink.bytes().to_vec(alloc)?,
+        calls: ended.past.as_slice().len(),
+        why: ended.why,
+        status: ended.status,
+    })
+}
+
+fn ends_so(rt: &impl Abort, alloc: Global, row: &Row) -> Result<(), Fail> {
+    let run = run_row(alloc, row.words, row.writes)?;
+    assert_eq!(rt; run.replies.as_slice(), row.text);
+    assert_eq!(rt; run.why, row.why);
+    assert_eq!(rt; (run.status, run.calls), (row.status, row.calls));
+    Ok(())
+}
+
+#[test]
+fn scripts_are_written_and_done(rt: HostRuntime) -> Result<(), Fail> {
+    for row in &ROWS {
+        ends_so(&rt, rt.alloc(), row)?;
+    }
+    Ok(())
+}
+
+#[test]
+fn other_numbers_of_units_are_refused(rt: HostRuntime) -> Result<(), Fail> {
+    let alloc = rt.alloc();
+    for words in BAD_WORDS {
+        let run = run_row(alloc, words, &[])?;
+        assert_eq!(rt; (run.status, run.calls, run.replies.len()), (2, 0, 0));
+    }
+    Ok(())
+}
