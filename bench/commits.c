@@ -1,12 +1,17 @@
 /* Makes the commits that enqd makes for so many units of one lock and one put, with libsqlite3: two commits a unit, with
-   write-ahead log and full sync. Usage: commits PATH UNITS */
+   write-ahead log and full sync. Before the first of them it adds the unit's lock to a log beside the database, and behind
+   the second that it is gone: a record and a closed gate, a sync, the open gate, a sync. Usage: commits PATH UNITS */
+#include <fcntl.h>
 #include <sqlite3.h>
 #include <stdint.h>
 #include <stdio.h>
 #include <stdlib.h>
 #include <string.h>
+#include <unistd.h>
 
 static sqlite3 *db;
+static int log_file;
+static off_t log_end = 8;
 static sqlite3_stmt *put;
 
 static void check(int code, int wanted) {
@@ -81,6 +86,22 @@ static void commit_post(uint32_t n, const uint8_t *unit) {
     run("COMMIT");
 }
 
+static void sync_at(off_t at, const uint8_t *bytes, size_t length) {
+    if (pwrite(log_file, bytes, length, at) != (ssize_t)length || fdatasync(log_file) != 0) {
+        perror("commits");
+        exit(1);
+    }
+}
+
+/* One record of the log: its gate is opened once it is on the disk. */
+static void add_record(size_t length) {
+    uint8_t record[80] = {0};
+    uint8_t open = 1;
+    sync_at(log_end + 1, record, length + 1);
+    sync_at(log_end, &open, 1);
+    log_end += 1 + (off_t)length;
+}
+
 int main(int argc, char **argv) {
     if (argc != 3) {
         fprintf(stderr, "usage: commits PATH UNITS\n");
@@ -96,13 +117,19 @@ int main(int argc, char **argv) {
               "ON CONFLICT (number, key) DO UPDATE SET value = excluded.value",
               -1, &put, NULL),
         SQLITE_OK);
+    char log_path[4096];
+    snprintf(log_path, sizeof log_path, "%s.log", argv[1]);
+    log_file = open(log_path, O_RDWR | O_CREAT | O_TRUNC, 0666);
     for (uint32_t n = 1; n <= units; n++) {
         uint8_t unit[16] = {0, 0, 0, 1, 0, 0, 0, 1};
         big_endian(unit + 8, 4, n);
+        add_record(52);
         commit_unit(n, unit);
         commit_post(n, unit);
+        add_record(17);
     }
     sqlite3_finalize(put);
     sqlite3_close(db);
+    close(log_file);
     return 0;
 }

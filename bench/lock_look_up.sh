@@ -8,8 +8,8 @@ set -eu
 cd "$(dirname "$0")/.."
 locks=${1:-100000}
 asks=${2:-200000}
-(cd crates/lock_load && rt run -- grants 1 0) > /dev/null
 load=crates/lock_load/out/lock_load
+[ -x "$load" ] || (cd crates/lock_load && rt run -- grants 1 0) > /dev/null
 work=$(mktemp -d)
 trap 'rm -rf "$work"' EXIT
 c++ -O2 -o "$work/look_ups" bench/look_ups.cpp

@@ -1,7 +1,8 @@
 #!/bin/sh
 # Times units through enqd, over its store on a disk, beside a C program that makes the same commits with libsqlite3,
-# write-ahead log and full sync. A unit is ENQ, V1 PUT, COMMIT, TAKE1 and DO1. Both are timed for so many units and for
-# twice as many, three times each. It wants enqd built (demo/run builds it), cc and libsqlite3.
+# write-ahead log and full sync, and the same syncs of a log for the backup file. A unit is ENQ, V1 PUT, COMMIT, TAKE1 and
+# DO1. Both are timed for so many units and for twice as many, three times each. It wants enqd built (demo/run builds it),
+# cc and libsqlite3.
 # Usage: bench/store.sh [UNITS] [FOLDER]; the folder has to be on a disk, not in memory.
 set -eu
 bench=$(cd "$(dirname "$0")" && pwd)

@@ -22,7 +22,6 @@ pub record IsAlike (x y : Session) : Type 0 where
   pub user : y.user ≡ x.user
   pub number : y.number ≡ x.number
   pub luw : y.luw ≡ x.luw
-  pub lost : y.lost ≡ x.lost
 
 abbrev pub AreAlike : List Session → List Session → Type 0
 AreAlike [] [] = Unit {0}
@@ -30,8 +29,8 @@ AreAlike [] (y ∷ ys) = ⊥
 AreAlike (x ∷ xs) [] = ⊥
 AreAlike (x ∷ xs) (y ∷ ys) = IsAlike x y × AreAlike xs ys
 
-alike_self : (x : Session) → IsAlike x x
-alike_self x = record { name = refl; user = refl; number = refl; luw = refl; lost = refl }
+pub alike_self : (x : Session) → IsAlike x x
+alike_self x = record { name = refl; user = refl; number = refl; luw = refl }
 
 pub alike_all : (xs : List Session) → AreAlike xs xs
 alike_all [] = tt
@@ -68,9 +67,6 @@ numbered_alike next (x ∷ xs) (y ∷ ys) a h = (
 
 pub young_alike : (n : ℕ) (xs ys : List Session) → AreAlike xs ys → AllByRecursion (IsYoung n) xs → AllByRecursion (IsYoung n) ys
 young_alike n = each_alike (IsYoung n) (IsYoung n) (λ x y a young. subst (λ k. k ≤ n) (sym a.luw) young)
-
-pub lost_alike : (xs ys : List Session) → AreAlike xs ys → AllByRecursion (λ (x : Session). x.lost ≡ false) xs → AllByRecursion (λ (x : Session). x.lost ≡ false) ys
-lost_alike = each_alike (λ (x : Session). x.lost ≡ false) (λ (x : Session). x.lost ≡ false) (λ x y a none. a.lost ∙ none)
 
 -- so many sessions have the name
 pub count_alike : (name : List ℕ) (xs ys : List Session) → AreAlike xs ys → count_by (is_called name) ys ≡ count_by (is_called name) xs

@@ -36,7 +36,7 @@ use Rattle.hall.specs.Stocks.{MayCall}
 use Rattle.number_ranges.specs.Intervals.{block_level, code_of, is_buffered}
 use Rattle.range_list.specs.Levels.{present, range_at}
 use Rattle.range_list.specs.declared.range.NumberRange.{NumberRange}
-use Rattle.hall.specs.Step.{Found, Verdict, Refuses, Leaves, ask_refusal, barred, called, caller_refusal, call_verdict, cancelled, commit, committed, converting, drawing, effects_in, entered, freed_all, giving, granting, logged_off, logon, lowered, marked, numbered, or_else, own_verdict, passing, posted_reply, posting, reopened, reposted, reserving, rolled_back, session_call, session_refusal, taken, taking, unavailable, unless_refused, verdict, with_room}
+use Rattle.hall.specs.Step.{Found, Verdict, Refuses, Leaves, ask_refusal, barred, called, caller_refusal, call_verdict, cancelled, commit, committed, converting, drawing, effects_in, entered, freed_all, giving, granting, logged_off, logon, lowered, marked, numbered, or_else, own_verdict, passing, posted_reply, posting, reopened, reposted, reserving, rolled_back, session_call, session_refusal, taken, taking, unavailable, unless_refused, verdict, with_room, server_refusal}
 use Rattle.hall.specs.declared.command.Command.{Command}
 use Rattle.hall.specs.declared.command.Reply.TheVariants as reply
 use Rattle.hall.specs.declared.command.Session.{Session}
@@ -218,7 +218,7 @@ module _ (P : Call → Verdict → Type 0) (found : Found) (s : State) (each : O
 -- ---- why a call isn't served
 
 -- a refusal is plain, if there is one
-abbrev ArePlain : Option Refusal → Type 0
+abbrev pub ArePlain : Option Refusal → Type 0
 ArePlain None = Unit {0}
 ArePlain (Some r) = IsPlain r
 
@@ -235,7 +235,7 @@ plain_down condition.Up = tt
 plain_down condition.NoServer = tt
 plain_down (condition.Doubt n) = refl
 
-plain_server : (k : Condition) (call : Call) → ArePlain (elim k [ condition.Up ↦ None | condition.NoServer ↦ if wants_server call then Some refusal.SystemFailure else None | condition.Doubt n ↦ None ])
+plain_server : (k : Condition) (call : Call) → ArePlain (server_refusal k call)
 plain_server condition.Up call = tt
 plain_server condition.NoServer call = plain_if (wants_server call) refusal.SystemFailure None refl tt
 plain_server (condition.Doubt n) call = tt
@@ -244,16 +244,16 @@ plain_session : (call : SessionCall) (o : Option Session) → ArePlain (session_
 plain_session call None = refl
 plain_session call (Some x) = plain_if _ refusal.LocksLost None refl tt
 
-plain_caller : (s : State) (call : Call) → ArePlain (caller_refusal s call)
-plain_caller s (LogsOn name user) = tt
-plain_caller s (OfSession name call) = plain_session call (session_at s.sessions name)
-plain_caller s (OfWorker worker call) = tt
-plain_caller s (OfAdmin call) = tt
+plain_caller : (sessions : List Session) (call : Call) → ArePlain (caller_refusal sessions call)
+plain_caller sessions (LogsOn name user) = tt
+plain_caller sessions (OfSession name call) = plain_session call (session_at sessions name)
+plain_caller sessions (OfWorker worker call) = tt
+plain_caller sessions (OfAdmin call) = tt
 
-plain_unavailable : (s : State) (call : Call) → ArePlain (unavailable s call)
+pub plain_unavailable : (s : State) (call : Call) → ArePlain (unavailable s call)
 plain_unavailable s call =
     plain_else (barred s) _ (plain_if _ refusal.LogFull _ refl (plain_down s.condition))
-    (plain_else (caller_refusal s call) _ (plain_caller s call) (plain_server s.condition call))
+    (plain_else (caller_refusal s.sessions call) _ (plain_caller s.sessions call) (plain_server s.condition call))
 
 unless_holds : (Q : Verdict → Type 0) (o : Option Refusal) (v : Verdict) → ArePlain o → ((r : Refusal) → IsPlain r → Q (Refuses r)) → Q v → Q (unless_refused o v)
 unless_holds Q None v plain refuse h = h

@@ -34,68 +34,33 @@ use Rattle.hall.specs.State.{State}
 use Rattle.hall.specs.Step.{Found, Verdict, Refuses, Leaves, answer_of, ask_refusal, barred, call_verdict, called, caller_refusal, converting, entered, fault_refusal, found_in, granting, leaves, logon, lost_refusal, or_else, own_verdict, server_refusal, session_call, session_refusal, unavailable, unless_refused, verdict}
 use Rattle.hall.proofs.Fresh.{found_in as found_all_in}
 
--- where nothing bars calls, a call comes to what it asks for
-session_free : (call : SessionCall) (x : Session) → x.lost ≡ false → lost_refusal call x ≡ None
-session_free call x whole = ap (λ b. if b && not (ends_unit call) then Some refusal.LocksLost else None) whole
-
-abbrev in_server : Condition → Call → Option Refusal
-in_server k call = elim k [ condition.Up ↦ None | condition.NoServer ↦ if wants_server call then Some refusal.SystemFailure else None | condition.Doubt n ↦ None ]
-
-server_up : (k : Condition) (call : Call) → k ≡ condition.Up → in_server k call ≡ None
-server_up k call up = ap (λ c. in_server c call) up
-
-behind_bars : (s : State) (call : Call) (o : Option Refusal) → Admits s → caller_refusal s call ≡ o → unavailable s call ≡ or_else o None
-behind_bars s call o h e = λ i. or_else (h.served i) (or_else (e i) (server_up s.condition call h.up i))
-
-pub free_session : (s : State) (name : List ℕ) (call : SessionCall) (x : Session) → Admits s → session_at s.sessions name ≡ Some x → unavailable s (OfSession name call) ≡ None
-free_session s name call x h at =
-    behind_bars s (OfSession name call) None h
-    (ap (session_refusal call) at ∙ session_free call x (found_all_in (λ (y : Session). y.lost ≡ false) (is_called name) s.sessions x at h.whole))
-
-pub free_admin : (s : State) (call : AdminCall) → Admits s → unavailable s (OfAdmin call) ≡ None
-free_admin s call h = behind_bars s (OfAdmin call) None h refl
-
-pub free_worker : (s : State) (worker : ℕ) (call : WorkerCall) → Admits s → unavailable s (OfWorker worker call) ≡ None
-free_worker s worker call h = behind_bars s (OfWorker worker call) None h refl
-
-unknown-session : (s : State) (name : List ℕ) (call : SessionCall) → Admits s → session_at s.sessions name ≡ None → unavailable s (OfSession name call) ≡ Some refusal.UnknownSession
-unknown-session s name call h none = behind_bars s (OfSession name call) (Some refusal.UnknownSession) h (ap (session_refusal call) none)
-
-admitted_session : (found : Found) (s : State) (name : List ℕ) (call : SessionCall) (o : Option Session) → Admits s → session_at s.sessions name ≡ o → call_verdict found s (OfSession name call) ≡ called found s call o
+-- a call that nothing bars comes to what it asks for
+pub admitted : (found : Found) (s : State) (c : Command) → Admits s c → call_verdict found s (call_of c) ≡ own_verdict found s (call_of c)
 unfolding call_verdict
-admitted_session found s name call None h at = ap (λ o. unless_refused o (called found s call (session_at s.sessions name))) (unknown-session s name call h at)
-admitted_session found s name call (Some x) h at =
-    ap (λ o. unless_refused o (called found s call (session_at s.sessions name))) (free_session s name call x h at) ∙ ap (called found s call) at
-
-pub admitted : (found : Found) (s : State) (call : Call) → Admits s → call_verdict found s call ≡ own_verdict found s call
-unfolding call_verdict
-admitted found s (LogsOn name user) h = ap (λ o. unless_refused o (own_verdict found s (LogsOn name user))) (behind_bars s (LogsOn name user) None h refl)
-admitted found s (OfSession name call) h = admitted_session found s name call (session_at s.sessions name) h refl
-admitted found s (OfWorker worker call) h = ap (λ o. unless_refused o (own_verdict found s (OfWorker worker call))) (behind_bars s (OfWorker worker call) None h refl)
-admitted found s (OfAdmin call) h = ap (λ o. unless_refused o (own_verdict found s (OfAdmin call))) (behind_bars s (OfAdmin call) None h refl)
+admitted found s c h = ap (λ o. unless_refused o (own_verdict found s (call_of c))) h.served
 
 -- what bars a call bars it whatever it asks for
-pub barred_verdict : (found : Found) (s : State) (call : Call) (r : Refusal) → barred s ≡ Some r → call_verdict found s call ≡ Refuses r
+pub refused_verdict : (found : Found) (s : State) (call : Call) (r : Refusal) → unavailable s call ≡ Some r → call_verdict found s call ≡ Refuses r
 unfolding call_verdict
-barred_verdict found s call r shut = ap (λ o. unless_refused (or_else o (or_else (caller_refusal s call) (server_refusal s call))) (own_verdict found s call)) shut
+refused_verdict found s call r shut = ap (λ o. unless_refused o (own_verdict found s call)) shut
 
 -- ---- what calls come to
 
 -- the devices did well
-pub tells : (s : State) (c : Command) (v : Verdict) (after : State) (r : Reply) → Admits s → own_verdict (found_in s) s (call_of c) ≡ v → judged s v ≡ record { state = after; reply = r } → IsAct s c after r
+pub tells : (s : State) (c : Command) (v : Verdict) (after : State) (r : Reply) → Admits s c → own_verdict (found_in s) s (call_of c) ≡ v → judged s v ≡ record { state = after; reply = r } → IsAct s c after r
 tells s c v after r h e j = record {
   outcome = all_well;
   possible = record { reading = tt; event = tt };
-  same = ap (judged s) (admitted (found_in s) s (call_of c) h ∙ e) ∙ j;
+  same = ap (judged s) (admitted (found_in s) s c h ∙ e) ∙ j;
 }
 
-pub refuses : (s : State) (c : Command) (r : Refusal) → Admits s → own_verdict (found_in s) s (call_of c) ≡ Refuses r → IsAct s c s (reply.Refused r)
+pub refuses : (s : State) (c : Command) (r : Refusal) → Admits s c → own_verdict (found_in s) s (call_of c) ≡ Refuses r → IsAct s c s (reply.Refused r)
 refuses s c r h e = tells s c (Refuses r) s (reply.Refused r) h e refl
 
-pub leaves_as : (s : State) (c : Command) (after : State) (r : Reply) → Admits s → own_verdict (found_in s) s (call_of c) ≡ Leaves after r → IsAct s c after r
+pub leaves_as : (s : State) (c : Command) (after : State) (r : Reply) → Admits s c → own_verdict (found_in s) s (call_of c) ≡ Leaves after r → IsAct s c after r
 leaves_as s c after r h e = tells s c (Leaves after r) after r h e refl
 
-pub is_done : (s : State) (c : Command) (after : State) → Admits s → own_verdict (found_in s) s (call_of c) ≡ Leaves after reply.Done → IsAct s c after reply.Done
+pub is_done : (s : State) (c : Command) (after : State) → Admits s c → own_verdict (found_in s) s (call_of c) ≡ Leaves after reply.Done → IsAct s c after reply.Done
 is_done s c after h e = leaves_as s c after reply.Done h e
 
 -- memory was wanting
@@ -103,9 +68,9 @@ pub is_wanting : (s : State) (c : Command) → unavailable s (call_of c) ≡ Non
 is_wanting s c free may = record { outcome = only Wanting; possible = record { reading = tt; event = (free, may) }; same = refl }
 
 -- the store failed
-pub fails : (s : State) (c : Command) (after : State) (r : Reply) → Admits s → own_verdict (found_in s) s (call_of c) ≡ Leaves after r → IsTrue (uses_store s (call_of c)) → only_reads (call_of c) ≡ false → IsAct s c (doubted s (Some after.stored)) (reply.Refused refusal.StoreFault)
+pub fails : (s : State) (c : Command) (after : State) (r : Reply) → Admits s c → own_verdict (found_in s) s (call_of c) ≡ Leaves after r → IsTrue (uses_store s (call_of c)) → only_reads (call_of c) ≡ false → IsAct s c (doubted s (Some after.stored)) (reply.Refused refusal.StoreFault)
 fails s c after r h e uses writes =
-    let v = admitted (found_in s) s (call_of c) h ∙ e in
+    let v = admitted (found_in s) s c h ∙ e in
     record {
       outcome = only StoreFails;
       possible = record { reading = tt; event = (ap leaves v, uses) };
@@ -114,9 +79,9 @@ fails s c after r h e uses writes =
     }
 
 -- the disk of the backup file failed
-pub fails_filing : (s : State) (c : Command) (after : State) (r : Reply) → Admits s → own_verdict (found_in s) s (call_of c) ≡ Leaves after r → IsTrue (uses_file s (call_of c)) → IsAct s c (unfiled s (if writes_store_first (call_of c) then after.stored else s.stored)) (reply.Refused refusal.BackupFault)
+pub fails_filing : (s : State) (c : Command) (after : State) (r : Reply) → Admits s c → own_verdict (found_in s) s (call_of c) ≡ Leaves after r → IsTrue (uses_file s (call_of c)) → IsAct s c (unfiled s (if writes_store_first (call_of c) then after.stored else s.stored)) (reply.Refused refusal.BackupFault)
 fails_filing s c after r h e uses =
-    let v = admitted (found_in s) s (call_of c) h ∙ e in
+    let v = admitted (found_in s) s c h ∙ e in
     record {
       outcome = only BackupFails;
       possible = record { reading = tt; event = (ap leaves v, uses) };
@@ -131,7 +96,7 @@ found_at s sessions name o e f = ap (λ xs. session_at xs name) e ∙ f
 
 -- ---- logging on
 
-pub logs_on_twice : (s : State) (sessions : List Session) (next : ℕ) (name user : List ℕ) → s.sessions ≡ sessions → s.next_session ≡ next → Admits s → is_some (session_at sessions name) ≡ true → IsAct s (command.Logon name user) (record s { sessions = sessions; next_session = next }) (reply.Refused refusal.SessionExists)
+pub logs_on_twice : (s : State) (sessions : List Session) (next : ℕ) (name user : List ℕ) → s.sessions ≡ sessions → s.next_session ≡ next → Admits s (command.Logon name user) → is_some (session_at sessions name) ≡ true → IsAct s (command.Logon name user) (record s { sessions = sessions; next_session = next }) (reply.Refused refusal.SessionExists)
 logs_on_twice s sessions next name user e f room there =
     let there : is_some (session_at s.sessions name) ≡ true = ap (λ xs. is_some (session_at xs name)) e ∙ there in
     at_state _ _ s _ _ (λ i. record s { sessions = e i; next_session = f i })
@@ -145,21 +110,21 @@ logon_free : (s : State) (name user : List ℕ) (full : Bool) → is_some (sessi
 logon_free s name user full free limit =
     ap (λ b. if b then Refuses refusal.SessionExists else entering s name user (nat_le 1024 (length s.sessions))) free ∙ ap (entering s name user) limit
 
-pub logs_on_full : (s : State) (sessions : List Session) (next : ℕ) (name user : List ℕ) → s.sessions ≡ sessions → s.next_session ≡ next → Admits s → is_some (session_at sessions name) ≡ false → nat_le 1024 (length sessions) ≡ true → IsAct s (command.Logon name user) (record s { sessions = sessions; next_session = next }) (reply.Refused refusal.SessionsFull)
+pub logs_on_full : (s : State) (sessions : List Session) (next : ℕ) (name user : List ℕ) → s.sessions ≡ sessions → s.next_session ≡ next → Admits s (command.Logon name user) → is_some (session_at sessions name) ≡ false → nat_le 1024 (length sessions) ≡ true → IsAct s (command.Logon name user) (record s { sessions = sessions; next_session = next }) (reply.Refused refusal.SessionsFull)
 logs_on_full s sessions next name user e f room free full =
     let free : is_some (session_at s.sessions name) ≡ false = ap (λ xs. is_some (session_at xs name)) e ∙ free in
     let full : nat_le 1024 (length s.sessions) ≡ true = ap (λ xs. nat_le 1024 (length xs)) e ∙ full in
     at_state _ _ s _ _ (λ i. record s { sessions = e i; next_session = f i })
     (refuses s (command.Logon name user) refusal.SessionsFull room (logon_free s name user true free full))
 
-pub logs_on_wanting : (s : State) (sessions : List Session) (next : ℕ) (name user : List ℕ) → s.sessions ≡ sessions → s.next_session ≡ next → Admits s → is_some (session_at sessions name) ≡ false → nat_le 1024 (length sessions) ≡ false → IsAct s (command.Logon name user) (record s { sessions = sessions; next_session = next }) (reply.Refused refusal.NoMemory)
+pub logs_on_wanting : (s : State) (sessions : List Session) (next : ℕ) (name user : List ℕ) → s.sessions ≡ sessions → s.next_session ≡ next → Admits s (command.Logon name user) → is_some (session_at sessions name) ≡ false → nat_le 1024 (length sessions) ≡ false → IsAct s (command.Logon name user) (record s { sessions = sessions; next_session = next }) (reply.Refused refusal.NoMemory)
 logs_on_wanting s sessions next name user e f room free limit =
     let free : is_some (session_at s.sessions name) ≡ false = ap (λ xs. is_some (session_at xs name)) e ∙ free in
     let limit : nat_le 1024 (length s.sessions) ≡ false = ap (λ xs. nat_le 1024 (length xs)) e ∙ limit in
     at_state _ _ s _ _ (λ i. record s { sessions = e i; next_session = f i })
-    (is_wanting s (command.Logon name user) (behind_bars s (LogsOn name user) None room refl) (ap leaves (admitted (found_in s) s (LogsOn name user) room ∙ logon_free s name user false free limit)))
+    (is_wanting s (command.Logon name user) room.served (ap leaves (admitted (found_in s) s (command.Logon name user) room ∙ logon_free s name user false free limit)))
 
-pub logs_on : (s : State) (sessions : List Session) (next : ℕ) (name user : List ℕ) → s.sessions ≡ sessions → s.next_session ≡ next → Admits s → is_some (session_at sessions name) ≡ false → nat_le 1024 (length sessions) ≡ false → IsAct s (command.Logon name user) (record s { sessions = sessions ++ begun name user next ∷ []; next_session = next + 1 }) reply.Done
+pub logs_on : (s : State) (sessions : List Session) (next : ℕ) (name user : List ℕ) → s.sessions ≡ sessions → s.next_session ≡ next → Admits s (command.Logon name user) → is_some (session_at sessions name) ≡ false → nat_le 1024 (length sessions) ≡ false → IsAct s (command.Logon name user) (record s { sessions = sessions ++ begun name user next ∷ []; next_session = next + 1 }) reply.Done
 logs_on s sessions next name user e f room free limit =
     let free : is_some (session_at s.sessions name) ≡ false = ap (λ xs. is_some (session_at xs name)) e ∙ free in
     let limit : nat_le 1024 (length s.sessions) ≡ false = ap (λ xs. nat_le 1024 (length xs)) e ∙ limit in
@@ -168,7 +133,7 @@ logs_on s sessions next name user e f room free limit =
 
 -- ---- calls of a session
 
-pub knows_no_session : (s : State) (sessions : List Session) (name : List ℕ) (call : SessionCall) (c : Command) → call_of c ≡ OfSession name call → s.sessions ≡ sessions → Admits s → session_at sessions name ≡ None → IsAct s c s (reply.Refused refusal.UnknownSession)
+pub knows_no_session : (s : State) (sessions : List Session) (name : List ℕ) (call : SessionCall) (c : Command) → call_of c ≡ OfSession name call → s.sessions ≡ sessions → Admits s c → session_at sessions name ≡ None → IsAct s c s (reply.Refused refusal.UnknownSession)
 knows_no_session s sessions name call c own e room none =
     refuses s c refusal.UnknownSession room (ap (own_verdict (found_in s) s) own ∙ ap (called (found_in s) s call) (found_at s sessions name None e none))
 
@@ -185,13 +150,13 @@ own_pair s start sessions name x pair k = ap (λ n. pair_of n x) k.started ∙ s
 of_session : (s : State) (start : ℕ) (sessions : List Session) (name : List ℕ) (x : Session) (pair : Asker) (call : SessionCall) → Caller s start sessions name x pair → own_verdict (found_in s) s (OfSession name call) ≡ session_call (found_in s) s x call
 of_session s start sessions name x pair call k = ap (called (found_in s) s call) (found_at s sessions name (Some x) k.sessions_are k.found)
 
-pub frees : (s : State) (start : ℕ) (sessions : List Session) (name : List ℕ) (x : Session) (pair : Asker) (requests : List Request) (entries : List Entry) → Caller s start sessions name x pair → Admits s → entries ≡ fold freed s.locks (halves pair requests) → IsAct s (command.Free name requests) (record s { locks = entries }) reply.Done
+pub frees : (s : State) (start : ℕ) (sessions : List Session) (name : List ℕ) (x : Session) (pair : Asker) (requests : List Request) (entries : List Entry) → Caller s start sessions name x pair → Admits s (command.Free name requests) → entries ≡ fold freed s.locks (halves pair requests) → IsAct s (command.Free name requests) (record s { locks = entries }) reply.Done
 frees s start sessions name x pair requests entries k room e =
     let own = own_pair s start sessions name x pair k in
     is_done s (command.Free name requests) (record s { locks = entries }) room
     (of_session s start sessions name x pair (Frees requests) k ∙ ap (λ p. Leaves (record s { locks = fold freed s.locks (halves p requests) }) reply.Done) own ∙ ap (λ l. Leaves (record s { locks = l }) reply.Done) (sym e))
 
-pub logs_off : (s : State) (start : ℕ) (sessions : List Session) (name : List ℕ) (x : Session) (pair : Asker) (after : List Session) (entries : List Entry) → Caller s start sessions name x pair → Admits s → after ≡ without_session x.name sessions → entries ≡ freed_owner (freed_owner s.locks pair.dialogue) pair.update → IsAct s (command.Logoff name) (record s { sessions = after; locks = entries }) reply.Done
+pub logs_off : (s : State) (start : ℕ) (sessions : List Session) (name : List ℕ) (x : Session) (pair : Asker) (after : List Session) (entries : List Entry) → Caller s start sessions name x pair → Admits s (command.Logoff name) → after ≡ without_session x.name sessions → entries ≡ freed_owner (freed_owner s.locks pair.dialogue) pair.update → IsAct s (command.Logoff name) (record s { sessions = after; locks = entries }) reply.Done
 logs_off s start sessions name x pair after entries k room e f =
     let own = own_pair s start sessions name x pair k in
     let rest : after ≡ without_session x.name s.sessions = e ∙ ap (without_session x.name) (sym k.sessions_are) in
@@ -199,14 +164,14 @@ logs_off s start sessions name x pair after entries k room e f =
     (of_session s start sessions name x pair LogsOff k ∙ ap (λ p. Leaves (record s { sessions = without_session x.name s.sessions; locks = freed_owner (freed_owner s.locks p.dialogue) p.update }) reply.Done) own
     ∙ (λ i. Leaves (record s { sessions = sym rest i; locks = sym f i }) reply.Done))
 
-pub frees_all : (s : State) (start : ℕ) (sessions : List Session) (name : List ℕ) (x : Session) (pair : Asker) (entries : List Entry) → Caller s start sessions name x pair → Admits s → entries ≡ freed_owner (freed_owner s.locks pair.dialogue) pair.update → IsAct s (command.FreeAll name) (record s { locks = entries }) reply.Done
+pub frees_all : (s : State) (start : ℕ) (sessions : List Session) (name : List ℕ) (x : Session) (pair : Asker) (entries : List Entry) → Caller s start sessions name x pair → Admits s (command.FreeAll name) → entries ≡ freed_owner (freed_owner s.locks pair.dialogue) pair.update → IsAct s (command.FreeAll name) (record s { locks = entries }) reply.Done
 frees_all s start sessions name x pair entries k room f =
     let own = own_pair s start sessions name x pair k in
     is_done s (command.FreeAll name) (record s { locks = entries }) room
     (of_session s start sessions name x pair FreesAll k
     ∙ ap (λ p. Leaves (record s { locks = freed_owner (freed_owner s.locks p.dialogue) p.update }) reply.Done) own ∙ ap (λ l. Leaves (record s { locks = l }) reply.Done) (sym f))
 
-pub rolls_back : (s : State) (start : ℕ) (sessions : List Session) (name : List ℕ) (x : Session) (pair : Asker) (after : List Session) (entries : List Entry) → Caller s start sessions name x pair → Admits s → after ≡ with_session x.name with_fresh_unit sessions → entries ≡ freed_owner s.locks pair.update → IsAct s (command.Rollback name) (record s { sessions = after; locks = entries }) reply.Done
+pub rolls_back : (s : State) (start : ℕ) (sessions : List Session) (name : List ℕ) (x : Session) (pair : Asker) (after : List Session) (entries : List Entry) → Caller s start sessions name x pair → Admits s (command.Rollback name) → after ≡ with_session x.name with_fresh_unit sessions → entries ≡ freed_owner s.locks pair.update → IsAct s (command.Rollback name) (record s { sessions = after; locks = entries }) reply.Done
 rolls_back s start sessions name x pair after entries k room e f =
     let own = own_pair s start sessions name x pair k in
     let next : after ≡ with_session x.name with_fresh_unit s.sessions = e ∙ ap (with_session x.name with_fresh_unit) (sym k.sessions_are) in
@@ -257,11 +222,11 @@ turning s start sessions name x pair asked entries answer k locks e =
     of_session s start sessions name x pair (Converts asked) k
     ∙ (λ i. converting s (converted (locks i) (own i) asked)) ∙ ap (converting s) e
 
-pub converts : (s : State) (start : ℕ) (sessions : List Session) (name : List ℕ) (x : Session) (pair : Asker) (asked : List Asked) (entries : List Entry) (c : Conversion) → Caller s start sessions name x pair → s.locks ≡ entries → Admits s → converted entries pair asked ≡ Ok c → IsAct s (command.Convert name asked) (record s { locks = c.entries }) reply.Done
+pub converts : (s : State) (start : ℕ) (sessions : List Session) (name : List ℕ) (x : Session) (pair : Asker) (asked : List Asked) (entries : List Entry) (c : Conversion) → Caller s start sessions name x pair → s.locks ≡ entries → Admits s (command.Convert name asked) → converted entries pair asked ≡ Ok c → IsAct s (command.Convert name asked) (record s { locks = c.entries }) reply.Done
 converts s start sessions name x pair asked entries c k locks room e =
     is_done s (command.Convert name asked) (record s { locks = c.entries }) room (turning s start sessions name x pair asked entries (Ok c) k locks e)
 
-not_converted : (s : State) (start : ℕ) (sessions : List Session) (name : List ℕ) (x : Session) (pair : Asker) (asked : List Asked) (entries : List Entry) (f : AskFault) → Caller s start sessions name x pair → s.locks ≡ entries → Admits s → IsFaultOf (converted entries pair asked) f → IsAct s (command.Convert name asked) s (reply.Refused (ask_refusal f))
+not_converted : (s : State) (start : ℕ) (sessions : List Session) (name : List ℕ) (x : Session) (pair : Asker) (asked : List Asked) (entries : List Entry) (f : AskFault) → Caller s start sessions name x pair → s.locks ≡ entries → Admits s (command.Convert name asked) → IsFaultOf (converted entries pair asked) f → IsAct s (command.Convert name asked) s (reply.Refused (ask_refusal f))
 not_converted s start sessions name x pair asked entries (fault.Foreign e) k locks room h =
     refuses s (command.Convert name asked) _ room (turning s start sessions name x pair asked entries _ k locks h)
 not_converted s start sessions name x pair asked entries (fault.Full used most) k locks room h =
@@ -271,9 +236,9 @@ not_converted s start sessions name x pair asked entries fault.Count k locks roo
 not_converted s start sessions name x pair asked entries fault.Lost k locks room h =
     refuses s (command.Convert name asked) _ room (turning s start sessions name x pair asked entries _ k locks h)
 not_converted s start sessions name x pair asked entries fault.NoMemory k locks room h =
-    is_wanting s (command.Convert name asked) (free_session s name (Converts asked) x room (found_at s sessions name (Some x) k.sessions_are k.found)) refl
+    is_wanting s (command.Convert name asked) room.served refl
 
-pub converts_in_vain : (s : State) (start : ℕ) (sessions : List Session) (name : List ℕ) (x : Session) (pair : Asker) (asked : List Asked) (entries : List Entry) (f : AskFault) (r : Refusal) (after : List Entry) → Caller s start sessions name x pair → s.locks ≡ entries → Admits s → IsFaultOf (converted entries pair asked) f → after ≡ entries → r ≡ ask_refusal f → IsAct s (command.Convert name asked) (record s { locks = after }) (reply.Refused r)
+pub converts_in_vain : (s : State) (start : ℕ) (sessions : List Session) (name : List ℕ) (x : Session) (pair : Asker) (asked : List Asked) (entries : List Entry) (f : AskFault) (r : Refusal) (after : List Entry) → Caller s start sessions name x pair → s.locks ≡ entries → Admits s (command.Convert name asked) → IsFaultOf (converted entries pair asked) f → after ≡ entries → r ≡ ask_refusal f → IsAct s (command.Convert name asked) (record s { locks = after }) (reply.Refused r)
 converts_in_vain s start sessions name x pair asked entries f r after k locks room h same is =
     let stays : s.locks ≡ after = locks ∙ sym same in
     subst (λ a. IsAct s (command.Convert name asked) (record s { locks = after }) (reply.Refused a)) (sym is)
@@ -287,11 +252,11 @@ asking s start sessions name x pair requests t answer k locks limit e =
     of_session s start sessions name x pair (Asks requests) k
     ∙ (λ i. granting s (asked (record { entries = locks i; limit = limit i }) (own i) x.user requests)) ∙ ap (granting s) e
 
-pub asks : (s : State) (start : ℕ) (sessions : List Session) (name : List ℕ) (x : Session) (pair : Asker) (requests : List Request) (t : Table) (entries : List Entry) → Caller s start sessions name x pair → s.locks ≡ t.entries → s.limit ≡ t.limit → Admits s → asked t pair x.user requests ≡ Ok entries → IsAct s (command.Ask name requests) (record s { locks = entries }) reply.Done
+pub asks : (s : State) (start : ℕ) (sessions : List Session) (name : List ℕ) (x : Session) (pair : Asker) (requests : List Request) (t : Table) (entries : List Entry) → Caller s start sessions name x pair → s.locks ≡ t.entries → s.limit ≡ t.limit → Admits s (command.Ask name requests) → asked t pair x.user requests ≡ Ok entries → IsAct s (command.Ask name requests) (record s { locks = entries }) reply.Done
 asks s start sessions name x pair requests t entries k locks limit room e =
     is_done s (command.Ask name requests) (record s { locks = entries }) room (asking s start sessions name x pair requests t (Ok entries) k locks limit e)
 
-is_refused : (s : State) (start : ℕ) (sessions : List Session) (name : List ℕ) (x : Session) (pair : Asker) (requests : List Request) (t : Table) (f : AskFault) → Caller s start sessions name x pair → s.locks ≡ t.entries → s.limit ≡ t.limit → Admits s → IsFaultOf (asked t pair x.user requests) f → IsAct s (command.Ask name requests) s (reply.Refused (ask_refusal f))
+is_refused : (s : State) (start : ℕ) (sessions : List Session) (name : List ℕ) (x : Session) (pair : Asker) (requests : List Request) (t : Table) (f : AskFault) → Caller s start sessions name x pair → s.locks ≡ t.entries → s.limit ≡ t.limit → Admits s (command.Ask name requests) → IsFaultOf (asked t pair x.user requests) f → IsAct s (command.Ask name requests) s (reply.Refused (ask_refusal f))
 is_refused s start sessions name x pair requests t (fault.Foreign e) k locks limit room h =
     refuses s (command.Ask name requests) _ room (asking s start sessions name x pair requests t _ k locks limit h)
 is_refused s start sessions name x pair requests t (fault.Full used most) k locks limit room h =
@@ -301,16 +266,16 @@ is_refused s start sessions name x pair requests t fault.Count k locks limit roo
 is_refused s start sessions name x pair requests t fault.Lost k locks limit room h =
     refuses s (command.Ask name requests) _ room (asking s start sessions name x pair requests t _ k locks limit h)
 is_refused s start sessions name x pair requests t fault.NoMemory k locks limit room h =
-    is_wanting s (command.Ask name requests) (free_session s name (Asks requests) x room (found_at s sessions name (Some x) k.sessions_are k.found)) refl
+    is_wanting s (command.Ask name requests) room.served refl
 
-pub asks_in_vain : (s : State) (start : ℕ) (sessions : List Session) (name : List ℕ) (x : Session) (pair : Asker) (requests : List Request) (t : Table) (f : AskFault) (r : Refusal) (entries : List Entry) → Caller s start sessions name x pair → s.locks ≡ t.entries → s.limit ≡ t.limit → Admits s → IsFaultOf (asked t pair x.user requests) f → entries ≡ t.entries → r ≡ ask_refusal f → IsAct s (command.Ask name requests) (record s { locks = entries }) (reply.Refused r)
+pub asks_in_vain : (s : State) (start : ℕ) (sessions : List Session) (name : List ℕ) (x : Session) (pair : Asker) (requests : List Request) (t : Table) (f : AskFault) (r : Refusal) (entries : List Entry) → Caller s start sessions name x pair → s.locks ≡ t.entries → s.limit ≡ t.limit → Admits s (command.Ask name requests) → IsFaultOf (asked t pair x.user requests) f → entries ≡ t.entries → r ≡ ask_refusal f → IsAct s (command.Ask name requests) (record s { locks = entries }) (reply.Refused r)
 asks_in_vain s start sessions name x pair requests t f r entries k locks limit room h same is =
     let stays : s.locks ≡ entries = locks ∙ sym same in
     subst (λ a. IsAct s (command.Ask name requests) (record s { locks = entries }) (reply.Refused a)) (sym is)
     (at_state _ _ s _ _ (λ i. record s { locks = stays i }) (is_refused s start sessions name x pair requests t f k locks limit room h))
 
 -- an unknown session changes nothing
-pub unknown_session : (s : State) (sessions : List Session) (name : List ℕ) (call : SessionCall) (c : Command) (after : State) (answer : Result Unit Refusal) (r : Refusal) → call_of c ≡ OfSession name call → s.sessions ≡ sessions → Admits s → session_at sessions name ≡ None → s ≡ after → answer ≡ Err r → r ≡ refusal.UnknownSession → IsAct s c after (answer_of answer)
+pub unknown_session : (s : State) (sessions : List Session) (name : List ℕ) (call : SessionCall) (c : Command) (after : State) (answer : Result Unit Refusal) (r : Refusal) → call_of c ≡ OfSession name call → s.sessions ≡ sessions → Admits s c → session_at sessions name ≡ None → s ≡ after → answer ≡ Err r → r ≡ refusal.UnknownSession → IsAct s c after (answer_of answer)
 unknown_session s sessions name call c after answer r own e room none same is what =
     let said : reply.Refused refusal.UnknownSession ≡ answer_of answer = sym (ap answer_of is ∙ ap reply.Refused what) in
     subst (λ a. IsAct s c after a) said (at_state s c s after _ same (knows_no_session s sessions name call c own e room none))

@@ -267,7 +267,7 @@ with_effects parts e b some = is_more (effects_in parts) (subst (λ k. 1 ≤ k) 
 -- ---- what was recorded is what the call leaves
 
 module _ (s : State) (sessions : List Session) (ranges : List NumberRange) (entries : List Entry) (ledger : Ledger) (limit : ℕ) (name : List ℕ) (x : Session) (parts : Parts) (stock : List Number)
-    (at : IsCommitAt s sessions ranges entries ledger limit name x) (few : is_too_much (x.draws ++ stock) parts ≡ false) (some : is_nothing (x.draws ++ stock) parts ≡ false)
+    (at : IsCommitAt s sessions ranges entries ledger limit name x (command.Commit name parts stock)) (few : is_too_much (x.draws ++ stock) parts ≡ false) (some : is_nothing (x.draws ++ stock) parts ≡ false)
     (space : nat_le limit (length ledger.marks) ≡ false) where
   called_so : x.name ≡ name
   called_so = bytes_eq-same _ _ (found_name name sessions x at.found)

@@ -34,7 +34,7 @@ use Rattle.hall.specs.Sessions.{is_called, session_at, with_draw, with_session}
 use Rattle.hall.specs.State.{State}
 use Rattle.hall.specs.Step.{Verdict, Refuses, Leaves, called, draw, drawing, found_in, giving, own_verdict, reserve, reserving}
 use Rattle.hall.specs.Storing.{IsRaiseFault}
-use Rattle.hall.proofs.Calls.{at_state, fails, found_at, free_session, is_wanting, knows_no_session, leaves_as, refuses}
+use Rattle.hall.proofs.Calls.{at_state, fails, found_at, is_wanting, knows_no_session, leaves_as, refuses}
 use Rattle.hall.proofs.Drawn.{blocks}
 use Rattle.hall.proofs.Fresh.{found_name}
 
@@ -104,11 +104,10 @@ unreached i upto buffered differs =
 
 -- ---- a call over what the hall holds
 
-pub record IsCallAt (s : State) (sessions : List Session) (ranges : List NumberRange) (ledger : Ledger) (name : List ℕ) : Type 0 where
+pub record IsCallAt (s : State) (sessions : List Session) (ranges : List NumberRange) (ledger : Ledger) : Type 0 where
   pub own_sessions : s.sessions ≡ sessions
   pub own_ranges : s.ranges ≡ ranges
   pub own_ledger : s.stored ≡ ledger
-  pub admits : Admits s
 
 -- what is asked of an error of a result that is one
 pub if_err : {X E : Type 0} (r : Result X E) (P : E → Type 0) (e : E) → r ≡ Err e → P e → IfErr r P
@@ -117,11 +116,11 @@ if_err r P e is h = subst (λ o. IfErr o P) (sym is) h
 -- a refusal to draw, over what the hall holds
 abbrev pub RefusesDraw : List Session → List NumberRange → Ledger → List ℕ → List ℕ → List ℕ → Refusal → Type 0
 RefusesDraw sessions ranges ledger name object nr r =
-    (s : State) → s.sessions ≡ sessions → s.ranges ≡ ranges → s.stored ≡ ledger → Admits s → IsAct s (command.Number name object nr) s (reply.Refused r)
+    (s : State) → s.sessions ≡ sessions → s.ranges ≡ ranges → s.stored ≡ ledger → Admits s (command.Number name object nr) → IsAct s (command.Number name object nr) s (reply.Refused r)
 
 abbrev pub RefusesReserve : List Session → List NumberRange → Ledger → List ℕ → List ℕ → List ℕ → ℕ → Refusal → Type 0
 RefusesReserve sessions ranges ledger name object nr upto r =
-    (s : State) → s.sessions ≡ sessions → s.ranges ≡ ranges → s.stored ≡ ledger → Admits s → IsAct s (command.Reserve name object nr upto) s (reply.Refused r)
+    (s : State) → s.sessions ≡ sessions → s.ranges ≡ ranges → s.stored ≡ ledger → Admits s (command.Reserve name object nr upto) → IsAct s (command.Reserve name object nr upto) s (reply.Refused r)
 
 -- by how many numbers are reserved at a time
 pub plain_of : (n : ℕ) → n ≡ 0 → nat_lt 0 n ≡ false
@@ -143,7 +142,7 @@ pub none_mapped : {X Y : Type 0} (f : X → Y) (o : Option X) → option_map f o
 none_mapped f None e = refl
 none_mapped f (Some x) e = cc
 
-module _ (s : State) (sessions : List Session) (ranges : List NumberRange) (ledger : Ledger) (name object nr : List ℕ) (at : IsCallAt s sessions ranges ledger name) where
+module _ (s : State) (sessions : List Session) (ranges : List NumberRange) (ledger : Ledger) (name object nr : List ℕ) (at : IsCallAt s sessions ranges ledger) where
   -- the range of a name is the state's
   ranged : (o : Option NumberRange) → range_at ranges object nr ≡ o → range_at s.ranges object nr ≡ o
   ranged o h = ap (λ rs. range_at rs object nr) at.own_ranges ∙ h
@@ -159,125 +158,126 @@ module _ (s : State) (sessions : List Session) (ranges : List NumberRange) (ledg
 
   -- ---- draws
 
-  abbrev draws_call : Command
-  draws_call = command.Number name object nr
+  module _ (room : Admits s (command.Number name object nr)) where
+    abbrev draws_call : Command
+    draws_call = command.Number name object nr
 
-  abbrev by_range : Session → Option NumberRange → Verdict
-  by_range x o = elim o [ None ↦ Refuses refusal.IntervalNotFound | Some r ↦ drawing s x r (present s.stored.levels r.interval) ]
+    abbrev by_range : Session → Option NumberRange → Verdict
+    by_range x o = elim o [ None ↦ Refuses refusal.IntervalNotFound | Some r ↦ drawing s x r (present s.stored.levels r.interval) ]
 
-  abbrev decided : Session → NumberRange → Interval → Bool → Option Session → Verdict
-  decided x r i many holder =
-      if many then Refuses refusal.UnitTooLarge else elim holder [ Some y ↦ Refuses (refusal.IntervalBusy y.name) | None ↦ giving s x i (next_number r i x) ]
+    abbrev decided : Session → NumberRange → Interval → Bool → Option Session → Verdict
+    decided x r i many holder =
+        if many then Refuses refusal.UnitTooLarge else elim holder [ Some y ↦ Refuses (refusal.IntervalBusy y.name) | None ↦ giving s x i (next_number r i x) ]
 
-  own_draw : (x : Session) → session_at sessions name ≡ Some x → own_verdict (found_in s) s (OfSession name (Draws object nr)) ≡ draw s x object nr
-  own_draw x found = ap (called (found_in s) s (Draws object nr)) (found_at s sessions name (Some x) at.own_sessions found)
+    own_draw : (x : Session) → session_at sessions name ≡ Some x → own_verdict (found_in s) s (OfSession name (Draws object nr)) ≡ draw s x object nr
+    own_draw x found = ap (called (found_in s) s (Draws object nr)) (found_at s sessions name (Some x) at.own_sessions found)
 
-  of_range : (x : Session) (r : NumberRange) (i : Interval) (many : Bool) (holder : Option Session) → session_at sessions name ≡ Some x → range_at ranges object nr ≡ Some r → i ≡ present ledger.levels r.interval
-      → nat_le 64 (length x.draws) ≡ many → other_holder sessions name i ≡ holder → own_verdict (found_in s) s (OfSession name (Draws object nr)) ≡ decided x r i many holder
-  of_range x r i many holder found chosen is few free =
-      let own : x.name ≡ name = own_name sessions name x found in
-      let free' : other_holder s.sessions x.name i ≡ holder = (λ k. other_holder (at.own_sessions k) (own k) i) ∙ free in
-      own_draw x found ∙ ap (by_range x) (ranged (Some r) chosen) ∙ ap (drawing s x r) (leveled r i is) ∙ (λ k. decided x r i (few k) (free' k))
+    of_range : (x : Session) (r : NumberRange) (i : Interval) (many : Bool) (holder : Option Session) → session_at sessions name ≡ Some x → range_at ranges object nr ≡ Some r → i ≡ present ledger.levels r.interval
+        → nat_le 64 (length x.draws) ≡ many → other_holder sessions name i ≡ holder → own_verdict (found_in s) s (OfSession name (Draws object nr)) ≡ decided x r i many holder
+    of_range x r i many holder found chosen is few free =
+        let own : x.name ≡ name = own_name sessions name x found in
+        let free' : other_holder s.sessions x.name i ≡ holder = (λ k. other_holder (at.own_sessions k) (own k) i) ∙ free in
+        own_draw x found ∙ ap (by_range x) (ranged (Some r) chosen) ∙ ap (drawing s x r) (leveled r i is) ∙ (λ k. decided x r i (few k) (free' k))
 
-  pub draws_unknown : (r : Refusal) → session_at sessions name ≡ None → r ≡ refusal.UnknownSession → IsAct s draws_call s (reply.Refused r)
-  draws_unknown r none is =
-      subst (λ x. IsAct s draws_call s (reply.Refused x)) (sym is) (knows_no_session s sessions name (Draws object nr) draws_call refl at.own_sessions at.admits none)
+    pub draws_unknown : (r : Refusal) → session_at sessions name ≡ None → r ≡ refusal.UnknownSession → IsAct s draws_call s (reply.Refused r)
+    draws_unknown r none is =
+        subst (λ x. IsAct s draws_call s (reply.Refused x)) (sym is) (knows_no_session s sessions name (Draws object nr) draws_call refl at.own_sessions room none)
 
-  pub draws_nowhere : (x : Session) → session_at sessions name ≡ Some x → range_at ranges object nr ≡ None → IsAct s draws_call s (reply.Refused refusal.IntervalNotFound)
-  draws_nowhere x found none = refuses s draws_call refusal.IntervalNotFound at.admits (own_draw x found ∙ ap (by_range x) (ranged None none))
+    pub draws_nowhere : (x : Session) → session_at sessions name ≡ Some x → range_at ranges object nr ≡ None → IsAct s draws_call s (reply.Refused refusal.IntervalNotFound)
+    draws_nowhere x found none = refuses s draws_call refusal.IntervalNotFound room (own_draw x found ∙ ap (by_range x) (ranged None none))
 
-  pub draws_too_many : (x : Session) (r : NumberRange) → session_at sessions name ≡ Some x → range_at ranges object nr ≡ Some r → nat_le 64 (length x.draws) ≡ true → IsAct s draws_call s (reply.Refused refusal.UnitTooLarge)
-  draws_too_many x r found chosen many =
-      refuses s draws_call refusal.UnitTooLarge at.admits (of_range x r (present ledger.levels r.interval) true _ found chosen refl many refl)
+    pub draws_too_many : (x : Session) (r : NumberRange) → session_at sessions name ≡ Some x → range_at ranges object nr ≡ Some r → nat_le 64 (length x.draws) ≡ true → IsAct s draws_call s (reply.Refused refusal.UnitTooLarge)
+    draws_too_many x r found chosen many =
+        refuses s draws_call refusal.UnitTooLarge room (of_range x r (present ledger.levels r.interval) true _ found chosen refl many refl)
 
-  pub draws_busy : (x : Session) (r : NumberRange) (i : Interval) (holder : List ℕ) → session_at sessions name ≡ Some x → range_at ranges object nr ≡ Some r → i ≡ present ledger.levels r.interval → nat_le 64 (length x.draws) ≡ false
-      → option_map (λ (y : Session). y.name) (other_holder sessions name i) ≡ Some holder → IsAct s draws_call s (reply.Refused (refusal.IntervalBusy holder))
-  draws_busy x r i holder found chosen is few held =
-      elim (other_holder sessions name i) as (λ o. other_holder sessions name i ≡ o → option_map (λ (y : Session). y.name) o ≡ Some holder → IsAct s draws_call s (reply.Refused (refusal.IntervalBusy holder))) [
-        | None ↦ λ e h. cc
-        | Some y ↦ λ e h.
-            let same : y.name ≡ holder = cc in
-            subst (λ n. IsAct s draws_call s (reply.Refused (refusal.IntervalBusy n))) same
-            (refuses s draws_call (refusal.IntervalBusy y.name) at.admits (of_range x r i false (Some y) found chosen is few e))
-      ] refl held
+    pub draws_busy : (x : Session) (r : NumberRange) (i : Interval) (holder : List ℕ) → session_at sessions name ≡ Some x → range_at ranges object nr ≡ Some r → i ≡ present ledger.levels r.interval → nat_le 64 (length x.draws) ≡ false
+        → option_map (λ (y : Session). y.name) (other_holder sessions name i) ≡ Some holder → IsAct s draws_call s (reply.Refused (refusal.IntervalBusy holder))
+    draws_busy x r i holder found chosen is few held =
+        elim (other_holder sessions name i) as (λ o. other_holder sessions name i ≡ o → option_map (λ (y : Session). y.name) o ≡ Some holder → IsAct s draws_call s (reply.Refused (refusal.IntervalBusy holder))) [
+          | None ↦ λ e h. cc
+          | Some y ↦ λ e h.
+              let same : y.name ≡ holder = cc in
+              subst (λ n. IsAct s draws_call s (reply.Refused (refusal.IntervalBusy n))) same
+              (refuses s draws_call (refusal.IntervalBusy y.name) room (of_range x r i false (Some y) found chosen is few e))
+        ] refl held
 
-  pub draws_over : (x : Session) (r : NumberRange) (i : Interval) → session_at sessions name ≡ Some x → range_at ranges object nr ≡ Some r → i ≡ present ledger.levels r.interval → nat_le 64 (length x.draws) ≡ false
-      → option_map (λ (y : Session). y.name) (other_holder sessions name i) ≡ None → nat_lt i.to (next_number r i x) ≡ true → IsAct s draws_call s (reply.Refused (refusal.IntervalOverflow i.to))
-  draws_over x r i found chosen is few free over =
-      refuses s draws_call (refusal.IntervalOverflow i.to) at.admits
-      (of_range x r i false None found chosen is few (none_mapped _ (other_holder sessions name i) free)
-      ∙ ap (λ b. if b then Refuses (refusal.IntervalOverflow i.to) else Leaves (drawn s x i (next_number r i x)) (reply.Number (next_number r i x) (code_of i (next_number r i x)))) over)
+    pub draws_over : (x : Session) (r : NumberRange) (i : Interval) → session_at sessions name ≡ Some x → range_at ranges object nr ≡ Some r → i ≡ present ledger.levels r.interval → nat_le 64 (length x.draws) ≡ false
+        → option_map (λ (y : Session). y.name) (other_holder sessions name i) ≡ None → nat_lt i.to (next_number r i x) ≡ true → IsAct s draws_call s (reply.Refused (refusal.IntervalOverflow i.to))
+    draws_over x r i found chosen is few free over =
+        refuses s draws_call (refusal.IntervalOverflow i.to) room
+        (of_range x r i false None found chosen is few (none_mapped _ (other_holder sessions name i) free)
+        ∙ ap (λ b. if b then Refuses (refusal.IntervalOverflow i.to) else Leaves (drawn s x i (next_number r i x)) (reply.Number (next_number r i x) (code_of i (next_number r i x)))) over)
 
-  pub draws_wanting : (x : Session) → session_at sessions name ≡ Some x → IsAct s draws_call s (reply.Refused refusal.NoMemory)
-  draws_wanting x found = is_wanting s draws_call (free_session s name (Draws object nr) x at.admits (found_at s sessions name (Some x) at.own_sessions found)) refl
+    pub draws_wanting : (x : Session) → session_at sessions name ≡ Some x → IsAct s draws_call s (reply.Refused refusal.NoMemory)
+    draws_wanting x found = is_wanting s draws_call room.served refl
 
-  module _ (i : Interval) (number level : ℕ) (draws : List Num) (d : IsNextDraw sessions ranges ledger.levels name object nr i number level draws) where
-    leaves_number : own_verdict (found_in s) s (OfSession name (Draws object nr)) ≡ Leaves (drawn s d.session i number) (reply.Number number (code_of i number))
-    leaves_number =
-        of_range d.session d.range i false None d.found d.chosen d.interval d.few d.free ∙ ap (giving s d.session i) (sym d.next)
-        ∙ ap (λ b. if b then Refuses (refusal.IntervalOverflow i.to) else Leaves (drawn s d.session i number) (reply.Number number (code_of i number))) d.within
+    module _ (i : Interval) (number level : ℕ) (draws : List Num) (d : IsNextDraw sessions ranges ledger.levels name object nr i number level draws) where
+      leaves_number : own_verdict (found_in s) s (OfSession name (Draws object nr)) ≡ Leaves (drawn s d.session i number) (reply.Number number (code_of i number))
+      leaves_number =
+          of_range d.session d.range i false None d.found d.chosen d.interval d.few d.free ∙ ap (giving s d.session i) (sym d.next)
+          ∙ ap (λ b. if b then Refuses (refusal.IntervalOverflow i.to) else Leaves (drawn s d.session i number) (reply.Number number (code_of i number))) d.within
 
-    -- the sessions with the number
-    with_number : (after : List Session) → after ≡ with_session name (λ (x : Session). record x { draws = draws }) sessions → with_session d.session.name (with_draw (num_of i number)) s.sessions ≡ after
-    with_number after is =
-        (λ k. with_session (own_name sessions name d.session d.found k) (with_draw (num_of i number)) (at.own_sessions k))
-        ∙ same_change name (with_draw (num_of i number)) (λ x. record x { draws = draws }) sessions d.session d.found (ap (λ ns. record d.session { draws = ns }) (sym d.drawn)) ∙ sym is
+      -- the sessions with the number
+      with_number : (after : List Session) → after ≡ with_session name (λ (x : Session). record x { draws = draws }) sessions → with_session d.session.name (with_draw (num_of i number)) s.sessions ≡ after
+      with_number after is =
+          (λ k. with_session (own_name sessions name d.session d.found k) (with_draw (num_of i number)) (at.own_sessions k))
+          ∙ same_change name (with_draw (num_of i number)) (λ x. record x { draws = draws }) sessions d.session d.found (ap (λ ns. record d.session { draws = ns }) (sym d.drawn)) ∙ sym is
 
-    pub draws_plain : is_buffered i ≡ false → (after : List Session) → after ≡ with_session name (λ (x : Session). record x { draws = draws }) sessions
-        → IsAct s draws_call (record s { sessions = after; ranges = ranges; stored = ledger }) (reply.Number number (code_of i number))
-    draws_plain plain after is =
-        let e = with_number after is in
-        let taken : State = record s { sessions = with_session d.session.name (with_draw (num_of i number)) s.sessions } in
-        at_state _ _ (drawn s d.session i number) _ _
-        (ap (λ b. if b then record taken { ranges = handed_out i taken.ranges; stored = raised_to i number taken.stored } else taken) plain
-        ∙ (λ k. record s { sessions = e k; ranges = at.own_ranges k; stored = at.own_ledger k }))
-        (leaves_as s draws_call (drawn s d.session i number) _ at.admits leaves_number)
+      pub draws_plain : is_buffered i ≡ false → (after : List Session) → after ≡ with_session name (λ (x : Session). record x { draws = draws }) sessions
+          → IsAct s draws_call (record s { sessions = after; ranges = ranges; stored = ledger }) (reply.Number number (code_of i number))
+      draws_plain plain after is =
+          let e = with_number after is in
+          let taken : State = record s { sessions = with_session d.session.name (with_draw (num_of i number)) s.sessions } in
+          at_state _ _ (drawn s d.session i number) _ _
+          (ap (λ b. if b then record taken { ranges = handed_out i taken.ranges; stored = raised_to i number taken.stored } else taken) plain
+          ∙ (λ k. record s { sessions = e k; ranges = at.own_ranges k; stored = at.own_ledger k }))
+          (leaves_as s draws_call (drawn s d.session i number) _ room leaves_number)
 
-    named_so : name_of i ≡ (object, nr)
-    named_so = ap name_of d.interval ∙ (range_found ranges object nr d.range d.chosen).name
+      named_so : name_of i ≡ (object, nr)
+      named_so = ap name_of d.interval ∙ (range_found ranges object nr d.range d.chosen).name
 
-    pub draws_buffered : is_buffered i ≡ true → i.level ≤ i.to → number ≤ i.to → (after : List Session) (left : List NumberRange) (new : Ledger) → after ≡ with_session name (λ (x : Session). record x { draws = draws }) sessions
-        → left ≡ map (handed_out_of object nr) ranges → new ≡ raised_by i level ledger → IsAct s draws_call (record s { sessions = after; ranges = left; stored = new }) (reply.Number number (code_of i number))
-    draws_buffered buffered begun within after left new is handed raised =
-        let e = with_number after is in
-        let f : handed_out i s.ranges ≡ left = (λ k. map (handed_out_of (named_so k).0 (named_so k).1) (at.own_ranges k)) ∙ sym handed in
-        let g : raised_to i number s.stored ≡ new = ap (raised_to i number) at.own_ledger ∙ sym (raised_same i number ledger buffered begun within) ∙ ap (λ l. raised_by i l ledger) (sym d.reserved) ∙ sym raised in
-        let taken : State = record s { sessions = with_session d.session.name (with_draw (num_of i number)) s.sessions } in
-        at_state _ _ (drawn s d.session i number) _ _
-        (ap (λ b. if b then record taken { ranges = handed_out i taken.ranges; stored = raised_to i number taken.stored } else taken) buffered
-        ∙ (λ k. record s { sessions = e k; ranges = f k; stored = g k }))
-        (leaves_as s draws_call (drawn s d.session i number) _ at.admits leaves_number)
+      pub draws_buffered : is_buffered i ≡ true → i.level ≤ i.to → number ≤ i.to → (after : List Session) (left : List NumberRange) (new : Ledger) → after ≡ with_session name (λ (x : Session). record x { draws = draws }) sessions
+          → left ≡ map (handed_out_of object nr) ranges → new ≡ raised_by i level ledger → IsAct s draws_call (record s { sessions = after; ranges = left; stored = new }) (reply.Number number (code_of i number))
+      draws_buffered buffered begun within after left new is handed raised =
+          let e = with_number after is in
+          let f : handed_out i s.ranges ≡ left = (λ k. map (handed_out_of (named_so k).0 (named_so k).1) (at.own_ranges k)) ∙ sym handed in
+          let g : raised_to i number s.stored ≡ new = ap (raised_to i number) at.own_ledger ∙ sym (raised_same i number ledger buffered begun within) ∙ ap (λ l. raised_by i l ledger) (sym d.reserved) ∙ sym raised in
+          let taken : State = record s { sessions = with_session d.session.name (with_draw (num_of i number)) s.sessions } in
+          at_state _ _ (drawn s d.session i number) _ _
+          (ap (λ b. if b then record taken { ranges = handed_out i taken.ranges; stored = raised_to i number taken.stored } else taken) buffered
+          ∙ (λ k. record s { sessions = e k; ranges = f k; stored = g k }))
+          (leaves_as s draws_call (drawn s d.session i number) _ room leaves_number)
 
-    pub draws_in_doubt : is_buffered i ≡ true → nat_eq level i.level ≡ false → IsAct s draws_call (doubted s (Some (with_intervals (row_at i level ∷ []) s.stored))) (reply.Refused refusal.StoreFault)
-    draws_in_doubt buffered differs =
-        let far : nat_le number i.level ≡ false = unreached i number buffered (ap (λ l. nat_eq l i.level) (sym d.reserved) ∙ differs) in
-        let next : number ≡ d.range.next = d.next ∙ ap (λ b. if b then d.range.next else i.level + drawn_of i d.session.draws + 1) buffered in
-        let row : block_level i number ≡ level = ap (λ b. if b then block_level i number else i.level) (sym buffered) ∙ sym d.reserved in
-        let taken : State = record s { sessions = with_session d.session.name (with_draw (num_of i number)) s.sessions } in
-        let levels : (drawn s d.session i number).stored ≡ with_intervals (row_at i level ∷ []) s.stored =
-        ap (λ b. (if b then record taken { ranges = handed_out i taken.ranges; stored = raised_to i number taken.stored } else taken).stored) buffered
-        ∙ ap (λ b. if b then s.stored else with_intervals (row_at i (block_level i number) ∷ []) s.stored) far ∙ ap (λ l. with_intervals (row_at i l ∷ []) s.stored) row in
-        let here : present s.stored.levels d.range.interval ≡ i = leveled d.range i d.interval in
-        let same : is_buffered d.range.interval ≡ true = ap is_buffered (sym d.interval) ∙ buffered in
-        let uses : IsTrue (uses_store s (OfSession name (Draws object nr))) =
-        subst (λ o. IsTrue (option_map_or (λ (r : NumberRange). is_buffered r.interval && is_past_level s r r.next) o false)) (sym (ranged (Some d.range) d.chosen))
-        (ap (λ b. b && is_past_level s d.range d.range.next) same ∙ ap (λ (j : Interval). nat_lt j.level d.range.next) here ∙ ap (nat_lt i.level) (sym next) ∙ is_past number i.level far) in
-        subst (λ (l : Ledger). IsAct s draws_call (doubted s (Some l)) (reply.Refused refusal.StoreFault)) levels
-        (fails s draws_call (drawn s d.session i number) _ at.admits leaves_number uses refl)
+      pub draws_in_doubt : is_buffered i ≡ true → nat_eq level i.level ≡ false → IsAct s draws_call (doubted s (Some (with_intervals (row_at i level ∷ []) s.stored))) (reply.Refused refusal.StoreFault)
+      draws_in_doubt buffered differs =
+          let far : nat_le number i.level ≡ false = unreached i number buffered (ap (λ l. nat_eq l i.level) (sym d.reserved) ∙ differs) in
+          let next : number ≡ d.range.next = d.next ∙ ap (λ b. if b then d.range.next else i.level + drawn_of i d.session.draws + 1) buffered in
+          let row : block_level i number ≡ level = ap (λ b. if b then block_level i number else i.level) (sym buffered) ∙ sym d.reserved in
+          let taken : State = record s { sessions = with_session d.session.name (with_draw (num_of i number)) s.sessions } in
+          let levels : (drawn s d.session i number).stored ≡ with_intervals (row_at i level ∷ []) s.stored =
+          ap (λ b. (if b then record taken { ranges = handed_out i taken.ranges; stored = raised_to i number taken.stored } else taken).stored) buffered
+          ∙ ap (λ b. if b then s.stored else with_intervals (row_at i (block_level i number) ∷ []) s.stored) far ∙ ap (λ l. with_intervals (row_at i l ∷ []) s.stored) row in
+          let here : present s.stored.levels d.range.interval ≡ i = leveled d.range i d.interval in
+          let same : is_buffered d.range.interval ≡ true = ap is_buffered (sym d.interval) ∙ buffered in
+          let uses : IsTrue (uses_store s (OfSession name (Draws object nr))) =
+          subst (λ o. IsTrue (option_map_or (λ (r : NumberRange). is_buffered r.interval && is_past_level s r r.next) o false)) (sym (ranged (Some d.range) d.chosen))
+          (ap (λ b. b && is_past_level s d.range d.range.next) same ∙ ap (λ (j : Interval). nat_lt j.level d.range.next) here ∙ ap (nat_lt i.level) (sym next) ∙ is_past number i.level far) in
+          subst (λ (l : Ledger). IsAct s draws_call (doubted s (Some l)) (reply.Refused refusal.StoreFault)) levels
+          (fails s draws_call (drawn s d.session i number) _ room leaves_number uses refl)
 
-    -- a level that wasn't raised
-    pub draws_unraised : is_buffered i ≡ true → (w : Written) → IsRaiseFault i level w → (new : Ledger) → new ≡ ledger → IsWritten s draws_call (record s { sessions = sessions; ranges = ranges; stored = new }) w
-    draws_unraised buffered (Answered r) h new kept =
-        subst (λ x. IsAct s draws_call (record s { sessions = sessions; ranges = ranges; stored = new }) x) (sym h)
-        (subst (λ l. IsAct s draws_call (record s { sessions = sessions; ranges = ranges; stored = l }) (reply.Refused refusal.NoMemory)) (sym kept)
-        (at_state _ _ s _ _ is_same (draws_wanting d.session d.found)))
-    draws_unraised buffered (Failed change) h new kept =
-        subst (λ x. IsAct s draws_call (doubted s (option_map (landed s.stored) x)) (reply.Refused refusal.StoreFault)) (sym h.0) (draws_in_doubt buffered h.1)
-    draws_unraised buffered Unfiled h new kept = absurd h
+      -- a level that wasn't raised
+      pub draws_unraised : is_buffered i ≡ true → (w : Written) → IsRaiseFault i level w → (new : Ledger) → new ≡ ledger → IsWritten s draws_call (record s { sessions = sessions; ranges = ranges; stored = new }) w
+      draws_unraised buffered (Answered r) h new kept =
+          subst (λ x. IsAct s draws_call (record s { sessions = sessions; ranges = ranges; stored = new }) x) (sym h)
+          (subst (λ l. IsAct s draws_call (record s { sessions = sessions; ranges = ranges; stored = l }) (reply.Refused refusal.NoMemory)) (sym kept)
+          (at_state _ _ s _ _ is_same (draws_wanting d.session d.found)))
+      draws_unraised buffered (Failed change) h new kept =
+          subst (λ x. IsAct s draws_call (doubted s (option_map (landed s.stored) x)) (reply.Refused refusal.StoreFault)) (sym h.0) (draws_in_doubt buffered h.1)
+      draws_unraised buffered Unfiled h new kept = absurd h
 
   -- ---- reservations
 
-  module _ (upto : ℕ) where
+  module _ (upto : ℕ) (room : Admits s (command.Reserve name object nr upto)) where
     abbrev reserves_call : Command
     reserves_call = command.Reserve name object nr upto
 
@@ -293,10 +293,10 @@ module _ (s : State) (sessions : List Session) (ranges : List NumberRange) (ledg
 
     pub reserves_unknown : (r : Refusal) → session_at sessions name ≡ None → r ≡ refusal.UnknownSession → IsAct s reserves_call s (reply.Refused r)
     reserves_unknown r none is =
-        subst (λ x. IsAct s reserves_call s (reply.Refused x)) (sym is) (knows_no_session s sessions name (Reserves object nr upto) reserves_call refl at.own_sessions at.admits none)
+        subst (λ x. IsAct s reserves_call s (reply.Refused x)) (sym is) (knows_no_session s sessions name (Reserves object nr upto) reserves_call refl at.own_sessions room none)
 
     pub reserves_nowhere : (x : Session) → session_at sessions name ≡ Some x → range_at ranges object nr ≡ None → IsAct s reserves_call s (reply.Refused refusal.IntervalNotFound)
-    reserves_nowhere x found none = refuses s reserves_call refusal.IntervalNotFound at.admits (own_reserve x found ∙ ap reserve_by (ranged None none))
+    reserves_nowhere x found none = refuses s reserves_call refusal.IntervalNotFound room (own_reserve x found ∙ ap reserve_by (ranged None none))
 
     -- the tests of a reservation, decided
     abbrev decided_reserve : Interval → Bool → Bool → Verdict
@@ -307,12 +307,12 @@ module _ (s : State) (sessions : List Session) (ranges : List NumberRange) (ledg
     pub reserves_plain : (x : Session) (r : NumberRange) (i : Interval) → session_at sessions name ≡ Some x → range_at ranges object nr ≡ Some r → i ≡ present ledger.levels r.interval → is_buffered i ≡ false
         → IsAct s reserves_call s (reply.Refused refusal.IntervalNotFound)
     reserves_plain x r i found chosen is plain =
-        refuses s reserves_call refusal.IntervalNotFound at.admits (reserve_as x r i found chosen is ∙ ap (λ b. decided_reserve i b (nat_lt i.to upto)) plain)
+        refuses s reserves_call refusal.IntervalNotFound room (reserve_as x r i found chosen is ∙ ap (λ b. decided_reserve i b (nat_lt i.to upto)) plain)
 
     pub reserves_over : (x : Session) (r : NumberRange) (i : Interval) → session_at sessions name ≡ Some x → range_at ranges object nr ≡ Some r → i ≡ present ledger.levels r.interval → is_buffered i ≡ true → nat_lt i.to upto ≡ true
         → IsAct s reserves_call s (reply.Refused (refusal.IntervalOverflow i.to))
     reserves_over x r i found chosen is buffered over =
-        refuses s reserves_call (refusal.IntervalOverflow i.to) at.admits (reserve_as x r i found chosen is ∙ (λ k. decided_reserve i (buffered k) (over k)))
+        refuses s reserves_call (refusal.IntervalOverflow i.to) room (reserve_as x r i found chosen is ∙ (λ k. decided_reserve i (buffered k) (over k)))
 
     module _ (i : Interval) (level : ℕ) (d : IsNextReserve sessions ranges ledger.levels name object nr upto i level) where
       leaves_level : own_verdict (found_in s) s (OfSession name (Reserves object nr upto)) ≡ Leaves (record s { stored = raised_to i upto s.stored }) (reply.Level (block_level i upto))
@@ -326,7 +326,7 @@ module _ (s : State) (sessions : List Session) (ranges : List NumberRange) (ledg
           let g : raised_to i upto s.stored ≡ new = ap (raised_to i upto) at.own_ledger ∙ sym (raised_same i upto ledger d.buffered begun within) ∙ ap (λ l. raised_by i l ledger) (sym d.reserved) ∙ sym raised in
           subst (λ n. IsAct s reserves_call (record s { stored = new }) (reply.Level n)) is_block
           (at_state _ _ (record s { stored = raised_to i upto s.stored }) _ _ (λ k. record s { stored = g k })
-          (leaves_as s reserves_call (record s { stored = raised_to i upto s.stored }) _ at.admits leaves_level))
+          (leaves_as s reserves_call (record s { stored = raised_to i upto s.stored }) _ room leaves_level))
 
       pub reserves_in_doubt : nat_eq level i.level ≡ false → IsAct s reserves_call (doubted s (Some (with_intervals (row_at i level ∷ []) s.stored))) (reply.Refused refusal.StoreFault)
       reserves_in_doubt differs =
@@ -337,13 +337,13 @@ module _ (s : State) (sessions : List Session) (ranges : List NumberRange) (ledg
           subst (λ o. IsTrue (option_map_or (λ r. is_past_level s r upto) o false)) (sym (ranged (Some d.range) d.chosen))
           (ap (λ (j : Interval). nat_lt j.level upto) (leveled d.range i d.interval) ∙ is_past upto i.level far) in
           subst (λ (l : Ledger). IsAct s reserves_call (doubted s (Some l)) (reply.Refused refusal.StoreFault)) levels
-          (fails s reserves_call (record s { stored = raised_to i upto s.stored }) _ at.admits leaves_level uses refl)
+          (fails s reserves_call (record s { stored = raised_to i upto s.stored }) _ room leaves_level uses refl)
 
       pub reserves_unraised : (w : Written) → IsRaiseFault i level w → (new : Ledger) → new ≡ ledger → IsWritten s reserves_call (record s { stored = new }) w
       reserves_unraised (Answered r) h new kept =
           subst (λ x. IsAct s reserves_call (record s { stored = new }) x) (sym h)
           (at_state _ _ s _ _ (λ k. record s { stored = (at.own_ledger ∙ sym kept) k })
-          (is_wanting s reserves_call (free_session s name (Reserves object nr upto) d.session at.admits (found_at s sessions name (Some d.session) at.own_sessions d.found)) refl))
+          (is_wanting s reserves_call room.served refl))
       reserves_unraised (Failed change) h new kept =
           subst (λ x. IsAct s reserves_call (doubted s (option_map (landed s.stored) x)) (reply.Refused refusal.StoreFault)) (sym h.0) (reserves_in_doubt h.1)
       reserves_unraised Unfiled h new kept = absurd h

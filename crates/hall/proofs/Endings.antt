@@ -6,6 +6,7 @@ use Rattle.enq_base.specs.declared.condition.Condition.{Condition}
 use Rattle.enq_base.specs.declared.condition.Condition.TheVariants.{Up}
 use Rattle.enq_base.specs.declared.owner.UnitKey.{UnitKey}
 use Rattle.lock_entry.specs.Table.{Table}
+use Rattle.lock_entry.specs.declared.entry.Entry.{Entry}
 use Rattle.range_list.specs.declared.range.NumberRange.{NumberRange}
 use Rattle.hall.specs.Flights.{landed}
 use Rattle.hall.specs.declared.units.InFlight.{InFlight}
@@ -15,16 +16,16 @@ use Rattle.enq_base.specs.declared.refusal.Refusal.{Refusal}
 use Rattle.enq_base.specs.declared.refusal.Refusal.TheVariants as refusal
 use Rattle.enq_server.specs.Following.{KeepsOn}
 use Rattle.keeper_api.specs.Rows.{Rows}
-use Rattle.hall.specs.Acts.{Admits, IsAct, IsWritten, OnFailure, OnStoreFailure, post_of, written_condition, written_pending, written_reply}
-use Rattle.hall.specs.Calls.{Call, LogsOn, OfSession, OfWorker, OfAdmin, SessionCall, LogsOff, Asks, Frees, FreesAll, Converts, Draws, Reserves, Reads, Commits, RollsBack, Takes, Posts, Drops, call_of, session_touches_file, touches_file}
+use Rattle.hall.specs.Acts.{Admits, IsAct, IsWritten, OnFailure, OnStoreFailure, locks_posted, post_of, written_condition, written_pending, written_reply}
+use Rattle.hall.specs.Calls.{Call, LogsOn, OfSession, OfWorker, OfAdmin, SessionCall, LogsOff, Asks, Frees, FreesAll, Converts, Draws, Reserves, Reads, Commits, RollsBack, Takes, Posts, Drops, call_of, session_touches_file, touches_file, wants_server}
 use Rattle.hall.specs.Devices.{all_well, reaches_store, session_reaches_store, session_uses_file, session_uses_store, uses_file, uses_store}
 use Rattle.hall.specs.Filing.{DoesFile, HasFileCause, KeepsFile, MayFile}
 use Rattle.hall.specs.History.{IsGiven, Served, is_row, is_unrecorded, judged}
-use Rattle.hall.specs.Kept.{HasServer, IsKept, WhileUp}
+use Rattle.hall.specs.Kept.{IsKept, OutsideDoubt}
 use Rattle.hall.specs.Leaving.{HasStoreCause}
 use Rattle.hall.specs.Serving.{DoesStore, IsDue, MayWrite, Serves, with_calls}
-use Rattle.hall.specs.State.{State, View, state_of}
-use Rattle.hall.specs.Step.{barred, found_in, is_full}
+use Rattle.hall.specs.State.{State, View, locks_in, state_of}
+use Rattle.hall.specs.Step.{barred, caller_refusal, found_in, is_full, or_else, server_refusal, unavailable}
 use Rattle.hall.specs.declared.command.Command.{Command}
 use Rattle.hall.specs.declared.command.PastEntry.{PastEntry}
 use Rattle.hall.specs.declared.command.Reply.{Reply}
@@ -32,12 +33,14 @@ use Rattle.hall.specs.declared.command.Reply.TheVariants as reply
 use Rattle.hall.specs.declared.command.Session.{Session}
 use Rattle.hall.specs.declared.units.Written.{Written}
 use Rattle.hall.specs.declared.units.Written.TheVariants.{Answered, Failed, Unfiled}
-use Rattle.hall.proofs.Calls.{barred_verdict}
+use Rattle.hall.proofs.ByCall.{ArePlain, plain_unavailable}
+use Rattle.hall.proofs.Calls.{refused_verdict}
+use Rattle.hall.proofs.Plain.{IsPlain}
 use Rattle.hall.proofs.Ends.{IsPart, ends_as, none_before, posts_part, written_act, written_state}
 use Rattle.hall.proofs.Few.{full_or}
 use Rattle.hall.proofs.Frames.{in_doubt, shut_by_history}
-use Rattle.hall.proofs.Leaves.{barred_quiet, same_keeps, untouched_keeps}
-use Rattle.hall.proofs.Filing.{any_file, barred_file_quiet, same_file}
+use Rattle.hall.proofs.Leaves.{plain_quiet, same_keeps, untouched_keeps}
+use Rattle.hall.proofs.Filing.{any_file, plain_file, same_file}
 use Rattle.hall.proofs.Replies.{fault_uses_file, fault_uses_store, unnoted_same}
 use Rattle.backup_file.specs.Backup.{BackupView}
 
@@ -54,28 +57,65 @@ true_not_false e = cc
 -- what the call leaves where the store doesn't fail
 abbrev pub rewritten : State → List Session → List (Option UnitKey) → Table → List NumberRange → Ledger → State
 rewritten s sessions orders table ranges ledger =
-    record s { sessions = sessions; orders = orders; locks = table.entries; ranges = ranges; stored = ledger }
+    record s { sessions = sessions; orders = orders; locks = locks_in s.condition table.entries; ranges = ranges; stored = ledger }
+
+-- ---- what nothing bars
+
+-- calls are served
+abbrev pub IsServing : Condition → Type 0
+IsServing condition.Up = Unit {0}
+IsServing condition.NoServer = Unit {0}
+IsServing (condition.Doubt n) = ⊥
+
+pub outside : (k : Condition) (P : Type 0) → IsServing k → OutsideDoubt k P → P
+outside condition.Up P serving h = h
+outside condition.NoServer P serving h = h
+outside (condition.Doubt n) P serving h = absurd serving
+
+none_first : (o later : Option Refusal) → or_else o later ≡ None → o ≡ None
+none_first None later e = refl
+none_first (Some r) later e = cc
+
+none_later : (o later : Option Refusal) → or_else o later ≡ None → later ≡ None
+none_later None later e = e
+none_later (Some r) later e = cc
+
+pub not_barred : (s : State) (call : Call) → unavailable s call ≡ None → barred s ≡ None
+not_barred s call free = none_first (barred s) _ free
+
+serving_in : (full : Bool) (k : Condition) → (if full then Some refusal.LogFull else in_doubt k) ≡ None → IsServing k
+serving_in true k e = cc
+serving_in false condition.Up e = tt
+serving_in false condition.NoServer e = tt
+serving_in false (condition.Doubt n) e = cc
+
+-- it finds the server up, or a call that wants none without a server
+pub is_serving : (s : State) (c : Command) → Admits s c → IsServing s.condition
+is_serving s c free = serving_in (is_full s) s.condition (not_barred s (call_of c) free.served)
+
+up_in : (k : Condition) (call : Call) → IsServing k → wants_server call ≡ true → server_refusal k call ≡ None → k ≡ Up
+up_in condition.Up call serving wants e = refl
+up_in condition.NoServer call serving wants e = let refused : Some refusal.SystemFailure ≡ None = sym (ap (λ b. if b then Some refusal.SystemFailure else None) wants) ∙ e in cc
+up_in (condition.Doubt n) call serving wants e = absurd serving
+
+pub server_up : (s : State) (c : Command) → wants_server (call_of c) ≡ true → Admits s c → s.condition ≡ Up
+server_up s c wants free =
+    up_in s.condition (call_of c) (is_serving s c free) wants
+    (none_later (caller_refusal s.sessions (call_of c)) _ (none_later (barred s) _ free.served))
 
 -- ---- a call apart from its place in the history
 
 acts_as : (s : State) (c : Command) (after new : State) (r said : Reply) → IsAct s c after r → new ≡ after → said ≡ r → IsAct s c new said
 acts_as s c after new r said act is same = subst (λ x. IsAct s c x said) (sym is) (subst (IsAct s c after) (sym same) act)
 
-up_in : (full : Bool) (k : Condition) → HasServer k → (if full then Some refusal.LogFull else in_doubt k) ≡ None → k ≡ Up
-up_in true k server e = cc
-up_in false condition.Up server e = refl
-up_in false condition.NoServer server e = absurd server
-up_in false (condition.Doubt n) server e = cc
+pub due_of : (s : State) (past : List PastEntry) (c : Command) → IsKept (with_calls s past) → unavailable (with_calls s past) (call_of c) ≡ None → IsDue s past c
+due_of s past c kept free = record { kept = kept; admits = record { served = free } }
 
--- what nothing bars finds the server up
-pub due_of : (s : State) (past : List PastEntry) → IsKept (with_calls s past) → barred (with_calls s past) ≡ None → IsDue s past
-due_of s past kept free = record {
-  kept = kept;
-  admits = record { served = free; up = up_in (is_full (with_calls s past)) s.condition kept.steady.server free; whole = kept.steady.whole };
-}
+pub due_serving : (s : State) (past : List PastEntry) (c : Command) → IsDue s past c → IsServing s.condition
+due_serving s past c due = is_serving (with_calls s past) c due.admits
 
-pub due_up : (s : State) (past : List PastEntry) → IsDue s past → s.condition ≡ Up
-due_up s past due = due.admits.up
+pub due_up : (s : State) (past : List PastEntry) (c : Command) → wants_server (call_of c) ≡ true → IsDue s past c → s.condition ≡ Up
+due_up s past c wants due = server_up (with_calls s past) c wants due.admits
 
 same_past : (s after : State) (w : Written) → after.past ≡ s.past → record (written_state s after w) { past = s.past } ≡ written_state s after w
 same_past s after (Answered r) h = λ i. record after { past = sym h i }
@@ -84,47 +124,70 @@ same_past s after Unfiled h = refl
 
 -- a call that uses the store, where it fails too
 pub written_call : (told told' : Bool) (k k' : Condition) (ss ss' : List Session) (n : ℕ) (os os' : List (Option UnitKey)) (t t' : Table) (x m : ℕ) (rs rs' : List NumberRange) (l l' : Ledger) (p p' : Option InFlight) (past : List PastEntry) (w : Written) (c : Command) (said : Reply)
-    → IsDue (state_with told k ss n os t x m rs l p []) past
+    → IsDue (state_with told k ss n os t x m rs l p []) past c
     → told' ≡ told → k' ≡ written_condition k (length past) w → p' ≡ written_pending p w → said ≡ written_reply w
     → t'.limit ≡ t.limit → OnFailure w (ss' ≡ ss) → OnFailure w (os' ≡ os) → OnStoreFailure w (l' ≡ l) → OnFailure w (rs' ≡ rs)
-    → (option_map (landed l) p ≡ None → Admits (state_with told Up ss n os t x m rs l p past) → IsWritten (state_with told Up ss n os t x m rs l p past) c (rewritten (state_with told Up ss n os t x m rs l p past) ss' os' t' rs' l') w)
+    → (option_map (landed l) p ≡ None → Admits (state_with told k ss n os t x m rs l p past) c → IsWritten (state_with told k ss n os t x m rs l p past) c (rewritten (state_with told k ss n os t x m rs l p past) ss' os' t' rs' l') w)
     → IsAct (state_with told k ss n os t x m rs l p past) c (state_with told' k' ss' n os' t' x m rs' l' p' past) said
 written_call told told' k k' ss ss' n os os' t t' x m rs rs' l l' p p' past w c said due tells condition pending reply limit a b d e written =
-    let before : Condition → State = λ q. state_with told q ss n os t x m rs l p past in
-    let s : State = before Up in
-    let up : k ≡ Up = due_up (state_with told k ss n os t x m rs l p []) past due in
-    let room : Admits s = subst (λ q. Admits (before q)) up due.admits in
-    let held : IsKept s = subst (λ q. IsKept (before q)) up due.kept in
+    let s : State = state_with told k ss n os t x m rs l p past in
+    let none : option_map (landed l) p ≡ None = outside k _ (is_serving s c due.admits) due.kept.steady.settled in
     let after : State = written_state s (rewritten s ss' os' t' rs' l') w in
-    let act : IsAct s c after (written_reply w) = written_act s c (rewritten s ss' os' t' rs' l') w (written held.steady.settled room) in
-    let condition' : k' ≡ written_condition Up (length past) w = condition ∙ ap (λ q. written_condition q (length past) w) up in
+    let act : IsAct s c after (written_reply w) = written_act s c (rewritten s ss' os' t' rs' l') w (written none due.admits) in
     let is : state_with told' k' ss' n os' t' x m rs' l' p' past ≡ after =
-    (λ i. state_with told' (condition' i) ss' n os' t' x m rs' l' (pending i) past)
-    ∙ ends_as told told' ss ss' n os os' t t' x m rs rs' l l' p past past w tells held.steady.settled limit a b d e
+    (λ i. state_with told' (condition i) ss' n os' t' x m rs' l' (pending i) past)
+    ∙ ends_as k told told' ss ss' n os os' t t' x m rs rs' l l' p past past w tells none limit a b d e
     ∙ same_past s (rewritten s ss' os' t' rs' l') w refl in
-    subst (λ q. IsAct (before q) c (state_with told' k' ss' n os' t' x m rs' l' p' past) said) (sym up)
-    (acts_as s c after (state_with told' k' ss' n os' t' x m rs' l' p' past) (written_reply w) said act is reply)
+    acts_as s c after (state_with told' k' ss' n os' t' x m rs' l' p' past) (written_reply w) said act is reply
 
--- ---- a call that is barred
+-- the same of a call that wants a server
+pub written_up : (told told' : Bool) (k k' : Condition) (ss ss' : List Session) (n : ℕ) (os os' : List (Option UnitKey)) (t t' : Table) (x m : ℕ) (rs rs' : List NumberRange) (l l' : Ledger) (p p' : Option InFlight) (past : List PastEntry) (w : Written) (c : Command) (said : Reply)
+    → wants_server (call_of c) ≡ true → IsDue (state_with told k ss n os t x m rs l p []) past c
+    → told' ≡ told → k' ≡ written_condition k (length past) w → p' ≡ written_pending p w → said ≡ written_reply w
+    → t'.limit ≡ t.limit → OnFailure w (ss' ≡ ss) → OnFailure w (os' ≡ os) → OnStoreFailure w (l' ≡ l) → OnFailure w (rs' ≡ rs)
+    → (option_map (landed l) p ≡ None → Admits (state_with told Up ss n os t x m rs l p past) c → IsWritten (state_with told Up ss n os t x m rs l p past) c (rewritten (state_with told Up ss n os t x m rs l p past) ss' os' t' rs' l') w)
+    → IsAct (state_with told k ss n os t x m rs l p past) c (state_with told' k' ss' n os' t' x m rs' l' p' past) said
+written_up told told' k k' ss ss' n os os' t t' x m rs rs' l l' p p' past w c said wants due tells condition pending reply limit a b d e written =
+    let before : Condition → State = λ q. state_with told q ss n os t x m rs l p past in
+    let up : k ≡ Up = due_up (state_with told k ss n os t x m rs l p []) past c wants due in
+    written_call told told' k k' ss ss' n os os' t t' x m rs rs' l l' p p' past w c said due tells condition pending reply limit a b d e
+    (λ none room. subst (λ q. IsWritten (before q) c (rewritten (before q) ss' os' t' rs' l') w) (sym up) (written none (subst (λ q. Admits (before q) c) up room)))
 
-pub barred_call : (s : State) (c : Command) (r : Refusal) → barred s ≡ Some r → IsAct s c s (reply.Refused r)
-barred_call s c r shut = record {
+-- the locks behind a post are those of the table, and where there is no server none
+pub posted_in : (k : Condition) (part : ℕ) (old new : List Entry) → (nat_eq part 1 ≡ true → k ≡ Up) → (nat_eq part 1 ≡ false → new ≡ old) → locks_posted part (locks_in k old) new ≡ locks_in k new
+posted_in k part old new up same = by_part (nat_eq part 1) up same
+  where
+    by_part : (b : Bool) → (b ≡ true → k ≡ Up) → (b ≡ false → new ≡ old) → (if b then new else locks_in k old) ≡ locks_in k new
+    by_part true up same = sym (ap (λ q. locks_in q new) (up refl))
+    by_part false up same = ap (locks_in k) (sym (same refl))
+
+-- ---- a call that isn't served
+
+pub refused_call : (s : State) (c : Command) (r : Refusal) → unavailable s (call_of c) ≡ Some r → IsAct s c s (reply.Refused r)
+refused_call s c r shut = record {
   outcome = all_well;
   possible = record { reading = tt; event = tt };
-  same = ap (judged s) (barred_verdict (found_in s) s (call_of c) r shut);
+  same = ap (judged s) (refused_verdict (found_in s) s (call_of c) r shut);
 }
 
--- a call that is barred, but not by a full history, finds room in it
-pub barred_room : (s : State) (r : Refusal) → barred s ≡ Some r → is_unrecorded (reply.Refused r) ≡ false → is_full s ≡ false
-barred_room s r shut noted =
+first_refusal : (o later : Option Refusal) (r first : Refusal) → o ≡ Some first → or_else o later ≡ Some r → r ≡ first
+first_refusal None later r first e h = cc
+first_refusal (Some x) later r first e h = cc
+
+-- a call that isn't served, but not for a full history, finds room in it
+pub refused_room : (s : State) (call : Call) (r : Refusal) → unavailable s call ≡ Some r → is_unrecorded (reply.Refused r) ≡ false → is_full s ≡ false
+refused_room s call r shut noted =
     full_or (is_full s ≡ false) (is_full s)
-    (λ full. let is : r ≡ refusal.LogFull = some_is r refusal.LogFull (sym shut ∙ shut_by_history s full) in
+    (λ full. let is : r ≡ refusal.LogFull = first_refusal (barred s) _ r refusal.LogFull (shut_by_history s full) shut in
     absurd (true_not_false (ap (λ q. is_unrecorded (reply.Refused q)) (sym is) ∙ noted)))
     (λ e. e)
 
-pub barred_store : {K : Type 0} (held : K → Option Rows) (may_leave : K → Rows → Type 0) (faults : K → ℕ) (keeper : K) (s : State) (r : Refusal) → barred s ≡ Some r → MayWrite held may_leave faults keeper keeper (reply.Refused r)
-barred_store held may_leave faults keeper s r shut =
-    record { told = refl; cause = barred_quiet s r (faults keeper) (faults keeper) refl shut; kept = untouched_keeps held may_leave keeper r }
+shut_plain : (s : State) (call : Call) (r : Refusal) → unavailable s call ≡ Some r → IsPlain r
+shut_plain s call r shut = subst ArePlain shut (plain_unavailable s call)
+
+pub refused_store : {K : Type 0} (held : K → Option Rows) (may_leave : K → Rows → Type 0) (faults : K → ℕ) (keeper : K) (s : State) (call : Call) (r : Refusal) → unavailable s call ≡ Some r → MayWrite held may_leave faults keeper keeper (reply.Refused r)
+refused_store held may_leave faults keeper s call r shut =
+    record { told = refl; cause = plain_quiet r (faults keeper) (faults keeper) refl (shut_plain s call r shut); kept = untouched_keeps held may_leave keeper r }
 
 -- ---- what a call does to the store
 
@@ -182,8 +245,8 @@ does_store held may_leave faults false old new r may same = same refl
 
 -- ---- what a call does to the backup file
 
-pub barred_file : {D : Type 0} (faults : D → ℕ) (file : BackupView D) (s : State) (r : Refusal) → barred s ≡ Some r → MayFile faults file file (reply.Refused r)
-barred_file faults file s r shut = record { cause = barred_file_quiet s r (faults file.disk) (faults file.disk) refl shut; kept = any_file file (reply.Refused r) }
+pub refused_file : {D : Type 0} (faults : D → ℕ) (file : BackupView D) (s : State) (call : Call) (r : Refusal) → unavailable s call ≡ Some r → MayFile faults file file (reply.Refused r)
+refused_file faults file s call r shut = record { cause = plain_file r (faults file.disk) (faults file.disk) refl (shut_plain s call r shut); kept = any_file file (reply.Refused r) }
 
 file_session_touches : (s : State) (name : List ℕ) (call : SessionCall) → IsTrue (session_uses_file s name call) → session_touches_file call ≡ true
 file_session_touches s name (Commits parts stock) uses = refl
@@ -224,21 +287,30 @@ any_call_file faults old new s c after r act h = file_by faults old new s c afte
 pub same_as_filed : {D : Type 0} (faults : D → ℕ) (old new : BackupView D) (c : Command) (r : Reply) → DoesFile faults (touches_file (call_of c)) old new r → touches_file (call_of c) ≡ false → new ≡ old
 same_as_filed faults old new c r h e = subst (λ b. DoesFile faults b old new r) e h
 
--- a call that doesn't touch the store, of a server that is up
-pub serves_beside : {K D L : Type 0} (held : K → Option Rows) (may_leave : K → Rows → Type 0) (faults : K → ℕ) (disk_faults : D → ℕ) (link_faults refusals : L → ℕ) (before after : Condition → View K D L) (k : Condition) (was : View K D L) (past : List PastEntry) (c : Command) (r said : Reply)
-    → before k ≡ was → (before k).state.condition ≡ k → (after k).keeper ≡ (before k).keeper → (after k).file ≡ (before k).file → KeepsOn link_faults refusals (before k).follower (after k).follower → IsDue was.state past → reaches_store (before k).state (call_of c) ≡ false → touches_file (call_of c) ≡ false → said ≡ r
-    → (Admits (with_calls (before Up).state past) → IsAct (with_calls (before Up).state past) c (with_calls (after Up).state past) r)
+-- a call that doesn't touch the store
+pub serves_apart : {K D L : Type 0} (held : K → Option Rows) (may_leave : K → Rows → Type 0) (faults : K → ℕ) (disk_faults : D → ℕ) (link_faults refusals : L → ℕ) (before after : Condition → View K D L) (k : Condition) (was : View K D L) (past : List PastEntry) (c : Command) (r said : Reply)
+    → before k ≡ was → (after k).keeper ≡ (before k).keeper → (after k).file ≡ (before k).file → KeepsOn link_faults refusals (before k).follower (after k).follower → IsDue was.state past c → reaches_store (before k).state (call_of c) ≡ false → touches_file (call_of c) ≡ false → said ≡ r
+    → (Admits (with_calls (before k).state past) c → IsAct (with_calls (before k).state past) c (with_calls (after k).state past) r)
     → Serves held may_leave faults disk_faults link_faults refusals was (after k) past c said
-serves_beside held may_leave faults disk_faults link_faults refusals before after k was past c r said is own kept file follows due off unfiled same act =
-    let here : IsDue (before k).state past = subst (λ (v : View _ _ _). IsDue v.state past) (sym is) due in
-    let up : k ≡ Up = sym own ∙ here.admits.up in
-    let room : Admits (with_calls (before Up).state past) = subst (λ q. Admits (with_calls (before q).state past)) up here.admits in
+serves_apart held may_leave faults disk_faults link_faults refusals before after k was past c r said is kept file follows due off unfiled same act =
+    let here : IsDue (before k).state past c = subst (λ (v : View _ _ _). IsDue v.state past c) (sym is) due in
     subst (λ v. Serves held may_leave faults disk_faults link_faults refusals v (after k) past c said) is (record {
-      call = subst (λ q. IsAct (with_calls (before q).state past) c (with_calls (after q).state past) said) (sym up) (subst (IsAct (with_calls (before Up).state past) c (with_calls (after Up).state past)) (sym same) (act room));
+      call = subst (IsAct (with_calls (before k).state past) c (with_calls (after k).state past)) (sym same) (act here.admits);
       store = subst (λ b. DoesStore held may_leave faults b (before k).keeper (after k).keeper said) (sym off) kept;
       file = subst (λ b. DoesFile disk_faults b (before k).file (after k).file said) (sym unfiled) file;
       follower = follows;
     })
+
+-- the same of one that wants a server
+pub serves_beside : {K D L : Type 0} (held : K → Option Rows) (may_leave : K → Rows → Type 0) (faults : K → ℕ) (disk_faults : D → ℕ) (link_faults refusals : L → ℕ) (before after : Condition → View K D L) (k : Condition) (was : View K D L) (past : List PastEntry) (c : Command) (r said : Reply)
+    → before k ≡ was → (before k).state.condition ≡ k → (after k).keeper ≡ (before k).keeper → (after k).file ≡ (before k).file → KeepsOn link_faults refusals (before k).follower (after k).follower → wants_server (call_of c) ≡ true → IsDue was.state past c → reaches_store (before k).state (call_of c) ≡ false → touches_file (call_of c) ≡ false → said ≡ r
+    → (Admits (with_calls (before Up).state past) c → IsAct (with_calls (before Up).state past) c (with_calls (after Up).state past) r)
+    → Serves held may_leave faults disk_faults link_faults refusals was (after k) past c said
+serves_beside held may_leave faults disk_faults link_faults refusals before after k was past c r said is own kept file follows wants due off unfiled same act =
+    let here : IsDue (before k).state past c = subst (λ (v : View _ _ _). IsDue v.state past c) (sym is) due in
+    let up : k ≡ Up = sym own ∙ due_up (before k).state past c wants here in
+    serves_apart held may_leave faults disk_faults link_faults refusals before after k was past c r said is kept file follows due off unfiled same
+    (λ room. subst (λ q. IsAct (with_calls (before q).state past) c (with_calls (after q).state past) r) (sym up) (act (subst (λ q. Admits (with_calls (before q).state past) c) up room)))
 
 -- ---- its place in the history
 
@@ -265,9 +337,9 @@ given_noted made given (inl same) noted = ap is_unrecorded same ∙ noted
 given_noted made given (inr (row, is)) noted = ap is_unrecorded is
 
 -- no change is in flight where a call is due
-pub no_flight : (told : Bool) (k : Condition) (ss : List Session) (n : ℕ) (os : List (Option UnitKey)) (t : Table) (x m : ℕ) (rs : List NumberRange) (l : Ledger) (p : Option InFlight) (past : List PastEntry) → IsDue (state_with told k ss n os t x m rs l p []) past → p ≡ None
-no_flight told k ss n os t x m rs l p past due =
-    none_before p l (subst (λ c. WhileUp c (option_map (landed l) p ≡ None)) (due_up (state_with told k ss n os t x m rs l p []) past due) due.kept.steady.settled)
+pub no_flight : (told : Bool) (k : Condition) (ss : List Session) (n : ℕ) (os : List (Option UnitKey)) (t : Table) (x m : ℕ) (rs : List NumberRange) (l : Ledger) (p : Option InFlight) (past : List PastEntry) (c : Command) → IsDue (state_with told k ss n os t x m rs l p []) past c → p ≡ None
+no_flight told k ss n os t x m rs l p past c due =
+    none_before p l (outside k _ (due_serving (state_with told k ss n os t x m rs l p []) past c due) due.kept.steady.settled)
 
 -- a V2 part isn't one whose locks end
 pub posts_file : {D : Type 0} (faults : D → ℕ) (old new : BackupView D) (part worker : ℕ) (r : Reply) → IsPart part → MayFile faults old new r → (nat_eq part 1 ≡ false → new ≡ old) → DoesFile faults (touches_file (call_of (post_of part worker))) old new r

@@ -45,7 +45,7 @@ use Rattle.range_list.specs.Drawn.{AreDrawnRight, handed_out, num_of, passed, se
 use Rattle.range_list.specs.Levels.{present}
 use Rattle.range_list.specs.declared.range.NumberRange.{NumberRange}
 use Rattle.hall.specs.Numbers.{drawn, next_number, raised_to, stocked}
-use Rattle.hall.specs.Kept.{draws_in, AreOrders, HasFew, HasGoodLocks, HasItsUser, HasOpenUnits, HasSoundLocks, IsAhead, IsKept, IsKnown, IsOwned, IsSteady, IsWaiting, IsYoung, MayHold, NoneLost, OfLock, OfStored, may_hold}
+use Rattle.hall.specs.Kept.{draws_in, AreOrders, HasFew, HasGoodLocks, HasItsUser, HasOpenUnits, HasSoundLocks, IsAhead, IsKept, IsKnown, IsOwned, IsSteady, IsWaiting, IsYoung, MayHold, OfLock, OfStored, may_hold}
 use Rattle.hall.specs.Orders.{first_unclaimed, is_claimed, order_for, order_of, without_order}
 use Rattle.hall.specs.Sessions.{begun, is_called, owners_of, pair_of, session_at, unit_key, with_draw, with_fresh_unit, with_next_unit, with_session, without_draws, without_session}
 use Rattle.hall.specs.Calls.{call_of}
@@ -53,7 +53,7 @@ use Rattle.hall.specs.State.{State}
 use Rattle.hall.specs.Calls.{call_of}
 use Rattle.hall.specs.Stocks.{IsStockIn, MayCall}
 use Rattle.hall.specs.Step.{Found, barred, cancelled, committed, entered, is_full, locks_behind, locks_without, marked, numbered, reopened, reposted, taken, unit_of, verdict}
-use Rattle.hall.proofs.Alike.{AreAlike, HaveOneStatus, ahead_alike, alike_all, alike_with, count_alike, lost_alike, numbered_alike, orders_alike, owned_alike, with_others, young_alike}
+use Rattle.hall.proofs.Alike.{AreAlike, HaveOneStatus, ahead_alike, alike_all, alike_self, alike_with, count_alike, numbered_alike, orders_alike, owned_alike, with_others, young_alike}
 use Rattle.hall.proofs.ByCall.{CanDraw, CanReserve, OfEach, by_event, by_filing, by_made}
 use Rattle.hall.proofs.OpenKept.{served-open}
 use Rattle.hall.proofs.Cancels.{CanBeCancelled, unclaimed}
@@ -107,9 +107,6 @@ each_with Q change keeps name (x ∷ xs) k =
       | false ↦ (k.0, each_with Q change keeps name xs k.1)
     ]
 
-abbrev WasKept : Session → Type 0
-WasKept x = x.lost ≡ false
-
 -- what is kept, but for the length of the history
 pub record Holds (n : ℕ) (s : State) : Type 0 where
   pub few : HasFew n s
@@ -139,8 +136,6 @@ holds_locks n s locks own h =
       steady = record {
         started = steady.started;
         limited = steady.limited;
-        server = steady.server;
-        whole = steady.whole;
         named = steady.named;
         drawn = steady.drawn;
         marked = steady.marked;
@@ -163,8 +158,6 @@ left-holds n s name locks own h =
       steady = record {
         started = steady.started;
         limited = steady.limited;
-        server = steady.server;
-        whole = each_filter WasKept p s.sessions steady.whole;
         named = named_filter p s.sessions steady.named;
         drawn = drawn_left s p steady.drawn;
         marked = steady.marked;
@@ -176,14 +169,48 @@ left-holds n s name locks own h =
       };
     }
 
--- where no session lost a lock, a rollback opens the next unit as a commit does
-fresh_is_next : (name : List ℕ) (xs : List Session) → NoneLost xs → with_session name with_fresh_unit xs ≡ with_session name with_next_unit xs
-fresh_is_next name [] k = refl
-fresh_is_next name (x ∷ xs) k =
-    elim (is_called name x) as (λ b. cond b (with_fresh_unit x ∷ xs) (x ∷ with_session name with_fresh_unit xs) ≡ cond b (with_next_unit x ∷ xs) (x ∷ with_session name with_next_unit xs)) [
-      | true ↦ λ i. record (with_next_unit x) { lost = sym k.0 i } ∷ xs
-      | false ↦ ap (λ ys. x ∷ ys) (fresh_is_next name xs k.1)
+-- a rollback opens the next unit as a commit does
+renewed_alike : (name : List ℕ) (xs : List Session) → AreAlike (with_session name with_next_unit xs) (with_session name with_fresh_unit xs)
+renewed_alike name [] = tt
+renewed_alike name (x ∷ xs) =
+    elim (is_called name x) as (λ b. AreAlike (cond b (with_next_unit x ∷ xs) (x ∷ with_session name with_next_unit xs)) (cond b (with_fresh_unit x ∷ xs) (x ∷ with_session name with_fresh_unit xs))) [
+      | true ↦ (record { name = refl; user = refl; number = refl; luw = refl }, alike_all xs)
+      | false ↦ (alike_self x, renewed_alike name xs)
     ]
+
+renewed_draws : (name : List ℕ) (xs : List Session) → draws_in (with_session name with_fresh_unit xs) ≡ draws_in (with_session name with_next_unit xs)
+renewed_draws name [] = refl
+renewed_draws name (x ∷ xs) =
+    elim (is_called name x) as (λ b. draws_in (cond b (with_fresh_unit x ∷ xs) (x ∷ with_session name with_fresh_unit xs)) ≡ draws_in (cond b (with_next_unit x ∷ xs) (x ∷ with_session name with_next_unit xs))) [
+      | true ↦ refl
+      | false ↦ ap (λ ds. x.draws ∷ ds) (renewed_draws name xs)
+    ]
+
+-- sessions that differ in what they have drawn alone, and in having lost locks, over other levels and marks by which each
+-- unit has the same status
+alike-holds : (n : ℕ) (s : State) (sessions : List Session) (ranges : List NumberRange) (levels : Levels) (marks : List Mark) → AreAlike s.sessions sessions → HaveOneStatus s.stored marks → AreDrawnRight ranges levels (draws_in sessions) (numbers_of s.stored.units marks) → Holds n s
+    → Holds n (record s { sessions = sessions; ranges = ranges; stored = with_others s.stored levels marks })
+alike-holds n s sessions ranges levels marks alike same drawn h =
+    let steady = h.steady in
+    record {
+      few = record { sessions = h.few.sessions; units = young_alike (n + 1) s.sessions sessions alike h.few.units };
+      steady = record {
+        started = steady.started;
+        limited = steady.limited;
+        named = λ name. subst (λ k. k ≤ 1) (sym (count_alike name s.sessions sessions alike)) (steady.named name);
+        drawn = drawn;
+        marked = λ key none. steady.marked key (sym (same key) ∙ none);
+        settled = steady.settled;
+        fresh = record {
+          numbered = numbered_alike s.next_session s.sessions sessions alike steady.fresh.numbered;
+          ahead = ahead_alike s.stored levels marks same s.sessions sessions alike steady.fresh.ahead;
+          later = λ session luw from. same (record { start = s.stored.start; session = session; luw = luw }) ∙ steady.fresh.later session luw from;
+        };
+        places = steady.places;
+        orders = outside_more s.condition (λ k. orders_alike s.stored levels marks same s.orders k) steady.orders;
+        owned = owned_alike s.stored levels marks same s.next_session s.sessions sessions s.locks alike steady.owned;
+      };
+    }
 
 next-holds : (n : ℕ) (s : State) (name : List ℕ) (x : Session) (locks : List Entry) → session_at s.sessions name ≡ Some x → AreOwned s locks → Holds n s → Holds (n + 1) (record s { sessions = with_session name with_next_unit s.sessions; locks = locks })
 next-holds n s name x locks at own h =
@@ -195,8 +222,6 @@ next-holds n s name x locks at own h =
       steady = record {
         started = steady.started;
         limited = steady.limited;
-        server = steady.server;
-        whole = each_with WasKept with_next_unit (λ x k. k) name s.sessions steady.whole;
         named = named_with with_next_unit (λ x. refl) name s.sessions steady.named;
         drawn = drawn_back s name x with_next_unit at refl steady.drawn;
         marked = steady.marked;
@@ -210,7 +235,10 @@ next-holds n s name x locks at own h =
 
 rolled-holds : (n : ℕ) (s : State) (name : List ℕ) (x : Session) (locks : List Entry) → session_at s.sessions name ≡ Some x → AreOwned s locks → Holds n s → Holds (n + 1) (record s { sessions = with_session name with_fresh_unit s.sessions; locks = locks })
 rolled-holds n s name x locks at own h =
-    subst (λ xs. Holds (n + 1) (record s { sessions = xs; locks = locks })) (sym (fresh_is_next name s.sessions h.steady.whole)) (next-holds n s name x locks at own h)
+    let t : State = record s { sessions = with_session name with_next_unit s.sessions; locks = locks } in
+    let next = next-holds n s name x locks at own h in
+    alike-holds (n + 1) t (with_session name with_fresh_unit s.sessions) s.ranges s.stored.levels s.stored.marks (renewed_alike name s.sessions) (λ key. refl)
+    (subst (λ ds. AreDrawnRight s.ranges s.stored.levels ds (numbers_of s.stored.units s.stored.marks)) (sym (renewed_draws name s.sessions)) next.steady.drawn) next
 
 -- the session that commits is the one of that name
 commit-holds : (n : ℕ) (s : State) (x : Session) (parts : Parts) (stock : List Number) → session_at s.sessions x.name ≡ Some x → IsStockIn s stock → Holds n s → Holds (n + 1) (stocked stock (committed s x parts (x.draws ++ stock)))
@@ -235,8 +263,6 @@ commit-holds n s x parts stock at fits h =
       steady = record {
         started = steady.started;
         limited = steady.limited;
-        server = steady.server;
-        whole = each_with WasKept with_next_unit (λ x k. k) x.name s.sessions steady.whole;
         named = named_with with_next_unit (λ x. refl) x.name s.sessions steady.named;
         drawn = drawn_recorded s x stock with_next_unit unit at refl refl unheard steady.marked fits steady.drawn;
         marked = marks_recorded s.stored unit unheard steady.marked;
@@ -294,8 +320,6 @@ entered-holds n s name user free h =
       steady = record {
         started = steady.started;
         limited = steady.limited;
-        server = steady.server;
-        whole = each_push WasKept s.sessions y steady.whole refl;
         named = named_push name s.sessions y refl free steady.named;
         drawn = drawn_entered s y refl steady.drawn;
         marked = steady.marked;
@@ -332,8 +356,6 @@ taken-holds n part s worker unit e h =
     holds_orders n s worker (Some unit) (record {
       started = steady.started;
       limited = steady.limited;
-      server = steady.server;
-      whole = steady.whole;
       named = steady.named;
       drawn = steady.drawn;
       marked = steady.marked;
@@ -350,8 +372,6 @@ dropped-holds n s worker h =
     holds_orders n s worker None (record {
       started = steady.started;
       limited = steady.limited;
-      server = steady.server;
-      whole = steady.whole;
       named = steady.named;
       drawn = steady.drawn;
       marked = steady.marked;
@@ -381,8 +401,6 @@ marked-holds n part s worker unit kind none e h =
       steady = record {
         started = steady.started;
         limited = steady.limited;
-        server = steady.server;
-        whole = steady.whole;
         named = steady.named;
         drawn = drawn_marked s unit kind none steady.drawn;
         marked = marks_marked s.stored unit kind steady.marked;
@@ -414,8 +432,6 @@ cancelled-holds n s unit status can h =
       steady = record {
         started = steady.started;
         limited = steady.limited;
-        server = steady.server;
-        whole = steady.whole;
         named = steady.named;
         drawn = drawn_marked s unit Gone (λ us seq key. refl) steady.drawn;
         marked = marks_marked s.stored unit Gone steady.marked;
@@ -448,8 +464,6 @@ reopened-holds n s unit es here own h =
       steady = record {
         started = steady.started;
         limited = steady.limited;
-        server = steady.server;
-        whole = steady.whole;
         named = steady.named;
         drawn = drawn_marked s unit Again1 (λ us seq key. refl) steady.drawn;
         marked = marks_marked s.stored unit Again1 steady.marked;
@@ -471,8 +485,6 @@ reposted-holds n s unit here h =
       steady = record {
         started = steady.started;
         limited = steady.limited;
-        server = steady.server;
-        whole = steady.whole;
         named = steady.named;
         drawn = drawn_marked s unit Again2 (λ us seq key. refl) steady.drawn;
         marked = marks_marked s.stored unit Again2 steady.marked;
@@ -492,33 +504,10 @@ back-owned s unit es good stand own =
 
 -- ---- numbers
 
--- sessions that differ in their draws alone, over other levels and marks by which each unit has the same status
 beside-holds : (n : ℕ) (s : State) (sessions : List Session) (ranges : List NumberRange) (levels : Levels) (marks : List Mark) → AreAlike s.sessions sessions → HaveOneStatus s.stored marks → AreDrawnRight ranges levels (draws_in sessions) (numbers_of s.stored.units marks) → Holds n s
     → Holds (n + 1) (record s { sessions = sessions; ranges = ranges; stored = with_others s.stored levels marks })
 beside-holds n s sessions ranges levels marks alike same drawn h =
-    let few = few_more n s h.few in
-    let steady = h.steady in
-    record {
-      few = record { sessions = few.sessions; units = young_alike (n + 1 + 1) s.sessions sessions alike few.units };
-      steady = record {
-        started = steady.started;
-        limited = steady.limited;
-        server = steady.server;
-        whole = lost_alike s.sessions sessions alike steady.whole;
-        named = λ name. subst (λ k. k ≤ 1) (sym (count_alike name s.sessions sessions alike)) (steady.named name);
-        drawn = drawn;
-        marked = λ key none. steady.marked key (sym (same key) ∙ none);
-        settled = steady.settled;
-        fresh = record {
-          numbered = numbered_alike s.next_session s.sessions sessions alike steady.fresh.numbered;
-          ahead = ahead_alike s.stored levels marks same s.sessions sessions alike steady.fresh.ahead;
-          later = λ session luw from. same (record { start = s.stored.start; session = session; luw = luw }) ∙ steady.fresh.later session luw from;
-        };
-        places = steady.places;
-        orders = outside_more s.condition (λ k. orders_alike s.stored levels marks same s.orders k) steady.orders;
-        owned = owned_alike s.stored levels marks same s.next_session s.sessions sessions s.locks alike steady.owned;
-      };
-    }
+    holds_more n (record s { sessions = sessions; ranges = ranges; stored = with_others s.stored levels marks }) (alike-holds n s sessions ranges levels marks alike same drawn h)
 
 -- the same with a level that is raised
 raised-holds : (n : ℕ) (s : State) (sessions : List Session) (ranges : List NumberRange) (i : Interval) (upto : ℕ) → AreAlike s.sessions sessions → AreRightIn ranges sessions (raised_to i upto s.stored) → Holds n s
@@ -538,7 +527,7 @@ draws-holds n s x object nr r at can h =
     let number = next_number r i x in
     let draw = with_draw (num_of i number) in
     let sessions = with_session x.name draw s.sessions in
-    let alike = alike_with draw (λ y. record { name = refl; user = refl; number = refl; luw = refl; lost = refl }) x.name s.sessions in
+    let alike = alike_with draw (λ y. record { name = refl; user = refl; number = refl; luw = refl }) x.name s.sessions in
     let t : State = record s { sessions = sessions } in
     elim (is_buffered i) as (λ b. is_buffered r.interval ≡ b → Holds (n + 1) (if b then record t { ranges = handed_out i t.ranges; stored = raised_to i number t.stored } else t)) [
       | true ↦ λ is. raised-holds n s sessions (handed_out i s.ranges) i number alike (drawn_buffered s x object nr r number at can refl is h.steady.drawn) h
@@ -555,7 +544,7 @@ numbered-holds n s x stock at fits h =
     let key = unit_key s.stored.start x in
     let numbers = x.draws ++ stock in
     beside-holds n s (with_session x.name without_draws s.sessions) (passed stock s.ranges) (with_levels (settled_rows s.stored.levels s.ranges numbers) s.stored.levels) (with_mark s.stored key (Num numbers)).marks
-    (alike_with without_draws (λ y. record { name = refl; user = refl; number = refl; luw = refl; lost = refl }) x.name s.sessions) (λ other. numbers_leave s.stored key other numbers) (drawn_numbered s x stock at fits h.steady.drawn) h
+    (alike_with without_draws (λ y. record { name = refl; user = refl; number = refl; luw = refl }) x.name s.sessions) (λ other. numbers_leave s.stored key other numbers) (drawn_numbered s x stock at fits h.steady.drawn) h
 
 -- ---- all calls
 
@@ -596,8 +585,6 @@ doubted-holds n s pending h =
       steady = record {
         started = steady.started;
         limited = steady.limited;
-        server = tt;
-        whole = steady.whole;
         named = steady.named;
         drawn = steady.drawn;
         marked = steady.marked;
@@ -624,8 +611,6 @@ filed-holds n s t sessions next ranges before h marks places =
       steady = record {
         started = steady.started;
         limited = before.steady.limited;
-        server = tt;
-        whole = before.steady.whole;
         named = before.steady.named;
         drawn = subst (λ xs. AreDrawnRight s.ranges t.stored.levels (draws_in xs) (numbers_of t.stored.units t.stored.marks)) sessions
             (subst (λ rs. AreDrawnRight rs t.stored.levels (draws_in t.sessions) (numbers_of t.stored.units t.stored.marks)) ranges steady.drawn);
@@ -689,8 +674,6 @@ with_past n s past h =
       steady = record {
         started = steady.started;
         limited = steady.limited;
-        server = steady.server;
-        whole = steady.whole;
         named = steady.named;
         drawn = steady.drawn;
         marked = steady.marked;

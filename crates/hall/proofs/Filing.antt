@@ -19,7 +19,7 @@ use Rattle.update_records.specs.Ledger.{Ledger}
 use Rattle.hall.specs.Acts.{OnAnswer, written_condition, written_pending, written_reply}
 use Rattle.hall.specs.Filing.{AllRecover, ChangesLevels, FilesAs, FreesList, HasFileCause, HasOpenLists, IsUnrefused, KeepsFile, KeepsUnits, MayFile, RecoversFrom, StandsWritten, lists_ended}
 use Rattle.hall.specs.Flights.{landed}
-use Rattle.hall.specs.Kept.{WhileUp}
+use Rattle.hall.specs.Kept.{OutsideDoubt}
 use Rattle.hall.specs.OpenUnits.{AgreeAll, AreOpenLists, OfPending}
 use Rattle.hall.specs.State.{State}
 use Rattle.hall.specs.Step.{barred, is_full, posted_reply}
@@ -28,6 +28,7 @@ use Rattle.hall.specs.declared.command.Reply.TheVariants as reply
 use Rattle.hall.specs.declared.units.InFlight.{InFlight}
 use Rattle.hall.specs.declared.units.Written.{Written}
 use Rattle.hall.specs.declared.units.Written.TheVariants.{Answered, Failed, Unfiled}
+use Rattle.hall.proofs.Leaves.{outside_any}
 use Rattle.hall.proofs.Plain.{IsPlain}
 
 -- ---- answers and the disk's count of faults
@@ -56,19 +57,6 @@ pub any_file : {D : Type 0} (f : BackupView D) (r : Reply) → KeepsFile f f r
 any_file f (reply.Refused r) = refused_file f f r (same_file f)
 any_file f (reply.Row text) = same_file f
 any_file f _ = tt
-
-same_of : {X : Type 0} (a b : X) → Some a ≡ Some b → a ≡ b
-same_of a b e = cc
-
-shut_file : (full : Bool) (k : Condition) (r : Refusal) (n m : ℕ) → m ≡ n → (if full then Some refusal.LogFull else elim k [ condition.Up ↦ None | condition.NoServer ↦ None | condition.Doubt call ↦ Some (refusal.Down call) ]) ≡ Some r → HasFileCause n m (reply.Refused r)
-shut_file true k r n m h e = subst (λ x. HasFileCause n m (reply.Refused x)) (same_of refusal.LogFull r e) h
-shut_file false condition.Up r n m h e = cc
-shut_file false condition.NoServer r n m h e = cc
-shut_file false (condition.Doubt call) r n m h e = subst (λ x. HasFileCause n m (reply.Refused x)) (same_of (refusal.Down call) r e) h
-
--- a call that isn't served leaves the count of faults
-pub barred_file_quiet : (s : State) (r : Refusal) (n m : ℕ) → m ≡ n → barred s ≡ Some r → HasFileCause n m (reply.Refused r)
-barred_file_quiet s r n m h shut = shut_file (is_full s) s.condition r n m h shut
 
 pub posted_keeps_file : {D : Type 0} (old new : BackupView D) (part : ℕ) (unit : UnitKey) (o : Outcome) → KeepsFile old new (posted_reply part unit o)
 posted_keeps_file old new part unit outcome.Done =
@@ -253,22 +241,22 @@ module _ {D : Type 0} (tells : Bool) (reads : D → List ℕ) (may_leave : D →
   no_change : (l : Ledger) (p : Option InFlight) (lists : List Handed) → p ≡ None → OfPending (option_map (landed l) p) (λ x. AgreeAll x lists)
   no_change l p lists none = subst (λ q. OfPending (option_map (landed l) q) (λ x. AgreeAll x lists)) (sym none) tt
 
-  stands_after : (ledger : Ledger) (p : Option InFlight) (n : ℕ) (w : Written) (image : List ℕ) → p ≡ None → StandsWritten ledger w image → RecoversFrom (written_condition condition.Up n w) ledger (option_map (landed ledger) (written_pending p w)) image
-  stands_after ledger p n (Answered r) image none h = record { lists = h.0; stands = h.1; agree = h.2.agree; landed = no_change ledger p h.0 none; only = h.2.only }
-  stands_after ledger p n (Failed change) image none h = record { lists = h.0; stands = h.1; agree = h.2.0; landed = h.2.1; only = tt }
-  stands_after ledger p n Unfiled image none h = record { lists = h.0; stands = h.1; agree = h.2; landed = no_change ledger p h.0 none; only = tt }
+  stands_after : (ledger : Ledger) (p : Option InFlight) (before : Condition) (n : ℕ) (w : Written) (image : List ℕ) → p ≡ None → StandsWritten ledger w image → RecoversFrom (written_condition before n w) ledger (option_map (landed ledger) (written_pending p w)) image
+  stands_after ledger p before n (Answered r) image none h = record { lists = h.0; stands = h.1; agree = h.2.agree; landed = no_change ledger p h.0 none; only = outside_any before _ h.2.only }
+  stands_after ledger p before n (Failed change) image none h = record { lists = h.0; stands = h.1; agree = h.2.0; landed = h.2.1; only = tt }
+  stands_after ledger p before n Unfiled image none h = record { lists = h.0; stands = h.1; agree = h.2; landed = no_change ledger p h.0 none; only = tt }
 
   -- whatever is left of the file behind a call, lists stand in it with which the open units agree
-  pub recovers_after : (ledger : Ledger) (file : BackupView D) (p pending : Option InFlight) (before now : Condition) (n : ℕ) (w : Written) → p ≡ None → pending ≡ written_pending p w → before ≡ condition.Up → now ≡ written_condition before n w
+  pub recovers_after : (ledger : Ledger) (file : BackupView D) (p pending : Option InFlight) (before now : Condition) (n : ℕ) (w : Written) → p ≡ None → pending ≡ written_pending p w → now ≡ written_condition before n w
       → (IsTrue tells → (image : List ℕ) → may_leave file.disk image → StandsWritten ledger w image) → Recover now ledger (option_map (landed ledger) pending) file
-  recovers_after ledger file p pending before now n w none is up doubt h =
+  recovers_after ledger file p pending before now n w none is doubt h =
       subst (λ q. Recover now ledger (option_map (landed ledger) q) file) (sym is)
-      (subst (λ k. Recover k ledger (option_map (landed ledger) (written_pending p w)) file) (sym (doubt ∙ ap (λ k. written_condition k n w) up))
-      (λ t image may. stands_after ledger p n w image none (h t image may)))
+      (subst (λ k. Recover k ledger (option_map (landed ledger) (written_pending p w)) file) (sym doubt)
+      (λ t image may. stands_after ledger p before n w image none (h t image may)))
 
   -- the file is as it was
-  pub same_filed : (k : Condition) (ledger : Ledger) (pending : Option Ledger) (old new : BackupView D) → new ≡ old → WhileUp k (Has ledger old) → WhileUp k (Has ledger new)
-  same_filed k ledger pending old new is h = subst (λ f. WhileUp k (Has ledger f)) (sym is) h
+  pub same_filed : (k : Condition) (ledger : Ledger) (pending : Option Ledger) (old new : BackupView D) → new ≡ old → OutsideDoubt k (Has ledger old) → OutsideDoubt k (Has ledger new)
+  same_filed k ledger pending old new is h = subst (λ f. OutsideDoubt k (Has ledger f)) (sym is) h
 
   pub same_recovers : (k : Condition) (ledger : Ledger) (pending : Option Ledger) (old new : BackupView D) → new ≡ old → Recover k ledger pending old → Recover k ledger pending new
   same_recovers k ledger pending old new is h = subst (λ f. Recover k ledger pending f) (sym is) h

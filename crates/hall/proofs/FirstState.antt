@@ -61,8 +61,6 @@ pub first_steady : (limit mark_limit : ℕ) (intervals : List Interval) (told : 
 first_steady limit mark_limit intervals told ledger limited agree first = record {
   started = first_started ledger first;
   limited = limited;
-  server = tt;
-  whole = tt;
   named = λ name. omega arith;
   drawn = nothing_drawn ledger intervals agree first;
   marked = first_marks ledger first;

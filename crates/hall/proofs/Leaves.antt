@@ -18,7 +18,7 @@ use Rattle.posting.specs.declared.prepared.Outcome.TheVariants as outcome
 use Rattle.hall.specs.declared.units.InFlight.{InFlight}
 use Rattle.update_records.specs.Ledger.{Ledger, StandFor}
 use Rattle.hall.specs.Acts.{OnAnswer, OnFailure, OnStoreFailure, written_condition, written_pending}
-use Rattle.hall.specs.Kept.{WhileUp}
+use Rattle.hall.specs.Kept.{OutsideDoubt}
 use Rattle.hall.specs.Leaving.{HasStoreCause, KeepsStore, LeavesWritten, StandForLanded, StandForPending, StandForWritten}
 use Rattle.hall.specs.State.{State}
 use Rattle.hall.specs.Step.{barred, is_full, posted_reply}
@@ -27,21 +27,6 @@ use Rattle.hall.specs.declared.command.Reply.TheVariants as reply
 use Rattle.hall.proofs.Plain.{IsPlain}
 use Rattle.hall.specs.declared.units.Written.{Written}
 use Rattle.hall.specs.declared.units.Written.TheVariants.{Answered, Failed, Unfiled}
-
--- ---- a call that isn't served
-
-same_of : {X : Type 0} (a b : X) → Some a ≡ Some b → a ≡ b
-same_of a b e = cc
-
-shut_quiet : (full : Bool) (k : Condition) (r : Refusal) (n m : ℕ) → m ≡ n → (if full then Some refusal.LogFull else elim k [ condition.Up ↦ None | condition.NoServer ↦ None | condition.Doubt call ↦ Some (refusal.Down call) ]) ≡ Some r → HasStoreCause n m (reply.Refused r)
-shut_quiet true k r n m h e = subst (λ x. HasStoreCause n m (reply.Refused x)) (same_of refusal.LogFull r e) h
-shut_quiet false condition.Up r n m h e = cc
-shut_quiet false condition.NoServer r n m h e = cc
-shut_quiet false (condition.Doubt call) r n m h e = subst (λ x. HasStoreCause n m (reply.Refused x)) (same_of (refusal.Down call) r e) h
-
--- a call that isn't served leaves the count of faults
-pub barred_quiet : (s : State) (r : Refusal) (n m : ℕ) → m ≡ n → barred s ≡ Some r → HasStoreCause n m (reply.Refused r)
-barred_quiet s r n m h shut = shut_quiet (is_full s) s.condition r n m h shut
 
 -- ---- a call that writes the store
 
@@ -142,14 +127,18 @@ leaves_after held may_leave shelf p pending w is h =
     subst (λ q. IfSome (held shelf.keeper) (λ _. (left : Rows) → may_leave shelf.keeper left → StandFor left shelf.ledger ⊎ StandForPending left (option_map (landed shelf.ledger) q))) (sym is)
     (leaves_for (held shelf.keeper) (may_leave shelf.keeper) shelf.ledger p w h)
 
-usable_for : (P : Type 0) (calls : ℕ) (w : Written) → OnAnswer w P → WhileUp (written_condition condition.Up calls w) P
-usable_for P calls (Answered r) h = h
-usable_for P calls (Failed step) h = tt
-usable_for P calls Unfiled h = tt
+pub outside_any : (k : Condition) (P : Type 0) → P → OutsideDoubt k P
+outside_any condition.Up P h = h
+outside_any condition.NoServer P h = h
+outside_any (condition.Doubt n) P h = tt
 
-pub usable_after : (P : Type 0) (before now : Condition) (calls : ℕ) (w : Written) → before ≡ condition.Up → now ≡ written_condition before calls w → OnAnswer w P → WhileUp now P
-usable_after P before now calls w up is h =
-    subst (λ k. WhileUp k P) (sym (is ∙ ap (λ k. written_condition k calls w) up)) (usable_for P calls w h)
+usable_for : (P : Type 0) (before : Condition) (calls : ℕ) (w : Written) → OnAnswer w P → OutsideDoubt (written_condition before calls w) P
+usable_for P before calls (Answered r) h = outside_any before P h
+usable_for P before calls (Failed step) h = tt
+usable_for P before calls Unfiled h = tt
+
+pub usable_after : (P : Type 0) (before now : Condition) (calls : ℕ) (w : Written) → now ≡ written_condition before calls w → OnAnswer w P → OutsideDoubt now P
+usable_after P before now calls w is h = subst (λ k. OutsideDoubt k P) (sym is) (usable_for P before calls w h)
 
 pub also_failed : (P : Type 0) (w : Written) → P → OnFailure w P
 also_failed P (Answered r) h = tt

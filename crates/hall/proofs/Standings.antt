@@ -41,9 +41,10 @@ use Rattle.posting.specs.declared.prepared.Outcome.TheVariants as outcome
 use Rattle.hall.specs.declared.command.Reply.{Reply}
 use Rattle.hall.specs.declared.command.Reply.TheVariants as reply
 use Rattle.hall.specs.declared.command.Session.{Session}
-use Rattle.hall.specs.Calls.{Call, OfAdmin, Cancels, Resubmits, call_of}
+use Rattle.hall.specs.Calls.{Call, LogsOn, OfSession, OfWorker, OfAdmin, Cancels, Resubmits, call_of, wants_server}
+use Rattle.hall.specs.Calls.{LogsOff, Asks, Frees, FreesAll, Converts, Draws, Reserves, Reads, Commits, RollsBack}
 use Rattle.hall.specs.History.{Served, doubted, judged, served, unfiled}
-use Rattle.hall.specs.Kept.{HasGoodLocks, HasServer, HasSoundLocks, IsOwned, IsSteady, is_firm}
+use Rattle.hall.specs.Kept.{HasGoodLocks, HasSoundLocks, IsOwned, IsSteady, is_firm}
 use Rattle.hall.specs.Orders.{order_of, without_order}
 use Rattle.hall.specs.Recall.{AreModelAnswers, IsModelAnswer, Made, StaysSound, again, recalled, state_after}
 use Rattle.hall.specs.Sessions.{owners_of, pair_of, unit_key, with_draw, with_session}
@@ -71,6 +72,7 @@ use Rattle.hall.proofs.LockLists.{Among, allowed, AreSure, IsOutside, all_among,
 use Rattle.hall.proofs.Owned.{none_held, stored_firm, stored_owner}
 use Rattle.hall.proofs.Recalls.{AnswersFrom, answers_before, answers_behind}
 use Rattle.hall.proofs.Resubmissions.{readmitted_is, table_in}
+use Rattle.hall.proofs.WithoutServer.{unserved}
 
 -- the same as `KeepsHanded`, by recursion over the locks
 abbrev KeepsAmong : State → State → Type 0
@@ -449,34 +451,49 @@ each-hands unit found s up = record {
   reposts = λ other here is told. absurd (no_commit is);
 }
 
--- where calls are served the server is up, since no call ends the lock server
-served_up : (c : Condition) → HasServer c → (c ≡ condition.Up) ⊎ ((k : ℕ) × (c ≡ condition.Doubt k))
-served_up condition.Up server = inl refl
-served_up condition.NoServer server = absurd server
-served_up (condition.Doubt k) server = inr (k, refl)
-
 refuses-hands : (unit : UnitKey) (found : Found) (s : State) (k : ℕ) (call : Call) → s.condition ≡ condition.Doubt k → HandsIf unit s call (judged s (call_verdict found s call))
 unfolding call_verdict
 refuses-hands unit found s k call down =
-    elim (is_full s) as (λ b. HandsIf unit s call (judged s (unless_refused (or_else (if b then Some refusal.LogFull else in_doubt s.condition) (or_else (caller_refusal s call) (server_refusal s call))) (own_verdict found s call)))) [
+    elim (is_full s) as (λ b. HandsIf unit s call (judged s (unless_refused (or_else (if b then Some refusal.LogFull else in_doubt s.condition) (or_else (caller_refusal s.sessions call) (server_refusal s.condition call))) (own_verdict found s call)))) [
       | true ↦ λ is told. absurd (no_unit unit _ told)
       | false ↦
-          subst (λ c. HandsIf unit s call (judged s (unless_refused (or_else (in_doubt c) (or_else (caller_refusal s call) (server_refusal s call))) (own_verdict found s call)))) (sym down)
+          subst (λ c. HandsIf unit s call (judged s (unless_refused (or_else (in_doubt c) (or_else (caller_refusal s.sessions call) (server_refusal s.condition call))) (own_verdict found s call)))) (sym down)
           (λ is told. absurd (no_unit unit _ told))
     ]
 
-verdict-hands : (unit : UnitKey) (found : Found) (s : State) (call : Call) → HasServer s.condition → HandsIf unit s call (judged s (call_verdict found s call))
-verdict-hands unit found s call server =
-    elim (served_up s.condition server) [
-      | inl up ↦ by_call (λ call v. HandsIf unit s call (judged s v)) found s (each-hands unit found s up) call
-      | inr down ↦ refuses-hands unit found s down.0 call down.1
-    ]
+commit_wants : (call : Call) → is_commit call ≡ true → wants_server call ≡ true
+commit_wants (LogsOn name user) is = absurd (no_commit is)
+commit_wants (OfSession name (Commits parts stock)) is = refl
+commit_wants (OfSession name LogsOff) is = absurd (no_commit is)
+commit_wants (OfSession name (Asks rs)) is = absurd (no_commit is)
+commit_wants (OfSession name (Frees rs)) is = absurd (no_commit is)
+commit_wants (OfSession name FreesAll) is = absurd (no_commit is)
+commit_wants (OfSession name (Converts wanted)) is = absurd (no_commit is)
+commit_wants (OfSession name (Draws object nr)) is = absurd (no_commit is)
+commit_wants (OfSession name (Reserves object nr upto)) is = absurd (no_commit is)
+commit_wants (OfSession name (Reads table key)) is = absurd (no_commit is)
+commit_wants (OfSession name RollsBack) is = absurd (no_commit is)
+commit_wants (OfWorker worker call) is = absurd (no_commit is)
+commit_wants (OfAdmin call) is = absurd (no_commit is)
 
-recalled-hands : (unit : UnitKey) (s : State) (m : Made) → HasServer s.condition → IsModelAnswer s m → IsCommitOf unit m.call → Hands unit s (recalled s m)
-recalled-hands unit s m server answer is =
+-- without a server a commit is refused
+alone-hands : (unit : UnitKey) (found : Found) (s : State) (call : Call) → s.condition ≡ condition.NoServer → HandsIf unit s call (judged s (call_verdict found s call))
+alone-hands unit found s call none is =
+    unserved (λ v. (judged s v).reply ≡ reply.Unit unit → Hands unit s (judged s v).state) found s call none (commit_wants call is) (λ r told. absurd (no_unit unit r told))
+
+hands_in : (k : Condition) (unit : UnitKey) (found : Found) (s : State) (call : Call) → s.condition ≡ k → HandsIf unit s call (judged s (call_verdict found s call))
+hands_in condition.Up unit found s call up = by_call (λ call v. HandsIf unit s call (judged s v)) found s (each-hands unit found s up) call
+hands_in condition.NoServer unit found s call none = alone-hands unit found s call none
+hands_in (condition.Doubt k) unit found s call down = refuses-hands unit found s k call down
+
+verdict-hands : (unit : UnitKey) (found : Found) (s : State) (call : Call) → HandsIf unit s call (judged s (call_verdict found s call))
+verdict-hands unit found s call = hands_in s.condition unit found s call refl
+
+recalled-hands : (unit : UnitKey) (s : State) (m : Made) → IsModelAnswer s m → IsCommitOf unit m.call → Hands unit s (recalled s m)
+recalled-hands unit s m answer is =
     let c = m.call.command in
     let Q : Served → Type 0 = HandsIf unit s (call_of c) in
-    let h = by_event Q m.outcome s c (λ found. verdict-hands unit found s (call_of c) server) (λ is told. absurd (no_unit unit _ told)) (λ found is told. absurd (no_unit unit _ told)) (λ found is told. absurd (no_unit unit _ told)) in
+    let h = by_event Q m.outcome s c (λ found. verdict-hands unit found s (call_of c)) (λ is told. absurd (no_unit unit _ told)) (λ found is told. absurd (no_unit unit _ told)) (λ found is told. absurd (no_unit unit _ told)) in
     by_noting Q m.call.line c (served m.outcome s c) h
     (λ is told. let k = h is told in record { locks = k.locks; waits = record { up = k.waits.up; waits = k.waits.waits } })
     is.commits (answer.reply ∙ is.answered)
@@ -574,7 +591,7 @@ are-back unit t h waits e k = contains_from t.locks e (h waits e (among_from (en
 
 called : (s : State) (m : Made) → IsReached s → IsModelAnswer s m → CallKeepsLocks s m.call (recalled s m)
 called s m reached answer = record {
-  commits = λ unit is. hands-over unit s (recalled s m) (recalled-hands unit s m reached.holds.steady.server answer is);
+  commits = λ unit is. hands-over unit s (recalled s m) (recalled-hands unit s m answer is);
   resubmits = λ unit is. are-back unit (recalled s m) (recalled-back unit s m answer is);
   kept = λ unit e own w k.
       contains_from (recalled s m).locks e ((stepped-stands s m reached.holds.steady reached.sound).kept reached.sure unit e own w (among_from s.locks e k));
@@ -631,7 +648,7 @@ locks_stand limit mark_limit intervals told ledger made fits limited agree begun
     let s = state_after first earlier in
     let t = recalled s m in
     let reached = reached_after first earlier (answers_before first made earlier (m ∷ (between ++ later)) answers whole) (reached_first limit mark_limit intervals told ledger fits limited agree begun) in
-    let hands = hands-over unit s t (recalled-hands unit s m reached.holds.steady.server (answers earlier (between ++ later) m whole) is) in
+    let hands = hands-over unit s t (recalled-hands unit s m (answers earlier (between ++ later) m whole) is) in
     let stays = stays_handed unit (IsOf unit s) t between (of_unit unit s) (reached_next s m (answers earlier (between ++ later) m whole) reached) (answers_behind first made earlier between later m answers whole) on hands.waits
     (λ e q. subst (Among t.locks) (sym q.same) (among_from t.locks (with_handed q.was) (hands.handed q.was q.firm q.stood))) in
     subst (WaitsLocked unit s) (sym (fold-append recalled first earlier (m ∷ between)))

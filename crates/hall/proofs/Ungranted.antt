@@ -43,7 +43,7 @@ use Rattle.hall.proofs.OpenMarks.{reopened_agree, unagain_agree}
 use Rattle.hall.proofs.Plain.{IsPlain}
 use Rattle.hall.proofs.Writes.{reopens_in_vain, reopens_unfiled, resubmits_wanting}
 
-pub ungranted_acts : (s : State) (t : Table) (ledger new : Ledger) (limit : ℕ) (unit : UnitKey) (left : List Entry) (f : ServerFault) → s.locks ≡ t.entries → s.limit ≡ t.limit → s.stored ≡ ledger → s.mark_limit ≡ limit → Admits s → to_resubmit ledger limit unit ≡ Ok Bad
+pub ungranted_acts : (s : State) (t : Table) (ledger new : Ledger) (limit : ℕ) (unit : UnitKey) (left : List Entry) (f : ServerFault) → s.locks ≡ t.entries → s.limit ≡ t.limit → s.stored ≡ ledger → s.mark_limit ≡ limit → Admits s (command.Resubmit unit) → to_resubmit ledger limit unit ≡ Ok Bad
     → IsReadmission (readmitted t (owners_of unit) (entries_of ledger.units unit)) t.entries left f → new ≡ ledger → (f ≡ server.Failed → 1 ≤ length (entries_of ledger.units unit))
     → IsWritten s (command.Resubmit unit) (record s { locks = left; stored = new }) (ungranted f)
 ungranted_acts s t ledger new limit unit left (server.Ask a) locks l g m room h refused kept some =

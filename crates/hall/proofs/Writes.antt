@@ -15,7 +15,8 @@ use Rattle.enq_base.specs.declared.unit.Reason.{Reason}
 use Rattle.enq_base.specs.declared.unit.Status.{Status}
 use Rattle.enq_base.specs.declared.unit.Status.TheVariants.{Bad, Bad2}
 use Rattle.lock_entry.specs.declared.entry.Entry.{Entry}
-use Rattle.lock_entry.specs.Freeing.{handed_over}
+use Rattle.enq_base.specs.declared.owner.Owner.TheVariants.{Upd}
+use Rattle.lock_entry.specs.Freeing.{freed_owner, handed_over}
 use Rattle.lock_entry.specs.Granting.{readmitted}
 use Rattle.lock_entry.specs.Table.{IsFaultOf, IsTable, Table}
 use Rattle.lock_entry.specs.declared.fault.AskFault.{AskFault}
@@ -46,7 +47,7 @@ use Rattle.hall.specs.declared.command.Reply.{Reply}
 use Rattle.hall.specs.declared.command.Reply.TheVariants as reply
 use Rattle.hall.specs.declared.command.Session.{Session}
 use Rattle.hall.specs.declared.units.InFlight.TheVariants as flight
-use Rattle.hall.specs.Acts.{Admits, IsAct, post_of}
+use Rattle.hall.specs.Acts.{Admits, IsAct, locks_posted, post_of}
 use Rattle.hall.specs.Calls.{OfAdmin, OfSession, OfWorker, Cancels, Resubmits, Commits, Posts, Reads, call_of, only_reads, writes_store_first}
 use Rattle.hall.specs.Devices.{AllWell, BackupFails, Comes, IsTold, MayRead, Shows, StoreFails, found_by, may_want, only, uses_file, uses_store}
 use Rattle.hall.specs.Filing.{is_open}
@@ -65,7 +66,7 @@ use Rattle.hall.specs.Sessions.{is_called, owners_of, session_at, unit_key, with
 use Rattle.hall.specs.Numbers.{stocked, with_numbers}
 use Rattle.hall.specs.State.{State}
 use Rattle.hall.specs.Step.{Found, Verdict, Refuses, Leaves, ask_refusal, called, cancel, cancelled, cancelling, commit, committed, effects_in, found_in, leaves, locks_behind, locks_without, marked, numbered, own_verdict, passing, posted_reply, posting, reopened, reopening, reposted, resubmit, resubmitting, row_in, take, taking, to_cancel, to_resubmit, unavailable, unit_of, with_room}
-use Rattle.hall.proofs.Calls.{admitted, at_state, fails, fails_filing, found_at, free_admin, free_worker, free_session, is_done, is_wanting, leaves_as, refuses}
+use Rattle.hall.proofs.Calls.{admitted, at_state, fails, fails_filing, found_at, is_done, is_wanting, leaves_as, refuses}
 use Rattle.hall.proofs.Ends.{IsPart, posts_part}
 use Rattle.hall.proofs.Fresh.{found_in as found_all_in}
 use Rattle.hall.proofs.HandedLocks.{all_held, handed_table}
@@ -123,13 +124,13 @@ none_left orders units k from end = sym (find_past (λ u. not (is_claimed orders
 ordered : (s : State) (orders : List (Option UnitKey)) (worker : ℕ) (o : Option UnitKey) → s.orders ≡ orders → order_of orders worker ≡ o → order_of s.orders worker ≡ o
 ordered s orders worker o e f = ap (λ xs. order_of xs worker) e ∙ f
 
-pub drops_none : (s : State) (orders : List (Option UnitKey)) (worker : ℕ) → s.orders ≡ orders → Admits s → order_of orders worker ≡ None → IsAct s (command.DropOrder worker) (record s { orders = orders }) (reply.Refused refusal.NoOrder)
+pub drops_none : (s : State) (orders : List (Option UnitKey)) (worker : ℕ) → s.orders ≡ orders → Admits s (command.DropOrder worker) → order_of orders worker ≡ None → IsAct s (command.DropOrder worker) (record s { orders = orders }) (reply.Refused refusal.NoOrder)
 drops_none s orders worker e room none =
     at_state _ _ s _ _ (λ i. record s { orders = e i })
     (refuses s (command.DropOrder worker) refusal.NoOrder room
     (ap (λ o. elim o [ None ↦ Refuses refusal.NoOrder | Some unit ↦ Leaves (record s { orders = set s.orders worker None }) (reply.Unit unit) ]) (ordered s orders worker None e none)))
 
-pub drops : (s : State) (orders after : List (Option UnitKey)) (worker : ℕ) (unit : UnitKey) → s.orders ≡ orders → Admits s → order_of orders worker ≡ Some unit → after ≡ set orders worker None → IsAct s (command.DropOrder worker) (record s { orders = after }) (reply.Unit unit)
+pub drops : (s : State) (orders after : List (Option UnitKey)) (worker : ℕ) (unit : UnitKey) → s.orders ≡ orders → Admits s (command.DropOrder worker) → order_of orders worker ≡ Some unit → after ≡ set orders worker None → IsAct s (command.DropOrder worker) (record s { orders = after }) (reply.Unit unit)
 drops s orders after worker unit e room found is =
     let e' : set s.orders worker None ≡ after = ap (λ xs. set xs worker None) e ∙ sym is in
     at_state _ _ _ _ _ (λ i. record s { orders = e' i })
@@ -193,23 +194,35 @@ held part s ledger orders worker o g e f = (λ i. order_for part (g i) (e i) wor
 pub own_post : (part : ℕ) (c : Command) (found : Found) (s : State) (worker : ℕ) (o : Option UnitKey) → call_of c ≡ OfWorker worker (Posts part) → order_for part s.stored s.orders worker ≡ o → own_verdict found s (call_of c) ≡ Posting part s worker found.part o
 own_post part c found s worker o posts at = ap (own_verdict found s) posts ∙ ap (Posting part s worker found.part) at
 
-pub posts_none : (part : ℕ) (s : State) (orders : List (Option UnitKey)) (entries : List Entry) (ledger : Ledger) (worker : ℕ) → IsPart part → s.orders ≡ orders → s.locks ≡ entries → s.stored ≡ ledger → Admits s → order_for part ledger orders worker ≡ None → IsAct s (post_of part worker) (record s { orders = orders; locks = entries; stored = ledger }) (reply.Refused refusal.NoOrder)
+-- what a post leaves of the locks where it is refused, and where it is done
+stay : (b : Bool) (before entries : List Entry) → (b ≡ true → before ≡ entries) → before ≡ (if b then entries else before)
+stay true before entries f = f refl
+stay false before entries f = refl
+
+locks_stay : (part : ℕ) (before entries : List Entry) → (nat_eq part 1 ≡ true → before ≡ entries) → before ≡ locks_posted part before entries
+locks_stay part before entries f = stay (nat_eq part 1) before entries f
+
+locks_go : (b : Bool) (before entries left : List Entry) (unit : UnitKey) → (b ≡ true → before ≡ entries) → left ≡ (if b then freed_owner entries (Upd unit) else entries) → (if b then freed_owner before (Upd unit) else before) ≡ (if b then left else before)
+locks_go true before entries left unit f is = ap (λ xs. freed_owner xs (Upd unit)) (f refl) ∙ sym is
+locks_go false before entries left unit f is = refl
+
+pub posts_none : (part : ℕ) (s : State) (orders : List (Option UnitKey)) (entries : List Entry) (ledger : Ledger) (worker : ℕ) → IsPart part → s.orders ≡ orders → (nat_eq part 1 ≡ true → s.locks ≡ entries) → s.stored ≡ ledger → Admits s (post_of part worker) → order_for part ledger orders worker ≡ None → IsAct s (post_of part worker) (record s { orders = orders; locks = locks_posted part s.locks entries; stored = ledger }) (reply.Refused refusal.NoOrder)
 posts_none part s orders entries ledger worker is e f g room none =
     let c = post_of part worker in
-    at_state _ _ s _ _ (λ i. record s { orders = e i; locks = f i; stored = g i })
+    at_state _ _ s _ _ (λ i. record s { orders = e i; locks = locks_stay part s.locks entries f i; stored = g i })
     (refuses s c refusal.NoOrder room
     (own_post part c (found_in s) s worker None (posts_part part worker is) (held part s ledger orders worker None g e none)))
 
-pub posts_full : (part : ℕ) (s : State) (orders : List (Option UnitKey)) (entries : List Entry) (ledger : Ledger) (limit worker : ℕ) (unit : UnitKey) → IsPart part → s.orders ≡ orders → s.locks ≡ entries → s.stored ≡ ledger → s.mark_limit ≡ limit → Admits s → order_for part ledger orders worker ≡ Some unit → nat_le limit (length ledger.marks) ≡ true → IsAct s (post_of part worker) (record s { orders = orders; locks = entries; stored = ledger }) (reply.Refused (refusal.StoreFull limit))
+pub posts_full : (part : ℕ) (s : State) (orders : List (Option UnitKey)) (entries : List Entry) (ledger : Ledger) (limit worker : ℕ) (unit : UnitKey) → IsPart part → s.orders ≡ orders → (nat_eq part 1 ≡ true → s.locks ≡ entries) → s.stored ≡ ledger → s.mark_limit ≡ limit → Admits s (post_of part worker) → order_for part ledger orders worker ≡ Some unit → nat_le limit (length ledger.marks) ≡ true → IsAct s (post_of part worker) (record s { orders = orders; locks = locks_posted part s.locks entries; stored = ledger }) (reply.Refused (refusal.StoreFull limit))
 posts_full part s orders entries ledger limit worker unit is e f g m room found full =
     let c = post_of part worker in
-    subst (λ n. IsAct s c (record s { orders = orders; locks = entries; stored = ledger }) (reply.Refused (refusal.StoreFull n))) m
-    (at_state _ _ s _ _ (λ i. record s { orders = e i; locks = f i; stored = g i })
+    subst (λ n. IsAct s c (record s { orders = orders; locks = locks_posted part s.locks entries; stored = ledger }) (reply.Refused (refusal.StoreFull n))) m
+    (at_state _ _ s _ _ (λ i. record s { orders = e i; locks = locks_stay part s.locks entries f i; stored = g i })
     (refuses s c (refusal.StoreFull s.mark_limit) room
     (own_post part c (found_in s) s worker (Some unit) (posts_part part worker is) (held part s ledger orders worker (Some unit) g e found) ∙ overflows s _ (full_as s limit ledger true m g full))))
 
 -- a part that comes to this
-pub comes : (part : ℕ) (c : Command) (s : State) (worker : ℕ) (unit : UnitKey) (o : Outcome) → call_of c ≡ OfWorker worker (Posts part) → Admits s → order_for part s.stored s.orders worker ≡ Some unit → is_store_full s ≡ false → MayComeTo s.told s.stored part unit o → IsAct s c (marked part s worker unit (kind_for part o)) (posted_reply part unit o)
+pub comes : (part : ℕ) (c : Command) (s : State) (worker : ℕ) (unit : UnitKey) (o : Outcome) → call_of c ≡ OfWorker worker (Posts part) → Admits s c → order_for part s.stored s.orders worker ≡ Some unit → is_store_full s ≡ false → MayComeTo s.told s.stored part unit o → IsAct s c (marked part s worker unit (kind_for part o)) (posted_reply part unit o)
 comes part c s worker unit o posts room at space may =
     let found = found_by (Comes o) s in
     record {
@@ -218,13 +231,13 @@ comes part c s worker unit o posts room at space may =
         reading = subst (MayRead (Comes o) s) (sym posts) (subst (λ x. IfSome x (λ u. MayComeTo s.told s.stored part u o)) (sym at) may);
         event = tt;
       };
-      same = ap (judged s) (admitted found s (call_of c) room ∙ own_post part c found s worker (Some unit) posts at ∙ fits s _ space);
+      same = ap (judged s) (admitted found s c room ∙ own_post part c found s worker (Some unit) posts at ∙ fits s _ space);
     }
 
-pub posts : (part : ℕ) (s : State) (told : Bool) (orders after : List (Option UnitKey)) (entries left : List Entry) (ledger new : Ledger) (limit worker : ℕ) (unit : UnitKey) (o : Outcome) → IsPart part → s.told ≡ told → s.orders ≡ orders → s.locks ≡ entries → s.stored ≡ ledger → s.mark_limit ≡ limit → Admits s → order_for part ledger orders worker ≡ Some unit → nat_le limit (length ledger.marks) ≡ false → MayComeTo told ledger part unit o → after ≡ set orders worker None → left ≡ locks_behind part entries unit → new ≡ with_mark ledger unit (kind_for part o) → IsAct s (post_of part worker) (record s { orders = after; locks = left; stored = new }) (posted_reply part unit o)
+pub posts : (part : ℕ) (s : State) (told : Bool) (orders after : List (Option UnitKey)) (entries left : List Entry) (ledger new : Ledger) (limit worker : ℕ) (unit : UnitKey) (o : Outcome) → IsPart part → s.told ≡ told → s.orders ≡ orders → (nat_eq part 1 ≡ true → s.locks ≡ entries) → s.stored ≡ ledger → s.mark_limit ≡ limit → Admits s (post_of part worker) → order_for part ledger orders worker ≡ Some unit → nat_le limit (length ledger.marks) ≡ false → MayComeTo told ledger part unit o → after ≡ set orders worker None → left ≡ locks_behind part entries unit → new ≡ with_mark ledger unit (kind_for part o) → IsAct s (post_of part worker) (record s { orders = after; locks = locks_posted part s.locks left; stored = new }) (posted_reply part unit o)
 posts part s told orders after entries left ledger new limit worker unit o is t e f g m room found space may a b c =
     let e' : set s.orders worker None ≡ after = ap (λ xs. set xs worker None) e ∙ sym a in
-    let f' : locks_behind part s.locks unit ≡ left = ap (λ xs. locks_behind part xs unit) f ∙ sym b in
+    let f' : locks_behind part s.locks unit ≡ locks_posted part s.locks left = locks_go (nat_eq part 1) s.locks entries left unit f b in
     let g' : with_mark s.stored unit (kind_for part o) ≡ new = ap (λ l. with_mark l unit (kind_for part o)) g ∙ sym c in
     let may' : MayComeTo s.told s.stored part unit o = subst (λ x. MayComeTo x s.stored part unit o) (sym t) (subst (λ l. MayComeTo told l part unit o) (sym g) may) in
     at_state _ _ (marked part s worker unit (kind_for part o)) _ _ (λ i. record s { orders = e' i; locks = f' i; stored = g' i })
@@ -271,7 +284,7 @@ pub landed_where_told : (part : ℕ) (told : Option Rows) (ledger old : Ledger) 
 landed_where_told part None ledger old said unit o same is h = tt
 landed_where_told part (Some rows) ledger old said unit o same is h = landed_post part ledger old said unit o same is (outcome_is _ o h)
 
-pub posts_in_doubt : (part : ℕ) (s : State) (orders : List (Option UnitKey)) (ledger : Ledger) (limit worker : ℕ) (unit : UnitKey) → IsPart part → s.orders ≡ orders → s.stored ≡ ledger → s.mark_limit ≡ limit → Admits s → order_for part ledger orders worker ≡ Some unit → nat_le limit (length ledger.marks) ≡ false → IsAct s (post_of part worker) (doubted s (Some (landed s.stored (flight.Post unit part)))) (reply.Refused refusal.StoreFault)
+pub posts_in_doubt : (part : ℕ) (s : State) (orders : List (Option UnitKey)) (ledger : Ledger) (limit worker : ℕ) (unit : UnitKey) → IsPart part → s.orders ≡ orders → s.stored ≡ ledger → s.mark_limit ≡ limit → Admits s (post_of part worker) → order_for part ledger orders worker ≡ Some unit → nat_le limit (length ledger.marks) ≡ false → IsAct s (post_of part worker) (doubted s (Some (landed s.stored (flight.Post unit part)))) (reply.Refused refusal.StoreFault)
 posts_in_doubt part s orders ledger limit worker unit is e g m room found space =
     let c = post_of part worker in
     let o = outcome_in s.stored part unit in
@@ -281,10 +294,10 @@ posts_in_doubt part s orders ledger limit worker unit is e g m room found space 
     (ap (uses_store s) by) (ap only_reads by)
 
 -- the disk fails behind the mark of a V1 part that comes to this
-unfiled_post : (part : ℕ) (c : Command) (s : State) (worker : ℕ) (unit : UnitKey) (o : Outcome) → call_of c ≡ OfWorker worker (Posts part) → nat_eq part 1 ≡ true → Admits s → order_for part s.stored s.orders worker ≡ Some unit → is_store_full s ≡ false → MayComeTo s.told s.stored part unit o → IsAct s c (unfiled s (with_mark s.stored unit (kind_for part o))) (reply.Refused refusal.BackupFault)
+unfiled_post : (part : ℕ) (c : Command) (s : State) (worker : ℕ) (unit : UnitKey) (o : Outcome) → call_of c ≡ OfWorker worker (Posts part) → nat_eq part 1 ≡ true → Admits s c → order_for part s.stored s.orders worker ≡ Some unit → is_store_full s ≡ false → MayComeTo s.told s.stored part unit o → IsAct s c (unfiled s (with_mark s.stored unit (kind_for part o))) (reply.Refused refusal.BackupFault)
 unfiled_post part c s worker unit o posts first room at space may =
     let found = found_by (Comes o) s in
-    let v = admitted found s (call_of c) room ∙ own_post part c found s worker (Some unit) posts at ∙ fits s _ space in
+    let v = admitted found s c room ∙ own_post part c found s worker (Some unit) posts at ∙ fits s _ space in
     record {
       outcome = record { event = BackupFails; reading = Comes o };
       possible = record {
@@ -295,19 +308,19 @@ unfiled_post part c s worker unit o posts first room at space may =
           ∙ ap (λ b. refused (unfiled s (if b then with_mark s.stored unit (kind_for part o) else s.stored)) refusal.BackupFault) (ap writes_store_first posts);
     }
 
-pub posts_unfiled : (part : ℕ) (s : State) (told : Bool) (orders : List (Option UnitKey)) (ledger new : Ledger) (limit worker : ℕ) (unit : UnitKey) (o : Outcome) → IsPart part → nat_eq part 1 ≡ true → s.told ≡ told → s.orders ≡ orders → s.stored ≡ ledger → s.mark_limit ≡ limit → Admits s → order_for part ledger orders worker ≡ Some unit → nat_le limit (length ledger.marks) ≡ false → MayComeTo told ledger part unit o → new ≡ with_mark ledger unit (kind_for part o) → IsAct s (post_of part worker) (unfiled s new) (reply.Refused refusal.BackupFault)
+pub posts_unfiled : (part : ℕ) (s : State) (told : Bool) (orders : List (Option UnitKey)) (ledger new : Ledger) (limit worker : ℕ) (unit : UnitKey) (o : Outcome) → IsPart part → nat_eq part 1 ≡ true → s.told ≡ told → s.orders ≡ orders → s.stored ≡ ledger → s.mark_limit ≡ limit → Admits s (post_of part worker) → order_for part ledger orders worker ≡ Some unit → nat_le limit (length ledger.marks) ≡ false → MayComeTo told ledger part unit o → new ≡ with_mark ledger unit (kind_for part o) → IsAct s (post_of part worker) (unfiled s new) (reply.Refused refusal.BackupFault)
 posts_unfiled part s told orders ledger new limit worker unit o is first t e g m room found space may c =
     let g' : with_mark s.stored unit (kind_for part o) ≡ new = ap (λ l. with_mark l unit (kind_for part o)) g ∙ sym c in
     let may' : MayComeTo s.told s.stored part unit o = subst (λ x. MayComeTo x s.stored part unit o) (sym t) (subst (λ l. MayComeTo told l part unit o) (sym g) may) in
     subst (λ l. IsAct s (post_of part worker) (unfiled s l) (reply.Refused refusal.BackupFault)) g'
     (unfiled_post part (post_of part worker) s worker unit o (posts_part part worker is) first room (held part s ledger orders worker (Some unit) g e found) (full_as s limit ledger false m g space) may')
 
-pub posts_wanting : (part : ℕ) (s : State) (orders : List (Option UnitKey)) (entries : List Entry) (ledger new : Ledger) (worker : ℕ) (unit : UnitKey) → IsPart part → s.orders ≡ orders → s.locks ≡ entries → s.stored ≡ ledger → new ≡ ledger → Admits s → order_for part ledger orders worker ≡ Some unit → IsAct s (post_of part worker) (record s { orders = orders; locks = entries; stored = new }) (reply.Refused refusal.NoMemory)
+pub posts_wanting : (part : ℕ) (s : State) (orders : List (Option UnitKey)) (entries : List Entry) (ledger new : Ledger) (worker : ℕ) (unit : UnitKey) → IsPart part → s.orders ≡ orders → (nat_eq part 1 ≡ true → s.locks ≡ entries) → s.stored ≡ ledger → new ≡ ledger → Admits s (post_of part worker) → order_for part ledger orders worker ≡ Some unit → IsAct s (post_of part worker) (record s { orders = orders; locks = locks_posted part s.locks entries; stored = new }) (reply.Refused refusal.NoMemory)
 posts_wanting part s orders entries ledger new worker unit is e f g kept room found =
     let g' : s.stored ≡ new = g ∙ sym kept in
     let by = posts_part part worker is in
-    at_state _ _ s _ _ (λ i. record s { orders = e i; locks = f i; stored = g' i })
-    (is_wanting s (post_of part worker) (ap (unavailable s) by ∙ free_worker s worker (Posts part) room) (ap (may_want s _) by ∙ ap is_some (held part s ledger orders worker (Some unit) g e found)))
+    at_state _ _ s _ _ (λ i. record s { orders = e i; locks = locks_stay part s.locks entries f i; stored = g' i })
+    (is_wanting s (post_of part worker) room.served (ap (may_want s _) by ∙ ap is_some (held part s ledger orders worker (Some unit) g e found)))
 
 -- ---- cancelling
 
@@ -315,26 +328,26 @@ own_cancel : (s : State) (orders : List (Option UnitKey)) (ledger : Ledger) (lim
 own_cancel s orders ledger limit unit r e g m h =
     (λ i. cancelling s unit (to_cancel (g i) (e i) (m i) unit)) ∙ ap (cancelling s unit) h
 
-pub cancels_not : (s : State) (orders : List (Option UnitKey)) (entries : List Entry) (ledger : Ledger) (limit : ℕ) (unit : UnitKey) (r : Refusal) → s.orders ≡ orders → s.locks ≡ entries → s.stored ≡ ledger → s.mark_limit ≡ limit → Admits s → to_cancel ledger orders limit unit ≡ Err r → IsAct s (command.Cancel unit) (record s { locks = entries; stored = ledger }) (reply.Refused r)
+pub cancels_not : (s : State) (orders : List (Option UnitKey)) (entries : List Entry) (ledger : Ledger) (limit : ℕ) (unit : UnitKey) (r : Refusal) → s.orders ≡ orders → s.locks ≡ entries → s.stored ≡ ledger → s.mark_limit ≡ limit → Admits s (command.Cancel unit) → to_cancel ledger orders limit unit ≡ Err r → IsAct s (command.Cancel unit) (record s { locks = entries; stored = ledger }) (reply.Refused r)
 cancels_not s orders entries ledger limit unit r e f g m room h =
     at_state _ _ s _ _ (λ i. record s { locks = f i; stored = g i })
     (refuses s (command.Cancel unit) r room (own_cancel s orders ledger limit unit (Err r) e g m h))
 
-pub cancels_wanting : (s : State) (orders : List (Option UnitKey)) (entries : List Entry) (ledger new : Ledger) (limit : ℕ) (unit : UnitKey) (status : Status) → s.orders ≡ orders → s.locks ≡ entries → s.stored ≡ ledger → s.mark_limit ≡ limit → Admits s → to_cancel ledger orders limit unit ≡ Ok status → new ≡ ledger → IsAct s (command.Cancel unit) (record s { locks = entries; stored = new }) (reply.Refused refusal.NoMemory)
+pub cancels_wanting : (s : State) (orders : List (Option UnitKey)) (entries : List Entry) (ledger new : Ledger) (limit : ℕ) (unit : UnitKey) (status : Status) → s.orders ≡ orders → s.locks ≡ entries → s.stored ≡ ledger → s.mark_limit ≡ limit → Admits s (command.Cancel unit) → to_cancel ledger orders limit unit ≡ Ok status → new ≡ ledger → IsAct s (command.Cancel unit) (record s { locks = entries; stored = new }) (reply.Refused refusal.NoMemory)
 cancels_wanting s orders entries ledger new limit unit status e f g m room h kept =
     let g' : s.stored ≡ new = g ∙ sym kept in
     at_state _ _ s _ _ (λ i. record s { locks = f i; stored = g' i })
-    (is_wanting s (command.Cancel unit) (free_admin s (Cancels unit) room)
-    (ap leaves (admitted (found_in s) s (OfAdmin (Cancels unit)) room ∙ own_cancel s orders ledger limit unit (Ok status) e g m h)))
+    (is_wanting s (command.Cancel unit) room.served
+    (ap leaves (admitted (found_in s) s (command.Cancel unit) room ∙ own_cancel s orders ledger limit unit (Ok status) e g m h)))
 
-pub cancels : (s : State) (orders : List (Option UnitKey)) (entries left : List Entry) (ledger new : Ledger) (limit : ℕ) (unit : UnitKey) (status : Status) → s.orders ≡ orders → s.locks ≡ entries → s.stored ≡ ledger → s.mark_limit ≡ limit → Admits s → to_cancel ledger orders limit unit ≡ Ok status → left ≡ locks_without status entries unit → new ≡ with_mark ledger unit Gone → IsAct s (command.Cancel unit) (record s { locks = left; stored = new }) (reply.Unit unit)
+pub cancels : (s : State) (orders : List (Option UnitKey)) (entries left : List Entry) (ledger new : Ledger) (limit : ℕ) (unit : UnitKey) (status : Status) → s.orders ≡ orders → s.locks ≡ entries → s.stored ≡ ledger → s.mark_limit ≡ limit → Admits s (command.Cancel unit) → to_cancel ledger orders limit unit ≡ Ok status → left ≡ locks_without status entries unit → new ≡ with_mark ledger unit Gone → IsAct s (command.Cancel unit) (record s { locks = left; stored = new }) (reply.Unit unit)
 cancels s orders entries left ledger new limit unit status e f g m room h a b =
     let f' : locks_without status s.locks unit ≡ left = ap (λ xs. locks_without status xs unit) f ∙ sym a in
     let g' : with_mark s.stored unit Gone ≡ new = ap (λ l. with_mark l unit Gone) g ∙ sym b in
     at_state _ _ (cancelled s unit status) _ _ (λ i. record s { locks = f' i; stored = g' i })
     (leaves_as s (command.Cancel unit) (cancelled s unit status) (reply.Unit unit) room (own_cancel s orders ledger limit unit (Ok status) e g m h))
 
-pub cancels_in_doubt : (s : State) (orders : List (Option UnitKey)) (ledger : Ledger) (limit : ℕ) (unit : UnitKey) (status : Status) → s.orders ≡ orders → s.stored ≡ ledger → s.mark_limit ≡ limit → Admits s → to_cancel ledger orders limit unit ≡ Ok status → IsAct s (command.Cancel unit) (doubted s (Some (landed s.stored (flight.Cancel unit)))) (reply.Refused refusal.StoreFault)
+pub cancels_in_doubt : (s : State) (orders : List (Option UnitKey)) (ledger : Ledger) (limit : ℕ) (unit : UnitKey) (status : Status) → s.orders ≡ orders → s.stored ≡ ledger → s.mark_limit ≡ limit → Admits s (command.Cancel unit) → to_cancel ledger orders limit unit ≡ Ok status → IsAct s (command.Cancel unit) (doubted s (Some (landed s.stored (flight.Cancel unit)))) (reply.Refused refusal.StoreFault)
 cancels_in_doubt s orders ledger limit unit status e g m room h =
     fails s (command.Cancel unit) (cancelled s unit status) (reply.Unit unit) room (own_cancel s orders ledger limit unit (Ok status) e g m h) refl refl
 
@@ -346,7 +359,7 @@ open_status status.Closed h = cc
 open_status status.Bad2 h = cc
 open_status status.Cancelled h = cc
 
-pub cancels_unfiled : (s : State) (orders : List (Option UnitKey)) (ledger new : Ledger) (limit : ℕ) (unit : UnitKey) (found : Status) → s.orders ≡ orders → s.stored ≡ ledger → s.mark_limit ≡ limit → Admits s → to_cancel ledger orders limit unit ≡ Ok found → is_open found ≡ true → new ≡ with_mark ledger unit Gone → IsAct s (command.Cancel unit) (unfiled s new) (reply.Refused refusal.BackupFault)
+pub cancels_unfiled : (s : State) (orders : List (Option UnitKey)) (ledger new : Ledger) (limit : ℕ) (unit : UnitKey) (found : Status) → s.orders ≡ orders → s.stored ≡ ledger → s.mark_limit ≡ limit → Admits s (command.Cancel unit) → to_cancel ledger orders limit unit ≡ Ok found → is_open found ≡ true → new ≡ with_mark ledger unit Gone → IsAct s (command.Cancel unit) (unfiled s new) (reply.Refused refusal.BackupFault)
 cancels_unfiled s orders ledger new limit unit found e g m room h waits b =
     subst (λ l. IsAct s (command.Cancel unit) (unfiled s l) (reply.Refused refusal.BackupFault)) (ap (λ l. with_mark l unit Gone) g ∙ sym b)
     (fails_filing s (command.Cancel unit) (cancelled s unit found) (reply.Unit unit) room (own_cancel s orders ledger limit unit (Ok found) e g m h)
@@ -357,24 +370,24 @@ cancels_unfiled s orders ledger new limit unit found e g m room h waits b =
 own_resubmit : (s : State) (ledger : Ledger) (limit : ℕ) (unit : UnitKey) (r : Result Status Refusal) → s.stored ≡ ledger → s.mark_limit ≡ limit → to_resubmit ledger limit unit ≡ r → resubmit s unit ≡ resubmitting s unit r
 own_resubmit s ledger limit unit r g m h = (λ i. resubmitting s unit (to_resubmit (g i) (m i) unit)) ∙ ap (resubmitting s unit) h
 
-pub resubmits_not : (s : State) (entries : List Entry) (ledger : Ledger) (limit : ℕ) (unit : UnitKey) (r : Refusal) → s.locks ≡ entries → s.stored ≡ ledger → s.mark_limit ≡ limit → Admits s → to_resubmit ledger limit unit ≡ Err r → IsAct s (command.Resubmit unit) (record s { locks = entries; stored = ledger }) (reply.Refused r)
+pub resubmits_not : (s : State) (entries : List Entry) (ledger : Ledger) (limit : ℕ) (unit : UnitKey) (r : Refusal) → s.locks ≡ entries → s.stored ≡ ledger → s.mark_limit ≡ limit → Admits s (command.Resubmit unit) → to_resubmit ledger limit unit ≡ Err r → IsAct s (command.Resubmit unit) (record s { locks = entries; stored = ledger }) (reply.Refused r)
 resubmits_not s entries ledger limit unit r f g m room h =
     at_state _ _ s _ _ (λ i. record s { locks = f i; stored = g i })
     (refuses s (command.Resubmit unit) r room (own_resubmit s ledger limit unit (Err r) g m h))
 
-pub resubmits_wanting : (s : State) (entries : List Entry) (ledger new : Ledger) (limit : ℕ) (unit : UnitKey) (status : Status) → s.locks ≡ entries → s.stored ≡ ledger → s.mark_limit ≡ limit → Admits s → to_resubmit ledger limit unit ≡ Ok status → new ≡ ledger → IsAct s (command.Resubmit unit) (record s { locks = entries; stored = new }) (reply.Refused refusal.NoMemory)
+pub resubmits_wanting : (s : State) (entries : List Entry) (ledger new : Ledger) (limit : ℕ) (unit : UnitKey) (status : Status) → s.locks ≡ entries → s.stored ≡ ledger → s.mark_limit ≡ limit → Admits s (command.Resubmit unit) → to_resubmit ledger limit unit ≡ Ok status → new ≡ ledger → IsAct s (command.Resubmit unit) (record s { locks = entries; stored = new }) (reply.Refused refusal.NoMemory)
 resubmits_wanting s entries ledger new limit unit status f g m room h kept =
     let g' : s.stored ≡ new = g ∙ sym kept in
     at_state _ _ s _ _ (λ i. record s { locks = f i; stored = g' i })
-    (is_wanting s (command.Resubmit unit) (free_admin s (Resubmits unit) room) (ap is_ok ((λ i. to_resubmit (g i) (m i) unit) ∙ h)))
+    (is_wanting s (command.Resubmit unit) room.served (ap is_ok ((λ i. to_resubmit (g i) (m i) unit) ∙ h)))
 
-pub reposts : (s : State) (entries : List Entry) (ledger new : Ledger) (limit : ℕ) (unit : UnitKey) → s.locks ≡ entries → s.stored ≡ ledger → s.mark_limit ≡ limit → Admits s → to_resubmit ledger limit unit ≡ Ok Bad2 → new ≡ with_mark ledger unit Again2 → IsAct s (command.Resubmit unit) (record s { locks = entries; stored = new }) (reply.Unit unit)
+pub reposts : (s : State) (entries : List Entry) (ledger new : Ledger) (limit : ℕ) (unit : UnitKey) → s.locks ≡ entries → s.stored ≡ ledger → s.mark_limit ≡ limit → Admits s (command.Resubmit unit) → to_resubmit ledger limit unit ≡ Ok Bad2 → new ≡ with_mark ledger unit Again2 → IsAct s (command.Resubmit unit) (record s { locks = entries; stored = new }) (reply.Unit unit)
 reposts s entries ledger new limit unit f g m room h b =
     let g' : with_mark s.stored unit Again2 ≡ new = ap (λ l. with_mark l unit Again2) g ∙ sym b in
     at_state _ _ (reposted s unit) _ _ (λ i. record s { locks = f i; stored = g' i })
     (leaves_as s (command.Resubmit unit) (reposted s unit) (reply.Unit unit) room (own_resubmit s ledger limit unit (Ok Bad2) g m h))
 
-pub reposts_in_doubt : (s : State) (ledger : Ledger) (limit : ℕ) (unit : UnitKey) → s.stored ≡ ledger → s.mark_limit ≡ limit → Admits s → to_resubmit ledger limit unit ≡ Ok Bad2 → IsAct s (command.Resubmit unit) (doubted s (Some (landed s.stored (flight.Again unit 2)))) (reply.Refused refusal.StoreFault)
+pub reposts_in_doubt : (s : State) (ledger : Ledger) (limit : ℕ) (unit : UnitKey) → s.stored ≡ ledger → s.mark_limit ≡ limit → Admits s (command.Resubmit unit) → to_resubmit ledger limit unit ≡ Ok Bad2 → IsAct s (command.Resubmit unit) (doubted s (Some (landed s.stored (flight.Again unit 2)))) (reply.Refused refusal.StoreFault)
 reposts_in_doubt s ledger limit unit g m room h =
     fails s (command.Resubmit unit) (reposted s unit) (reply.Unit unit) room (own_resubmit s ledger limit unit (Ok Bad2) g m h) refl refl
 
@@ -384,20 +397,20 @@ own_reopen s t ledger limit unit answer f l g m h e =
     ∙ (λ i. reopening s unit (readmitted (record { entries = f i; limit = l i }) (owners_of unit) (entries_of (g i).units unit)))
     ∙ ap (reopening s unit) e
 
-pub reopens : (s : State) (t : Table) (ledger new : Ledger) (limit : ℕ) (unit : UnitKey) (left : List Entry) → s.locks ≡ t.entries → s.limit ≡ t.limit → s.stored ≡ ledger → s.mark_limit ≡ limit → Admits s → to_resubmit ledger limit unit ≡ Ok Bad → readmitted t (owners_of unit) (entries_of ledger.units unit) ≡ Ok left → new ≡ with_mark ledger unit Again1 → IsAct s (command.Resubmit unit) (record s { locks = left; stored = new }) (reply.Unit unit)
+pub reopens : (s : State) (t : Table) (ledger new : Ledger) (limit : ℕ) (unit : UnitKey) (left : List Entry) → s.locks ≡ t.entries → s.limit ≡ t.limit → s.stored ≡ ledger → s.mark_limit ≡ limit → Admits s (command.Resubmit unit) → to_resubmit ledger limit unit ≡ Ok Bad → readmitted t (owners_of unit) (entries_of ledger.units unit) ≡ Ok left → new ≡ with_mark ledger unit Again1 → IsAct s (command.Resubmit unit) (record s { locks = left; stored = new }) (reply.Unit unit)
 reopens s t ledger new limit unit left f l g m room h stand b =
     let g' : with_mark s.stored unit Again1 ≡ new = ap (λ x. with_mark x unit Again1) g ∙ sym b in
     at_state _ _ (reopened s unit left) _ _ (λ i. record s { locks = left; stored = g' i })
     (leaves_as s (command.Resubmit unit) (reopened s unit left) (reply.Unit unit) room (own_reopen s t ledger limit unit (Ok left) f l g m h stand))
 
-pub reopens_in_doubt : (s : State) (t : Table) (ledger : Ledger) (limit : ℕ) (unit : UnitKey) (left : List Entry) → s.locks ≡ t.entries → s.limit ≡ t.limit → s.stored ≡ ledger → s.mark_limit ≡ limit → Admits s → to_resubmit ledger limit unit ≡ Ok Bad → readmitted t (owners_of unit) (entries_of ledger.units unit) ≡ Ok left → IsAct s (command.Resubmit unit) (doubted s (Some (landed s.stored (flight.Again unit 1)))) (reply.Refused refusal.StoreFault)
+pub reopens_in_doubt : (s : State) (t : Table) (ledger : Ledger) (limit : ℕ) (unit : UnitKey) (left : List Entry) → s.locks ≡ t.entries → s.limit ≡ t.limit → s.stored ≡ ledger → s.mark_limit ≡ limit → Admits s (command.Resubmit unit) → to_resubmit ledger limit unit ≡ Ok Bad → readmitted t (owners_of unit) (entries_of ledger.units unit) ≡ Ok left → IsAct s (command.Resubmit unit) (doubted s (Some (landed s.stored (flight.Again unit 1)))) (reply.Refused refusal.StoreFault)
 reopens_in_doubt s t ledger limit unit left f l g m room h stand =
     fails s (command.Resubmit unit) (reopened s unit left) (reply.Unit unit) room (own_reopen s t ledger limit unit (Ok left) f l g m h stand) refl refl
 
 some_written : (n : ℕ) → 1 ≤ n → nat_lt 0 n ≡ true
 some_written n h = grind (arith, nat_tests)
 
-pub reopens_unfiled : (s : State) (t : Table) (ledger new : Ledger) (limit : ℕ) (unit : UnitKey) (left : List Entry) → s.locks ≡ t.entries → s.limit ≡ t.limit → s.stored ≡ ledger → s.mark_limit ≡ limit → Admits s → to_resubmit ledger limit unit ≡ Ok Bad → readmitted t (owners_of unit) (entries_of ledger.units unit) ≡ Ok left → 1 ≤ length (entries_of ledger.units unit) → new ≡ ledger → IsAct s (command.Resubmit unit) (unfiled s new) (reply.Refused refusal.BackupFault)
+pub reopens_unfiled : (s : State) (t : Table) (ledger new : Ledger) (limit : ℕ) (unit : UnitKey) (left : List Entry) → s.locks ≡ t.entries → s.limit ≡ t.limit → s.stored ≡ ledger → s.mark_limit ≡ limit → Admits s (command.Resubmit unit) → to_resubmit ledger limit unit ≡ Ok Bad → readmitted t (owners_of unit) (entries_of ledger.units unit) ≡ Ok left → 1 ≤ length (entries_of ledger.units unit) → new ≡ ledger → IsAct s (command.Resubmit unit) (unfiled s new) (reply.Refused refusal.BackupFault)
 reopens_unfiled s t ledger new limit unit left f l g m room h stand some b =
     subst (λ x. IsAct s (command.Resubmit unit) (unfiled s x) (reply.Refused refusal.BackupFault)) (g ∙ sym b)
     (fails_filing s (command.Resubmit unit) (reopened s unit left) (reply.Unit unit) room (own_reopen s t ledger limit unit (Ok left) f l g m h stand)
@@ -405,7 +418,7 @@ reopens_unfiled s t ledger new limit unit left f l g m room h stand some b =
     ∙ ap (λ o. nat_lt 0 (length (if has_status status.Bad o then entries_of ledger.units unit else []))) (can_be_tried ledger limit unit Bad h).recorded
     ∙ some_written (length (entries_of ledger.units unit)) some))
 
-not_reopened : (s : State) (t : Table) (ledger : Ledger) (limit : ℕ) (unit : UnitKey) (f : AskFault) → s.locks ≡ t.entries → s.limit ≡ t.limit → s.stored ≡ ledger → s.mark_limit ≡ limit → Admits s → to_resubmit ledger limit unit ≡ Ok Bad → IsFaultOf (readmitted t (owners_of unit) (entries_of ledger.units unit)) f → IsAct s (command.Resubmit unit) s (reply.Refused (ask_refusal f))
+not_reopened : (s : State) (t : Table) (ledger : Ledger) (limit : ℕ) (unit : UnitKey) (f : AskFault) → s.locks ≡ t.entries → s.limit ≡ t.limit → s.stored ≡ ledger → s.mark_limit ≡ limit → Admits s (command.Resubmit unit) → to_resubmit ledger limit unit ≡ Ok Bad → IsFaultOf (readmitted t (owners_of unit) (entries_of ledger.units unit)) f → IsAct s (command.Resubmit unit) s (reply.Refused (ask_refusal f))
 not_reopened s t ledger limit unit (fault.Foreign e) locks l g m room h why =
     refuses s (command.Resubmit unit) _ room (own_reopen s t ledger limit unit _ locks l g m h why)
 not_reopened s t ledger limit unit (fault.Full used most) locks l g m room h why =
@@ -415,9 +428,9 @@ not_reopened s t ledger limit unit fault.Count locks l g m room h why =
 not_reopened s t ledger limit unit fault.Lost locks l g m room h why =
     refuses s (command.Resubmit unit) _ room (own_reopen s t ledger limit unit _ locks l g m h why)
 not_reopened s t ledger limit unit fault.NoMemory locks l g m room h why =
-    is_wanting s (command.Resubmit unit) (free_admin s (Resubmits unit) room) (ap is_ok ((λ i. to_resubmit (g i) (m i) unit) ∙ h))
+    is_wanting s (command.Resubmit unit) room.served (ap is_ok ((λ i. to_resubmit (g i) (m i) unit) ∙ h))
 
-pub reopens_in_vain : (s : State) (t : Table) (ledger new : Ledger) (limit : ℕ) (unit : UnitKey) (f : AskFault) (r : Refusal) (after : List Entry) → s.locks ≡ t.entries → s.limit ≡ t.limit → s.stored ≡ ledger → s.mark_limit ≡ limit → Admits s → to_resubmit ledger limit unit ≡ Ok Bad → IsFaultOf (readmitted t (owners_of unit) (entries_of ledger.units unit)) f → after ≡ t.entries → new ≡ ledger → r ≡ ask_refusal f → IsAct s (command.Resubmit unit) (record s { locks = after; stored = new }) (reply.Refused r)
+pub reopens_in_vain : (s : State) (t : Table) (ledger new : Ledger) (limit : ℕ) (unit : UnitKey) (f : AskFault) (r : Refusal) (after : List Entry) → s.locks ≡ t.entries → s.limit ≡ t.limit → s.stored ≡ ledger → s.mark_limit ≡ limit → Admits s (command.Resubmit unit) → to_resubmit ledger limit unit ≡ Ok Bad → IsFaultOf (readmitted t (owners_of unit) (entries_of ledger.units unit)) f → after ≡ t.entries → new ≡ ledger → r ≡ ask_refusal f → IsAct s (command.Resubmit unit) (record s { locks = after; stored = new }) (reply.Refused r)
 reopens_in_vain s t ledger new limit unit f r after locks l g m room h why same kept is =
     let f' : s.locks ≡ after = locks ∙ sym same in
     let g' : s.stored ≡ new = g ∙ sym kept in
@@ -429,7 +442,7 @@ reopens_in_vain s t ledger new limit unit f r after locks l g m room h why same 
 own_read : (found : Found) (s : State) (sessions : List Session) (name table key : List ℕ) (x : Session) → s.sessions ≡ sessions → session_at sessions name ≡ Some x → own_verdict found s (OfSession name (Reads table key)) ≡ Leaves s (reply.Row (found.row table key))
 own_read found s sessions name table key x e at = ap (called found s (Reads table key)) (found_at s sessions name (Some x) e at)
 
-pub reads_unknown : (s : State) (sessions : List Session) (ledger : Ledger) (name table key : List ℕ) (r : Refusal) → s.sessions ≡ sessions → s.stored ≡ ledger → Admits s → session_at sessions name ≡ None → r ≡ refusal.UnknownSession → IsAct s (command.Read name table key) (record s { stored = ledger }) (reply.Refused r)
+pub reads_unknown : (s : State) (sessions : List Session) (ledger : Ledger) (name table key : List ℕ) (r : Refusal) → s.sessions ≡ sessions → s.stored ≡ ledger → Admits s (command.Read name table key) → session_at sessions name ≡ None → r ≡ refusal.UnknownSession → IsAct s (command.Read name table key) (record s { stored = ledger }) (reply.Refused r)
 reads_unknown s sessions ledger name table key r e g room none is =
     subst (λ x. IsAct s (command.Read name table key) (record s { stored = ledger }) (reply.Refused x)) (sym is)
     (at_state _ _ s _ _ (λ i. record s { stored = g i })
@@ -442,7 +455,7 @@ told_text : (told : Bool) (rows : Option Rows) (ledger : Ledger) (table key : Li
 told_text told None ledger table key text t known = subst (λ b. TellsText b ledger table key text) (sym t) tt
 told_text told (Some rows) ledger table key text t known = subst (λ b. TellsText b ledger table key text) (sym t) known
 
-pub reads : (s : State) (rows : Option Rows) (sessions : List Session) (ledger new : Ledger) (name table key : List ℕ) (x : Session) (text : Option (List ℕ)) → s.sessions ≡ sessions → s.told ≡ is_some rows → s.stored ≡ ledger → Admits s → session_at sessions name ≡ Some x → IfSome rows (λ _. text ≡ row_in ledger table key) → new ≡ ledger → IsAct s (command.Read name table key) (record s { stored = new }) (reply.Row text)
+pub reads : (s : State) (rows : Option Rows) (sessions : List Session) (ledger new : Ledger) (name table key : List ℕ) (x : Session) (text : Option (List ℕ)) → s.sessions ≡ sessions → s.told ≡ is_some rows → s.stored ≡ ledger → Admits s (command.Read name table key) → session_at sessions name ≡ Some x → IfSome rows (λ _. text ≡ row_in ledger table key) → new ≡ ledger → IsAct s (command.Read name table key) (record s { stored = new }) (reply.Row text)
 reads s rows sessions ledger new name table key x text e t g room at known kept =
     let g' : s.stored ≡ new = g ∙ sym kept in
     let found = found_by (Shows text) s in
@@ -450,19 +463,19 @@ reads s rows sessions ledger new name table key x text e t g room at known kept 
     (record {
       outcome = record { event = AllWell; reading = Shows text };
       possible = record { reading = subst (λ l. TellsText s.told l table key text) (sym g) (told_text s.told rows ledger table key text t known); event = tt };
-      same = ap (judged s) (admitted found s (OfSession name (Reads table key)) room ∙ own_read found s sessions name table key x e at);
+      same = ap (judged s) (admitted found s (command.Read name table key) room ∙ own_read found s sessions name table key x e at);
     })
 
-pub reads_wanting : (s : State) (sessions : List Session) (ledger new : Ledger) (name table key : List ℕ) (x : Session) → s.sessions ≡ sessions → s.stored ≡ ledger → Admits s → session_at sessions name ≡ Some x → new ≡ ledger → IsAct s (command.Read name table key) (record s { stored = new }) (reply.Refused refusal.NoMemory)
+pub reads_wanting : (s : State) (sessions : List Session) (ledger new : Ledger) (name table key : List ℕ) (x : Session) → s.sessions ≡ sessions → s.stored ≡ ledger → Admits s (command.Read name table key) → session_at sessions name ≡ Some x → new ≡ ledger → IsAct s (command.Read name table key) (record s { stored = new }) (reply.Refused refusal.NoMemory)
 reads_wanting s sessions ledger new name table key x e g room at kept =
     let g' : s.stored ≡ new = g ∙ sym kept in
     at_state _ _ s _ _ (λ i. record s { stored = g' i })
-    (is_wanting s (command.Read name table key) (free_session s name (Reads table key) x room (found_at s sessions name (Some x) e at)) refl)
+    (is_wanting s (command.Read name table key) room.served refl)
 
 -- a read that failed leaves no change in flight
-pub reads_in_doubt : (s : State) (sessions : List Session) (name table key : List ℕ) (x : Session) → s.sessions ≡ sessions → s.pending ≡ None → Admits s → session_at sessions name ≡ Some x → IsAct s (command.Read name table key) (doubted s None) (reply.Refused refusal.StoreFault)
+pub reads_in_doubt : (s : State) (sessions : List Session) (name table key : List ℕ) (x : Session) → s.sessions ≡ sessions → s.pending ≡ None → Admits s (command.Read name table key) → session_at sessions name ≡ Some x → IsAct s (command.Read name table key) (doubted s None) (reply.Refused refusal.StoreFault)
 reads_in_doubt s sessions name table key x e none room at =
-    let v = admitted (found_in s) s (OfSession name (Reads table key)) room ∙ own_read (found_in s) s sessions name table key x e at in
+    let v = admitted (found_in s) s (command.Read name table key) room ∙ own_read (found_in s) s sessions name table key x e at in
     record {
       outcome = only StoreFails;
       possible = record { reading = tt; event = (ap leaves v, refl) };
@@ -474,7 +487,7 @@ reads_in_doubt s sessions name table key x e none room at =
 own_commit : (s : State) (sessions : List Session) (name : List ℕ) (x : Session) (parts : Parts) (stock : List Number) → s.sessions ≡ sessions → session_at sessions name ≡ Some x → own_verdict (found_in s) s (OfSession name (Commits parts stock)) ≡ commit s x parts stock
 own_commit s sessions name x parts stock e found = ap (called (found_in s) s (Commits parts stock)) (found_at s sessions name (Some x) e found)
 
-pub commits_unknown : (s : State) (sessions : List Session) (ranges : List NumberRange) (entries : List Entry) (ledger : Ledger) (name : List ℕ) (parts : Parts) (stock : List Number) (r : Refusal) → s.sessions ≡ sessions → s.ranges ≡ ranges → s.locks ≡ entries → s.stored ≡ ledger → Admits s → session_at sessions name ≡ None → r ≡ refusal.UnknownSession → IsAct s (command.Commit name parts stock) (record s { sessions = sessions; ranges = ranges; locks = entries; stored = ledger }) (reply.Refused r)
+pub commits_unknown : (s : State) (sessions : List Session) (ranges : List NumberRange) (entries : List Entry) (ledger : Ledger) (name : List ℕ) (parts : Parts) (stock : List Number) (r : Refusal) → s.sessions ≡ sessions → s.ranges ≡ ranges → s.locks ≡ entries → s.stored ≡ ledger → Admits s (command.Commit name parts stock) → session_at sessions name ≡ None → r ≡ refusal.UnknownSession → IsAct s (command.Commit name parts stock) (record s { sessions = sessions; ranges = ranges; locks = entries; stored = ledger }) (reply.Refused r)
 commits_unknown s sessions ranges entries ledger name parts stock r e k f g room none is =
     subst (λ x. IsAct s (command.Commit name parts stock) (record s { sessions = sessions; ranges = ranges; locks = entries; stored = ledger }) (reply.Refused x)) (sym is)
     (at_state _ _ s _ _ (λ i. record s { sessions = e i; ranges = k i; locks = f i; stored = g i })
@@ -518,16 +531,16 @@ pub is_written : (n : ℕ) → 1 ≤ n → nat_lt 0 n ≡ true
 is_written n h = grind (arith, nat_tests)
 
 -- a session that commits: what the hall holds is the state's
-pub record IsCommitAt (s : State) (sessions : List Session) (ranges : List NumberRange) (entries : List Entry) (ledger : Ledger) (limit : ℕ) (name : List ℕ) (x : Session) : Type 0 where
+pub record IsCommitAt (s : State) (sessions : List Session) (ranges : List NumberRange) (entries : List Entry) (ledger : Ledger) (limit : ℕ) (name : List ℕ) (x : Session) (c : Command) : Type 0 where
   pub own_sessions : s.sessions ≡ sessions
   pub own_ranges : s.ranges ≡ ranges
   pub own_locks : s.locks ≡ entries
   pub own_ledger : s.stored ≡ ledger
   pub own_limit : s.mark_limit ≡ limit
-  pub admits : Admits s
+  pub admits : Admits s c
   pub found : session_at sessions name ≡ Some x
 
-module _ (s : State) (sessions : List Session) (ranges : List NumberRange) (entries : List Entry) (ledger : Ledger) (limit : ℕ) (name : List ℕ) (x : Session) (parts : Parts) (stock : List Number) (at : IsCommitAt s sessions ranges entries ledger limit name x) where
+module _ (s : State) (sessions : List Session) (ranges : List NumberRange) (entries : List Entry) (ledger : Ledger) (limit : ℕ) (name : List ℕ) (x : Session) (parts : Parts) (stock : List Number) (at : IsCommitAt s sessions ranges entries ledger limit name x (command.Commit name parts stock)) where
   abbrev numbers : List Number
   numbers = x.draws ++ stock
 
@@ -551,7 +564,7 @@ module _ (s : State) (sessions : List Session) (ranges : List NumberRange) (entr
   pub commits_wanting : (new : Ledger) → new ≡ ledger → IsAct s (command.Commit name parts stock) (record s { sessions = sessions; ranges = ranges; locks = entries; stored = new }) (reply.Refused refusal.NoMemory)
   commits_wanting new kept =
       subst (λ l. IsAct s (command.Commit name parts stock) (record s { sessions = sessions; ranges = ranges; locks = entries; stored = l }) (reply.Refused refusal.NoMemory)) (sym kept)
-      (here _ (is_wanting s (command.Commit name parts stock) (free_session s name (Commits parts stock) x at.admits (found_at s sessions name (Some x) at.own_sessions at.found)) refl))
+      (here _ (is_wanting s (command.Commit name parts stock) at.admits.served refl))
 
   pub commits_full : is_too_much numbers parts ≡ false → is_nothing numbers parts ≡ false → nat_le limit (length ledger.marks) ≡ true → IsAct s (command.Commit name parts stock) same_state (reply.Refused (refusal.StoreFull limit))
   commits_full few some full =

@@ -6,6 +6,7 @@ use Rattle.enq_base.specs.declared.condition.Condition.TheVariants as condition
 use Rattle.hall.specs.declared.units.InFlight.{InFlight}
 use Rattle.enq_base.specs.declared.refusal.Refusal.TheVariants as refusal
 use Rattle.enq_base.specs.declared.unit.Num.{Num}
+use Rattle.lock_entry.specs.declared.entry.Entry.{Entry}
 use Rattle.range_list.specs.Drawn.{passed}
 use Rattle.range_list.specs.declared.range.NumberRange.{NumberRange}
 use Rattle.hall.specs.declared.command.Command.{Command}
@@ -14,12 +15,12 @@ use Rattle.hall.specs.declared.command.Reply.{Reply}
 use Rattle.hall.specs.declared.command.Reply.TheVariants as reply
 use Rattle.hall.specs.declared.units.Written.{Written}
 use Rattle.hall.specs.declared.units.Written.TheVariants.{Answered, Failed, Unfiled}
+use Rattle.hall.specs.Calls.{call_of}
 use Rattle.hall.specs.Devices.{DeviceOutcome, IsPossible}
 use Rattle.hall.specs.Flights.{landed}
 use Rattle.hall.specs.History.{doubted, served, unfiled}
-use Rattle.hall.specs.Kept.{NoneLost}
 use Rattle.hall.specs.State.{State}
-use Rattle.hall.specs.Step.{barred}
+use Rattle.hall.specs.Step.{unavailable}
 
 -- the call leaves this state, and is answered so; it isn't in the history yet
 pub record IsAct (s : State) (c : Command) (after : State) (r : Reply) : Type 0 where
@@ -27,11 +28,9 @@ pub record IsAct (s : State) (c : Command) (after : State) (r : Reply) : Type 0 
   pub possible : IsPossible outcome s c
   pub same : served outcome s c ≡ record { state = after; reply = r }
 
--- nothing bars calls, but of a session that isn't logged on
-pub record Admits (s : State) : Type 0 where
-  pub served : barred s ≡ None
-  pub up : s.condition ≡ condition.Up
-  pub whole : NoneLost s.sessions
+-- nothing bars the call
+pub record Admits (s : State) (c : Command) : Type 0 where
+  pub served : unavailable s (call_of c) ≡ None
 
 -- the call by which a worker takes an order for a part
 abbrev pub take_of : ℕ → ℕ → Command
@@ -40,6 +39,10 @@ take_of part worker = if nat_eq part 1 then command.Take1 worker else command.Ta
 -- the call by which a worker posts a part
 abbrev pub post_of : ℕ → ℕ → Command
 post_of part worker = if nat_eq part 1 then command.Do1 worker else command.Do2 worker
+
+-- the locks that a post leaves, of those before: with a V1 part some go, and a V2 part touches none
+abbrev pub locks_posted : (part : ℕ) → (before now : List Entry) → List Entry
+locks_posted part before now = if nat_eq part 1 then now else before
 
 -- a call that uses store and file leaves this state, or where one of them fails a server in doubt
 abbrev pub IsWritten : State → Command → State → Written → Type 0

@@ -42,10 +42,6 @@ AreNumbered next [] = Unit {0}
 AreNumbered next (x ∷ xs) =
     (x.number < next) × AllByRecursion (λ (y : Session). x.number < y.number) xs × AreNumbered next xs
 
--- no session lost a lock with a lock server
-abbrev pub NoneLost : List Session → Type 0
-NoneLost sessions = AllByRecursion (λ (x : Session). x.lost ≡ false) sessions
-
 -- no two sessions have one name
 abbrev pub HaveOwnNames : List Session → Type 0
 HaveOwnNames sessions = (name : List ℕ) → count_by (is_called name) sessions ≤ 1
@@ -159,22 +155,14 @@ OutsideDoubt condition.Up P = P
 OutsideDoubt condition.NoServer P = P
 OutsideDoubt (condition.Doubt k) P = Unit {0}
 
--- so far no call ends the lock server
-abbrev pub HasServer : Condition → Type 0
-HasServer condition.Up = Unit {0}
-HasServer condition.NoServer = ⊥
-HasServer (condition.Doubt k) = Unit {0}
-
 pub record IsSteady (s : State) : Type 0 where
   pub started : 1 ≤ s.stored.start
   pub limited : s.mark_limit ≤ 1048576
-  pub server : HasServer s.condition
-  pub whole : NoneLost s.sessions
   pub named : HaveOwnNames s.sessions
   pub drawn : IsDrawn s
   pub marked : HaveMarks s.stored
-  -- nothing is pending while the server is up
-  pub settled : WhileUp s.condition (s.pending ≡ None)
+  -- a change is in flight in doubt alone
+  pub settled : OutsideDoubt s.condition (s.pending ≡ None)
   pub fresh : HasFreshKeys s
   pub places : length s.orders ≡ 256
   -- in doubt an order may stand whose unit waits no more

@@ -18,9 +18,9 @@ abbrev pub with_calls : State → List PastEntry → State
 with_calls s past = record s { past = past }
 
 -- the state is in order, and nothing bars the call
-pub record IsDue (s : State) (past : List PastEntry) : Type 0 where
+pub record IsDue (s : State) (past : List PastEntry) (c : Command) : Type 0 where
   pub kept : IsKept (with_calls s past)
-  pub admits : Admits (with_calls s past)
+  pub admits : Admits (with_calls s past) c
 
 -- what a call may do to the store
 pub record MayWrite {K : Type 0} (held : K → Option Rows) (may_leave : K → Rows → Type 0) (faults : K → ℕ) (old new : K) (r : Reply) : Type 0 where

@@ -57,7 +57,7 @@ pub(crate) fn draw<K: Keeper>(
     requires usable { IsUsable K.held K.is_open books.old }
     requires started { 1 ≤ books.old.ledger.start }
     requires drawn { AreDrawnRight ranges.old books.old.ledger.levels (draws_in sessions.old) (numbers_of books.old.ledger.units books.old.ledger.marks) }
-    ensures act { (s : State) → s.sessions ≡ sessions.old → s.ranges ≡ ranges.old → s.stored ≡ books.old.ledger → Admits s
+    ensures act { (s : State) → s.sessions ≡ sessions.old → s.ranges ≡ ranges.old → s.stored ≡ books.old.ledger → Admits s (command.Number name.now object.now nr)
         → IsWritten s (command.Number name.now object.now nr)
         (record s { sessions = sessions.new; ranges = ranges.new; stored = books.new.ledger })
         result }
@@ -99,7 +99,7 @@ pub(crate) fn reserve<K: Keeper>(
     requires usable { IsUsable K.held K.is_open books.old }
     requires started { 1 ≤ books.old.ledger.start }
     requires drawn { AreDrawnRight ranges.now books.old.ledger.levels (draws_in sessions.now) (numbers_of books.old.ledger.units books.old.ledger.marks) }
-    ensures act { (s : State) → s.sessions ≡ sessions.now → s.ranges ≡ ranges.now → s.stored ≡ books.old.ledger → Admits s
+    ensures act { (s : State) → s.sessions ≡ sessions.now → s.ranges ≡ ranges.now → s.stored ≡ books.old.ledger → Admits s (command.Reserve name.now object.now nr upto)
         → IsWritten s (command.Reserve name.now object.now nr upto) (record s { stored = books.new.ledger }) result }
     ensures levels { ChangesLevels books.old.ledger books.new.ledger result }
     ensures keeper { (s : State) → s.ranges ≡ ranges.now → s.stored ≡ books.old.ledger → raises_level s (Reserves object.now nr upto) ≡ false → books.new.keeper ≡ books.old.keeper }
@@ -170,7 +170,7 @@ fn to_draw<K: Keeper>(
 ) -> Result<NextDraw, Refusal>
     requires drawn { AreDrawnRight ranges.now books.now.ledger.levels (draws_in sessions.now) (numbers_of books.now.ledger.units books.now.ledger.marks) }
     ensures draw { IfOk result (λ d. IsNextDraw sessions.now ranges.now books.now.ledger.levels name.now object.now nr d.interval d.number d.level d.draws.items) }
-    ensures refused { IfErr result (λ r. (s : State) → s.sessions ≡ sessions.now → s.ranges ≡ ranges.now → s.stored ≡ books.now.ledger → Admits s
+    ensures refused { IfErr result (λ r. (s : State) → s.sessions ≡ sessions.now → s.ranges ≡ ranges.now → s.stored ≡ books.now.ledger → Admits s (command.Number name.now object.now nr)
         → IsAct s (command.Number name.now object.now nr) s (Reply.Refused r)) }
     ensures quiet { IfErr result (λ r. (n : ℕ) → HasStoreCause n n (Reply.Refused r)) }
 {
@@ -217,7 +217,7 @@ fn to_reserve<K: Keeper>(
 ) -> Result<(Interval, u64), Refusal>
     requires drawn { AreDrawnRight ranges.now books.now.ledger.levels (draws_in sessions.now) (numbers_of books.now.ledger.units books.now.ledger.marks) }
     ensures interval { IfOk result (λ f. IsNextReserve sessions.now ranges.now books.now.ledger.levels name.now object.now nr upto f.0 f.1) }
-    ensures refused { IfErr result (λ r. (s : State) → s.sessions ≡ sessions.now → s.ranges ≡ ranges.now → s.stored ≡ books.now.ledger → Admits s
+    ensures refused { IfErr result (λ r. (s : State) → s.sessions ≡ sessions.now → s.ranges ≡ ranges.now → s.stored ≡ books.now.ledger → Admits s (command.Reserve name.now object.now nr upto)
         → IsAct s (command.Reserve name.now object.now nr upto) s (Reply.Refused r)) }
     ensures quiet { IfErr result (λ r. (n : ℕ) → HasStoreCause n n (Reply.Refused r)) }
 {

@@ -133,7 +133,7 @@ pub(crate) fn take<K: Keeper>(
 /// Takes a worker's order back.
 pub(crate) fn drop_order(orders: &mut Vec<Option<UnitKey>>, worker: u8) -> Reply
     requires { length orders.old.items ≡ 256 }
-    ensures act { (s : State) → s.orders ≡ orders.old.items → Admits s
+    ensures act { (s : State) → s.orders ≡ orders.old.items → Admits s (command.DropOrder worker)
         → IsAct s (command.DropOrder worker) (record s { orders = orders.new.items }) result }
 {
     let Some(unit) = order_of(orders.as_slice(), worker) else {

@@ -15,10 +15,11 @@ ghost use Rattle.hall.specs.Serving.{IsDue, MayWrite, Serves, with_calls};
 ghost use Rattle.hall.specs.State.{opened};
 ghost use Rattle.hall.specs.Stocks.{IsStockIn, MayCall};
 ghost use Rattle.hall.specs.History.{after_of, is_unrecorded};
-ghost use Rattle.hall.specs.Step.{barred, is_full};
+ghost use Rattle.hall.specs.Step.{barred, is_full, unavailable};
 ghost use Rattle.hall.specs.Views.{marks_shown, numbers_shown, ranges_shown, units_shown};
 ghost use Rattle.posting.specs.Shelf.{IsUsable};
 
+use crate::barring::{caller_refusal, server_refusal};
 use crate::command::{After, Command, PastEntry, Reply};
 use crate::locks::{ask, convert, free, free_all, log_off, roll_back};
 use crate::numbers::{draw, reserve};
@@ -67,7 +68,7 @@ impl<T: LockStore, K: Keeper, D: Disk, L: Link> Model for Server<T, K, D, L> {
 
     ghost use Rattle.std.specs.Prelude.{[], is_some};
     ghost use Rattle.std.specs.Option.{option_map};
-    ghost use Rattle.hall.specs.Kept.{WhileUp};
+    ghost use Rattle.hall.specs.Kept.{OutsideDoubt};
     ghost use Rattle.hall.specs.Leaving.{LeavesState};
     ghost use Rattle.posting.specs.Shelf.{IsUsable};
     ghost use Rattle.hall.specs.Filing.{HasOpenLists, LeavesLists};
@@ -85,9 +86,9 @@ impl<T: LockStore, K: Keeper, D: Disk, L: Link> Model for Server<T, K, D, L> {
         let s = state_of (is_some (K.held h.books.keeper)) h.condition h.sessions h.next_session h.orders.items h.locks.table h.max_locks h.max_marks h.ranges h.books.ledger
         (option_map (landed h.books.ledger) h.pending) [] in
         let v : View K D L = record { state = s; keeper = h.books.keeper; file = h.locks.file; follower = h.locks.copy } in
-        WhileUp h.condition (IsUsable K.held K.is_open h.books)
+        OutsideDoubt h.condition (IsUsable K.held K.is_open h.books)
         × LeavesState K.held K.may_leave v
-        × WhileUp h.condition (HasOpenLists D.tells D.reads D.may_leave h.books.ledger h.locks.file)
+        × OutsideDoubt h.condition (HasOpenLists D.tells D.reads D.may_leave h.books.ledger h.locks.file)
         × LeavesLists D.tells D.may_leave v };
 }
 
@@ -234,6 +235,19 @@ impl<T: LockStore, K: Keeper, D: Disk, L: Link> Server<T, K, D, L> {
         }
     }
 
+    /// Why a call isn't served, whatever it asks for.
+    fn unavailable(&self, past: &Vec<PastEntry>, command: &Command) -> Option<Refusal>
+        ensures { result ≡ unavailable (with_calls self.now.state past.now.items) (call_of command.now) }
+    {
+        if let Some(refusal) = self.barred(past) {
+            return Some(refusal);
+        }
+        if let Some(refusal) = caller_refusal(&self.sessions, command) {
+            return Some(refusal);
+        }
+        server_refusal(self.condition, command)
+    }
+
     /// Serves a call behind those of the past. It isn't put into the history.
     pub(crate) fn serve(&mut self, alloc: Global, past: &Vec<PastEntry>, command: &Command) -> Reply
         requires kept { IsKept (with_calls self.old.state past.now.items) }
@@ -246,7 +260,7 @@ impl<T: LockStore, K: Keeper, D: Disk, L: Link> Server<T, K, D, L> {
         ensures follower { KeepsOn L.faults L.refusals self.old.follower self.new.follower }
         ensures room { is_unrecorded result ≡ false → is_full (with_calls self.old.state past.now.items) ≡ false }
     {
-        match self.barred(past) {
+        match self.unavailable(past, command) {
             Some(refusal) => Reply::Refused(refusal),
             None => self.act(alloc, past, command),
         }
@@ -254,7 +268,7 @@ impl<T: LockStore, K: Keeper, D: Disk, L: Link> Server<T, K, D, L> {
 
     /// Does a call that nothing bars.
     fn act(&mut self, alloc: Global, past: &Vec<PastEntry>, command: &Command) -> Reply
-        requires due { IsDue self.old.state past.now.items }
+        requires due { IsDue self.old.state past.now.items command.now }
         requires call { MayCall self.old.state (call_of command.now) }
         ensures { Serves K.held K.may_leave K.faults D.faults L.faults L.refusals self.old self.new past.now.items command.now result }
     {
@@ -302,7 +316,7 @@ impl<T: LockStore, K: Keeper, D: Disk, L: Link> Server<T, K, D, L> {
     }
 
     fn log_on(&mut self, alloc: Global, past: &Vec<PastEntry>, session: Name, user: Name) -> Reply
-        requires { IsDue self.old.state past.now.items }
+        requires { IsDue self.old.state past.now.items (command.Logon session user) }
         ensures { Serves K.held K.may_leave K.faults D.faults L.faults L.refusals self.old self.new past.now.items (command.Logon session user) result }
     {
         Reply::of(log_on(
@@ -315,7 +329,7 @@ impl<T: LockStore, K: Keeper, D: Disk, L: Link> Server<T, K, D, L> {
     }
 
     fn log_off(&mut self, past: &Vec<PastEntry>, session: &Name) -> Reply
-        requires { IsDue self.old.state past.now.items }
+        requires { IsDue self.old.state past.now.items (command.Logoff session.now) }
         ensures { Serves K.held K.may_leave K.faults D.faults L.faults L.refusals self.old self.new past.now.items (command.Logoff session.now) result }
     {
         let start = self.books.start();
@@ -329,7 +343,7 @@ impl<T: LockStore, K: Keeper, D: Disk, L: Link> Server<T, K, D, L> {
         session: &Name,
         requests: &[Request],
     ) -> Reply
-        requires { IsDue self.old.state past.now.items }
+        requires { IsDue self.old.state past.now.items (command.Ask session.now requests.now) }
         ensures { Serves K.held K.may_leave K.faults D.faults L.faults L.refusals self.old self.new past.now.items (command.Ask session.now requests.now) result }
     {
         let start = self.books.start();
@@ -344,7 +358,7 @@ impl<T: LockStore, K: Keeper, D: Disk, L: Link> Server<T, K, D, L> {
     }
 
     fn free(&mut self, past: &Vec<PastEntry>, session: &Name, requests: &[Request]) -> Reply
-        requires { IsDue self.old.state past.now.items }
+        requires { IsDue self.old.state past.now.items (command.Free session.now requests.now) }
         ensures { Serves K.held K.may_leave K.faults D.faults L.faults L.refusals self.old self.new past.now.items (command.Free session.now requests.now) result }
     {
         let start = self.books.start();
@@ -352,7 +366,7 @@ impl<T: LockStore, K: Keeper, D: Disk, L: Link> Server<T, K, D, L> {
     }
 
     fn free_all(&mut self, past: &Vec<PastEntry>, session: &Name) -> Reply
-        requires { IsDue self.old.state past.now.items }
+        requires { IsDue self.old.state past.now.items (command.FreeAll session.now) }
         ensures { Serves K.held K.may_leave K.faults D.faults L.faults L.refusals self.old self.new past.now.items (command.FreeAll session.now) result }
     {
         let start = self.books.start();
@@ -366,7 +380,7 @@ impl<T: LockStore, K: Keeper, D: Disk, L: Link> Server<T, K, D, L> {
         session: &Name,
         asked: &[Asked],
     ) -> Reply
-        requires { IsDue self.old.state past.now.items }
+        requires { IsDue self.old.state past.now.items (command.Convert session.now asked.now) }
         ensures { Serves K.held K.may_leave K.faults D.faults L.faults L.refusals self.old self.new past.now.items (command.Convert session.now asked.now) result }
     {
         let start = self.books.start();
@@ -381,7 +395,7 @@ impl<T: LockStore, K: Keeper, D: Disk, L: Link> Server<T, K, D, L> {
     }
 
     fn roll_back(&mut self, alloc: Global, past: &Vec<PastEntry>, session: &Name) -> Reply
-        requires { IsDue self.old.state past.now.items }
+        requires { IsDue self.old.state past.now.items (command.Rollback session.now) }
         ensures { Serves K.held K.may_leave K.faults D.faults L.faults L.refusals self.old self.new past.now.items (command.Rollback session.now) result }
     {
         let start = self.books.start();
@@ -397,7 +411,7 @@ impl<T: LockStore, K: Keeper, D: Disk, L: Link> Server<T, K, D, L> {
         table: &Name,
         key: &Key,
     ) -> Reply
-        requires { IsDue self.old.state past.now.items }
+        requires { IsDue self.old.state past.now.items (command.Read session.now table.now key.now) }
         ensures { Serves K.held K.may_leave K.faults D.faults L.faults L.refusals self.old self.new past.now.items (command.Read session.now table.now key.now) result }
     {
         let written = read(alloc, &self.sessions, &mut self.books, session, table, key);
@@ -413,7 +427,7 @@ impl<T: LockStore, K: Keeper, D: Disk, L: Link> Server<T, K, D, L> {
         object: &Name,
         nr: [u8; 2],
     ) -> Reply
-        requires { IsDue self.old.state past.now.items }
+        requires { IsDue self.old.state past.now.items (command.Number session.now object.now nr) }
         ensures { Serves K.held K.may_leave K.faults D.faults L.faults L.refusals self.old self.new past.now.items (command.Number session.now object.now nr) result }
     {
         let written = draw(
@@ -438,7 +452,7 @@ impl<T: LockStore, K: Keeper, D: Disk, L: Link> Server<T, K, D, L> {
         nr: [u8; 2],
         upto: u64,
     ) -> Reply
-        requires { IsDue self.old.state past.now.items }
+        requires { IsDue self.old.state past.now.items (command.Reserve session.now object.now nr upto) }
         ensures { Serves K.held K.may_leave K.faults D.faults L.faults L.refusals self.old self.new past.now.items (command.Reserve session.now object.now nr upto) result }
     {
         let written = reserve(
@@ -462,7 +476,7 @@ impl<T: LockStore, K: Keeper, D: Disk, L: Link> Server<T, K, D, L> {
         parts: &Parts,
         stock: &[Num],
     ) -> Reply
-        requires due { IsDue self.old.state past.now.items }
+        requires due { IsDue self.old.state past.now.items (command.Commit session.now parts.now stock.now) }
         requires stock { IsStockIn self.old.state stock.now }
         ensures { Serves K.held K.may_leave K.faults D.faults L.faults L.refusals self.old self.new past.now.items (command.Commit session.now parts.now stock.now) result }
     {
@@ -482,7 +496,7 @@ impl<T: LockStore, K: Keeper, D: Disk, L: Link> Server<T, K, D, L> {
 
     /// Gives a worker an order for a part, 1 for V1 and 2 for V2.
     fn take(&mut self, past: &Vec<PastEntry>, worker: u8, part: u8) -> Reply
-        requires due { IsDue self.old.state past.now.items }
+        requires due { IsDue self.old.state past.now.items (take_of part worker) }
         requires part { (part ≡ 1) ⊎ (part ≡ 2) }
         ensures { Serves K.held K.may_leave K.faults D.faults L.faults L.refusals self.old self.new past.now.items (take_of part worker) result }
     {
@@ -491,7 +505,7 @@ impl<T: LockStore, K: Keeper, D: Disk, L: Link> Server<T, K, D, L> {
 
     /// Posts a part, 1 for V1 and 2 for V2.
     fn post(&mut self, alloc: Global, past: &Vec<PastEntry>, worker: u8, part: u8) -> Reply
-        requires due { IsDue self.old.state past.now.items }
+        requires due { IsDue self.old.state past.now.items (post_of part worker) }
         requires part { (part ≡ 1) ⊎ (part ≡ 2) }
         ensures { Serves K.held K.may_leave K.faults D.faults L.faults L.refusals self.old self.new past.now.items (post_of part worker) result }
     {
@@ -508,14 +522,14 @@ impl<T: LockStore, K: Keeper, D: Disk, L: Link> Server<T, K, D, L> {
     }
 
     fn drop_order(&mut self, past: &Vec<PastEntry>, worker: u8) -> Reply
-        requires { IsDue self.old.state past.now.items }
+        requires { IsDue self.old.state past.now.items (command.DropOrder worker) }
         ensures { Serves K.held K.may_leave K.faults D.faults L.faults L.refusals self.old self.new past.now.items (command.DropOrder worker) result }
     {
         drop_order(&mut self.orders, worker)
     }
 
     fn cancel(&mut self, alloc: Global, past: &Vec<PastEntry>, unit: UnitKey) -> Reply
-        requires { IsDue self.old.state past.now.items }
+        requires { IsDue self.old.state past.now.items (command.Cancel unit) }
         ensures { Serves K.held K.may_leave K.faults D.faults L.faults L.refusals self.old self.new past.now.items (command.Cancel unit) result }
     {
         let written = cancel(
@@ -530,7 +544,7 @@ impl<T: LockStore, K: Keeper, D: Disk, L: Link> Server<T, K, D, L> {
     }
 
     fn resubmit(&mut self, alloc: Global, past: &Vec<PastEntry>, unit: UnitKey) -> Reply
-        requires { IsDue self.old.state past.now.items }
+        requires { IsDue self.old.state past.now.items (command.Resubmit unit) }
         ensures { Serves K.held K.may_leave K.faults D.faults L.faults L.refusals self.old self.new past.now.items (command.Resubmit unit) result }
     {
         let written = resubmit(

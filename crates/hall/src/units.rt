@@ -1,9 +1,9 @@
-ghost use Rattle.std.specs.Prelude.{◌≡◌, ◌⊎◌, ◌≤◌, ◌<◌, ◌+◌, ◌^◌, ◌++◌, None, Ok, IfOk, IfSome, OnOk, false, is_some, length, nat_eq, nat_le};
+ghost use Rattle.std.specs.Prelude.{◌≡◌, ◌⊎◌, ◌≤◌, ◌<◌, ◌+◌, ◌^◌, ◌++◌, None, Ok, IfOk, IfSome, OnOk, false, true, is_some, length, nat_eq, nat_le};
 ghost use Rattle.std.specs.List.{AllByRecursion};
 ghost use Rattle.enq_server.specs.Following.{KeepsOn};
 ghost use Rattle.hall.specs.declared.command.Command.TheVariants as command;
 ghost use Rattle.enq_base.specs.declared.unit.Num.{Num as Number};
-ghost use Rattle.hall.specs.Acts.{Admits, IsWritten, OnAnswer, OnFailure, OnStoreFailure, post_of, ranges_behind, written_reply};
+ghost use Rattle.hall.specs.Acts.{Admits, IsWritten, OnAnswer, OnFailure, OnStoreFailure, locks_posted, post_of, ranges_behind, written_reply};
 ghost use Rattle.hall.specs.Commits.{IsOfCommit, RecordsNumbers, RecordsUnit};
 ghost use Rattle.hall.specs.Kept.{HasGoodLocks, HasItsUser, HaveMarks, IsAhead, IsYoung, OfLock, draws_in};
 ghost use Rattle.hall.specs.Leaving.{HasStoreCause, KeepsStore, LeavesWritten};
@@ -104,14 +104,16 @@ pub(crate) fn post<T: LockStore, K: Keeper, D: Disk, L: Link>(
     requires places { length orders.old.items ≡ 256 }
     requires part { (part ≡ 1) ⊎ (part ≡ 2) }
     requires filed { HasOpenLists D.tells D.reads D.may_leave books.old.ledger locks.old.file }
-    ensures act { (s : State) → s.told ≡ is_some (K.held books.old.keeper) → s.orders ≡ orders.old.items → s.locks ≡ locks.old.table.entries
-        → s.stored ≡ books.old.ledger → s.mark_limit ≡ max_marks → Admits s
+    ensures act { (s : State) → s.told ≡ is_some (K.held books.old.keeper) → s.orders ≡ orders.old.items
+        → (nat_eq part 1 ≡ true → s.locks ≡ locks.old.table.entries)
+        → s.stored ≡ books.old.ledger → s.mark_limit ≡ max_marks → Admits s (post_of part worker)
         → IsWritten s (post_of part worker)
-        (record s { orders = orders.new.items; locks = locks.new.table.entries; stored = books.new.ledger })
+        (record s { orders = orders.new.items; locks = locks_posted part s.locks locks.new.table.entries; stored = books.new.ledger })
         result }
     ensures limit { locks.new.table.limit ≡ locks.old.table.limit }
     ensures file { FilesAs D.tells D.reads D.may_leave D.faults books.new.ledger locks.old.file locks.new.file result }
     ensures unfiled { nat_eq part 1 ≡ false → locks.new.file ≡ locks.old.file }
+    ensures second { nat_eq part 1 ≡ false → locks.new.table.entries ≡ locks.old.table.entries }
     ensures follower { KeepsOn L.faults L.refusals locks.old.copy locks.new.copy }
     ensures orders { OnFailure result (orders.new.items ≡ orders.old.items) }
     ensures ledger { OnStoreFailure result (books.new.ledger ≡ books.old.ledger) }
@@ -153,6 +155,7 @@ fn end_locks<T: LockStore, D: Disk, L: Link>(
 ) -> Result<(), Failed>
     requires usable { locks.old.file.failed ≡ false }
     ensures table { OnOk result (locks.new.table ≡ with_entries locks.old.table (locks_ended ends locks.old.table.entries unit.now)) }
+    ensures apart { ends ≡ false → locks.new.table ≡ locks.old.table }
     ensures limit { locks.new.table.limit ≡ locks.old.table.limit }
     ensures file { FreesList D.tells D.reads D.may_leave D.faults ends unit.now locks.old.file locks.new.file result }
     ensures follower { KeepsOn L.faults L.refusals locks.old.copy locks.new.copy }
@@ -235,7 +238,7 @@ pub(crate) fn commit<T: LockStore, K: Keeper, D: Disk, L: Link>(
     requires filed { HasOpenLists D.tells D.reads D.may_leave books.old.ledger locks.old.file }
     requires stock { IsStock (intervals_of ranges.old) books.old.ledger.levels (draws_in sessions.old) (numbers_of books.old.ledger.units books.old.ledger.marks) stock.now }
     ensures act { (s : State) → s.sessions ≡ sessions.old → s.ranges ≡ ranges.old → s.locks ≡ locks.old.table.entries
-        → s.stored ≡ books.old.ledger → s.mark_limit ≡ max_marks → Admits s
+        → s.stored ≡ books.old.ledger → s.mark_limit ≡ max_marks → Admits s (command.Commit name.now parts.now stock.now)
         → IsWritten s (command.Commit name.now parts.now stock.now)
         (record s { sessions = sessions.new; ranges = ranges.new; locks = locks.new.table.entries; stored = books.new.ledger })
         result }
@@ -287,7 +290,7 @@ fn record_commit<T: LockStore, K: Keeper, D: Disk, L: Link>(
     requires filed { HasOpenLists D.tells D.reads D.may_leave books.old.ledger locks.old.file }
     requires stock { IsStock (intervals_of ranges.now) books.old.ledger.levels (draws_in sessions.old) (numbers_of books.old.ledger.units books.old.ledger.marks) stock.now }
     ensures act { (s : State) → s.sessions ≡ sessions.old → s.ranges ≡ ranges.now → s.locks ≡ locks.old.table.entries
-        → s.stored ≡ books.old.ledger → s.mark_limit ≡ max_marks → Admits s
+        → s.stored ≡ books.old.ledger → s.mark_limit ≡ max_marks → Admits s (command.Commit name.now parts.now stock.now)
         → IsWritten s (command.Commit name.now parts.now stock.now)
         (record s { sessions = sessions.new; ranges = ranges_behind stock.now ranges.now result; locks = locks.new.table.entries; stored = books.new.ledger })
         result }
@@ -453,7 +456,7 @@ pub(crate) fn read<K: Keeper>(
 ) -> Written
     requires usable { IsUsable K.held K.is_open books.old }
     ensures act { (s : State) → s.sessions ≡ sessions.now → s.told ≡ is_some (K.held books.old.keeper)
-        → s.stored ≡ books.old.ledger → s.pending ≡ None → Admits s
+        → s.stored ≡ books.old.ledger → s.pending ≡ None → Admits s (command.Read name.now table.now key.now)
         → IsWritten s (command.Read name.now table.now key.now) (record s { stored = books.new.ledger }) result }
     ensures levels { ChangesLevels books.old.ledger books.new.ledger result }
     ensures ledger { books.new.ledger ≡ books.old.ledger }
@@ -488,7 +491,7 @@ pub(crate) fn cancel<T: LockStore, K: Keeper, D: Disk, L: Link>(
     requires places { length orders.now ≡ 256 }
     requires filed { HasOpenLists D.tells D.reads D.may_leave books.old.ledger locks.old.file }
     ensures act { (s : State) → s.orders ≡ orders.now → s.locks ≡ locks.old.table.entries
-        → s.stored ≡ books.old.ledger → s.mark_limit ≡ max_marks → Admits s
+        → s.stored ≡ books.old.ledger → s.mark_limit ≡ max_marks → Admits s (command.Cancel unit)
         → IsWritten s (command.Cancel unit)
         (record s { locks = locks.new.table.entries; stored = books.new.ledger })
         result }
@@ -572,7 +575,7 @@ pub(crate) fn resubmit<T: LockStore, K: Keeper, D: Disk, L: Link>(
     requires stored { AllByRecursion HasGoodLocks books.old.ledger.units }
     requires filed { HasOpenLists D.tells D.reads D.may_leave books.old.ledger locks.old.file }
     ensures act { (s : State) → s.locks ≡ locks.old.table.entries → s.limit ≡ locks.old.table.limit
-        → s.stored ≡ books.old.ledger → s.mark_limit ≡ max_marks → Admits s
+        → s.stored ≡ books.old.ledger → s.mark_limit ≡ max_marks → Admits s (command.Resubmit unit)
         → IsWritten s (command.Resubmit unit)
         (record s { locks = locks.new.table.entries; stored = books.new.ledger })
         result }
@@ -607,7 +610,7 @@ fn reopen<T: LockStore, K: Keeper, D: Disk, L: Link>(
     requires filed { HasOpenLists D.tells D.reads D.may_leave books.old.ledger locks.old.file }
     ensures act { (s : State) → s.locks ≡ locks.old.table.entries → s.limit ≡ locks.old.table.limit
         → s.stored ≡ books.old.ledger → step.to_resubmit books.old.ledger s.mark_limit unit ≡ Ok Status.Bad
-        → Admits s
+        → Admits s (command.Resubmit unit)
         → IsWritten s (command.Resubmit unit)
         (record s { locks = locks.new.table.entries; stored = books.new.ledger })
         result }
@@ -661,7 +664,7 @@ fn repost<T: LockStore, K: Keeper, D: Disk, L: Link>(
     requires filed { HasOpenLists D.tells D.reads D.may_leave books.old.ledger locks.now.file }
     ensures file { FilesAs D.tells D.reads D.may_leave D.faults books.new.ledger locks.now.file locks.now.file result }
     ensures act { (s : State) → s.locks ≡ locks.now.table.entries → s.stored ≡ books.old.ledger
-        → step.to_resubmit books.old.ledger s.mark_limit unit ≡ Ok Status.Bad2 → Admits s
+        → step.to_resubmit books.old.ledger s.mark_limit unit ≡ Ok Status.Bad2 → Admits s (command.Resubmit unit)
         → IsWritten s (command.Resubmit unit)
         (record s { locks = locks.now.table.entries; stored = books.new.ledger })
         result }

@@ -27,7 +27,7 @@ raise-requires-clause-store g c =
 pub returns-in-Err-raise-clause-act : goal.returns-in-Err-raise-clause-act
 returns-in-Err-raise-clause-act g c s e f l room =
     draws_unraised s c.args.sessions.now c.args.ranges.now c.args.books.now.ledger c.args.name.now c.args.object.now c.args.nr
-    (record { own_sessions = e; own_ranges = f; own_ledger = l; admits = room }) c.in-Ok.draw.interval c.in-Ok.draw.number c.in-Ok.draw.level c.in-Ok.draw.draws.items c.in-Ok.ensures.draw
+    (record { own_sessions = e; own_ranges = f; own_ledger = l }) room c.in-Ok.draw.interval c.in-Ok.draw.number c.in-Ok.draw.level c.in-Ok.draw.draws.items c.in-Ok.ensures.draw
     (buffered_so _ c.if-draw-gt0.true) c.in-Err-raise.failed c.in-Err-raise.ensures.fault c.raise.new.books.ledger c.in-Err-raise.ensures.kept
 
 pub hand_out-requires : goal.hand_out-requires
@@ -55,14 +55,14 @@ returns-clause-act g c s e f l room =
     (elim here.branch [
       | then-draw-gt0+in_default w ↦
           draws_buffered s c.args.sessions.now c.args.ranges.now c.args.books.now.ledger c.args.name.now c.args.object.now c.args.nr
-          (record { own_sessions = e; own_ranges = f; own_ledger = l; admits = room }) c.in-Ok.draw.interval c.in-Ok.draw.number c.in-Ok.draw.level c.in-Ok.draw.draws.items c.in-Ok.ensures.draw
+          (record { own_sessions = e; own_ranges = f; own_ledger = l }) room c.in-Ok.draw.interval c.in-Ok.draw.number c.in-Ok.draw.level c.in-Ok.draw.draws.items c.in-Ok.ensures.draw
           (buffered_so _ w.if-draw-gt0.true) is.within within c.set_draws.new.self here.ranges here.books.ledger c.set_draws.ensures
           (w.ranges-is ∙ w.hand_out.ensures) (ap (λ (b : Shelf g.row.K.Denot). b.ledger) w.books-is ∙ w.in_default.ensures.ledger)
       | else-draw-gt0 w ↦
           let none = w.if-draw-gt0.false in
           at_state _ _ _ _ _ (λ k. record s { sessions = c.set_draws.new.self; ranges = sym w.ranges-is k; stored = ap (λ (b : Shelf g.row.K.Denot). b.ledger) (sym w.books-is) k })
           (draws_plain s c.args.sessions.now c.args.ranges.now c.args.books.now.ledger c.args.name.now c.args.object.now c.args.nr
-          (record { own_sessions = e; own_ranges = f; own_ledger = l; admits = room }) c.in-Ok.draw.interval c.in-Ok.draw.number c.in-Ok.draw.level c.in-Ok.draw.draws.items c.in-Ok.ensures.draw
+          (record { own_sessions = e; own_ranges = f; own_ledger = l }) room c.in-Ok.draw.interval c.in-Ok.draw.number c.in-Ok.draw.level c.in-Ok.draw.draws.items c.in-Ok.ensures.draw
           (plain_of _ (omega (arith, none))) c.set_draws.new.self c.set_draws.ensures)
     ])
 

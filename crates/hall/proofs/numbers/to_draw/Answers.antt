@@ -17,19 +17,19 @@ returns-in_err-session-clause-refused g c =
     let none = c.in_err-session.ensures.unknown in
     if_err c.from_residual.result (RefusesDraw c.args.sessions.now c.args.ranges.now c.args.books.now.ledger c.args.name.now c.args.object.now c.args.nr) p.0 p.1
     (λ s e f l room. draws_unknown s c.args.sessions.now c.args.ranges.now c.args.books.now.ledger c.args.name.now c.args.object.now c.args.nr
-    (record { own_sessions = e; own_ranges = f; own_ledger = l; admits = room }) p.0 none.0 (p.2 ∙ none.1))
+    (record { own_sessions = e; own_ranges = f; own_ledger = l }) room p.0 none.0 (p.2 ∙ none.1))
 
 pub returns-in_default-clause-refused : goal.returns-in_default-clause-refused
 returns-in_default-clause-refused g c s e f l room =
     draws_nowhere s c.args.sessions.now c.args.ranges.now c.args.books.now.ledger c.args.name.now c.args.object.now c.args.nr
-    (record { own_sessions = e; own_ranges = f; own_ledger = l; admits = room }) c.in_ok-session.session.now c.in_ok-session.ensures.found (sym c.in_default.ensures)
+    (record { own_sessions = e; own_ranges = f; own_ledger = l }) room c.in_ok-session.session.now c.in_ok-session.ensures.found (sym c.in_default.ensures)
 
 pub returns-then-as_slice-ge-DRAWS_LIMIT-clause-refused : goal.returns-then-as_slice-ge-DRAWS_LIMIT-clause-refused
 returns-then-as_slice-ge-DRAWS_LIMIT-clause-refused g c s e f l room =
     let many = c.if-as_slice-ge-DRAWS_LIMIT.true in
     let same = ap length c.as_slice.ensures in
     draws_too_many s c.args.sessions.now c.args.ranges.now c.args.books.now.ledger c.args.name.now c.args.object.now c.args.nr
-    (record { own_sessions = e; own_ranges = f; own_ledger = l; admits = room }) c.in_ok-session.session.now c.in-Some.range.now c.in_ok-session.ensures.found (sym c.in-Some.ensures)
+    (record { own_sessions = e; own_ranges = f; own_ledger = l }) room c.in_ok-session.session.now c.in-Some.range.now c.in_ok-session.ensures.found (sym c.in-Some.ensures)
     (at_least _ (omega (arith, many, same)))
 
 pub returns-in-Some-other_holder-clause-refused : goal.returns-in-Some-other_holder-clause-refused
@@ -37,7 +37,7 @@ returns-in-Some-other_holder-clause-refused g c s e f l room =
     let few = c.if-as_slice-ge-DRAWS_LIMIT.false in
     let same = ap length c.as_slice.ensures in
     draws_busy s c.args.sessions.now c.args.ranges.now c.args.books.now.ledger c.args.name.now c.args.object.now c.args.nr
-    (record { own_sessions = e; own_ranges = f; own_ledger = l; admits = room }) c.in_ok-session.session.now c.in-Some.range.now c.present-interval.result c.in-Some-other_holder.holder
+    (record { own_sessions = e; own_ranges = f; own_ledger = l }) room c.in_ok-session.session.now c.in-Some.range.now c.present-interval.result c.in-Some-other_holder.holder
     c.in_ok-session.ensures.found (sym c.in-Some.ensures) c.present-interval.ensures (at_most _ (omega (arith, few, same))) (sym c.in-Some-other_holder.ensures)
 
 pub next_number-number-requires : goal.next_number-number-requires
@@ -63,14 +63,14 @@ returns-in_default-level_for-clause-refused g c s e f l room =
     let same = ap length c.as_slice.ensures in
     let i = c.present-interval.result in
     draws_over s c.args.sessions.now c.args.ranges.now c.args.books.now.ledger c.args.name.now c.args.object.now c.args.nr
-    (record { own_sessions = e; own_ranges = f; own_ledger = l; admits = room }) c.in_ok-session.session.now c.in-Some.range.now i
+    (record { own_sessions = e; own_ranges = f; own_ledger = l }) room c.in_ok-session.session.now c.in-Some.range.now i
     c.in_ok-session.ensures.found (sym c.in-Some.ensures) c.present-interval.ensures (at_most _ (omega (arith, few, same))) (sym c.in_default-other_holder.ensures)
     (ap (nat_lt i.to) (sym c.next_number-number.ensures) ∙ sym c.in_default-level_for.ensures.none)
 
 pub returns-in_default-draws_with-clause-refused : goal.returns-in_default-draws_with-clause-refused
 returns-in_default-draws_with-clause-refused g c s e f l room =
     draws_wanting s c.args.sessions.now c.args.ranges.now c.args.books.now.ledger c.args.name.now c.args.object.now c.args.nr
-    (record { own_sessions = e; own_ranges = f; own_ledger = l; admits = room }) c.in_ok-session.session.now c.in_ok-session.ensures.found
+    (record { own_sessions = e; own_ranges = f; own_ledger = l }) room c.in_ok-session.session.now c.in_ok-session.ensures.found
 
 pub returns-clause-draw : goal.returns-clause-draw
 returns-clause-draw g c =

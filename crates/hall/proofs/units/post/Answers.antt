@@ -9,7 +9,7 @@ use Rattle.hall.proofs.Claims.{held_for}
 use Rattle.hall.proofs.Writes.{below_limit, landed_where_told, may_come, posts, posts_full, posts_in_doubt, posts_none, posts_unfiled, posts_wanting}
 use Rattle.hall.specs.Leaving.{HasStoreCause, KeepsStore}
 use Rattle.hall.proofs.Leaves.{answered_leaves, failed_leaves, posted_keeps, posted_quiet, told_too, unread_leaves}
-use Rattle.hall.specs.Acts.{IsAct, post_of}
+use Rattle.hall.specs.Acts.{IsAct, locks_posted, post_of}
 use Rattle.hall.specs.declared.units.InFlight.TheVariants as flight
 use Rattle.hall.specs.Orders.{order_for, order_of}
 use Rattle.hall.specs.Coming.{outcome_in}
@@ -64,7 +64,7 @@ pub returns-in-Ok-end_locks-clause-act : goal.returns-in-Ok-end_locks-clause-act
 returns-in-Ok-end_locks-clause-act g c s t e f l m room =
     let kind = kind_for c.args.part c.in-Ok.ready.1 in
     let new = c.in-Ok-write.ensures.done ∙ ap (after_step c.prepare.new.books.ledger) c.in-Ok.ensures.step ∙ ap (λ x. with_mark x c.in-Some.unit kind) c.in-Ok.ensures.ledger in
-    subst (λ r. IsAct s (post_of c.args.part c.args.worker) (record s { orders = slice_set c.args.orders.now.items c.args.worker None; locks = c.end_locks.new.locks.table.entries; stored = c.write.new.self.ledger }) r) (sym c.posted.ensures)
+    subst (λ r. IsAct s (post_of c.args.part c.args.worker) (record s { orders = slice_set c.args.orders.now.items c.args.worker None; locks = locks_posted c.args.part s.locks c.end_locks.new.locks.table.entries; stored = c.write.new.self.ledger }) r) (sym c.posted.ensures)
     (posts c.args.part s (is_some (g.K.Keeper.held c.args.books.now.keeper)) c.args.orders.now.items _ c.args.locks.now.table.entries c.end_locks.new.locks.table.entries c.args.books.now.ledger c.write.new.self.ledger c.args.max_marks c.args.worker c.in-Some.unit c.in-Ok.ready.1 c.requires.part t e f l m room
     (ap (λ xs. order_for c.args.part c.args.books.now.ledger xs c.args.worker) (sym c.as_slice.ensures.value) ∙ sym c.order_for.ensures ∙ c.in-Some.is)
     (sym c.is_full.ensures ∙ c.if-is_full.false)

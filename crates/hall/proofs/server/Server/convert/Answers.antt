@@ -25,5 +25,5 @@ returns g c =
       follower = c.convert.new.locks.copy;
     } in
     serves_beside g.K.Keeper.held g.K.Keeper.may_leave g.K.Keeper.faults g.D.Disk.faults g.L.Link.faults g.L.Link.refusals before after old.condition c.args.self.now c.args.past.now.items (command.Convert c.args.session.now c.args.asked.now) _ _
-    c.self.view_is refl refl c.convert.ensures.file c.convert.ensures.follower c.requires refl refl c.of.ensures
+    c.self.view_is refl refl c.convert.ensures.file c.convert.ensures.follower refl c.requires refl refl c.of.ensures
     (λ room. at_state _ _ _ _ _ (λ i. record (with_calls (after Up).state c.args.past.now.items) { limit = sym c.convert.ensures.limit i }) (c.convert.ensures.act (with_calls (before Up).state c.args.past.now.items) (sym c.start-start.ensures) refl refl room))

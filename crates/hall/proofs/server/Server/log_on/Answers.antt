@@ -1,8 +1,7 @@
 use Rattle.std.proofs.Common.{[], refl, is_some}
 use Rattle.enq_base.specs.declared.condition.Condition.{Condition}
-use Rattle.enq_base.specs.declared.condition.Condition.TheVariants.{Up}
 use Rattle.enq_server.proofs.Following.{keeps_none}
-use Rattle.hall.proofs.Endings.{serves_beside, state_with}
+use Rattle.hall.proofs.Endings.{serves_apart, state_with}
 use Rattle.hall.specs.Serving.{with_calls}
 use Rattle.hall.specs.State.{View}
 use Rattle.hall.specs.declared.command.Command.TheVariants as command
@@ -24,6 +23,6 @@ returns g c =
       file = old.locks.file;
       follower = old.locks.copy;
     } in
-    serves_beside g.K.Keeper.held g.K.Keeper.may_leave g.K.Keeper.faults g.D.Disk.faults g.L.Link.faults g.L.Link.refusals before after old.condition c.args.self.now c.args.past.now.items (command.Logon c.args.session c.args.user) _ _
-    c.self.view_is refl refl refl (keeps_none g.L.Link.faults g.L.Link.refusals old.locks.copy) c.requires refl refl c.of.ensures
-    (λ room. c.log_on.ensures.act (with_calls (before Up).state c.args.past.now.items) refl refl room)
+    serves_apart g.K.Keeper.held g.K.Keeper.may_leave g.K.Keeper.faults g.D.Disk.faults g.L.Link.faults g.L.Link.refusals before after old.condition c.args.self.now c.args.past.now.items (command.Logon c.args.session c.args.user) _ _
+    c.self.view_is refl refl (keeps_none g.L.Link.faults g.L.Link.refusals old.locks.copy) c.requires refl refl c.of.ensures
+    (λ room. c.log_on.ensures.act (with_calls (before old.condition).state c.args.past.now.items) refl refl room)

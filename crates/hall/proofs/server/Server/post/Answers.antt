@@ -1,16 +1,18 @@
-use Rattle.std.proofs.Common.{[], refl, sym, subst, is_some}
+use Rattle.std.proofs.Common.{◌≡◌, [], true, refl, sym, ap, ◌∙◌, subst, is_some}
+use Rattle.std.specs.Prelude.{nat_eq}
 use Rattle.enq_base.specs.declared.condition.Condition.{Condition}
 use Rattle.enq_base.specs.declared.condition.Condition.TheVariants.{Up}
-use Rattle.hall.proofs.Endings.{due_up, no_flight, posts_file, state_with, written_call}
+use Rattle.hall.proofs.Endings.{no_flight, posted_in, posts_file, server_up, state_with, written_call}
 use Rattle.hall.proofs.Filing.{recovers_after}
 use Rattle.hall.proofs.Ends.{posts_part}
 use Rattle.hall.specs.Devices.{reaches_store}
 use Rattle.hall.proofs.Leaves.{also_failed, leaves_after, usable_after}
-use Rattle.hall.specs.Acts.{post_of}
+use Rattle.hall.specs.Acts.{IsWritten, post_of}
+use Rattle.hall.specs.Calls.{wants_server}
 use Rattle.hall.specs.Filing.{MayFile}
 use Rattle.hall.specs.Leaving.{HasStoreCause, KeepsStore}
 use Rattle.hall.specs.Serving.{DoesStore, IsDue, Serves}
-use Rattle.hall.specs.State.{State}
+use Rattle.hall.specs.State.{State, locks_in}
 use Rattle.hall.proofs.server.Server.post.Goals as goal
 
 pub invariant_of-self : goal.invariant_of-self
@@ -18,13 +20,13 @@ invariant_of-self g c =
     let old = c.self.inside in
     let called = c.post-written in
     let ended = c.ended in
-    let due = subst (λ v. IsDue v.state c.args.past.now.items) (sym c.self.view_is) c.requires.due in (
-      usable_after _ old.condition ended.new.condition _ called.result (due_up _ _ due) ended.ensures.condition called.ensures.usable,
+    let due = subst (λ v. IsDue v.state c.args.past.now.items (post_of c.args.part c.args.worker)) (sym c.self.view_is) c.requires.due in (
+      usable_after _ old.condition ended.new.condition _ called.result ended.ensures.condition called.ensures.usable,
       leaves_after g.K.Keeper.held g.K.Keeper.may_leave called.new.books old.pending ended.new.pending called.result ended.ensures.pending called.ensures.left,
-      usable_after _ old.condition ended.new.condition _ called.result (due_up _ _ due) ended.ensures.condition called.ensures.file.lists,
+      usable_after _ old.condition ended.new.condition _ called.result ended.ensures.condition called.ensures.file.lists,
       recovers_after g.D.Disk.tells g.D.Disk.reads g.D.Disk.may_leave g.D.Disk.faults called.new.books.ledger called.new.locks.file old.pending ended.new.pending old.condition ended.new.condition _ called.result
-          (no_flight (is_some (g.K.Keeper.held old.books.keeper)) old.condition old.sessions old.next_session old.orders.items old.locks.table old.max_locks old.max_marks old.ranges old.books.ledger old.pending c.args.past.now.items due)
-          ended.ensures.pending (due_up _ _ due) ended.ensures.condition called.ensures.file.images,
+          (no_flight (is_some (g.K.Keeper.held old.books.keeper)) old.condition old.sessions old.next_session old.orders.items old.locks.table old.max_locks old.max_marks old.ranges old.books.ledger old.pending c.args.past.now.items _ due)
+          ended.ensures.pending ended.ensures.condition called.ensures.file.images,
     )
 
 pub returns : goal.returns
@@ -36,7 +38,7 @@ returns g c =
     let called = c.post-written in
     let ended = c.ended in
     let past = c.args.past.now.items in
-    let due = subst (λ v. IsDue v.state past) (sym c.self.view_is) c.requires.due in
+    let due = subst (λ v. IsDue v.state past (post_of c.args.part c.args.worker)) (sym c.self.view_is) c.requires.due in
     let before : Condition → State = λ k. state_with (is_some (held old.books.keeper)) k old.sessions old.next_session old.orders.items old.locks.table old.max_locks old.max_marks old.ranges old.books.ledger old.pending past in
     let new : State = state_with (is_some (held called.new.books.keeper)) ended.new.condition old.sessions old.next_session called.new.orders.items called.new.locks.table old.max_locks old.max_marks old.ranges called.new.books.ledger ended.new.pending [] in
     subst (λ v. Serves held may_leave faults g.D.Disk.faults g.L.Link.faults g.L.Link.refusals v (record { state = new; keeper = called.new.books.keeper; file = called.new.locks.file; follower = called.new.locks.copy }) past (post_of c.args.part c.args.worker) ended.result) c.self.view_is
@@ -46,7 +48,11 @@ returns g c =
           old.pending ended.new.pending past called.result (post_of c.args.part c.args.worker) ended.result due
           called.ensures.told ended.ensures.condition ended.ensures.pending ended.ensures.reply called.ensures.limit (also_failed _ called.result refl) called.ensures.orders called.ensures.ledger
           (also_failed _ called.result refl)
-          (λ none room. called.ensures.act (before Up) refl refl refl refl refl room);
+          (λ none room.
+          let up : nat_eq c.args.part 1 ≡ true → old.condition ≡ Up = λ first. server_up (before old.condition) (post_of c.args.part c.args.worker) (ap wants_server (posts_part c.args.part c.args.worker c.requires.part) ∙ first) room in
+          subst (λ ls. IsWritten (before old.condition) (post_of c.args.part c.args.worker) (record (before old.condition) { orders = called.new.orders.items; locks = ls; stored = called.new.books.ledger }) called.result)
+          (posted_in old.condition c.args.part old.locks.table.entries called.new.locks.table.entries up called.ensures.second)
+          (called.ensures.act (before old.condition) refl refl (λ first. ap (λ k. locks_in k old.locks.table.entries) (up first)) refl refl room));
       store = subst (λ call. DoesStore held may_leave faults (reaches_store (state_with (is_some (held old.books.keeper)) old.condition old.sessions old.next_session old.orders.items old.locks.table old.max_locks old.max_marks old.ranges old.books.ledger old.pending []) call) old.books.keeper called.new.books.keeper ended.result) (sym (posts_part c.args.part c.args.worker c.requires.part)) (record {
         told = called.ensures.told;
         cause = subst (HasStoreCause (faults old.books.keeper) (faults called.new.books.keeper)) (sym ended.ensures.reply) called.ensures.cause;

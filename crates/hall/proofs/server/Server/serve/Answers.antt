@@ -1,20 +1,21 @@
 use Rattle.std.proofs.Common.{sym, ◌∙◌}
-use Rattle.hall.proofs.Endings.{any_call_file, any_store, barred_call, barred_file, barred_room, barred_store, due_of, same_as_filed, same_keeper}
+use Rattle.hall.proofs.Endings.{any_call_file, any_store, due_of, not_barred, refused_call, refused_file, refused_room, refused_store, same_as_filed, same_keeper}
 use Rattle.hall.proofs.Few.{has_room}
+use Rattle.hall.specs.Calls.{call_of}
 use Rattle.hall.specs.Serving.{with_calls}
 use Rattle.hall.proofs.server.Server.serve.Goals as goal
 
 pub returns-in-Some-clause-call : goal.returns-in-Some-clause-call
 returns-in-Some-clause-call g c =
-    barred_call (with_calls c.args.self.now.state c.args.past.now.items) c.args.command.now c.in-Some.refusal (sym c.barred.ensures ∙ c.in-Some.is)
+    refused_call (with_calls c.args.self.now.state c.args.past.now.items) c.args.command.now c.in-Some.refusal (sym c.unavailable.ensures ∙ c.in-Some.is)
 
 pub returns-in-Some-clause-store : goal.returns-in-Some-clause-store
 returns-in-Some-clause-store g c =
-    barred_store g.K.Keeper.held g.K.Keeper.may_leave g.K.Keeper.faults c.args.self.now.keeper (with_calls c.args.self.now.state c.args.past.now.items) c.in-Some.refusal (sym c.barred.ensures ∙ c.in-Some.is)
+    refused_store g.K.Keeper.held g.K.Keeper.may_leave g.K.Keeper.faults c.args.self.now.keeper (with_calls c.args.self.now.state c.args.past.now.items) (call_of c.args.command.now) c.in-Some.refusal (sym c.unavailable.ensures ∙ c.in-Some.is)
 
 pub returns-in-Some-clause-room : goal.returns-in-Some-clause-room
 returns-in-Some-clause-room g c =
-    barred_room (with_calls c.args.self.now.state c.args.past.now.items) c.in-Some.refusal (sym c.barred.ensures ∙ c.in-Some.is)
+    refused_room (with_calls c.args.self.now.state c.args.past.now.items) (call_of c.args.command.now) c.in-Some.refusal (sym c.unavailable.ensures ∙ c.in-Some.is)
 
 pub returns-in-None-clause-store : goal.returns-in-None-clause-store
 returns-in-None-clause-store g c =
@@ -26,17 +27,17 @@ returns-in-None-clause-keeper g c =
 
 pub returns-in-None-clause-room : goal.returns-in-None-clause-room
 returns-in-None-clause-room g c =
-    λ noted. has_room (with_calls c.args.self.now.state c.args.past.now.items) (sym c.barred.ensures ∙ c.in-None.is)
+    λ noted. has_room (with_calls c.args.self.now.state c.args.past.now.items) (not_barred (with_calls c.args.self.now.state c.args.past.now.items) (call_of c.args.command.now) (sym c.unavailable.ensures ∙ c.in-None.is))
 
 pub act-requires : goal.act-requires
 act-requires g c = record {
-  due = due_of c.args.self.now.state c.args.past.now.items c.requires.kept (sym c.barred.ensures ∙ c.in-None.is);
+  due = due_of c.args.self.now.state c.args.past.now.items c.args.command.now c.requires.kept (sym c.unavailable.ensures ∙ c.in-None.is);
   call = c.requires.call;
 }
 
 pub returns-in-Some-clause-file : goal.returns-in-Some-clause-file
 returns-in-Some-clause-file g c =
-    barred_file g.D.Disk.faults c.args.self.now.file (with_calls c.args.self.now.state c.args.past.now.items) c.in-Some.refusal (sym c.barred.ensures ∙ c.in-Some.is)
+    refused_file g.D.Disk.faults c.args.self.now.file (with_calls c.args.self.now.state c.args.past.now.items) (call_of c.args.command.now) c.in-Some.refusal (sym c.unavailable.ensures ∙ c.in-Some.is)
 
 pub returns-in-None-clause-file : goal.returns-in-None-clause-file
 returns-in-None-clause-file g c =

@@ -17,7 +17,7 @@ returns g c =
     let may_leave = g.K.Keeper.may_leave in
     let faults = g.K.Keeper.faults in
     let past = c.args.past.now.items in
-    let due = subst (λ v. IsDue v.state past) (sym c.self.view_is) c.requires.due in
+    let due = subst (λ v. IsDue v.state past (take_of c.args.part c.args.worker)) (sym c.self.view_is) c.requires.due in
     let s : State = state_with (is_some (held old.books.keeper)) old.condition old.sessions old.next_session old.orders.items old.locks.table old.max_locks old.max_marks old.ranges old.books.ledger old.pending past in
     let new : State = state_with (is_some (held old.books.keeper)) old.condition old.sessions old.next_session c.take.new.orders.items old.locks.table old.max_locks old.max_marks old.ranges old.books.ledger old.pending [] in
     subst (λ v. Serves held may_leave faults g.D.Disk.faults g.L.Link.faults g.L.Link.refusals v (record { state = new; keeper = old.books.keeper; file = old.locks.file; follower = old.locks.copy }) past (take_of c.args.part c.args.worker) c.take.result) c.self.view_is
