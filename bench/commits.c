@@ -1,6 +1,8 @@
 /* Makes the commits that enqd makes for so many units of one lock and one put, with libsqlite3: two commits a unit, with
    write-ahead log and full sync. Before the first of them it adds the unit's lock to a log beside the database, and behind
-   the second that it is gone: a record and a closed gate, a sync, the open gate, a sync. Usage: commits PATH UNITS */
+   the second that it is gone: a record and a closed gate, a sync, the open gate, a sync. With a third word, whatever it is, it
+   makes those of so many units of `enqd load`: a lock, a number, two rows inserted, and a second part in its own commit.
+   Usage: commits PATH UNITS [load] */
 #include <fcntl.h>
 #include <sqlite3.h>
 #include <stdint.h>
@@ -86,6 +88,65 @@ static void commit_post(uint32_t n, const uint8_t *unit) {
     run("COMMIT");
 }
 
+/* The rows of a unit of `enqd load`, its lock row, the level of the interval and the unit's mark. */
+static void commit_loaded_unit(uint32_t n, uint8_t *key) {
+    uint8_t header[13] = {2, 'U', '1', 0, 1, 0, 0, 0, 0, 0, 1, 0, 1};
+    uint8_t count[2] = {0, 2};
+    uint8_t effect[40] = {2, 4, 'V', 'B', 'A', 'K', 10};
+    uint8_t lock[26] = {6, 'Z', 'O', 'R', 'D', 'E', 'R', 2, 0, 1, 13, '1', '0', '0'};
+    uint8_t interval[9] = {6, 'Z', 'O', 'R', 'D', 'N', 'R', '0', '1'};
+    uint8_t level[8];
+    char digits[11];
+    snprintf(digits, sizeof digits, "%010u", n);
+    memcpy(effect + 7, digits, 10);
+    memcpy(effect + 17, "\0\007ORDER 1", 9);
+    memcpy(lock + 14, digits, 10);
+    big_endian(level, 8, n);
+    run("BEGIN IMMEDIATE");
+    put_row(1, key, 12, header, 13);
+    key[12] = 1;
+    put_row(2, key, 13, count, 2);
+    big_endian(key + 13, 2, 1);
+    put_row(3, key, 15, effect, 26);
+    big_endian(key + 13, 2, 2);
+    put_row(3, key, 15, effect, 26);
+    count[1] = 1;
+    key[12] = 2;
+    put_row(2, key, 13, count, 2);
+    big_endian(key + 13, 2, 1);
+    put_row(3, key, 15, effect, 20);
+    big_endian(key + 12, 4, 1);
+    put_row(7, key, 16, lock, 24);
+    put_row(5, interval, 9, level, 8);
+    put_mark(3 * (uint64_t)n - 2, key, 2);
+    run("COMMIT");
+}
+
+/* The two rows that its first part inserts, and its mark. */
+static void commit_first_part(uint32_t n, const uint8_t *unit) {
+    uint8_t key[19] = {4, 'V', 'B', 'A', 'K'};
+    char digits[14];
+    snprintf(digits, sizeof digits, "%010u-10", n);
+    memcpy(key + 5, digits, 13);
+    run("BEGIN IMMEDIATE");
+    put_row(6, key, 15, (const uint8_t *)"ORDER 1", 7);
+    key[4] = 'P';
+    put_row(6, key, 18, (const uint8_t *)"ITEM 1", 6);
+    put_mark(3 * (uint64_t)n - 1, unit, 3);
+    run("COMMIT");
+}
+
+/* The counter that its second part raises, and its mark. */
+static void commit_second_part(uint32_t n, const uint8_t *unit) {
+    uint8_t key[11] = {4, 'S', 'T', 'A', 'T', 'O', 'R', 'D', 'E', 'R', 'S'};
+    char digits[11];
+    snprintf(digits, sizeof digits, "%u", n);
+    run("BEGIN IMMEDIATE");
+    put_row(6, key, 11, (const uint8_t *)digits, (int)strlen(digits));
+    put_mark(3 * (uint64_t)n, unit, 4);
+    run("COMMIT");
+}
+
 static void sync_at(off_t at, const uint8_t *bytes, size_t length) {
     if (pwrite(log_file, bytes, length, at) != (ssize_t)length || fdatasync(log_file) != 0) {
         perror("commits");
@@ -103,8 +164,8 @@ static void add_record(size_t length) {
 }
 
 int main(int argc, char **argv) {
-    if (argc != 3) {
-        fprintf(stderr, "usage: commits PATH UNITS\n");
+    if (argc != 3 && argc != 4) {
+        fprintf(stderr, "usage: commits PATH UNITS [load]\n");
         return 2;
     }
     uint32_t units = (uint32_t)strtoul(argv[2], NULL, 10);
@@ -124,9 +185,17 @@ int main(int argc, char **argv) {
         uint8_t unit[16] = {0, 0, 0, 1, 0, 0, 0, 1};
         big_endian(unit + 8, 4, n);
         add_record(52);
-        commit_unit(n, unit);
-        commit_post(n, unit);
+        if (argc == 4) {
+            commit_loaded_unit(n, unit);
+            commit_first_part(n, unit);
+        } else {
+            commit_unit(n, unit);
+            commit_post(n, unit);
+        }
         add_record(17);
+        if (argc == 4) {
+            commit_second_part(n, unit);
+        }
     }
     sqlite3_finalize(put);
     sqlite3_close(db);
