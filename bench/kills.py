@@ -1,131 +1,259 @@
 #!/usr/bin/env python3
-"""Kills enqd at some line again and again, in one folder, and looks after each kill whether the next start has lost anything.
+"""Kills enqd at moments drawn by lot, and compares what the next start shows with what was answered before the kill.
 
-kills.py ENQD [KILLS]: ENQD is the program (crates/enqd/out/enqd). In each round sessions record units with a lock each, and
-a worker posts some of them; then the process is killed, without waiting for the reply to its last line. The next start has
-to end with status 0, to show each unit that was answered, with the status that was answered or the one that the last line
-makes, and just the locks of the units that wait. It ends with status 1 at the first round that differs."""
+kills.py ENQD [KILLS [SEED]]: ENQD is the program (crates/enqd/out/enqd), KILLS is 1,000 where it isn't given. Each round gives
+it a script of which every reply is known beforehand: four sessions record units with a lock and two numbers each, workers post
+them or find them refused, and an administrator cancels them, lets them be tried again, ends the lock server and makes it anew.
+At some moment between start and end the process is killed, and now and then the starts behind it too. What is answered by then
+has to be the beginning of what was to be answered. The next start has to end with status 0 and to show, line by line, the
+units, locks, levels, counts and rows that the answered lines have made, or those and the one line behind them. It ends with
+status 1 at the first round that differs, and leaves that round's folder."""
+import copy
+import itertools
 import os
 import random
+import re
 import shutil
 import subprocess
 import sys
 import tempfile
+import time
 
 LANDSCAPE = os.path.join(os.path.dirname(os.path.abspath(__file__)), "..", "demo", "landscape.toml")
-UNITS = 6
+ROUNDS = 20  # in one folder: each start reads the whole store
+UNITS = 40  # of one script
+STATUSES = ["OPEN", "POSTED", "BAD", "CLOSED", "BAD2", "CANCELLED"]
 
 
-class Server:
+class Differs(Exception):
+    pass
+
+
+class Unit:
+    def __init__(self, key, session, number, text, is_wrong):
+        self.key, self.session, self.number, self.text, self.is_wrong = key, session, number, text, is_wrong
+        self.status = "OPEN"
+
+
+class State:
+    """What lines have made. Each unit has one number of ZORDNR and one of ZBUF."""
+
+    def __init__(self):
+        self.units = []  # in the order of their COMMITs
+        self.waiting = []  # for V1, in their order
+        self.posted = []  # those that wait for V2
+        self.marks = 0
+        self.level = 0  # of ZBUF
+        self.drawn = 0  # the last number of ZBUF that was handed out
+
+    def with_status(self, *statuses):
+        return [unit for unit in self.units if unit.status in statuses]
+
+
+# ---- the script of a round: each line with its reply, behind which the state is the one after the line
+
+
+def play(state, start, chance):
+    state.drawn = state.level
+    for session in range(1, 5):
+        yield f"S{session} LOGON U{session}", "OK"
+    for place in range(UNITS):
+        yield from enter(state, start, place, chance.random() < 0.2)
+        while chance.random() < 0.7:
+            yield from work(state, chance)
+
+
+def enter(state, start, place, is_wrong):
+    """A session records a unit. One that is wrong can't be posted: its second effect is refused."""
+    session, number = place % 4 + 1, len(state.units) + 1
+    yield f"S{session} NUM ZORDNR 01 N", f"OK {number} -"
+    state.drawn += 1
+    state.level = max(state.level, (state.drawn + 9) // 10 * 10)
+    yield f"S{session} NUM ZBUF 01 M", f"OK {state.drawn} -"
+    yield f"S{session} ENQ EZORDER E 2 MANDT=100 ORDNR=$N", "OK"
+    yield f"S{session} V1 INS VBAK $N $M", "OK"
+    yield f"S{session} V1 " + ("DEL NONE 1" if is_wrong else "ADD STAT POSTED 1"), "OK"
+    yield f"S{session} V2 ADD STAT CLOSED 1", "OK"
+    unit = Unit(f"{start}.{session}.{place // 4 + 1}", session, number, state.drawn, is_wrong)
+    state.units.append(unit)
+    state.waiting.append(unit)
+    state.marks += 1
+    yield f"S{session} COMMIT", f"OK {unit.key}"
+
+
+def work(state, chance):
+    """What a worker or the administrator does, where there is something to do it with."""
+    deed = chance.choice(["DO1"] * 8 + ["DO2"] * 8 + ["RESUBMIT"] * 2 + ["CANCEL", "KILL"])
+    if deed == "DO1" and state.waiting:
+        unit = state.waiting[0]
+        yield "@1 TAKE1", f"OK {unit.key}"
+        state.waiting.pop(0)
+        if unit.is_wrong:
+            mark(state, unit, "BAD")
+            yield "@1 DO1", f"BAD {unit.key} 2 MISSING"
+        else:
+            mark(state, unit, "POSTED")
+            state.posted.append(unit)
+            yield "@1 DO1", f"POSTED {unit.key}"
+    elif deed == "DO2" and state.posted:
+        unit = state.posted[0]
+        yield "@2 TAKE2", f"OK {unit.key}"
+        mark(state, state.posted.pop(0), "CLOSED")
+        yield "@2 DO2", f"CLOSED {unit.key}"
+    elif deed == "RESUBMIT" and state.with_status("BAD"):
+        unit = state.with_status("BAD")[0]
+        mark(state, unit, "OPEN")
+        state.waiting.append(unit)
+        yield f"! RESUBMIT {unit.key}", f"OK {unit.key}"
+    elif deed == "CANCEL" and state.with_status("OPEN", "BAD"):
+        unit = chance.choice(state.with_status("OPEN", "BAD"))
+        if unit.status == "OPEN":
+            state.waiting.remove(unit)
+        mark(state, unit, "CANCELLED")
+        yield f"! CANCEL {unit.key}", f"OK {unit.key}"
+    elif deed == "KILL":
+        if state.waiting:
+            yield "@3 TAKE1", f"OK {state.waiting[0].key}"  # an order, which goes with the RESTART
+        yield "! KILL", "OK"
+        yield "S1 COMMIT", "SYSTEM_FAILURE"
+        yield "! RESTART", "OK"
+
+
+def mark(state, unit, status):
+    unit.status = status
+    state.marks += 1
+
+
+def after(state, start, seed, count):
+    """The state behind so many lines of the script."""
+    state = copy.deepcopy(state)
+    for _ in itertools.islice(play(state, start, random.Random(seed)), count):
+        pass
+    return state
+
+
+# ---- what a start is asked, and what it answers over a state
+
+
+def questions(numbers):
+    rows = [f"VBAK {number}" for number in range(1, numbers + 1)] + ["STAT POSTED", "STAT CLOSED"]
+    return (["? SM12", "? SM13", "? SNRO", "? AUDIT", "C LOGON CLERK"] + [f"C READ {row} T" for row in rows]
+            + ["C ENQ EZORDER S 1 MANDT=999", "? SM12"])
+
+
+def answers(state, start, numbers):
+    locks = [f"U{unit.key} U{unit.session} ZORDER E 0 1 H 100{unit.number:<10}" for unit in state.waiting]
+    own = f"D{start}.1 CLERK ZORDER S 1 0 - 999@@@@@@@@@@"
+    posted = state.with_status("POSTED", "CLOSED")
+    texts = {unit.number: f"OK {unit.text}" for unit in posted}
+    counts = [len(posted), len(state.with_status("CLOSED"))]
+    replies = [
+        [f"SERVER UP REPLICA DETACHED LOCKS {len(locks)} OF 1000"] + locks + ["END"],
+        [f"{unit.key} U{unit.session} {unit.status} V1 2 V2 1 LOCKS 1 NUMBERS 2"
+         + (" ERROR 2 MISSING" if unit.status == "BAD" else "") for unit in state.units] + ["END"],
+        [f"ZORDNR 01 1 9999999999 LEVEL {len(state.units)} BUFFER 0 PERCENT 10",
+         "ZSMALL 01 98 100 LEVEL 97 BUFFER 0 PERCENT 40",
+         f"ZBUF 01 1 999999999 LEVEL {state.level} BUFFER 10 PERCENT 0", "END"],
+        [f"UNITS {len(state.units)} " + "".join(f"{status} {len(state.with_status(status))} " for status in STATUSES)
+         + f"MARKS {state.marks} NUMBERS {2 * len(state.units)}", "END"],
+        ["OK"],
+    ]
+    replies += [[texts.get(number, "NONE")] for number in range(1, numbers + 1)]
+    replies += [[f"OK {count}" if count else "NONE"] for count in counts]
+    replies += [["OK"], [f"SERVER UP REPLICA DETACHED LOCKS {len(locks) + 1} OF 1000"] + locks + [own, "END"]]
+    return "".join(f"{number} {reply}\n" for number, lines in enumerate(replies, 1) for reply in lines)
+
+
+# ---- the program in one folder
+
+
+def run(enqd, folder, lines, moment=None):
+    """Does these lines, and kills the program at this moment. Tells its status, what it wrote, and how long it took."""
+    with open(os.path.join(folder, "script"), "w") as script:
+        script.writelines(line + "\n" for line in lines)
+    begun = time.monotonic()
+    with open(script.name) as source, open(os.path.join(folder, "replies"), "w+") as sink:
+        child = subprocess.Popen([enqd, "replay"], cwd=folder, stdin=source, stdout=sink, stderr=sink)
+        if moment is not None:
+            time.sleep(moment)
+            child.kill()
+        status = child.wait(timeout=600)
+        taken = time.monotonic() - begun
+        sink.seek(0)
+        return status, sink.read(), taken
+
+
+def first_difference(found, wanted):
+    for one, other in itertools.zip_longest(found.splitlines(), wanted.splitlines()):
+        if one != other:
+            return f"{one!r} in place of {other!r}"
+    return "a line end"
+
+
+class Site:
     def __init__(self, enqd, folder):
-        self.number = 0
-        self.child = subprocess.Popen([enqd, "replay"], cwd=folder, stdin=subprocess.PIPE, stdout=subprocess.PIPE)
+        self.enqd, self.folder, self.state = enqd, folder, State()
+        with open(LANDSCAPE) as source, open(os.path.join(folder, "landscape.toml"), "w") as landscape:
+            landscape.write(source.read().replace("to = 1000\n", "to = 999999999\n"))
+        self.start = 0
+        self.look([self.state], 1)
 
-    def send(self, line):
-        self.number += 1
-        self.child.stdin.write(line.encode() + b"\n")
-        self.child.stdin.flush()
+    def look(self, may_be, starts):
+        """A start shows one of these states. It is one of so many starts since the last one whose number is known."""
+        numbers = max(len(state.units) for state in may_be)
+        status, text, self.opening = run(self.enqd, self.folder, questions(numbers))
+        own = re.search(r" D(\d+)\.1 CLERK ", text)
+        if status != 0 or own is None:
+            raise Differs(f"the next start ends with status {status}: {text[-200:]!r}")
+        start = int(own[1])
+        wanted = [answers(state, start, numbers) for state in may_be]
+        if text not in wanted:
+            raise Differs(" or ".join(first_difference(text, one) for one in wanted))
+        if not self.start < start <= self.start + starts:
+            raise Differs(f"start {start} behind start {self.start}, of {starts}")
+        self.start, self.state = start, may_be[wanted.index(text)]
+        return wanted.index(text)
 
-    def reply(self):
-        return self.child.stdout.readline().decode().split()[1:]
-
-    def ask(self, line):
-        self.send(line)
-        return self.reply()
-
-    def shown(self, monitor):
-        self.send("? " + monitor)
-        lines = []
-        while True:
-            words = self.reply()
-            if words == ["END"]:
-                return lines
-            lines.append(words)
-
-    def end(self):
-        self.child.stdin.close()
-        return self.child.wait()
-
-
-def lines_of(start, place):
-    """One unit: its lines, each with what it stands for."""
-    row = f"{start:04}{place:06}"
-    return [
-        (f"A ENQ EZORDER E 2 MANDT=100 ORDNR={row}", None),
-        (f"A V1 PUT VBAK {row} MILLER", None),
-        ("A COMMIT", "record"),
-    ] + ([("@1 TAKE1", None), ("@1 DO1", "post")] if place % 2 else [])
-
-
-def play(server, start, lines, units):
-    """Sends these lines, the last one without waiting, and notes what was answered."""
-    for at, (line, meaning) in enumerate(lines):
-        if at + 1 == len(lines):
-            server.send(line)
-            return meaning
-        words = server.ask(line)
-        if meaning == "record":
-            units[words[1]] = "OPEN"
-        if meaning == "post":
-            units[words[1]] = "POSTED"
-    return None
-
-
-def is_lost(units, meaning, shown):
-    there = {words[0]: words[2] for words in shown}
-    open_before = [unit for unit, status in units.items() if status == "OPEN"]
-    for unit, status in units.items():
-        now = there.pop(unit, None)
-        done = now in ("POSTED", "CLOSED")
-        if status == "OPEN" and now != "OPEN" and not (meaning == "post" and done and unit in open_before):
-            return f"{unit} was OPEN and is {now}"
-        if status == "POSTED" and not done:
-            return f"{unit} was posted and is {now}"
-        units[unit] = "POSTED" if done else "OPEN"
-    if there and not (meaning == "record" and len(there) == 1):
-        return f"units that no one recorded: {there}"
-    units.update({unit: "OPEN" for unit in there})
-    return None
-
-
-def has_locks(units, shown):
-    owners = sorted(words[0][1:] for words in shown if words[0].startswith("U"))
-    return owners == sorted(unit for unit, status in units.items() if status == "OPEN")
+    def round(self, seed, moment, others):
+        """A script that is killed, and then starts that are killed. Tells how many lines were answered, whether the line
+        behind them was done, how many kills there were, and how long the script took."""
+        start = self.start + 1
+        script = list(play(copy.deepcopy(self.state), start, random.Random(seed)))
+        status, text, taken = run(self.enqd, self.folder, [line for line, reply in script], moment)
+        wanted = "".join(f"{number} {reply}\n" for number, (line, reply) in enumerate(script, 1))
+        answered = text.count("\n")
+        if not wanted.startswith(text) or status not in (0, -9) or status == 0 and text != wanted:
+            raise Differs(f"status {status}: {first_difference(text, wanted)}")
+        kills = int(status == -9)
+        for other in others:
+            kills += run(self.enqd, self.folder, [], other * self.opening)[0] == -9
+        done = self.look([after(self.state, start, seed, answered + more) for more in (0, 1)], 2 + len(others))
+        return answered, done, kills, taken
 
 
 def main():
     enqd = os.path.abspath(sys.argv[1])
-    kills = int(sys.argv[2]) if len(sys.argv) > 2 else 200
-    seed = random.randrange(10**6)
-    random.seed(seed)
-    folder = tempfile.mkdtemp()
-    shutil.copy(LANDSCAPE, os.path.join(folder, "landscape.toml"))
-    units = {}
-    try:
-        for kill in range(1, kills + 1):
-            server = Server(enqd, folder)
-            server.ask("A LOGON MILLER")
-            lines = [line for place in range(UNITS) for line in lines_of(kill, place)]
-            meaning = play(server, kill, lines[: random.randint(1, len(lines))], units)
-            server.child.kill()
-            server.child.wait()
-            server = Server(enqd, folder)
-            lost = is_lost(units, meaning, server.shown("SM13"))
-            locks = has_locks(units, server.shown("SM12"))
-            for _ in range(2 * UNITS):
-                words = server.ask("@1 TAKE1")
-                if words[0] != "OK":
-                    break
-                units[words[1]] = "POSTED"
-                server.ask("@1 DO1")
-            status = server.end()
-            if lost or not locks or status != 0:
-                print(f"kill {kill}, seed {seed}: {lost}; locks {locks}; status {status}")
-                return 1
-        print(f"{kills} kills, seed {seed}: {len(units)} units, none lost, and just the locks of those that waited")
-        return 0
-    finally:
+    wanted = int(sys.argv[2]) if len(sys.argv) > 2 else 1000
+    seed = int(sys.argv[3]) if len(sys.argv) > 3 else random.randrange(10**6)
+    chance = random.Random(seed)
+    kills = lines = flights = units = 0
+    while kills < wanted:
+        folder = tempfile.mkdtemp()
+        try:
+            site = Site(enqd, folder)
+            length = site.round(chance.random(), None, [])[3]
+            for _ in range(ROUNDS):
+                others = [chance.random() for _ in range(chance.choice([0, 0, 0, 1, 2]))]
+                answered, done, killed, _ = site.round(chance.random(), chance.uniform(0, length), others)
+                lines, flights, kills = lines + answered, flights + done, kills + killed
+            units += len(site.state.units)
+        except Differs as differs:
+            print(f"seed {seed}, behind {kills} kills, in {folder}: {differs}")
+            return 1
         shutil.rmtree(folder)
+        print(f"{kills} kills, seed {seed}: {units} units, {lines} answered lines, none lost; the line in flight was done "
+              f"{flights} times", flush=True)
+    return 0
 
 
 sys.exit(main())

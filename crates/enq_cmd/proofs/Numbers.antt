@@ -1,5 +1,5 @@
 -- The numbers that are committed stay right, whatever is called.
-use Rattle.std.proofs.Common.{◌≡◌, inl, inr, ◌^◌, ℕ, zero, suc, ◌+◌, ◌-◌, ◌≤◌, ◌<◌, Bool, true, false, not, nat_eq, List, [], ◌∷◌, ◌++◌, Option, Some, None, refl, sym, subst, arith, append-nil}
+use Rattle.std.proofs.Common.{◌≡◌, inl, inr, ℕ, zero, suc, ◌+◌, ◌-◌, ◌≤◌, ◌<◌, Bool, true, false, not, nat_eq, List, [], ◌∷◌, ◌++◌, Option, Some, None, refl, sym, subst, arith, append-nil}
 use Rattle.std.specs.Prelude.{Contains, IfSome, if◌then◌else◌, nat_le, nat_lt}
 use Rattle.std.specs.FinMap.{empty, get, get-empty}
 use Rattle.std.specs.List.{All, AllByRecursion, IsDistinct, range_with_len}
@@ -145,6 +145,8 @@ each-agreed found s steady h = record {
   takes = λ worker part unit free e may. h;
   posts = λ worker part unit e may. agreed_marked s.stored unit (kind_for part (found.part part unit)) (post_commits_none part (found.part part unit)) h;
   drops = λ worker unit e may. h;
+  kills = λ up may. h;
+  restarts = λ none may. h;
   cancels = λ unit status can may. agreed_marked s.stored unit mark.Gone (λ units seq key. refl) h;
   reopens = λ unit es here stand may. agreed_marked s.stored unit mark.Again1 (λ units seq key. refl) h;
   reposts = λ unit here may. agreed_marked s.stored unit mark.Again2 (λ units seq key. refl) h;
@@ -157,6 +159,7 @@ served-agreed o s c may steady h =
     (λ found. by_filing Agrees found s c h
     (λ worker part unit e. agreed_marked s.stored unit (kind_for part (found.part part unit)) (post_commits_none part (found.part part unit)) h)
     (λ unit status can. agreed_marked s.stored unit mark.Gone (λ units seq key. refl) h))
+    (λ r. h)
 
 -- ---- states that calls lead to
 
@@ -178,8 +181,8 @@ reached_next s m answer h =
     record {
       calls = h.calls + 1;
       holds = by_noting (λ x. Holds (h.calls + 1) x.state) m.call.line c r holds (with_past (h.calls + 1) r.state _ holds);
-      sound = step-sound m.outcome s m.call.line c h.holds.steady.owned.users h.sound;
-      units = by_noting (λ x. HasOpenUnits x.state) m.call.line c r units (record { held = units.held; stored = units.stored; pending = units.pending });
+      sound = step-sound m.outcome s m.call.line c h.holds.steady h.sound h.units;
+      units = by_noting (λ x. HasOpenUnits x.state) m.call.line c r units (record { held = units.held; stored = units.stored; fit = units.fit; pending = units.pending });
       agreed = by_noting (λ x. Agrees x.state.stored) m.call.line c r agreed agreed;
     }
 
@@ -259,7 +262,7 @@ reached limit mark_limit intervals told ledger made fits limited agree first ans
     let start = opened limit mark_limit intervals told ledger in
     reached_after start made answers (record {
       calls = 0;
-      holds = record { few = first_few limit mark_limit intervals told ledger; steady = first_steady limit mark_limit intervals told ledger limited agree first };
+      holds = record { few = first_few limit mark_limit intervals told ledger; steady = first_steady limit mark_limit intervals told ledger limited fits agree first };
       sound = first_sound limit mark_limit intervals told ledger fits first;
       units = first_open limit mark_limit intervals told ledger fits first;
       agreed = first_agrees ledger first;

@@ -1,26 +1,14 @@
 -- What a program leaves that didn't open its store, and why it didn't.
-use Rattle.std.proofs.Common.{◌≡◌, inl, inr, ℕ, ◌+◌, Bool, true, false, ◌&&◌, not, cond, List, [], ◌∷◌, ◌++◌, Option, Some, None, IfSome, IsTrue, refl, sym, ap, ◌∙◌, subst, arith}
+use Rattle.std.proofs.Common.{◌≡◌, inl, inr, ℕ, ◌+◌, Bool, true, false, ◌&&◌, not, cond, List, [], ◌∷◌, Option, Some, None, IfSome, IsTrue, refl, sym, ◌∙◌, subst, arith}
 use Rattle.std.specs.Prelude.{is_some}
-use Rattle.std.specs.List.{All, AllByRecursion, list_all, position, position_from, slice_get}
-use Rattle.std.proofs.lemmas.List.Elements.{recursion_from_All}
+use Rattle.std.specs.List.{list_all, position, position_from}
 use Rattle.std.proofs.lemmas.Bool.{false≢true}
 use Rattle.std.proofs.lemmas.Iterator.Adapters.{position_from-zero}
 use Rattle.std.proofs.lemmas.Option.{none-some}
 use Rattle.enq_base.specs.Causes.{Rose}
 use Rattle.enq_base.specs.declared.condition.BackupBad.{BackupBad}
 use Rattle.enq_base.specs.declared.condition.Bad.TheVariants as bad
-use Rattle.enq_base.specs.declared.condition.BackupBad.TheVariants as backup
-use Rattle.enq_base.specs.declared.owner.UnitKey.{UnitKey}
-use Rattle.gate_log.proofs.Logs.{stands_once, stands_unbroken}
-use Rattle.backup_file.proofs.Records.{record_reader}
-use Rattle.backup_file.specs.File.{Stands, grammar}
-use Rattle.backup_file.specs.Reading.{record_at}
-use Rattle.backup_file.specs.declared.handed.Handed.{Handed}
 use Rattle.enq_server.specs.Faults.{IsOpenFault}
-use Rattle.enq_server.specs.Recovery.{Agrees, IsFirstDifference, IsMissing, entries_of, joined}
-use Rattle.lock_entry.specs.Sound.{IsSound}
-use Rattle.lock_entry.specs.declared.entry.Entry.{Entry}
-use Rattle.lock_entry.specs.declared.entry.UnitLocks.{UnitLocks}
 use Rattle.enq_server.specs.declared.fault.OpenFault.TheVariants as opening
 use Rattle.keeper_api.specs.Keeping.{IsWithin}
 use Rattle.keeper_api.specs.Rows.{Rows}
@@ -38,10 +26,10 @@ use Rattle.update_records.specs.Ledger.{IsGood, Ledger}
 use Rattle.hall.specs.declared.command.PastEntry.{PastEntry}
 use Rattle.hall.specs.declared.opening.HallFault.{HallFault}
 use Rattle.hall.specs.declared.opening.HallFault.TheVariants as fault
-use Rattle.hall.specs.Faults.{CountsFileFault, CountsHallFault, FreesUnlike, IsBadFile, IsHallFault, LeavesFileOf, MayBeHallFault, OnBadStore, OnKept, OnStore, StoodUnfit, StoodUnlike}
+use Rattle.hall.specs.Faults.{CountsFileFault, CountsHallFault, IsBadFile, IsHallFault, LeavesFileOf, MayBeHallFault, OnBadStore, OnKept, OnStore, StoodUnfit, StoodUnlike}
 use Rattle.script_runner.specs.Replay.{Seen}
 use Rattle.script_runner.specs.declared.runner.Why.{Why}
-use Rattle.enq_cmd.specs.Main.{CountsFiling, CountsOpening, EndsComplete, FitAll, HasNoStart, StoodAtLast, IsBadStore, IsGoodFile, FreesOthersOf, IsOpeningEnd, IsRead, IsUnfitEnd, IsUnopened, MayRemain, MayRemainFiled, OnStoreEnd, opening_end}
+use Rattle.enq_cmd.specs.Main.{CountsFiling, CountsOpening, EndsComplete, FitAll, HasNoStart, StoodAtLast, IsBadStore, IsGoodFile, IsOpeningEnd, IsRead, IsUnfitEnd, IsUnopened, MayRemain, MayRemainFiled, OnStoreEnd, opening_end}
 
 opening_ends : (f : HallFault) → MayBeHallFault f → IsOpeningEnd (opening_end f)
 opening_ends fault.Store h = refl
@@ -178,26 +166,6 @@ abbrev pub IsCause : Landscape → (Rows → Type 0) → HallFault → Option Ro
 IsCause land may_be f o = IfSome o (λ rows. IsHallFault land.ranges may_be rows f)
 
 -- ---- a backup file that has the locks of these units
-
-agrees_at : (lists : List Handed) (front : List UnitLocks) (found : UnitLocks) (rest : List UnitLocks) → AllByRecursion (Agrees lists) (front ++ found ∷ rest) → Agrees lists found
-agrees_at lists [] found rest h = h.0
-agrees_at lists (u ∷ front) found rest h = agrees_at lists front found rest h.1
-
-no_difference : (xs ys : List Entry) (at : ℕ) → xs ≡ ys → IsFirstDifference xs ys at → ⊥
-no_difference xs ys at same d = d.differ (ap (λ zs. slice_get zs d.before) same)
-
-none_missing : (lists : List Handed) (units : List UnitLocks) (unit : UnitKey) (at : ℕ) → AllByRecursion (Agrees lists) units → IsMissing lists units unit at → ⊥
-none_missing lists units unit at agree m =
-    let own : Agrees lists m.found = agrees_at lists m.front m.found m.rest (subst (AllByRecursion (Agrees lists)) m.whole agree) in
-    no_difference m.found.entries (entries_of lists unit) at (own ∙ ap (entries_of lists) m.named) m.difference
-
--- no place of it is bad
-pub no_bad_place : (bytes : List ℕ) (units : List UnitLocks) (lists : List Handed) (place : BackupBad) → Stands bytes lists → All (Agrees lists) units → IsSound (joined units) → IsOpenFault bytes units (opening.Bad place) → ⊥
-no_bad_place bytes units lists (backup.Bytes at) stands agree sound bad = stands_unbroken grammar record_at record_reader bytes lists at stands bad
-no_bad_place bytes units lists (backup.Clash first second) stands agree sound bad = bad.2.unsound sound
-no_bad_place bytes units lists (backup.Missing unit at) stands agree sound bad =
-    let one : bad.0 ≡ lists = stands_once grammar record_at record_reader bytes bad.0 lists bad.1 stands in
-    none_missing lists units unit at (recursion_from_All (Agrees lists) units agree) (subst (λ l. IsMissing l units unit at) one bad.2)
 
 -- a file that has the locks of the units that wait isn't told to be bad
 not_bad_file : (may_be : Rows → Type 0) (o : Option Rows) (bytes : List ℕ) (place : BackupBad) → IsTrue (is_some o) → IsGoodFile may_be bytes → StoodUnlike o may_be bytes place → ⊥

@@ -1,6 +1,9 @@
 -- The history of a run leads to the state that it ends in.
 use Rattle.std.proofs.Common.{inl, inr, is_some, IsTrue, IfSome, ◌≡◌, ℕ, ◌+◌, Bool, true, List, [], ◌∷◌, fold, refl, sym, ap, ◌∙◌, subst}
 use Rattle.std.specs.Prelude.{Option, Some, None}
+use Rattle.enq_base.specs.declared.condition.BackupBad.{BackupBad}
+use Rattle.enq_base.specs.declared.condition.Bad.TheVariants as bad
+use Rattle.enq_base.specs.declared.refusal.Refusal.TheVariants as refusal
 use Rattle.hall.specs.declared.command.Command.{Command}
 use Rattle.hall.specs.declared.command.PastEntry.{PastEntry}
 use Rattle.hall.specs.declared.command.Reply.TheVariants as reply
@@ -10,6 +13,8 @@ use Rattle.hall.specs.Recall.{Made, state_after}
 use Rattle.hall.specs.State.{State}
 use Rattle.hall.proofs.Beginning.{AgreeWith}
 use Rattle.hall.proofs.FirstState.{IsFirstTable}
+use Rattle.hall.proofs.GoodFiles.{no_bad_place}
+use Rattle.hall.proofs.Losers.{losers_told}
 use Rattle.hall.proofs.Standings.{locks_return, locks_stand, stays_sound}
 use Rattle.hall.proofs.Recalls.{IsTold, answers_before, told_first, told_step, told-answers}
 use Rattle.script_runner.specs.declared.runner.Why.{Why}
@@ -25,12 +30,13 @@ use Rattle.script_runner.specs.Replay.{RunsScript, Seen}
 use Rattle.script_runner.specs.Run.{AreAllowed, CallMayHave, Called, LineMayHave, LineOutcome, MayHave, NoRoom, Progress, Turn, after_turn, begun, does, line_does, next, run, said}
 use Rattle.script_runner.proofs.TurnLemmas.{answered-world}
 use Rattle.script_runner.specs.World.{World, first_world, world}
-use Rattle.script_runner.specs.Replay.{doubt_of}
+use Rattle.script_runner.proofs.GoodFiles.{answer_sound}
+use Rattle.script_runner.specs.Faults.{NoneUnsound}
+use Rattle.script_runner.specs.Replay.{HasBadCause, IsFoundBad, doubt_of}
 use Rattle.script_runner.specs.Whole.{IsComplete, IsScript}
 use Rattle.enq_cmd.specs.Main.{EndsComplete, HadHanded, HasHanded, IsFaultless, IsGoodFile, IsLedgerOf, IsNextOf, IsServed, Ran, SurvivesStop, first_state}
 use Rattle.enq_cmd.proofs.Lands.{landed_intervals}
 use Rattle.enq_cmd.proofs.Numbers.{handed_held, numbers_right}
-use Rattle.enq_cmd.proofs.Openings.{no_bad_place}
 use Rattle.posting.specs.Views.{open_locks}
 use Rattle.ledger_laws.proofs.Books.{books_right, holds_books}
 use Rattle.ledger_laws.proofs.OneLedger.{one_ledger}
@@ -111,26 +117,48 @@ ran land t l before after objects old new past why h told =
           (subst (λ os. IsComplete (first_world os before) after bytes old.written new.written why) h.known (h.complete bytes left script calm));
     }
 
--- a run that is complete from a server that is up is done, or memory was wanting
-complete_ends : (may_be : Rows → Type 0) (land : Landscape) (t : Bool) (l : Ledger) (objects : List Object) (before after : State) (bytes : List ℕ) (old new : Option (List ℕ)) (why : Why) → before ≡ first_state land t l → IsComplete (first_world objects before) after bytes old new why → EndsComplete may_be why
-complete_ends may_be land t l objects before after bytes old new Done e h = inl refl
-complete_ends may_be land t l objects before after bytes old new (StoreFault k) e h = absurd (let up = sym h.0 ∙ ap doubt_of e in cc)
-complete_ends may_be land t l objects before after bytes old new (BackupFault k) e h = absurd (let up = sym h.0 ∙ ap doubt_of e in cc)
-complete_ends may_be land t l objects before after bytes old new NoMemory e h = inr (inl refl)
-complete_ends may_be land t l objects before after bytes old new BadWords e h = absurd h
-complete_ends may_be land t l objects before after bytes old new (BadLandscape rule place) e h = absurd h
-complete_ends may_be land t l objects before after bytes old new (BadLine n) e h = absurd h
-complete_ends may_be land t l objects before after bytes old new SourceFault e h = absurd h
-complete_ends may_be land t l objects before after bytes old new SinkFault e h = absurd h
-complete_ends may_be land t l objects before after bytes old new (LongLine n) e h = absurd h
-complete_ends may_be land t l objects before after bytes old new ManyLines e h = absurd h
-complete_ends may_be land t l objects before after bytes old new (BadStore table row) e h = absurd h
-complete_ends may_be land t l objects before after bytes old new (BadBackup place) e h = absurd h
-complete_ends may_be land t l objects before after bytes old new NoStart e h = absurd h
+-- a first state isn't in doubt
+never_in_doubt : (land : Landscape) (t : Bool) (l : Ledger) (before : State) → before ≡ first_state land t l → IsTrue (is_some (doubt_of before)) → ⊥
+never_in_doubt land t l before e doubted = let up = sym doubted ∙ ap (λ (s : State). is_some (doubt_of s)) e in cc
 
-pub completes_as : (may_be : Rows → Type 0) (land : Landscape) (t : Bool) (l : Ledger) (objects : List Object) (before after : State) (bytes : List ℕ) (old new : Option (List ℕ)) (why end : Why) → before ≡ first_state land t l → why ≡ end → IsComplete (first_world objects before) after bytes old new why → EndsComplete may_be end
-completes_as may_be land t l objects before after bytes old new why end e w h =
-    subst (EndsComplete may_be) w (complete_ends may_be land t l objects before after bytes old new why e h)
+-- no call of such a history found a backup file that isn't good
+pub never_found : (before after : State) (place : BackupBad) → NoneUnsound after.past → IsFoundBad before after place → ⊥
+never_found before after place none found =
+    let sound = answer_sound after.past found.call (reply.Refused (refusal.Unsound (bad.Backup place))) none found.doubted.1 in cc
+
+-- a run that is complete from a server that is up is done, or memory was wanting
+complete_ends : (may_be : Rows → Type 0) (land : Landscape) (t : Bool) (l : Ledger) (objects : List Object) (before after : State) (bytes : List ℕ) (old new : Option (List ℕ)) (why : Why) → before ≡ first_state land t l → NoneUnsound after.past → IsComplete (first_world objects before) after bytes old new why → EndsComplete may_be why
+complete_ends may_be land t l objects before after bytes old new Done e none h = inl refl
+complete_ends may_be land t l objects before after bytes old new (StoreFault k) e none h = absurd (let up = sym h.0 ∙ ap doubt_of e in cc)
+complete_ends may_be land t l objects before after bytes old new (BackupFault k) e none h = absurd (let up = sym h.0 ∙ ap doubt_of e in cc)
+complete_ends may_be land t l objects before after bytes old new NoMemory e none h = inr (inl refl)
+complete_ends may_be land t l objects before after bytes old new BadWords e none h = absurd h
+complete_ends may_be land t l objects before after bytes old new (BadLandscape rule place) e none h = absurd h
+complete_ends may_be land t l objects before after bytes old new (BadLine n) e none h = absurd h
+complete_ends may_be land t l objects before after bytes old new SourceFault e none h = absurd h
+complete_ends may_be land t l objects before after bytes old new SinkFault e none h = absurd h
+complete_ends may_be land t l objects before after bytes old new (LongLine n) e none h = absurd h
+complete_ends may_be land t l objects before after bytes old new ManyLines e none h = absurd h
+complete_ends may_be land t l objects before after bytes old new (BadStore table row) e none h = absurd (never_in_doubt land t l before e h.0)
+complete_ends may_be land t l objects before after bytes old new (BadBackup place) e none (inl h) = absurd (never_in_doubt land t l before e h.0)
+complete_ends may_be land t l objects before after bytes old new (BadBackup place) e none (inr found) = absurd (never_found before after place none found)
+complete_ends may_be land t l objects before after bytes old new NoStart e none h = absurd h
+
+pub completes_as : (may_be : Rows → Type 0) (land : Landscape) (t : Bool) (l : Ledger) (objects : List Object) (before after : State) (bytes : List ℕ) (old new : Option (List ℕ)) (why end : Why) → before ≡ first_state land t l → why ≡ end → NoneUnsound after.past → IsComplete (first_world objects before) after bytes old new why → EndsComplete may_be end
+completes_as may_be land t l objects before after bytes old new why end e w none h =
+    subst (EndsComplete may_be) w (complete_ends may_be land t l objects before after bytes old new why e none h)
+
+-- no call before a first state was answered so
+pub first_sound : (land : Landscape) (t : Bool) (l : Ledger) (before : State) → before ≡ first_state land t l → NoneUnsound before.past
+first_sound land t l before e = subst (λ (s : State). NoneUnsound s.past) (sym e) refl
+
+pub first_doubt : (land : Landscape) (t : Bool) (l : Ledger) (before : State) → before ≡ first_state land t l → doubt_of before ≡ None
+first_doubt land t l before e = ap doubt_of e
+
+-- a backup file that isn't good is told by no run from a first state
+pub never_bad : (land : Landscape) (t : Bool) (l : Ledger) (before after : State) (place : BackupBad) → before ≡ first_state land t l → NoneUnsound after.past → HasBadCause before after place → ⊥
+never_bad land t l before after place e none (inl doubted) = never_in_doubt land t l before e doubted
+never_bad land t l before after place e none (inr found) = never_found before after place none found
 
 -- what is said where rows are told
 pub where_told : (P : Type 0) (o : Option Rows) → IsTrue (is_some o) → IfSome o (λ _. P) → P
@@ -185,8 +213,9 @@ pub served_with : (land : Landscape) (t : Bool) (l : Ledger) (may_be may_leave :
     → HasRun land t l before after objects old new past why
     → (IsTrue t → (rows : Rows) → may_leave rows → StandForState rows after)
     → (IsTrue tells → (image : List ℕ) → images image → RecoversFrom after.condition after.stored after.pending image) → HasOpenUnits after
+    → (IsTrue tells → NoneUnsound past)
     → (s : IsServed land t may_be may_leave tells bytes images old new past why) × (after ≡ state_after (first_state land t s.stored) s.made)
-served_with land t l may_be may_leave tells bytes images before after objects old new past why limits good found fit table filed h left lists units =
+served_with land t l may_be may_leave tells bytes images before after objects old new past why limits good found fit table filed h left lists units trusted =
     let first = first_state land t l in
     let told = told_by land t l before after objects old new past why h in
     let made : List Made = told.made in
@@ -209,10 +238,12 @@ served_with land t l may_be may_leave tells bytes images before after objects ol
         back = locks_return land.max_locks land.max_marks land.ranges t l made table limits.marks agree good answers;
         held = λ earlier later whole.
             handed_held land.max_locks land.max_marks land.ranges t l earlier table limits.marks agree good (answers_before first made earlier later answers whole);
+        lost = losers_told first made answers;
         numbers = λ earlier later whole.
             numbers_right land.max_locks land.max_marks land.ranges t l earlier table limits.marks agree good (answers_before first made earlier later answers whole);
         left = λ yes rows may. left_after yes rows may;
         handed = λ yes image may. subst (HasHanded image) told.state (handed_in image after units (lists yes image may));
+        good_file = trusted;
         opens = λ yes tells image may. good_next may_leave (state_after first made) image (left_after yes) (subst (HasHanded image) told.state (handed_in image after units (lists tells image may)));
         next = λ yes. follows_on may_leave (state_after first made) (left_after yes);
       },

@@ -1,5 +1,6 @@
 ghost use Rattle.std.specs.Prelude.{◌≡◌, ◌≢◌, ◌⊎◌, ◌≤◌, ℕ, List, [], None, Some, Ok, IfOk, IfSome, is_some, IsTrue};
 ghost use Rattle.enq_base.specs.Causes.{Rose};
+ghost use Rattle.enq_base.specs.declared.condition.BackupBad.{BackupBad};
 ghost use Rattle.enq_cmd.specs.Loading.{HasLoaded, IsRunEnd, RunsLoad, end_of};
 ghost use Rattle.enq_cmd.specs.Main.{EndsComplete, FitAll, HasNoStart, IsBadDocument, IsBadStore, IsFirstBroken, IsGoodFile, IsLandEnd, IsUnfitEnd, status_of};
 ghost use Rattle.keeper_api.specs.Rows.{Rows};
@@ -7,7 +8,8 @@ ghost use Rattle.landscape.specs.Landscape.{landscape_of};
 ghost use Rattle.landscape.specs.declared.landscape.Landscape.{Landscape};
 ghost use Rattle.load_gen.specs.Script.{script_of};
 ghost use Rattle.script_runner.specs.LineFaults.{IsToBlame};
-ghost use Rattle.script_runner.specs.Replay.{HasDoubtCause, seen};
+ghost use Rattle.script_runner.specs.Faults.{NoneUnsound};
+ghost use Rattle.script_runner.specs.Replay.{HasBadCause, HasDoubtCause, doubt_of, seen};
 ghost use Rattle.update_records.specs.Ledger.{IsGood};
 
 use crate::blind_sink::BlindSink;
@@ -65,6 +67,7 @@ pub(crate) fn load_site<A: Source, T: Sink, K: Keeper, D: Disk, L: Link>(
     ensures store_fault { (call : ℕ) → result.why ≡ Why.StoreFault call → Rose (K.faults site.keeper) (K.faults result.site.keeper) }
     ensures backup_fault { (call : ℕ) → result.why ≡ Why.BackupFault call → Rose (D.faults site.disk) (D.faults result.site.disk) }
     ensures bad_store { IfSome (K.held result.site.keeper) (λ rows. IsBadStore rows result.why) }
+    ensures bad_backup { IsTrue D.tells → (place : BackupBad) → result.why ≡ Why.BadBackup place → result.past ≡ [] }
     ensures no_start { IfSome (K.held result.site.keeper) (λ rows. HasNoStart rows result.why) }
 {
     let Ok(mut source) = source_of(alloc, units) else {
@@ -99,7 +102,7 @@ fn load<T: Sink, K: Keeper, D: Disk, L: Link>(
     ensures run { RunsLoad objects.now source.old hall.old.state hall.new.state (K.faults hall.old.keeper) (K.faults hall.new.keeper)
         (D.faults hall.old.file.disk) (D.faults hall.new.file.disk)
         (T.written sink.old) (T.written sink.new) (T.faults sink.old) (T.faults sink.new) result }
-    ensures kind { IsRunEnd result }
+    ensures kind { doubt_of hall.old.state ≡ None → IsRunEnd result }
     ensures line_fault { IsToBlame result source.old }
     ensures source_fault { result ≢ Why.SourceFault }
     ensures sink_fault { result ≡ Why.SinkFault → Rose (T.faults sink.old) (T.faults sink.new) }
@@ -107,6 +110,8 @@ fn load<T: Sink, K: Keeper, D: Disk, L: Link>(
         → HasDoubtCause hall.old.state k (K.faults hall.old.keeper) (K.faults hall.new.keeper) }
     ensures backup_fault { (k : ℕ) → result ≡ Why.BackupFault k
         → HasDoubtCause hall.old.state k (D.faults hall.old.file.disk) (D.faults hall.new.file.disk) }
+    ensures bad_backup { (place : BackupBad) → result ≡ Why.BadBackup place → HasBadCause hall.old.state hall.new.state place }
+    ensures good_file { IsTrue D.tells → NoneUnsound hall.old.state.past → NoneUnsound hall.new.state.past }
     ensures told { is_some (K.held hall.new.keeper) ≡ is_some (K.held hall.old.keeper) }
 {
     match replay(alloc, source, &mut BlindSink, hall, objects) {

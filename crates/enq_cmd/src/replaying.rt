@@ -1,5 +1,6 @@
-ghost use Rattle.std.specs.Prelude.{◌≡◌, ◌≢◌, ◌⊎◌, ℕ, List, Some, Ok, Err, IfSome, is_some, IsTrue};
+ghost use Rattle.std.specs.Prelude.{◌≡◌, ◌≢◌, ◌⊎◌, ℕ, List, [], Some, Ok, Err, IfSome, is_some, IsTrue};
 ghost use Rattle.enq_base.specs.Causes.{Rose};
+ghost use Rattle.enq_base.specs.declared.condition.BackupBad.{BackupBad};
 ghost use Rattle.enq_cmd.specs.Main.{EndsComplete, FitAll, HasLandscape, HasNoStart, IsBadDocument, IsBadStore, IsFirstBroken, IsGoodFile, IsLandEnd, IsUnfitEnd, IsUntouched, TellsBroken, status_of};
 ghost use Rattle.keeper_api.specs.Rows.{Rows};
 ghost use Rattle.landscape.specs.Broken.{Broken};
@@ -63,6 +64,7 @@ pub(crate) fn replay_site<A: Source, S: Source, T: Sink, K: Keeper, D: Disk, L: 
     ensures store_fault { (call : ℕ) → result.why ≡ Why.StoreFault call → Rose (K.faults site.keeper) (K.faults result.site.keeper) }
     ensures backup_fault { (call : ℕ) → result.why ≡ Why.BackupFault call → Rose (D.faults site.disk) (D.faults result.site.disk) }
     ensures bad_store { IfSome (K.held result.site.keeper) (λ rows. IsBadStore rows result.why) }
+    ensures bad_backup { IsTrue D.tells → (place : BackupBad) → result.why ≡ Why.BadBackup place → result.past ≡ [] }
     ensures no_start { IfSome (K.held result.site.keeper) (λ rows. HasNoStart rows result.why) }
 {
     match open_hall(alloc, landscape, site) {

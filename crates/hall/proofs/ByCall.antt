@@ -13,7 +13,7 @@ use Rattle.enq_base.specs.declared.unit.Parts.{Parts}
 use Rattle.enq_base.specs.declared.unit.Status.{Status}
 use Rattle.enq_base.specs.declared.unit.Status.TheVariants.{Bad, Bad2}
 use Rattle.lock_entry.specs.Converting.{Conversion, converted, first_withstanding, is_lost, sum_exceeds}
-use Rattle.lock_entry.specs.Granting.{asked, first_bar, is_full, is_over, new_names, readmitted, unless_barred}
+use Rattle.lock_entry.specs.Granting.{asked, first_bar, is_full as has_no_room, is_over, new_names, readmitted, unless_barred}
 use Rattle.lock_entry.specs.Names.{halves}
 use Rattle.lock_entry.specs.Table.{Table}
 use Rattle.lock_entry.specs.declared.entry.Asked.{Asked}
@@ -24,9 +24,9 @@ use Rattle.lock_entry.specs.declared.fault.AskFault.{AskFault}
 use Rattle.posting.specs.Posts.{entries_of, kind_for}
 use Rattle.posting.specs.Steps.{waiting_for}
 use Rattle.update_records.specs.Marks.{status_of}
-use Rattle.hall.specs.Calls.{Call, LogsOn, OfSession, OfWorker, OfAdmin, Cancels, Resubmits, Takes, Posts, Drops}
+use Rattle.hall.specs.Calls.{Call, LogsOn, OfSession, OfWorker, OfAdmin, Kills, Restarts, Cancels, Resubmits, Takes, Posts, Drops, is_of_server}
 use Rattle.hall.specs.Calls.{SessionCall, LogsOff, Asks, Frees, FreesAll, Converts, Draws, Reserves, Reads, Commits, RollsBack, call_of, wants_server}
-use Rattle.hall.specs.Devices.{DeviceOutcome, AllWell, Wanting, StoreFails, BackupFails, found_by}
+use Rattle.hall.specs.Devices.{DeviceOutcome, AllWell, Wanting, StoreFails, BackupFails, NotRemade, fault_told, found_by}
 use Rattle.hall.specs.History.{Served, doubted, ends_in, judged, pending_after, refused, served, stored_before_file, unfiled}
 use Rattle.hall.specs.Orders.{first_unclaimed, order_for, order_of, without_order}
 use Rattle.hall.specs.Sessions.{owners_of, pair_of, session_at, unit_key}
@@ -36,7 +36,7 @@ use Rattle.hall.specs.Stocks.{MayCall}
 use Rattle.number_ranges.specs.Intervals.{block_level, code_of, is_buffered}
 use Rattle.range_list.specs.Levels.{present, range_at}
 use Rattle.range_list.specs.declared.range.NumberRange.{NumberRange}
-use Rattle.hall.specs.Step.{Found, Verdict, Refuses, Leaves, ask_refusal, barred, called, caller_refusal, call_verdict, cancelled, commit, committed, converting, drawing, effects_in, entered, freed_all, giving, granting, logged_off, logon, lowered, marked, numbered, or_else, own_verdict, passing, posted_reply, posting, reopened, reposted, reserving, rolled_back, session_call, session_refusal, taken, taking, unavailable, unless_refused, verdict, with_room, server_refusal}
+use Rattle.hall.specs.Step.{Found, Verdict, Refuses, Leaves, ask_refusal, barred, called, caller_refusal, call_verdict, cancelled, commit, committed, converting, drawing, effects_in, entered, freed_all, giving, granting, is_full, killed, logged_off, logon, lowered, marked, numbered, or_else, own_verdict, passing, posted_reply, posting, reopened, reposted, reserving, restarted, rolled_back, session_call, session_refusal, taken, taking, unavailable, unless_refused, verdict, with_room, server_refusal}
 use Rattle.hall.specs.declared.command.Command.{Command}
 use Rattle.hall.specs.declared.command.Reply.TheVariants as reply
 use Rattle.hall.specs.declared.command.Session.{Session}
@@ -78,6 +78,8 @@ pub record OfEach (P : Call → Verdict → Type 0) (found : Found) (s : State) 
   pub takes : (worker part : ℕ) (unit : UnitKey) → order_of s.orders worker ≡ None → first_unclaimed s.orders (waiting_for part s.stored) ≡ Some unit → P (OfWorker worker (Takes part)) (Leaves (taken s worker unit) (reply.Unit unit))
   pub posts : (worker part : ℕ) (unit : UnitKey) → order_for part s.stored s.orders worker ≡ Some unit → P (OfWorker worker (Posts part)) (Leaves (marked part s worker unit (kind_for part (found.part part unit))) (posted_reply part unit (found.part part unit)))
   pub drops : (worker : ℕ) (unit : UnitKey) → order_of s.orders worker ≡ Some unit → P (OfWorker worker Drops) (Leaves (record s { orders = without_order s.orders worker }) (reply.Unit unit))
+  pub kills : s.condition ≡ condition.Up → P (OfAdmin Kills) (Leaves (killed s) reply.Done)
+  pub restarts : s.condition ≡ condition.NoServer → P (OfAdmin Restarts) (Leaves (restarted s) reply.Done)
   pub cancels : (unit : UnitKey) (status : Status) → CanBeCancelled s.stored s.orders s.mark_limit unit status → P (OfAdmin (Cancels unit)) (Leaves (cancelled s unit status) (reply.Unit unit))
   pub reopens : (unit : UnitKey) (es : List Entry) → status_of s.stored.units s.stored.marks unit ≡ Some Bad → readmitted (table_in s) (owners_of unit) (entries_of s.stored.units unit) ≡ Ok es → P (OfAdmin (Resubmits unit)) (Leaves (reopened s unit es) (reply.Unit unit))
   pub reposts : (unit : UnitKey) → status_of s.stored.units s.stored.marks unit ≡ Some Bad2 → P (OfAdmin (Resubmits unit)) (Leaves (reposted s unit) (reply.Unit unit))
@@ -104,7 +106,7 @@ cond-of_rule false x y h k = k
 asked-of_rule : (t : Table) (asker : Asker) (user : List ℕ) (rs : List Request) → IsOfRule (asked t asker user rs)
 unfolding asked
 asked-of_rule t asker user rs =
-    barred-of_rule (first_bar t.entries asker (map (λ r. r.asked) rs)) _ (cond-of_rule (is_full t (length (new_names t.entries (halves asker rs)))) _ _ refl (cond-of_rule (is_over t.entries (halves asker rs)) _ _ refl tt))
+    barred-of_rule (first_bar t.entries asker (map (λ r. r.asked) rs)) _ (cond-of_rule (has_no_room t (length (new_names t.entries (halves asker rs)))) _ _ refl (cond-of_rule (is_over t.entries (halves asker rs)) _ _ refl tt))
 
 converted-of_rule : (entries : List Entry) (asker : Asker) (wanted : List Asked) → IsOfRule (converted entries asker wanted)
 unfolding converted
@@ -121,6 +123,13 @@ by_grant Q s (Err f) own refuse grant = refuse (ask_refusal f) own
 by_conversion : (Q : Verdict → Type 0) (s : State) (r : Result Conversion AskFault) → IsOfRule r → ((f : Refusal) → IsPlain f → Q (Refuses f)) → ((c : Conversion) → r ≡ Ok c → Q (Leaves (record s { locks = c.entries }) reply.Done)) → Q (converting s r)
 by_conversion Q s (Ok c) own refuse convert = convert c refl
 by_conversion Q s (Err f) own refuse convert = refuse (ask_refusal f) own
+
+-- only a lock server that is there is ended
+kills_up : (full : Bool) (k : Condition) → or_else (if full then Some refusal.LogFull else elim k [ condition.Up ↦ None | condition.NoServer ↦ None | condition.Doubt n ↦ Some (refusal.Down n) ]) (or_else None (server_refusal k (OfAdmin Kills))) ≡ None → k ≡ condition.Up
+kills_up true k e = cc
+kills_up false condition.Up e = refl
+kills_up false condition.NoServer e = cc
+kills_up false (condition.Doubt n) e = cc
 
 module _ (P : Call → Verdict → Type 0) (found : Found) (s : State) (each : OfEach P found s) where
   -- without numbers there are none of a stock
@@ -206,14 +215,21 @@ module _ (P : Call → Verdict → Type 0) (found : Found) (s : State) (each : O
       one_of Q (is_some (session_at s.sessions name)) _ _ (λ e. each.refuses _ _ refl)
       (λ free. one_of Q (nat_le 1024 (length s.sessions)) _ _ (λ e. each.refuses _ _ refl) (λ e. each.enters name user free))
 
-  own-holds : (call : Call) → P call (own_verdict found s call)
-  own-holds (LogsOn name user) = logon-holds name user
-  own-holds (OfSession name call) = called-holds name call (session_at s.sessions name) refl
-  own-holds (OfWorker worker (Takes part)) = take-holds worker part (order_of s.orders worker) refl
-  own-holds (OfWorker worker (Posts part)) = post-holds worker part (order_for part s.stored s.orders worker) refl
-  own-holds (OfWorker worker Drops) = drop-holds worker (order_of s.orders worker) refl
-  own-holds (OfAdmin (Cancels unit)) = by_cancel (P (OfAdmin (Cancels unit))) s unit (each.refuses _) (each.cancels unit)
-  own-holds (OfAdmin (Resubmits unit)) = by_resubmit (P (OfAdmin (Resubmits unit))) s unit (each.refuses _) (each.reopens unit) (each.reposts unit)
+  restart-holds : (k : Condition) → s.condition ≡ k → P (OfAdmin Restarts) (elim k [ condition.Up ↦ Refuses refusal.ServerUp | condition.NoServer ↦ Leaves (restarted s) reply.Done | condition.Doubt n ↦ Refuses (refusal.Down n) ])
+  restart-holds condition.Up up = each.refuses _ _ refl
+  restart-holds condition.NoServer none = each.restarts none
+  restart-holds (condition.Doubt n) down = each.refuses _ _ refl
+
+  own-holds : (call : Call) → unavailable s call ≡ None → P call (own_verdict found s call)
+  own-holds (LogsOn name user) free = logon-holds name user
+  own-holds (OfSession name call) free = called-holds name call (session_at s.sessions name) refl
+  own-holds (OfWorker worker (Takes part)) free = take-holds worker part (order_of s.orders worker) refl
+  own-holds (OfWorker worker (Posts part)) free = post-holds worker part (order_for part s.stored s.orders worker) refl
+  own-holds (OfWorker worker Drops) free = drop-holds worker (order_of s.orders worker) refl
+  own-holds (OfAdmin Kills) free = each.kills (kills_up (is_full s) s.condition free)
+  own-holds (OfAdmin Restarts) free = restart-holds s.condition refl
+  own-holds (OfAdmin (Cancels unit)) free = by_cancel (P (OfAdmin (Cancels unit))) s unit (each.refuses _) (each.cancels unit)
+  own-holds (OfAdmin (Resubmits unit)) free = by_resubmit (P (OfAdmin (Resubmits unit))) s unit (each.refuses _) (each.reopens unit) (each.reposts unit)
 
 -- ---- why a call isn't served
 
@@ -255,8 +271,8 @@ plain_unavailable s call =
     plain_else (barred s) _ (plain_if _ refusal.LogFull _ refl (plain_down s.condition))
     (plain_else (caller_refusal s.sessions call) _ (plain_caller s.sessions call) (plain_server s.condition call))
 
-unless_holds : (Q : Verdict → Type 0) (o : Option Refusal) (v : Verdict) → ArePlain o → ((r : Refusal) → IsPlain r → Q (Refuses r)) → Q v → Q (unless_refused o v)
-unless_holds Q None v plain refuse h = h
+unless_holds : (Q : Verdict → Type 0) (o : Option Refusal) (v : Verdict) → ArePlain o → ((r : Refusal) → IsPlain r → Q (Refuses r)) → (o ≡ None → Q v) → Q (unless_refused o v)
+unless_holds Q None v plain refuse h = h refl
 unless_holds Q (Some r) v plain refuse h = refuse r plain
 
 -- ---- any call
@@ -266,21 +282,32 @@ unfolding call_verdict
 by_call P found s each call =
     unless_holds (P call) (unavailable s call) (own_verdict found s call) (plain_unavailable s call) (each.refuses call) (own-holds P found s each call)
 
+-- the calls that end a lock server or make one anew, and all others
+pub by_server : (Q : Call → Type 0) → Q (OfAdmin Kills) → Q (OfAdmin Restarts) → ((call : Call) → is_of_server call ≡ false → Q call) → (call : Call) → Q call
+by_server Q kills restarts other (LogsOn name user) = other _ refl
+by_server Q kills restarts other (OfSession name call) = other _ refl
+by_server Q kills restarts other (OfWorker worker call) = other _ refl
+by_server Q kills restarts other (OfAdmin Kills) = kills
+by_server Q kills restarts other (OfAdmin Restarts) = restarts
+by_server Q kills restarts other (OfAdmin (Cancels unit)) = other _ refl
+by_server Q kills restarts other (OfAdmin (Resubmits unit)) = other _ refl
+
 -- the same of a call that may be made
 pub by_made : (P : Call → Verdict → Type 0) (found : Found) (s : State) → OfEach (λ call v. MayCall s call → P call v) found s → (call : Call) → MayCall s call → P call (call_verdict found s call)
 by_made P found s each call may = by_call (λ c v. MayCall s c → P c v) found s each call may
 
--- what is shown of what a call comes to, of want of memory, and of a server in doubt, is shown of what is served
+-- What is shown of what a call comes to, of want of memory, and of a server in doubt, is shown of what is served.
 pub by_event : (Q : Served → Type 0) (o : DeviceOutcome) (s : State) (c : Command) → ((found : Found) → Q (judged s (verdict found s c))) → Q (refused s refusal.NoMemory)
     → ((found : Found) → Q (refused (doubted s (pending_after s (call_of c) (verdict found s c))) refusal.StoreFault))
-    → ((found : Found) → Q (refused (unfiled s (stored_before_file s (call_of c) (verdict found s c))) refusal.BackupFault)) → Q (served o s c)
-by_event Q o s c well wanting fails unfiles =
+    → ((found : Found) → Q (refused (unfiled s (stored_before_file s (call_of c) (verdict found s c))) refusal.BackupFault)) → ((r : Refusal) → Q (refused (doubted s s.pending) r)) → Q (served o s c)
+by_event Q o s c well wanting fails unfiles remakes =
     let found = found_by o.reading s in
     elim o.event as (λ e. Q (ends_in e s (call_of c) (verdict found s c))) [
       | AllWell ↦ well found
       | Wanting ↦ wanting
       | StoreFails ↦ fails found
       | BackupFails ↦ unfiles found
+      | NotRemade fault ↦ remakes (fault_told fault)
     ]
 
 -- What the store has where the disk of the backup file fails: what it had, or with the mark of a post or of a cancelling.
@@ -307,6 +334,8 @@ by_filing P found s c same posts cancels =
       takes = λ worker part unit free e. same;
       posts = λ worker part unit e. posts worker part unit e;
       drops = λ worker unit e. same;
+      kills = λ up. same;
+      restarts = λ none. same;
       cancels = λ unit status can. cancels unit status can;
       reopens = λ unit es here stand. same;
       reposts = λ unit here. same;

@@ -1,8 +1,6 @@
 -- A call comes to what its command's verdict says.
-use Rattle.std.proofs.Common.{◌≡◌, ℕ, ◌+◌, Bool, true, false, not, ◌&&◌, List, [], ◌∷◌, ◌++◌, length, fold, refl, sym, ap, ◌∙◌, subst}
+use Rattle.std.proofs.Common.{◌≡◌, ℕ, ◌+◌, Bool, true, false, List, [], ◌∷◌, ◌++◌, length, fold, refl, sym, ap, ◌∙◌, subst}
 use Rattle.std.specs.Prelude.{nat_le, if◌then◌else◌, Option, Some, None, is_some, Result, Ok, Err, IsTrue}
-use Rattle.enq_base.specs.declared.condition.Condition.{Condition}
-use Rattle.enq_base.specs.declared.condition.Condition.TheVariants as condition
 use Rattle.enq_base.specs.declared.refusal.Refusal.{Refusal}
 use Rattle.enq_base.specs.declared.refusal.Refusal.TheVariants as refusal
 use Rattle.enq_server.specs.Faults.{IsRefusal}
@@ -25,14 +23,13 @@ use Rattle.hall.specs.declared.command.Reply.{Reply}
 use Rattle.hall.specs.declared.command.Reply.TheVariants as reply
 use Rattle.hall.specs.declared.command.Session.{Session}
 use Rattle.hall.specs.Acts.{Admits, IsAct}
-use Rattle.hall.specs.Calls.{Call, LogsOn, OfSession, OfWorker, OfAdmin, AdminCall, WorkerCall, SessionCall, LogsOff, Asks, Frees, FreesAll, Converts, RollsBack, call_of, ends_unit, only_reads, wants_server, writes_store_first}
+use Rattle.hall.specs.Calls.{Call, OfSession, SessionCall, LogsOff, Asks, Frees, FreesAll, Converts, RollsBack, call_of, only_reads, writes_store_first}
 use Rattle.hall.specs.Devices.{BackupFails, StoreFails, Wanting, all_well, may_want, only, uses_file, uses_store}
 use Rattle.hall.specs.History.{doubted, judged, pending_after, refused, stored_before_file, unfiled}
 use Rattle.hall.specs.Leaving.{HasStoreCause}
-use Rattle.hall.specs.Sessions.{begun, is_called, session_at, without_session, with_session, with_fresh_unit, pair_of}
+use Rattle.hall.specs.Sessions.{begun, session_at, without_session, with_session, with_fresh_unit, pair_of}
 use Rattle.hall.specs.State.{State}
-use Rattle.hall.specs.Step.{Found, Verdict, Refuses, Leaves, answer_of, ask_refusal, barred, call_verdict, called, caller_refusal, converting, entered, fault_refusal, found_in, granting, leaves, logon, lost_refusal, or_else, own_verdict, server_refusal, session_call, session_refusal, unavailable, unless_refused, verdict}
-use Rattle.hall.proofs.Fresh.{found_in as found_all_in}
+use Rattle.hall.specs.Step.{Found, Verdict, Refuses, Leaves, answer_of, ask_refusal, call_verdict, called, converting, entered, fault_refusal, found_in, granting, leaves, logon, own_verdict, session_call, unavailable, unless_refused, verdict}
 
 -- a call that nothing bars comes to what it asks for
 pub admitted : (found : Found) (s : State) (c : Command) → Admits s c → call_verdict found s (call_of c) ≡ own_verdict found s (call_of c)

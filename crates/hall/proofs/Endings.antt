@@ -14,23 +14,26 @@ use Rattle.update_records.specs.Ledger.{Ledger}
 use Rattle.enq_base.specs.declared.condition.Condition.TheVariants as condition
 use Rattle.enq_base.specs.declared.refusal.Refusal.{Refusal}
 use Rattle.enq_base.specs.declared.refusal.Refusal.TheVariants as refusal
-use Rattle.enq_server.specs.Following.{KeepsOn}
+use Rattle.enq_server.specs.Following.{Following, IsLater, KeepsOn}
 use Rattle.keeper_api.specs.Rows.{Rows}
 use Rattle.hall.specs.Acts.{Admits, IsAct, IsWritten, OnFailure, OnStoreFailure, locks_posted, post_of, written_condition, written_pending, written_reply}
-use Rattle.hall.specs.Calls.{Call, LogsOn, OfSession, OfWorker, OfAdmin, SessionCall, LogsOff, Asks, Frees, FreesAll, Converts, Draws, Reserves, Reads, Commits, RollsBack, Takes, Posts, Drops, call_of, session_touches_file, touches_file, wants_server}
+use Rattle.hall.specs.Calls.{Call, LogsOn, OfSession, OfWorker, OfAdmin, Kills, Restarts, Cancels, Resubmits, SessionCall, LogsOff, Asks, Frees, FreesAll, Converts, Draws, Reserves, Reads, Commits, RollsBack, Takes, Posts, Drops, call_of, restarts, session_touches_file, touches_file, wants_server}
 use Rattle.hall.specs.Devices.{all_well, reaches_store, session_reaches_store, session_uses_file, session_uses_store, uses_file, uses_store}
 use Rattle.hall.specs.Filing.{DoesFile, HasFileCause, KeepsFile, MayFile}
 use Rattle.hall.specs.History.{IsGiven, Served, is_row, is_unrecorded, judged}
 use Rattle.hall.specs.Kept.{IsKept, OutsideDoubt}
 use Rattle.hall.specs.Leaving.{HasStoreCause}
-use Rattle.hall.specs.Serving.{DoesStore, IsDue, MayWrite, Serves, with_calls}
-use Rattle.hall.specs.State.{State, View, locks_in, state_of}
+use Rattle.hall.specs.Serving.{DoesStore, Follows, IsDue, LeavesFile, MayWrite, Serves, with_calls}
+use Rattle.hall.specs.Remaking.{OnNotRemade, remade_condition, remade_state}
+use Rattle.hall.specs.State.{State, View, gone_in, locks_in, state_of}
 use Rattle.hall.specs.Step.{barred, caller_refusal, found_in, is_full, or_else, server_refusal, unavailable}
 use Rattle.hall.specs.declared.command.Command.{Command}
 use Rattle.hall.specs.declared.command.PastEntry.{PastEntry}
 use Rattle.hall.specs.declared.command.Reply.{Reply}
 use Rattle.hall.specs.declared.command.Reply.TheVariants as reply
 use Rattle.hall.specs.declared.command.Session.{Session}
+use Rattle.hall.specs.declared.remaking.Remade.{Remade}
+use Rattle.hall.specs.declared.remaking.Remade.TheVariants.{Done, Refused, InDoubt}
 use Rattle.hall.specs.declared.units.Written.{Written}
 use Rattle.hall.specs.declared.units.Written.TheVariants.{Answered, Failed, Unfiled}
 use Rattle.hall.proofs.ByCall.{ArePlain, plain_unavailable}
@@ -126,17 +129,17 @@ same_past s after Unfiled h = refl
 pub written_call : (told told' : Bool) (k k' : Condition) (ss ss' : List Session) (n : ℕ) (os os' : List (Option UnitKey)) (t t' : Table) (x m : ℕ) (rs rs' : List NumberRange) (l l' : Ledger) (p p' : Option InFlight) (past : List PastEntry) (w : Written) (c : Command) (said : Reply)
     → IsDue (state_with told k ss n os t x m rs l p []) past c
     → told' ≡ told → k' ≡ written_condition k (length past) w → p' ≡ written_pending p w → said ≡ written_reply w
-    → t'.limit ≡ t.limit → OnFailure w (ss' ≡ ss) → OnFailure w (os' ≡ os) → OnStoreFailure w (l' ≡ l) → OnFailure w (rs' ≡ rs)
+    → t'.limit ≡ t.limit → gone_in k t'.entries ≡ gone_in k t.entries → OnFailure w (ss' ≡ ss) → OnFailure w (os' ≡ os) → OnStoreFailure w (l' ≡ l) → OnFailure w (rs' ≡ rs)
     → (option_map (landed l) p ≡ None → Admits (state_with told k ss n os t x m rs l p past) c → IsWritten (state_with told k ss n os t x m rs l p past) c (rewritten (state_with told k ss n os t x m rs l p past) ss' os' t' rs' l') w)
     → IsAct (state_with told k ss n os t x m rs l p past) c (state_with told' k' ss' n os' t' x m rs' l' p' past) said
-written_call told told' k k' ss ss' n os os' t t' x m rs rs' l l' p p' past w c said due tells condition pending reply limit a b d e written =
+written_call told told' k k' ss ss' n os os' t t' x m rs rs' l l' p p' past w c said due tells condition pending reply limit gone a b d e written =
     let s : State = state_with told k ss n os t x m rs l p past in
     let none : option_map (landed l) p ≡ None = outside k _ (is_serving s c due.admits) due.kept.steady.settled in
     let after : State = written_state s (rewritten s ss' os' t' rs' l') w in
     let act : IsAct s c after (written_reply w) = written_act s c (rewritten s ss' os' t' rs' l') w (written none due.admits) in
     let is : state_with told' k' ss' n os' t' x m rs' l' p' past ≡ after =
     (λ i. state_with told' (condition i) ss' n os' t' x m rs' l' (pending i) past)
-    ∙ ends_as k told told' ss ss' n os os' t t' x m rs rs' l l' p past past w tells none limit a b d e
+    ∙ ends_as k told told' ss ss' n os os' t t' x m rs rs' l l' p past past w tells none limit gone a b d e
     ∙ same_past s (rewritten s ss' os' t' rs' l') w refl in
     acts_as s c after (state_with told' k' ss' n os' t' x m rs' l' p' past) (written_reply w) said act is reply
 
@@ -150,7 +153,7 @@ pub written_up : (told told' : Bool) (k k' : Condition) (ss ss' : List Session) 
 written_up told told' k k' ss ss' n os os' t t' x m rs rs' l l' p p' past w c said wants due tells condition pending reply limit a b d e written =
     let before : Condition → State = λ q. state_with told q ss n os t x m rs l p past in
     let up : k ≡ Up = due_up (state_with told k ss n os t x m rs l p []) past c wants due in
-    written_call told told' k k' ss ss' n os os' t t' x m rs rs' l l' p p' past w c said due tells condition pending reply limit a b d e
+    written_call told told' k k' ss ss' n os os' t t' x m rs rs' l l' p p' past w c said due tells condition pending reply limit (subst (λ q. gone_in q t'.entries ≡ gone_in q t.entries) (sym up) refl) a b d e
     (λ none room. subst (λ q. IsWritten (before q) c (rewritten (before q) ss' os' t' rs' l') w) (sym up) (written none (subst (λ q. Admits (before q) c) up room)))
 
 -- the locks behind a post are those of the table, and where there is no server none
@@ -160,6 +163,22 @@ posted_in k part old new up same = by_part (nat_eq part 1) up same
     by_part : (b : Bool) → (b ≡ true → k ≡ Up) → (b ≡ false → new ≡ old) → (if b then new else locks_in k old) ≡ locks_in k new
     by_part true up same = sym (ap (λ q. locks_in q new) (up refl))
     by_part false up same = ap (locks_in k) (sym (same refl))
+
+-- and what sessions had of one that is there no more stays
+pub posted_gone : (k : Condition) (part : ℕ) (old new : List Entry) → (nat_eq part 1 ≡ true → k ≡ Up) → (nat_eq part 1 ≡ false → new ≡ old) → gone_in k new ≡ gone_in k old
+posted_gone k part old new up same = by_part (nat_eq part 1) up same
+  where
+    by_part : (b : Bool) → (b ≡ true → k ≡ Up) → (b ≡ false → new ≡ old) → gone_in k new ≡ gone_in k old
+    by_part true up same = subst (λ q. gone_in q new ≡ gone_in q old) (sym (up refl)) refl
+    by_part false up same = ap (gone_in k) (same refl)
+
+-- the fields behind a restart
+pub remade_as : (remade : Remade) (told : Bool) (k k' : Condition) (ss ss' : List Session) (n : ℕ) (os os' : List (Option UnitKey)) (t t' : Table) (x m : ℕ) (rs : List NumberRange) (l : Ledger) (p : Option InFlight) (past : List PastEntry)
+    → k' ≡ remade_condition k (length past) remade → OnNotRemade remade (ss' ≡ ss) → OnNotRemade remade (os' ≡ os) → OnNotRemade remade (t' ≡ t)
+    → state_with told k' ss' n os' t' x m rs l p past ≡ remade_state (state_with told k ss n os t x m rs l p past) ss' os' t' remade
+remade_as Done told k k' ss ss' n os os' t t' x m rs l p past is a b c = λ i. state_with told (is i) ss' n os' t' x m rs l p past
+remade_as (Refused r) told k k' ss ss' n os os' t t' x m rs l p past is a b c = λ i. state_with told (is i) (a i) n (b i) (c i) x m rs l p past
+remade_as (InDoubt r) told k k' ss ss' n os os' t t' x m rs l p past is a b c = λ i. state_with told (is i) (a i) n (b i) (c i) x m rs l p past
 
 -- ---- a call that isn't served
 
@@ -210,7 +229,10 @@ uses_touches s (OfSession name call) uses = session_touches s name call uses
 uses_touches s (OfWorker worker (Takes part)) uses = cc
 uses_touches s (OfWorker worker (Posts part)) uses = refl
 uses_touches s (OfWorker worker Drops) uses = cc
-uses_touches s (OfAdmin call) uses = refl
+uses_touches s (OfAdmin Kills) uses = cc
+uses_touches s (OfAdmin Restarts) uses = cc
+uses_touches s (OfAdmin (Cancels unit)) uses = refl
+uses_touches s (OfAdmin (Resubmits unit)) uses = refl
 
 untouched : (b : Bool) → b ≡ true → b ≡ false → ⊥
 untouched true e f = cc
@@ -267,7 +289,10 @@ uses_touches_file s (OfSession name call) uses = file_session_touches s name cal
 uses_touches_file s (OfWorker worker (Takes part)) uses = cc
 uses_touches_file s (OfWorker worker (Posts part)) uses = uses
 uses_touches_file s (OfWorker worker Drops) uses = cc
-uses_touches_file s (OfAdmin call) uses = refl
+uses_touches_file s (OfAdmin Kills) uses = cc
+uses_touches_file s (OfAdmin Restarts) uses = refl
+uses_touches_file s (OfAdmin (Cancels unit)) uses = refl
+uses_touches_file s (OfAdmin (Resubmits unit)) uses = refl
 
 -- a call that doesn't touch the file is not answered that the disk failed
 quiet_file : (s : State) (c : Command) (after : State) (r : Reply) (f g : ℕ) → touches_file (call_of c) ≡ false → IsAct s c after r → g ≡ f → HasFileCause f g r
@@ -281,35 +306,68 @@ file_by faults old new s c after r false e act h =
     subst (λ f. MayFile faults old f r) (sym h) (record { cause = quiet_file s c after r (faults old.disk) (faults old.disk) e act refl; kept = any_file old r })
 
 -- what any call may do to it
-pub any_call_file : {D : Type 0} (faults : D → ℕ) (old new : BackupView D) (s : State) (c : Command) (after : State) (r : Reply) → IsAct s c after r → DoesFile faults (touches_file (call_of c)) old new r → MayFile faults old new r
+any_call_file : {D : Type 0} (faults : D → ℕ) (old new : BackupView D) (s : State) (c : Command) (after : State) (r : Reply) → IsAct s c after r → DoesFile faults (touches_file (call_of c)) old new r → MayFile faults old new r
 any_call_file faults old new s c after r act h = file_by faults old new s c after r (touches_file (call_of c)) refl act h
 
-pub same_as_filed : {D : Type 0} (faults : D → ℕ) (old new : BackupView D) (c : Command) (r : Reply) → DoesFile faults (touches_file (call_of c)) old new r → touches_file (call_of c) ≡ false → new ≡ old
-same_as_filed faults old new c r h e = subst (λ b. DoesFile faults b old new r) e h
+pub file_cause : {D : Type 0} (faults : D → ℕ) (old new : BackupView D) (s : State) (c : Command) (after : State) (r : Reply) → IsAct s c after r → LeavesFile faults (restarts (call_of c)) (touches_file (call_of c)) old new r
+    → HasFileCause (faults old.disk) (faults new.disk) r
+file_cause faults old new s c after r act h =
+    elim (restarts (call_of c)) as (λ b. LeavesFile faults b (touches_file (call_of c)) old new r → HasFileCause (faults old.disk) (faults new.disk) r) [
+      | true ↦ λ k. k
+      | false ↦ λ k. (any_call_file faults old new s c after r act k).cause
+    ] h
+
+pub file_kept : {D : Type 0} (faults : D → ℕ) (old new : BackupView D) (s : State) (c : Command) (after : State) (r : Reply) → IsAct s c after r → LeavesFile faults (restarts (call_of c)) (touches_file (call_of c)) old new r
+    → restarts (call_of c) ≡ false → KeepsFile old new r
+file_kept faults old new s c after r act h off = (any_call_file faults old new s c after r act (subst (λ b. LeavesFile faults b (touches_file (call_of c)) old new r) off h)).kept
+
+-- a restart touches the file
+restarts_touch : (call : Call) → restarts call ≡ true → touches_file call ≡ true
+restarts_touch (LogsOn name user) is = cc
+restarts_touch (OfSession name call) is = cc
+restarts_touch (OfWorker worker call) is = cc
+restarts_touch (OfAdmin Kills) is = cc
+restarts_touch (OfAdmin Restarts) is = refl
+restarts_touch (OfAdmin (Cancels unit)) is = cc
+restarts_touch (OfAdmin (Resubmits unit)) is = cc
+
+pub same_as_filed : {D : Type 0} (faults : D → ℕ) (old new : BackupView D) (c : Command) (r : Reply) → LeavesFile faults (restarts (call_of c)) (touches_file (call_of c)) old new r → touches_file (call_of c) ≡ false → new ≡ old
+same_as_filed faults old new c r h e =
+    elim (restarts (call_of c)) as (λ b. restarts (call_of c) ≡ b → LeavesFile faults b (touches_file (call_of c)) old new r → new ≡ old) [
+      | true ↦ λ is k. absurd (untouched (touches_file (call_of c)) (restarts_touch (call_of c) is) e)
+      | false ↦ λ is k. subst (λ b. DoesFile faults b old new r) e k
+    ] refl h
+
+-- ---- what a call does to what follows the table
+
+pub any_link : {L : Type 0} (faults refusals : L → ℕ) (old new : Following L) (remakes : Bool) → Follows faults refusals remakes old new → IsLater faults refusals old new
+any_link faults refusals old new true h = h
+any_link faults refusals old new false h = record { faults_later = h.faults_later; refusals_later = h.refusals_later }
 
 -- a call that doesn't touch the store
 pub serves_apart : {K D L : Type 0} (held : K → Option Rows) (may_leave : K → Rows → Type 0) (faults : K → ℕ) (disk_faults : D → ℕ) (link_faults refusals : L → ℕ) (before after : Condition → View K D L) (k : Condition) (was : View K D L) (past : List PastEntry) (c : Command) (r said : Reply)
-    → before k ≡ was → (after k).keeper ≡ (before k).keeper → (after k).file ≡ (before k).file → KeepsOn link_faults refusals (before k).follower (after k).follower → IsDue was.state past c → reaches_store (before k).state (call_of c) ≡ false → touches_file (call_of c) ≡ false → said ≡ r
+    → before k ≡ was → (after k).keeper ≡ (before k).keeper → (after k).file ≡ (before k).file → KeepsOn link_faults refusals (before k).follower (after k).follower → IsDue was.state past c → reaches_store (before k).state (call_of c) ≡ false → touches_file (call_of c) ≡ false → restarts (call_of c) ≡ false → said ≡ r
     → (Admits (with_calls (before k).state past) c → IsAct (with_calls (before k).state past) c (with_calls (after k).state past) r)
     → Serves held may_leave faults disk_faults link_faults refusals was (after k) past c said
-serves_apart held may_leave faults disk_faults link_faults refusals before after k was past c r said is kept file follows due off unfiled same act =
+serves_apart held may_leave faults disk_faults link_faults refusals before after k was past c r said is kept file follows due off unfiled on same act =
     let here : IsDue (before k).state past c = subst (λ (v : View _ _ _). IsDue v.state past c) (sym is) due in
     subst (λ v. Serves held may_leave faults disk_faults link_faults refusals v (after k) past c said) is (record {
       call = subst (IsAct (with_calls (before k).state past) c (with_calls (after k).state past)) (sym same) (act here.admits);
       store = subst (λ b. DoesStore held may_leave faults b (before k).keeper (after k).keeper said) (sym off) kept;
-      file = subst (λ b. DoesFile disk_faults b (before k).file (after k).file said) (sym unfiled) file;
-      follower = follows;
+      file = subst (λ b. LeavesFile disk_faults b (touches_file (call_of c)) (before k).file (after k).file said) (sym on)
+          (subst (λ b. DoesFile disk_faults b (before k).file (after k).file said) (sym unfiled) file);
+      follower = subst (λ b. Follows link_faults refusals b (before k).follower (after k).follower) (sym on) follows;
     })
 
 -- the same of one that wants a server
 pub serves_beside : {K D L : Type 0} (held : K → Option Rows) (may_leave : K → Rows → Type 0) (faults : K → ℕ) (disk_faults : D → ℕ) (link_faults refusals : L → ℕ) (before after : Condition → View K D L) (k : Condition) (was : View K D L) (past : List PastEntry) (c : Command) (r said : Reply)
-    → before k ≡ was → (before k).state.condition ≡ k → (after k).keeper ≡ (before k).keeper → (after k).file ≡ (before k).file → KeepsOn link_faults refusals (before k).follower (after k).follower → wants_server (call_of c) ≡ true → IsDue was.state past c → reaches_store (before k).state (call_of c) ≡ false → touches_file (call_of c) ≡ false → said ≡ r
+    → before k ≡ was → (before k).state.condition ≡ k → (after k).keeper ≡ (before k).keeper → (after k).file ≡ (before k).file → KeepsOn link_faults refusals (before k).follower (after k).follower → wants_server (call_of c) ≡ true → IsDue was.state past c → reaches_store (before k).state (call_of c) ≡ false → touches_file (call_of c) ≡ false → restarts (call_of c) ≡ false → said ≡ r
     → (Admits (with_calls (before Up).state past) c → IsAct (with_calls (before Up).state past) c (with_calls (after Up).state past) r)
     → Serves held may_leave faults disk_faults link_faults refusals was (after k) past c said
-serves_beside held may_leave faults disk_faults link_faults refusals before after k was past c r said is own kept file follows wants due off unfiled same act =
+serves_beside held may_leave faults disk_faults link_faults refusals before after k was past c r said is own kept file follows wants due off unfiled on same act =
     let here : IsDue (before k).state past c = subst (λ (v : View _ _ _). IsDue v.state past c) (sym is) due in
     let up : k ≡ Up = sym own ∙ due_up (before k).state past c wants here in
-    serves_apart held may_leave faults disk_faults link_faults refusals before after k was past c r said is kept file follows due off unfiled same
+    serves_apart held may_leave faults disk_faults link_faults refusals before after k was past c r said is kept file follows due off unfiled on same
     (λ room. subst (λ q. IsAct (with_calls (before q).state past) c (with_calls (after q).state past) r) (sym up) (act (subst (λ q. Admits (with_calls (before q).state past) c) up room)))
 
 -- ---- its place in the history
@@ -342,9 +400,10 @@ no_flight told k ss n os t x m rs l p past c due =
     none_before p l (outside k _ (due_serving (state_with told k ss n os t x m rs l p []) past c due) due.kept.steady.settled)
 
 -- a V2 part isn't one whose locks end
-pub posts_file : {D : Type 0} (faults : D → ℕ) (old new : BackupView D) (part worker : ℕ) (r : Reply) → IsPart part → MayFile faults old new r → (nat_eq part 1 ≡ false → new ≡ old) → DoesFile faults (touches_file (call_of (post_of part worker))) old new r
+pub posts_file : {D : Type 0} (faults : D → ℕ) (old new : BackupView D) (part worker : ℕ) (r : Reply) → IsPart part → MayFile faults old new r → (nat_eq part 1 ≡ false → new ≡ old)
+    → LeavesFile faults (restarts (call_of (post_of part worker))) (touches_file (call_of (post_of part worker))) old new r
 posts_file faults old new part worker r is does unfiled =
-    subst (λ call. DoesFile faults (touches_file call) old new r) (sym (posts_part part worker is)) (by_part (nat_eq part 1) refl)
+    subst (λ call. LeavesFile faults (restarts call) (touches_file call) old new r) (sym (posts_part part worker is)) (by_part (nat_eq part 1) refl)
   where
     by_part : (b : Bool) → nat_eq part 1 ≡ b → DoesFile faults b old new r
     by_part true e = does

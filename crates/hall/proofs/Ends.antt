@@ -16,7 +16,7 @@ use Rattle.hall.proofs.Calls.{tells}
 use Rattle.hall.specs.declared.command.Reply.{Reply}
 use Rattle.hall.specs.Step.{found_in, own_verdict, take}
 use Rattle.hall.specs.History.{doubted, judged, unfiled}
-use Rattle.hall.specs.State.{State, locks_in, state_of}
+use Rattle.hall.specs.State.{State, gone_in, locks_in, state_of}
 use Rattle.hall.specs.declared.command.Command.{Command}
 use Rattle.hall.specs.declared.command.PastEntry.{PastEntry}
 use Rattle.hall.specs.declared.command.Session.{Session}
@@ -39,15 +39,15 @@ none_before (Some step) l h = cc
 
 -- what the fields are behind it
 pub ends_as : (c : Condition) (told told' : Bool) (ss ss' : List Session) (n : ℕ) (os os' : List (Option UnitKey)) (t t' : Table) (k m : ℕ) (rs rs' : List NumberRange) (l l' : Ledger) (p : Option InFlight) (past past' : List PastEntry) (w : Written)
-    → told' ≡ told → option_map (landed l) p ≡ None → t'.limit ≡ t.limit → OnFailure w (ss' ≡ ss) → OnFailure w (os' ≡ os) → OnStoreFailure w (l' ≡ l) → OnFailure w (rs' ≡ rs)
+    → told' ≡ told → option_map (landed l) p ≡ None → t'.limit ≡ t.limit → gone_in c t'.entries ≡ gone_in c t.entries → OnFailure w (ss' ≡ ss) → OnFailure w (os' ≡ os) → OnStoreFailure w (l' ≡ l) → OnFailure w (rs' ≡ rs)
     → state_of told' (written_condition c (length past) w) ss' n os' t' k m rs' l' (option_map (landed l') (written_pending p w)) past'
     ≡ record (written_state (state_of told c ss n os t k m rs l (option_map (landed l) p) past) (record (state_of told c ss n os t k m rs l (option_map (landed l) p) past) { sessions = ss'; orders = os'; locks = locks_in c t'.entries; ranges = rs'; stored = l' }) w) { past = past' }
-ends_as c told told' ss ss' n os os' t t' k m rs rs' l l' p past past' (Answered r) tells none limit a b kept d =
+ends_as c told told' ss ss' n os os' t t' k m rs rs' l l' p past past' (Answered r) tells none limit gone a b kept d =
     let same : option_map (landed l') p ≡ option_map (landed l) p = ap (option_map (landed l')) (none_before p l none) ∙ sym none in
-    λ i. record (state_of (tells i) c ss' n os' t' k m rs' l' (same i) past') { limit = limit i }
-ends_as c told told' ss ss' n os os' t t' k m rs rs' l l' p past past' (Failed change) tells none limit a b kept d =
+    λ i. record (state_of (tells i) c ss' n os' t' k m rs' l' (same i) past') { limit = limit i; gone = gone i }
+ends_as c told told' ss ss' n os os' t t' k m rs rs' l l' p past past' (Failed change) tells none limit gone a b kept d =
     λ i. record (doubted (state_of (tells i) c (a i) n (b i) t k m (d i) (kept i) None past) (option_map (landed (kept i)) change)) { limit = limit i; past = past' }
-ends_as c told told' ss ss' n os os' t t' k m rs rs' l l' p past past' Unfiled tells none limit a b kept d =
+ends_as c told told' ss ss' n os os' t t' k m rs rs' l l' p past past' Unfiled tells none limit gone a b kept d =
     let same : option_map (landed l') p ≡ option_map (landed l) p = ap (option_map (landed l')) (none_before p l none) ∙ sym none in
     λ i. record (unfiled (state_of (tells i) c (a i) n (b i) t k m (d i) l None past) l') { limit = limit i; pending = same i; past = past' }
 

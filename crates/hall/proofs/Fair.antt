@@ -1,12 +1,14 @@
 -- Each call keeps the locks sound.
-use Rattle.std.proofs.Common.{ℕ, ◌<◌, ◌^◌, arith, Bool, true, false, List, [], ◌∷◌, ◌++◌, fold, refl}
+use Rattle.std.proofs.Common.{◌≡◌, ℕ, ◌<◌, ◌≤◌, ◌^◌, arith, Bool, true, false, List, [], ◌∷◌, ◌++◌, fold, length, refl}
 use Rattle.std.specs.Prelude.{if◌then◌else◌, nat_eq, nat_le}
 use Rattle.std.specs.List.{AllByRecursion}
 use Rattle.std.proofs.lemmas.Bool.{and_from, eq-eqb}
+use Rattle.std.proofs.lemmas.Bool.Decides.{nat_tests}
 use Rattle.enq_base.specs.declared.owner.Owner.TheVariants.{Upd}
 use Rattle.enq_base.specs.declared.owner.UnitKey.{UnitKey}
 use Rattle.enq_base.specs.declared.unit.Status.{Status}
 use Rattle.enq_base.specs.declared.unit.Status.TheVariants.{Open, Posted, Bad, Closed, Bad2, Cancelled}
+use Rattle.enq_server.specs.Server.{larger}
 use Rattle.lock_entry.specs.declared.entry.LockName.{LockName}
 use Rattle.lock_entry.specs.Freeing.{freed, freed_owner}
 use Rattle.lock_entry.specs.Names.{halves}
@@ -22,7 +24,8 @@ use Rattle.hall.specs.declared.command.Session.{Session}
 use Rattle.hall.specs.Devices.{DeviceOutcome}
 use Rattle.hall.specs.Calls.{Call}
 use Rattle.hall.specs.History.{judged, served, step, unfiled}
-use Rattle.hall.specs.Kept.{HasGoodLocks, HasItsUser, HasSoundLocks, OfLock}
+use Rattle.hall.specs.Kept.{HasGoodLocks, HasOpenUnits, HasSoundLocks, IsSteady}
+use Rattle.hall.specs.OpenUnits.{open_entries}
 use Rattle.hall.specs.Sessions.{owners_of, pair_of, unit_key, with_draw, with_session}
 use Rattle.hall.specs.Numbers.{drawn, raised_to}
 use Rattle.range_list.specs.Drawn.{handed_out}
@@ -32,7 +35,7 @@ use Rattle.number_ranges.specs.declared.interval.Interval.{Interval}
 use Rattle.posting.specs.Intervals.{with_intervals}
 use Rattle.range_list.specs.Drawn.{num_of, stored_as}
 use Rattle.range_list.specs.Levels.{present}
-use Rattle.hall.specs.Step.{Found, call_verdict, cancelled, unit_of}
+use Rattle.hall.specs.Step.{Found, call_verdict, cancelled, recovered_table, unit_of}
 use Rattle.update_records.specs.Ledger.{Ledger}
 use Rattle.hall.proofs.ByCall.{OfEach, by_call, by_event, by_filing}
 use Rattle.hall.proofs.Frames.{by_noting}
@@ -40,10 +43,6 @@ use Rattle.hall.proofs.HandedLocks.{handed_good}
 use Rattle.hall.proofs.Owned.{may_be_readmitted}
 use Rattle.hall.proofs.Resubmissions.{table_in}
 use Rattle.hall.proofs.Users.{every_append}
-
--- a lock of a session that is logged on has the session's user
-abbrev pub HaveItsUsers : State → Type 0
-HaveItsUsers s = AllByRecursion (OfLock (HasItsUser s.stored.start s.sessions)) s.locks
 
 -- the locks of a state, and those that are stored in it
 pub over_table : {s : State} → AllByRecursion HasGoodLocks s.stored.units → IsTable (table_in s) → HasSoundLocks s
@@ -93,8 +92,24 @@ drawn-sound s x i number good =
       | false ↦ over_table good.stored good.table
     ]
 
-sound : (found : Found) (s : State) → HaveItsUsers s → HasSoundLocks s → OfEach (λ call v. HasSoundLocks (judged s v).state) found s
-sound found s users good = record {
+pub none_stands : (limit : ℕ) → limit < 2 ^ 32 → IsTable (record { entries = []; limit = limit })
+none_stands limit fits = record { sound = record { names = refl; counts = refl; conflicts = refl }; within = omega arith; limit_fits = fits }
+
+larger_within : (a b : ℕ) → b ≤ larger a b
+larger_within a b =
+    elim (nat_le a b) as (λ t. nat_le a b ≡ t → b ≤ (if t then b else a)) [ true ↦ λ e. omega arith | false ↦ λ e. grind (arith, nat_tests) ] refl
+
+larger_fits : (a b : ℕ) → a < 2 ^ 32 → b < 2 ^ 32 → larger a b < 2 ^ 32
+larger_fits a b h k = elim (nat_le a b) as (λ t. (if t then b else a) < 2 ^ 32) [ true ↦ k | false ↦ h ]
+
+-- the table of a lock server that is made anew
+remade-sound : (s : State) → s.max_locks < 2 ^ 32 → HasOpenUnits s → IsTable (recovered_table s)
+remade-sound s limited units =
+    let count = length (open_entries s.stored) in
+    record { sound = units.stored; within = larger_within s.max_locks count; limit_fits = larger_fits s.max_locks count limited units.fit }
+
+sound : (found : Found) (s : State) → IsSteady s → HasOpenUnits s → HasSoundLocks s → OfEach (λ call v. HasSoundLocks (judged s v).state) found s
+sound found s steady units good = record {
   refuses = λ call r plain. good;
   enters = λ name user free. over_table good.stored good.table;
   logs_off = λ name x at. over_table good.stored (both_freed s x good.table);
@@ -112,23 +127,22 @@ sound found s users good = record {
   commits = λ name x parts stock at. record {
     table = IsTable-handed_over (table_in s) (unit_key s.stored.start x) good.table;
     stored = every_append HasGoodLocks s.stored.units (unit_of s.stored.start s.locks x parts (x.draws ++ stock) ∷ []) good.stored
-        (handed_good (table_in s) s.sessions name s.stored.start x parts (x.draws ++ stock) at users good.table, tt);
+        (handed_good (table_in s) s.sessions name s.stored.start x parts (x.draws ++ stock) at steady.owned.users good.table, tt);
   };
   rolls_back = λ name x at. over_table good.stored (IsTable-freed_owner (table_in s) (pair_of s.stored.start x).update good.table);
   takes = λ worker part unit free e. over_table good.stored good.table;
   posts = λ worker part unit e. over_table good.stored (behind-sound s unit (nat_eq part 1) good.table);
   drops = λ worker unit e. over_table good.stored good.table;
+  kills = λ up. over_table good.stored (none_stands s.limit good.table.limit_fits);
+  restarts = λ none. over_table good.stored (remade-sound s steady.locks_fit units);
   cancels = λ unit status can. over_table good.stored (without-sound s unit status good.table);
   reopens = λ unit es here stand.
       over_table good.stored (IsTable-readmitted (table_in s) (owners_of unit) (entries_of s.stored.units unit) es good.table (owners_of-IsPair unit) (may_be_readmitted s.stored.units unit good.stored) stand);
   reposts = λ unit here. over_table good.stored good.table;
 }
 
-pub none_stands : (limit : ℕ) → limit < 2 ^ 32 → IsTable (record { entries = []; limit = limit })
-none_stands limit fits = record { sound = record { names = refl; counts = refl; conflicts = refl }; within = omega arith; limit_fits = fits }
-
-pub verdict-sound : (found : Found) (s : State) (call : Call) → HaveItsUsers s → HasSoundLocks s → HasSoundLocks (judged s (call_verdict found s call)).state
-verdict-sound found s call users good = by_call (λ call v. HasSoundLocks (judged s v).state) found s (sound found s users good) call
+pub verdict-sound : (found : Found) (s : State) (call : Call) → IsSteady s → HasSoundLocks s → HasOpenUnits s → HasSoundLocks (judged s (call_verdict found s call)).state
+verdict-sound found s call steady good units = by_call (λ call v. HasSoundLocks (judged s v).state) found s (sound found s steady units good) call
 
 abbrev StoredGood : State → Ledger → Type 0
 StoredGood s stored = HasSoundLocks (unfiled s stored)
@@ -136,15 +150,16 @@ StoredGood s stored = HasSoundLocks (unfiled s stored)
 unfiled-sound : (s : State) (stored : Ledger) → HasSoundLocks s → AllByRecursion HasGoodLocks stored.units → StoredGood s stored
 unfiled-sound s stored good units = over_table units (none_stands s.limit good.table.limit_fits)
 
-pub served-sound : (o : DeviceOutcome) (s : State) (c : Command) → HaveItsUsers s → HasSoundLocks s → HasSoundLocks (served o s c).state
-served-sound o s c users good =
+pub served-sound : (o : DeviceOutcome) (s : State) (c : Command) → IsSteady s → HasSoundLocks s → HasOpenUnits s → HasSoundLocks (served o s c).state
+served-sound o s c steady good units =
     by_event (λ r. HasSoundLocks r.state) o s c
-    (λ found. by_call (λ call v. HasSoundLocks (judged s v).state) found s (sound found s users good) _) good
+    (λ found. by_call (λ call v. HasSoundLocks (judged s v).state) found s (sound found s steady units good) _) good
     (λ found. over_table good.stored (none_stands s.limit good.table.limit_fits))
     (λ found. by_filing (StoredGood s) found s c (unfiled-sound s s.stored good good.stored)
     (λ worker part unit e. unfiled-sound s _ good good.stored) (λ unit status can. unfiled-sound s _ good good.stored))
+    (λ r. over_table good.stored (none_stands s.limit good.table.limit_fits))
 
-pub step-sound : (o : DeviceOutcome) (s : State) (line : ℕ) (c : Command) → HaveItsUsers s → HasSoundLocks s → HasSoundLocks (step o s line c).state
-step-sound o s line c users good =
-    let h = served-sound o s c users good in
+pub step-sound : (o : DeviceOutcome) (s : State) (line : ℕ) (c : Command) → IsSteady s → HasSoundLocks s → HasOpenUnits s → HasSoundLocks (step o s line c).state
+step-sound o s line c steady good units =
+    let h = served-sound o s c steady good units in
     by_noting (λ r. HasSoundLocks r.state) line c (served o s c) h (over_table h.stored h.table)

@@ -6,6 +6,7 @@ use Rattle.std.proofs.lemmas.List.{length-append, length-set}
 use Rattle.std.proofs.lemmas.Bool.{or_from}
 use Rattle.std.proofs.lemmas.Bool.Decides.{nat_tests}
 use Rattle.enq_base.specs.Owners.{same_unit}
+use Rattle.enq_base.specs.declared.condition.Condition.TheVariants as condition
 use Rattle.enq_base.specs.declared.owner.Owner.{Owner}
 use Rattle.enq_base.specs.declared.owner.Owner.TheVariants.{Upd}
 use Rattle.enq_base.specs.declared.owner.UnitKey.{UnitKey}
@@ -52,7 +53,7 @@ use Rattle.hall.specs.Calls.{call_of}
 use Rattle.hall.specs.State.{State}
 use Rattle.hall.specs.Calls.{call_of}
 use Rattle.hall.specs.Stocks.{IsStockIn, MayCall}
-use Rattle.hall.specs.Step.{Found, barred, cancelled, committed, entered, is_full, locks_behind, locks_without, marked, numbered, reopened, reposted, taken, unit_of, verdict}
+use Rattle.hall.specs.Step.{Found, barred, cancelled, committed, entered, is_full, killed, locks_behind, locks_without, marked, numbered, reopened, reposted, restarted, taken, unit_of, verdict}
 use Rattle.hall.proofs.Alike.{AreAlike, HaveOneStatus, ahead_alike, alike_all, alike_self, alike_with, count_alike, numbered_alike, orders_alike, owned_alike, with_others, young_alike}
 use Rattle.hall.proofs.ByCall.{CanDraw, CanReserve, OfEach, by_event, by_filing, by_made}
 use Rattle.hall.proofs.OpenKept.{served-open}
@@ -66,6 +67,7 @@ use Rattle.hall.proofs.Heard.{all_waiting, apart_from_waiting, numbers_leave, st
 use Rattle.hall.proofs.LockLists.{allowed, Allows, asked_allows, converted_allows}
 use Rattle.hall.proofs.Owned.{owned_back, owned_beside, owned_by_none, owned_entered, owned_freed, owned_left, owned_locks, owned_next, owned_recorded}
 use Rattle.hall.proofs.Resubmissions.{readmitted_is, table_in}
+use Rattle.hall.proofs.Restarts.{killed_steady, restarted_few, restarted_steady}
 use Rattle.hall.proofs.Users.{every_conversion, every_freed, every_freed_owner, every_granted, every_handed, every_of, known_dialogue, known_update, one_number, only_dialogue, only_update}
 
 young_more : (n m : ℕ) (xs : List Session) → n ≤ m → AllByRecursion (IsYoung n) xs → AllByRecursion (IsYoung m) xs
@@ -136,6 +138,7 @@ holds_locks n s locks own h =
       steady = record {
         started = steady.started;
         limited = steady.limited;
+        locks_fit = steady.locks_fit;
         named = steady.named;
         drawn = steady.drawn;
         marked = steady.marked;
@@ -158,6 +161,7 @@ left-holds n s name locks own h =
       steady = record {
         started = steady.started;
         limited = steady.limited;
+        locks_fit = steady.locks_fit;
         named = named_filter p s.sessions steady.named;
         drawn = drawn_left s p steady.drawn;
         marked = steady.marked;
@@ -197,6 +201,7 @@ alike-holds n s sessions ranges levels marks alike same drawn h =
       steady = record {
         started = steady.started;
         limited = steady.limited;
+        locks_fit = steady.locks_fit;
         named = λ name. subst (λ k. k ≤ 1) (sym (count_alike name s.sessions sessions alike)) (steady.named name);
         drawn = drawn;
         marked = λ key none. steady.marked key (sym (same key) ∙ none);
@@ -222,6 +227,7 @@ next-holds n s name x locks at own h =
       steady = record {
         started = steady.started;
         limited = steady.limited;
+        locks_fit = steady.locks_fit;
         named = named_with with_next_unit (λ x. refl) name s.sessions steady.named;
         drawn = drawn_back s name x with_next_unit at refl steady.drawn;
         marked = steady.marked;
@@ -263,6 +269,7 @@ commit-holds n s x parts stock at fits h =
       steady = record {
         started = steady.started;
         limited = steady.limited;
+        locks_fit = steady.locks_fit;
         named = named_with with_next_unit (λ x. refl) x.name s.sessions steady.named;
         drawn = drawn_recorded s x stock with_next_unit unit at refl refl unheard steady.marked fits steady.drawn;
         marked = marks_recorded s.stored unit unheard steady.marked;
@@ -320,6 +327,7 @@ entered-holds n s name user free h =
       steady = record {
         started = steady.started;
         limited = steady.limited;
+        locks_fit = steady.locks_fit;
         named = named_push name s.sessions y refl free steady.named;
         drawn = drawn_entered s y refl steady.drawn;
         marked = steady.marked;
@@ -356,6 +364,7 @@ taken-holds n part s worker unit e h =
     holds_orders n s worker (Some unit) (record {
       started = steady.started;
       limited = steady.limited;
+      locks_fit = steady.locks_fit;
       named = steady.named;
       drawn = steady.drawn;
       marked = steady.marked;
@@ -372,6 +381,7 @@ dropped-holds n s worker h =
     holds_orders n s worker None (record {
       started = steady.started;
       limited = steady.limited;
+      locks_fit = steady.locks_fit;
       named = steady.named;
       drawn = steady.drawn;
       marked = steady.marked;
@@ -401,6 +411,7 @@ marked-holds n part s worker unit kind none e h =
       steady = record {
         started = steady.started;
         limited = steady.limited;
+        locks_fit = steady.locks_fit;
         named = steady.named;
         drawn = drawn_marked s unit kind none steady.drawn;
         marked = marks_marked s.stored unit kind steady.marked;
@@ -432,6 +443,7 @@ cancelled-holds n s unit status can h =
       steady = record {
         started = steady.started;
         limited = steady.limited;
+        locks_fit = steady.locks_fit;
         named = steady.named;
         drawn = drawn_marked s unit Gone (λ us seq key. refl) steady.drawn;
         marked = marks_marked s.stored unit Gone steady.marked;
@@ -464,6 +476,7 @@ reopened-holds n s unit es here own h =
       steady = record {
         started = steady.started;
         limited = steady.limited;
+        locks_fit = steady.locks_fit;
         named = steady.named;
         drawn = drawn_marked s unit Again1 (λ us seq key. refl) steady.drawn;
         marked = marks_marked s.stored unit Again1 steady.marked;
@@ -485,6 +498,7 @@ reposted-holds n s unit here h =
       steady = record {
         started = steady.started;
         limited = steady.limited;
+        locks_fit = steady.locks_fit;
         named = steady.named;
         drawn = drawn_marked s unit Again2 (λ us seq key. refl) steady.drawn;
         marked = marks_marked s.stored unit Again2 steady.marked;
@@ -546,6 +560,16 @@ numbered-holds n s x stock at fits h =
     beside-holds n s (with_session x.name without_draws s.sessions) (passed stock s.ranges) (with_levels (settled_rows s.stored.levels s.ranges numbers) s.stored.levels) (with_mark s.stored key (Num numbers)).marks
     (alike_with without_draws (λ y. record { name = refl; user = refl; number = refl; luw = refl }) x.name s.sessions) (λ other. numbers_leave s.stored key other numbers) (drawn_numbered s x stock at fits h.steady.drawn) h
 
+-- ---- the lock server
+
+killed-holds : (n : ℕ) (s : State) → s.condition ≡ condition.Up → Holds n s → Holds (n + 1) (killed s)
+killed-holds n s up h =
+    let few = few_more n s h.few in
+    record { few = record { sessions = few.sessions; units = few.units }; steady = killed_steady s up h.steady }
+
+restarted-holds : (n : ℕ) (s : State) → s.condition ≡ condition.NoServer → AllByRecursion HasGoodLocks s.stored.units → Holds n s → Holds (n + 1) (restarted s)
+restarted-holds n s none good h = record { few = restarted_few n s h.few; steady = restarted_steady s none good h.steady }
+
 -- ---- all calls
 
 each-holds : (n : ℕ) (found : Found) (s : State) → HasSoundLocks s → Holds n s → OfEach (λ call v. MayCall s call → Holds (n + 1) (judged s v).state) found s
@@ -571,6 +595,8 @@ each-holds n found s sound h = record {
   takes = λ worker part unit free e may. taken-holds n part s worker unit e h;
   posts = λ worker part unit e may. marked-holds n part s worker unit (kind_for part (found.part part unit)) (post_commits_none part (found.part part unit)) e h;
   drops = λ worker unit e may. dropped-holds n s worker h;
+  kills = λ up may. killed-holds n s up h;
+  restarts = λ none may. restarted-holds n s none sound.stored h;
   cancels = λ unit status can may. cancelled-holds n s unit status can h;
   reopens = λ unit es here stand may. reopened-holds n s unit es here (back-owned s unit es sound.stored stand h.steady.owned) h;
   reposts = λ unit here may. reposted-holds n s unit here h;
@@ -585,6 +611,7 @@ doubted-holds n s pending h =
       steady = record {
         started = steady.started;
         limited = steady.limited;
+        locks_fit = steady.locks_fit;
         named = steady.named;
         drawn = steady.drawn;
         marked = steady.marked;
@@ -611,6 +638,7 @@ filed-holds n s t sessions next ranges before h marks places =
       steady = record {
         started = steady.started;
         limited = before.steady.limited;
+        locks_fit = before.steady.locks_fit;
         named = before.steady.named;
         drawn = subst (λ xs. AreDrawnRight s.ranges t.stored.levels (draws_in xs) (numbers_of t.stored.units t.stored.marks)) sessions
             (subst (λ rs. AreDrawnRight rs t.stored.levels (draws_in t.sessions) (numbers_of t.stored.units t.stored.marks)) ranges steady.drawn);
@@ -642,6 +670,7 @@ served-holds n o s c may sound h =
     (λ found. by_made (λ call v. Holds (n + 1) (judged s v).state) found s (each-holds n found s sound h) (call_of c) may) (holds_more n s h)
     (λ found. doubted-holds n s _ h)
     (λ found. unfiled-holds n found s c h)
+    (λ r. doubted-holds n s s.pending h)
 
 below_limit : (n : ℕ) → nat_le 262144 n ≡ false → n + 1 ≤ 262144
 below_limit n h = grind (arith, nat_tests)
@@ -674,6 +703,7 @@ with_past n s past h =
       steady = record {
         started = steady.started;
         limited = steady.limited;
+        locks_fit = steady.locks_fit;
         named = steady.named;
         drawn = steady.drawn;
         marked = steady.marked;
@@ -690,7 +720,7 @@ pub kept_call : (s : State) (line : ℕ) (c : Command) (after : State) (r : Repl
 kept_call s line c after r may kept room act =
     let before : Holds (length s.past) s = record { few = kept.few; steady = kept.steady } in
     let holds : Holds (length s.past + 1) after = subst (λ x. Holds (length s.past + 1) x.state) act.same (served-holds (length s.past) act.outcome s c may kept.sound before) in
-    let sound : HasSoundLocks after = subst (λ x. HasSoundLocks x.state) act.same (served-sound act.outcome s c kept.steady.owned.users kept.sound) in
+    let sound : HasSoundLocks after = subst (λ x. HasSoundLocks x.state) act.same (served-sound act.outcome s c kept.steady kept.sound kept.open_units) in
     let units : HasOpenUnits after = subst (λ x. HasOpenUnits x.state) act.same (served-open act.outcome s c kept.steady kept.sound kept.open_units) in
     let past : after.past ≡ s.past = ap (λ x. x.state.past) (sym act.same) ∙ served-past act.outcome s c in
     let t : State = with_entry line c (record { state = after; reply = r }) in
@@ -701,7 +731,7 @@ kept_call s line c after r may kept room act =
       few = subst (λ n. HasFew n t) (sym longer) whole.few;
       steady = whole.steady;
       sound = over_table sound.stored sound.table;
-      open_units = record { held = units.held; stored = units.stored; pending = units.pending };
+      open_units = record { held = units.held; stored = units.stored; fit = units.fit; pending = units.pending };
     }
 
 pub young_enough : (s : State) → IsKept s → AllByRecursion (IsYoung 262145) s.sessions

@@ -21,10 +21,12 @@ use Rattle.hall.specs.Filing.{AllRecover, ChangesLevels, FilesAs, FreesList, Has
 use Rattle.hall.specs.Flights.{landed}
 use Rattle.hall.specs.Kept.{OutsideDoubt}
 use Rattle.hall.specs.OpenUnits.{AgreeAll, AreOpenLists, OfPending}
-use Rattle.hall.specs.State.{State}
-use Rattle.hall.specs.Step.{barred, is_full, posted_reply}
+use Rattle.hall.specs.Remaking.{IsLeftReady, remade_condition}
+use Rattle.hall.specs.Step.{posted_reply}
 use Rattle.hall.specs.declared.command.Reply.{Reply}
 use Rattle.hall.specs.declared.command.Reply.TheVariants as reply
+use Rattle.hall.specs.declared.remaking.Remade.{Remade}
+use Rattle.hall.specs.declared.remaking.Remade.TheVariants.{Done, Refused, InDoubt}
 use Rattle.hall.specs.declared.units.InFlight.{InFlight}
 use Rattle.hall.specs.declared.units.Written.{Written}
 use Rattle.hall.specs.declared.units.Written.TheVariants.{Answered, Failed, Unfiled}
@@ -261,7 +263,31 @@ module _ {D : Type 0} (tells : Bool) (reads : D → List ℕ) (may_leave : D →
   pub same_recovers : (k : Condition) (ledger : Ledger) (pending : Option Ledger) (old new : BackupView D) → new ≡ old → Recover k ledger pending old → Recover k ledger pending new
   same_recovers k ledger pending old new is h = subst (λ f. Recover k ledger pending f) (sym is) h
 
+  -- a file that is ready with the lists of the open units
+  pub ready_recovers : (k : Condition) (ledger : Ledger) (file : BackupView D) → Has ledger file → Recover k ledger None file
+  ready_recovers k ledger file has = λ t image may.
+      let h = has.ready t in record { lists = h.lists; stands = ready_stands file h.lists image h.ready may; agree = h.just.agree; landed = tt; only = outside_any k _ h.just.only }
+
   -- a server that is up before any call
   pub first_recovers : (ledger : Ledger) (file : BackupView D) → Has ledger file → Recover condition.Up ledger None file
-  first_recovers ledger file has = λ t image may.
-      let h = has.ready t in record { lists = h.lists; stands = ready_stands file h.lists image h.ready may; agree = h.just.agree; landed = tt; only = h.just.only }
+  first_recovers ledger file has = ready_recovers condition.Up ledger file has
+
+  -- ---- a lock server that is made anew, or isn't
+
+  pub remade_filed : (remade : Remade) (k : Condition) (calls : ℕ) (ledger : Ledger) (old new : BackupView D) → IsLeftReady tells reads may_leave ledger old new remade → Has ledger old
+      → OutsideDoubt (remade_condition k calls remade) (Has ledger new)
+  remade_filed Done k calls ledger old new h before = h
+  remade_filed (Refused r) k calls ledger old new h before = outside_any k _ (subst (Has ledger) (sym h) before)
+  remade_filed (InDoubt r) k calls ledger old new h before = tt
+
+  remade_none : (remade : Remade) (k : Condition) (calls : ℕ) (ledger : Ledger) (old new : BackupView D) → IsLeftReady tells reads may_leave ledger old new remade → Has ledger old
+      → Recover (remade_condition k calls remade) ledger None new
+  remade_none Done k calls ledger old new h before = first_recovers ledger new h
+  remade_none (Refused r) k calls ledger old new h before = ready_recovers k ledger new (subst (Has ledger) (sym h) before)
+  remade_none (InDoubt r) k calls ledger old new h before = h calls
+
+  pub remade_recovers : (remade : Remade) (k now : Condition) (calls : ℕ) (ledger : Ledger) (p : Option InFlight) (old new : BackupView D) → now ≡ remade_condition k calls remade → p ≡ None
+      → IsLeftReady tells reads may_leave ledger old new remade → Has ledger old → Recover now ledger (option_map (landed ledger) p) new
+  remade_recovers remade k now calls ledger p old new is none h before =
+      subst (λ q. Recover q ledger (option_map (landed ledger) p) new) (sym is)
+      (subst (λ q. Recover (remade_condition k calls remade) ledger (option_map (landed ledger) q) new) (sym none) (remade_none remade k calls ledger old new h before))

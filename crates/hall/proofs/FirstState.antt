@@ -1,54 +1,22 @@
 -- The first state of a start, which has the locks of the units that wait for their V1 part.
-use Rattle.std.proofs.Common.{◌≡◌, ℕ, ◌≤◌, Bool, true, false, not, ◌&&◌, List, [], ◌∷◌, map, replicate, refl, sym, ◌∙◌, subst, arith}
-use Rattle.std.specs.List.{AllByRecursion, list_all}
-use Rattle.std.proofs.lemmas.Bool.{and_from, and_parts}
-use Rattle.std.proofs.lemmas.List.Folds.{list_all-append}
-use Rattle.enq_server.specs.Recovery.{joined}
-use Rattle.lock_entry.specs.declared.entry.Entry.{Entry}
-use Rattle.mode_rules.specs.Modes.{same_mode}
-use Rattle.mode_rules.specs.declared.Mode.TheVariants.{O}
-use Rattle.posting.specs.Posts.{entries_of}
-use Rattle.posting.specs.Steps.{waiting_for}
-use Rattle.std.specs.Prelude.{Option, None}
+use Rattle.std.proofs.Common.{◌≡◌, ℕ, ◌≤◌, ◌<◌, ◌^◌, Bool, true, false, List, [], length, replicate, refl, sym, subst, arith}
+use Rattle.std.specs.Prelude.{if◌then◌else◌, nat_le, Option, None}
+use Rattle.std.proofs.lemmas.Bool.Decides.{nat_tests}
 use Rattle.enq_base.specs.declared.condition.Condition.TheVariants as condition
 use Rattle.enq_base.specs.declared.owner.UnitKey.{UnitKey}
-use Rattle.enq_server.specs.Server.{recovered}
+use Rattle.enq_server.specs.Server.{larger, recovered}
 use Rattle.lock_entry.specs.Table.{IsTable, Table}
 use Rattle.number_ranges.specs.declared.interval.Interval.{Interval}
-use Rattle.posting.specs.Views.{locks_of, open_locks}
+use Rattle.posting.specs.Views.{open_locks}
 use Rattle.range_list.specs.Levels.{first_ranges}
 use Rattle.update_records.specs.Ledger.{Ledger}
-use Rattle.hall.specs.Kept.{HasFew, HasGoodLocks, HasOpenUnits, HasSoundLocks, IsKept, IsSteady, is_firm}
+use Rattle.hall.specs.Kept.{HasFew, HasOpenUnits, HasSoundLocks, IsKept, IsSteady}
 use Rattle.hall.specs.OpenUnits.{open_entries}
-use Rattle.hall.proofs.LockLists.{AreSure, is_sure}
-use Rattle.hall.proofs.Owned.{stored_firm}
 use Rattle.hall.specs.State.{opened, state_of}
 use Rattle.hall.specs.declared.command.PastEntry.{PastEntry}
 use Rattle.hall.specs.declared.command.Session.{Session}
 use Rattle.hall.proofs.Beginning.{AgreeWith, IsFirst, first_marks, first_started, first_stored, first_unheard, idle, no_orders, nothing_drawn}
 use Rattle.hall.proofs.OpenEntries.{first_held, first_owned}
-
-firm_so : (a b : Bool) → (a && not b) ≡ true → not (a && b) ≡ true
-firm_so true true h = cc
-firm_so true false h = refl
-firm_so false b h = refl
-
-sure_entries : (es : List Entry) → list_all is_firm es ≡ true → AreSure es
-sure_entries [] h = refl
-sure_entries (e ∷ es) h =
-    let parts = and_parts (is_firm e) (list_all is_firm es) h in
-    and_from (is_sure e) (list_all is_sure es) (firm_so e.handed (same_mode e.mode O) parts.0) (sure_entries es parts.1)
-
-sure_units : (ledger : Ledger) → AllByRecursion HasGoodLocks ledger.units → (keys : List UnitKey) → AreSure (joined (map (locks_of ledger) keys))
-sure_units ledger good [] = refl
-sure_units ledger good (key ∷ keys) =
-    let own = entries_of ledger.units key in
-    list_all-append is_sure own (joined (map (locks_of ledger) keys))
-    ∙ and_from (list_all is_sure own) _ (sure_entries own (stored_firm ledger.units key good)) (sure_units ledger good keys)
-
--- no lock of an open unit is optimistic
-pub first_sure : (ledger : Ledger) → AllByRecursion HasGoodLocks ledger.units → AreSure (open_entries ledger)
-first_sure ledger good = sure_units ledger good (waiting_for 1 ledger)
 
 -- the table with which a start begins
 abbrev pub IsFirstTable : ℕ → Ledger → Type 0
@@ -57,10 +25,25 @@ IsFirstTable limit ledger = IsTable (recovered limit (open_locks ledger))
 pub first_sound : (limit mark_limit : ℕ) (intervals : List Interval) (told : Bool) (ledger : Ledger) → IsFirstTable limit ledger → IsFirst ledger → HasSoundLocks (opened limit mark_limit intervals told ledger)
 first_sound limit mark_limit intervals told ledger good first = record { table = good; stored = first_stored ledger first }
 
-pub first_steady : (limit mark_limit : ℕ) (intervals : List Interval) (told : Bool) (ledger : Ledger) → mark_limit ≤ 1048576 → AgreeWith intervals ledger → IsFirst ledger → IsSteady (opened limit mark_limit intervals told ledger)
-first_steady limit mark_limit intervals told ledger limited agree first = record {
+up_to : (m n : ℕ) → nat_le m n ≡ true → m ≤ n
+up_to m n h = grind (arith, nat_tests)
+
+first_fits : (limit count : ℕ) → larger limit count < 2 ^ 32 → limit < 2 ^ 32
+first_fits limit count h =
+    elim (nat_le limit count) as (λ b. nat_le limit count ≡ b → (if b then count else limit) < 2 ^ 32 → limit < 2 ^ 32) [
+      | true ↦ λ e k. let less = up_to limit count e in omega (arith, less, k)
+      | false ↦ λ e k. k
+    ] refl h
+
+-- they are no more than fit
+under : (n m : ℕ) → n ≤ m → m < 2 ^ 32 → n < 2 ^ 32
+under n m h k = omega (arith, h, k)
+
+pub first_steady : (limit mark_limit : ℕ) (intervals : List Interval) (told : Bool) (ledger : Ledger) → mark_limit ≤ 1048576 → IsFirstTable limit ledger → AgreeWith intervals ledger → IsFirst ledger → IsSteady (opened limit mark_limit intervals told ledger)
+first_steady limit mark_limit intervals told ledger limited good agree first = record {
   started = first_started ledger first;
   limited = limited;
+  locks_fit = first_fits limit (length (open_entries ledger)) good.limit_fits;
   named = λ name. omega arith;
   drawn = nothing_drawn ledger intervals agree first;
   marked = first_marks ledger first;
@@ -75,14 +58,19 @@ pub first_few : (limit mark_limit : ℕ) (intervals : List Interval) (told : Boo
 first_few limit mark_limit intervals told ledger = record { sessions = omega arith; units = tt }
 
 pub first_open : (limit mark_limit : ℕ) (intervals : List Interval) (told : Bool) (ledger : Ledger) → IsFirstTable limit ledger → IsFirst ledger → HasOpenUnits (opened limit mark_limit intervals told ledger)
-first_open limit mark_limit intervals told ledger good first = record { held = first_held ledger (first_stored ledger first); stored = good.sound; pending = tt }
+first_open limit mark_limit intervals told ledger good first = record {
+  held = first_held ledger (first_stored ledger first);
+  stored = good.sound;
+  fit = under (length (open_entries ledger)) _ good.within good.limit_fits;
+  pending = tt;
+}
 
 first_here : (told : Bool) (max_locks mark_limit : ℕ) (intervals : List Interval) (ledger : Ledger) → mark_limit ≤ 1048576 → AgreeWith intervals ledger → IsFirst ledger → IsFirstTable max_locks ledger → IsKept (opened max_locks mark_limit intervals told ledger)
 first_here told max_locks mark_limit intervals ledger limited agree first good =
     record {
       within = omega arith;
       few = first_few max_locks mark_limit intervals told ledger;
-      steady = first_steady max_locks mark_limit intervals told ledger limited agree first;
+      steady = first_steady max_locks mark_limit intervals told ledger limited good agree first;
       sound = first_sound max_locks mark_limit intervals told ledger good first;
       open_units = first_open max_locks mark_limit intervals told ledger good first;
     }

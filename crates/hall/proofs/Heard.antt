@@ -61,15 +61,6 @@ pub two_statuses : (o : Option Status) (a b : Status) → o ≡ Some a → o ≡
 two_statuses None a b h k = cc
 two_statuses (Some s) a b h k = cc
 
--- a unit whose V1 part is posted isn't one that is open
-pub apart_from_open : (ledger : Ledger) (key other : UnitKey) → status_in ledger key ≡ Some Posted → IsOpenUnit ledger other → same_unit key other ≡ false
-apart_from_open ledger key other posted here =
-    by_test _ (same_unit key other)
-    (λ same.
-    let one : Posted ≡ Open = two_statuses (status_in ledger other) Posted Open (ap (status_in ledger) (sym (one_unit key other same)) ∙ posted) here in
-    absurd (cc))
-    (λ apart. apart)
-
 -- units of two statuses are two
 pub apart_by : (ledger : Ledger) (key other : UnitKey) (a b : Status) → status_in ledger key ≡ Some a → status_in ledger other ≡ Some b → (a ≡ b → ⊥) → same_unit key other ≡ false
 apart_by ledger key other a b here there differ =

@@ -1,5 +1,5 @@
 -- What a stop may leave behind a call.
-use Rattle.std.proofs.Common.{◌≡◌, ◌⊎◌, inl, ℕ, Bool, true, false, refl, sym, ap, ◌∙◌, subst}
+use Rattle.std.proofs.Common.{◌≡◌, ◌⊎◌, inl, ℕ, true, false, refl, sym, subst}
 use Rattle.std.specs.Prelude.{nat_eq, Option, Some, None, IfSome, is_some, if◌then◌else◌}
 use Rattle.std.specs.Option.{option_map}
 use Rattle.enq_base.specs.declared.condition.Condition.{Condition}
@@ -20,8 +20,7 @@ use Rattle.update_records.specs.Ledger.{Ledger, StandFor}
 use Rattle.hall.specs.Acts.{OnAnswer, OnFailure, OnStoreFailure, written_condition, written_pending}
 use Rattle.hall.specs.Kept.{OutsideDoubt}
 use Rattle.hall.specs.Leaving.{HasStoreCause, KeepsStore, LeavesWritten, StandForLanded, StandForPending, StandForWritten}
-use Rattle.hall.specs.State.{State}
-use Rattle.hall.specs.Step.{barred, is_full, posted_reply}
+use Rattle.hall.specs.Step.{posted_reply}
 use Rattle.hall.specs.declared.command.Reply.{Reply}
 use Rattle.hall.specs.declared.command.Reply.TheVariants as reply
 use Rattle.hall.proofs.Plain.{IsPlain}

@@ -1,5 +1,5 @@
 -- Who is logged on: a call leaves the sessions logged on, but for the one that it logs off.
-use Rattle.std.proofs.Common.{◌≡◌, inl, inr, ℕ, Bool, true, false, true≢false, cond, List, [], ◌∷◌, ◌++◌, refl, sym, ap, ◌∙◌, subst}
+use Rattle.std.proofs.Common.{◌≡◌, inl, inr, ℕ, Bool, true, false, true≢false, cond, List, [], ◌∷◌, ◌++◌, map, refl, sym, ap, ◌∙◌, subst}
 use Rattle.std.specs.Prelude.{IsTrue, Some, if◌then◌else◌, is_some}
 use Rattle.std.specs.Cmp.Lexicographic.{bytes_decides}
 use Rattle.std.specs.Str.{bytes_eq}
@@ -7,6 +7,7 @@ use Rattle.std.proofs.lemmas.Bool.{cases_Bool}
 use Rattle.hall.proofs.ByCall.{OfEach, by_call, by_event}
 use Rattle.hall.proofs.Frames.{by_noting}
 use Rattle.hall.proofs.Fresh.{found_name}
+use Rattle.lock_entry.specs.declared.entry.Entry.{Entry}
 use Rattle.hall.specs.declared.command.Command.{Command}
 use Rattle.hall.specs.declared.command.Command.TheVariants as command
 use Rattle.hall.specs.declared.command.Reply.{Reply}
@@ -15,7 +16,7 @@ use Rattle.hall.specs.declared.command.Session.{Session}
 use Rattle.hall.specs.Calls.{Call, LogsOn, OfSession, OfWorker, OfAdmin, LogsOff, call_of}
 use Rattle.hall.specs.Devices.{DeviceOutcome}
 use Rattle.hall.specs.History.{IsStep, Served, judged, served, step}
-use Rattle.hall.specs.Sessions.{begun, is_called, session_at, with_draw, with_fresh_unit, with_next_unit, with_session, without_draws, without_session}
+use Rattle.hall.specs.Sessions.{begun, bereft, bereft_if, has_one_of, is_called, session_at, with_draw, with_fresh_unit, with_next_unit, with_session, without_draws, without_session}
 use Rattle.hall.specs.Numbers.{drawn, raised_to}
 use Rattle.range_list.specs.Drawn.{handed_out}
 use Rattle.hall.specs.State.{State}
@@ -87,6 +88,19 @@ logged_with change own name (x ∷ xs) n h =
           ] h
     ]
 
+-- a change of each session that leaves the names
+logged_map : (change : Session → Session) → ((m : List ℕ) (x : Session) → is_called m (change x) ≡ is_called m x) → (xs : List Session) (n : List ℕ) → IsLoggedOn xs n → IsLoggedOn (map change xs) n
+logged_map change own [] n h = h
+logged_map change own (x ∷ xs) n h =
+    subst (λ b. IsTrue (is_some (cond b (Some (change x)) (session_at (map change xs) n)))) (sym (own n x))
+    (elim (is_called n x) as (λ b. IsTrue (is_some (cond b (Some x) (session_at xs n))) → IsTrue (is_some (cond b (Some (change x)) (session_at (map change xs) n)))) [
+      | true ↦ λ k. refl
+      | false ↦ λ k. logged_map change own xs n k
+    ] h)
+
+bereft_called : (start : ℕ) (locks : List Entry) (m : List ℕ) (x : Session) → is_called m (bereft_if start locks x) ≡ is_called m x
+bereft_called start locks m x = elim (has_one_of start locks x) as (λ b. is_called m (if b then bereft x else x) ≡ is_called m x) [ true ↦ refl | false ↦ refl ]
+
 -- ---- a call
 
 -- whether the call logs this session off
@@ -129,6 +143,8 @@ keeps found s = record {
   takes = λ worker part unit free e n off h. h;
   posts = λ worker part unit e n off h. h;
   drops = λ worker unit e n off h. h;
+  kills = λ up n off h. h;
+  restarts = λ none n off h. logged_map (bereft_if s.stored.start s.gone) (bereft_called s.stored.start s.gone) s.sessions n h;
   cancels = λ unit status can n off h. h;
   reopens = λ unit es here stand n off h. h;
   reposts = λ unit here n off h. h;
@@ -136,7 +152,7 @@ keeps found s = record {
 
 pub step_keeps : (o : DeviceOutcome) (s : State) (line : ℕ) (c : Command) → KeepsSessions s (call_of c) (step o s line c)
 step_keeps o s line c =
-    let h = by_event (KeepsSessions s (call_of c)) o s c (λ found. by_call (λ call v. KeepsSessions s call (judged s v)) found s (keeps found s) _) (λ n off k. k) (λ found n off k. k) (λ found n off k. k) in
+    let h = by_event (KeepsSessions s (call_of c)) o s c (λ found. by_call (λ call v. KeepsSessions s call (judged s v)) found s (keeps found s) _) (λ n off k. k) (λ found n off k. k) (λ found n off k. k) (λ r n off k. k) in
     by_noting (KeepsSessions s (call_of c)) line c (served o s c) h h
 
 -- ---- a logon
@@ -182,6 +198,8 @@ enters found s = record {
   takes = λ worker part unit free e. tt;
   posts = λ worker part unit e. tt;
   drops = λ worker unit e. tt;
+  kills = λ up. tt;
+  restarts = λ none. tt;
   cancels = λ unit status can. tt;
   reopens = λ unit es here stand. tt;
   reposts = λ unit here. tt;
@@ -190,7 +208,7 @@ enters found s = record {
 pub step_enters : (o : DeviceOutcome) (s : State) (line : ℕ) (name user : List ℕ) → MayEnter s (LogsOn name user) (step o s line (command.Logon name user))
 step_enters o s line name user =
     let c = command.Logon name user in
-    let k = by_event (MayEnter s (call_of c)) o s c (λ found. by_call (λ call v. MayEnter s call (judged s v)) found s (enters found s) (call_of c)) tt (λ found. tt) (λ found. tt) in
+    let k = by_event (MayEnter s (call_of c)) o s c (λ found. by_call (λ call v. MayEnter s call (judged s v)) found s (enters found s) (call_of c)) tt (λ found. tt) (λ found. tt) (λ r. tt) in
     by_noting (MayEnter s (call_of c)) line c (served o s c) k k
 
 pub logon_enters : (old new : State) (line : ℕ) (name user : List ℕ) → IsStep old new line (command.Logon name user) reply.Done → Enters name old.sessions new.sessions

@@ -1,9 +1,10 @@
 -- The locks of the open units as the store has them: they stand together, and a start begins with just them.
-use Rattle.std.proofs.Common.{◌≡◌, ◌↔◌, ◌⊎◌, ℕ, Bool, true, false, not, List, [], ◌∷◌, ◌++◌, map, inl, inr, refl, sym, ap, ◌∙◌, subst}
+use Rattle.std.proofs.Common.{◌≡◌, ◌≤◌, ◌+◌, ◌↔◌, ◌⊎◌, ℕ, arith, length, Bool, true, false, not, List, [], ◌∷◌, ◌++◌, map, inl, inr, refl, sym, ap, ◌∙◌, subst}
 use Rattle.std.specs.Prelude.{Contains}
 use Rattle.std.specs.List.{AllByRecursion, filter, list_all}
 use Rattle.std.proofs.lemmas.Bool.{and_parts}
-use Rattle.std.proofs.lemmas.List.{append-nil}
+use Rattle.std.proofs.lemmas.List.{append-nil, length-append}
+use Rattle.std.proofs.lemmas.List.Filters.{length-filter_both}
 use Rattle.std.proofs.lemmas.List.Concat.{flat_map-cons}
 use Rattle.std.proofs.lemmas.List.Elements.{All-from_recursion, filter-append}
 use Rattle.enq_base.specs.Owners.{same_owner, same_unit}
@@ -14,6 +15,7 @@ use Rattle.enq_server.proofs.Held.{held_stand}
 use Rattle.enq_server.specs.Held.{owner_of}
 use Rattle.enq_server.specs.Recovery.{joined}
 use Rattle.lock_entry.proofs.Naming.{same_owner-refl}
+use Rattle.lock_entry.specs.Freeing.{freed_owner}
 use Rattle.lock_entry.specs.Names.{all_pairs, is_of}
 use Rattle.lock_entry.specs.Sound.{IsSound}
 use Rattle.lock_entry.specs.declared.entry.Entry.{Entry}
@@ -25,11 +27,12 @@ use Rattle.update_records.proofs.Status.{flip}
 use Rattle.update_records.specs.Ledger.{Ledger}
 use Rattle.hall.specs.Kept.{HasGoodLocks, HasItsUser, IsKnown, IsOwned, MayHold, OfLock, is_firm, may_hold}
 use Rattle.hall.specs.OpenUnits.{HoldsOpenUnits, IsOpenIfHanded, IsOpenOwner, open_entries}
+use Rattle.hall.specs.declared.command.Session.{Session}
 use Rattle.hall.proofs.Beginning.{IsFirst, first_known, first_stored, first_users}
 use Rattle.hall.proofs.LockLists.{Among, all_among, among_from, contains_from, filter_source, kept_filter, kept_left, kept_map, kept_right}
 use Rattle.hall.proofs.Owned.{every_at, every_by, every_stored, may_be_readmitted, stored_firm, stored_owner}
-use Rattle.hall.proofs.OwnLocks.{filter_all, none_of_others}
-use Rattle.hall.proofs.Users.{every_map}
+use Rattle.hall.proofs.OwnLocks.{filter_all, its_freed_owner, none_of_others}
+use Rattle.hall.proofs.Users.{every_map, every_more}
 use Rattle.hall.proofs.Waiting.{all_open, differ, open_listed, open_owners_differ, waiting_differ}
 
 -- ---- one unit behind the other
@@ -92,6 +95,42 @@ open_stands locks ledger sound h =
           (every_map (IsOpenUnit ledger) (Fits locks) (locks_of ledger) (λ key waits. sym (h.units key waits)) (waiting_for 1 ledger) (all_open ledger));
     })
 
+-- ---- they are no more than the locks of the table
+
+apart_by_test : (b : Bool) → not b ≡ true → b ≡ false
+apart_by_test true h = cc
+apart_by_test false h = refl
+
+-- each of these units has just its locks in the table
+abbrev HaveTheirs : Ledger → List UnitKey → List Entry → Type 0
+HaveTheirs ledger keys locks = AllByRecursion (λ (key : UnitKey). filter (is_of (Upd key)) locks ≡ entries_of ledger.units key) keys
+
+-- and has them where those of another unit are gone
+theirs_without : (ledger : Ledger) (unit : UnitKey) (keys : List UnitKey) (locks : List Entry) → list_all (differ unit) keys ≡ true → HaveTheirs ledger keys locks
+    → HaveTheirs ledger keys (freed_owner locks (Upd unit))
+theirs_without ledger unit [] locks apart h = tt
+theirs_without ledger unit (key ∷ keys) locks apart h =
+    let parts = and_parts (differ unit key) (list_all (differ unit) keys) apart in
+    let other : same_unit key unit ≡ false = flip key unit (apart_by_test (same_unit unit key) parts.0) in
+    (its_freed_owner (Upd key) (Upd unit) locks other ∙ h.0, theirs_without ledger unit keys locks parts.1 h.1)
+
+theirs_fit : (ledger : Ledger) (keys : List UnitKey) (locks : List Entry) → all_pairs differ keys ≡ true → HaveTheirs ledger keys locks → length (entries_at ledger keys) ≤ length locks
+theirs_fit ledger [] locks apart h = omega arith
+theirs_fit ledger (key ∷ keys) locks apart h =
+    let parts = and_parts (list_all (differ key) keys) (all_pairs differ keys) apart in
+    let rest = freed_owner locks (Upd key) in
+    let fewer = theirs_fit ledger keys rest parts.1 (theirs_without ledger key keys locks parts.0 h.1) in
+    let own : length (filter (is_of (Upd key)) locks) ≡ length (entries_of ledger.units key) = ap length h.0 in
+    let both = length-filter_both (is_of (Upd key)) (λ e. not (is_of (Upd key) e)) (λ e. refl) locks in
+    let long : length (entries_at ledger (key ∷ keys)) ≡ length (entries_of ledger.units key) + length (entries_at ledger keys) =
+    ap length (joined_more (locks_of ledger key) (map (locks_of ledger) keys)) ∙ length-append (entries_of ledger.units key) (entries_at ledger keys) in
+    omega (arith, fewer, own, both, long)
+
+pub open_fit : (locks : List Entry) (ledger : Ledger) → HoldsOpenUnits locks ledger → length (open_entries ledger) ≤ length locks
+open_fit locks ledger h =
+    theirs_fit ledger (waiting_for 1 ledger) locks (waiting_differ ledger)
+    (every_more (IsOpenUnit ledger) (λ key. filter (is_of (Upd key)) locks ≡ entries_of ledger.units key) (λ key waits. h.units key waits) (waiting_for 1 ledger) (all_open ledger))
+
 -- ---- they are the locks that were handed over
 
 by_owner : (locks : List Entry) (ledger : Ledger) (e : Entry) (owner : Owner) → HoldsOpenUnits locks ledger → Among locks e → e.owner ≡ owner
@@ -128,10 +167,6 @@ handed_are_open locks ledger good h e = (
 
 own_entries : (ledger : Ledger) (key : UnitKey) → AllByRecursion HasGoodLocks ledger.units → list_all (is_of (Upd key)) (entries_of ledger.units key) ≡ true
 own_entries ledger key good = (may_be_readmitted ledger.units key good).owners
-
-apart_by_test : (b : Bool) → not b ≡ true → b ≡ false
-apart_by_test true h = cc
-apart_by_test false h = refl
 
 one_more : (ledger : Ledger) (o : Owner) (key : UnitKey) (keys : List UnitKey)
     → filter (is_of o) (entries_at ledger (key ∷ keys)) ≡ filter (is_of o) (entries_of ledger.units key) ++ filter (is_of o) (entries_at ledger keys)
@@ -180,18 +215,24 @@ first_held ledger good = record {
   handed = every_open (IsOpenIfHanded ledger) ledger (λ key waits e k handed. subst (IsOpenOwner ledger) (sym (stored_owner ledger.units key e good k)) waits);
 }
 
--- whose its locks are
-pub first_owned : (ledger : Ledger) → IsFirst ledger → IsOwned ledger 1 [] (open_entries ledger)
-first_owned ledger first =
-    let good = first_stored ledger first in
-    let stored = first_known ledger first in
-    let Known : Owner → List ℕ → Type 0 = λ owner user. IsKnown ledger.start 1 owner in
+-- whose its locks are, where it is known of the stored ones
+pub open_owned : (ledger : Ledger) (next : ℕ) (sessions : List Session) (es : List Entry) → AllByRecursion HasGoodLocks ledger.units
+    → IsOwned ledger next sessions es → IsOwned ledger next sessions (open_entries ledger)
+open_owned ledger next sessions es good h =
+    let Known : Owner → List ℕ → Type 0 = λ owner user. IsKnown ledger.start next owner in
+    let Users : Owner → List ℕ → Type 0 = HasItsUser ledger.start sessions in
     record {
       known = every_open (OfLock Known) ledger
-          (λ key waits e k. every_at (OfLock Known) (entries_of ledger.units key) e (every_stored Known ledger.units key stored) k);
-      users = every_open (OfLock (HasItsUser ledger.start [])) ledger (λ key waits e k. tt);
+          (λ key waits e k. every_at (OfLock Known) (entries_of ledger.units key) e (every_stored Known ledger.units key h.stored_known) k);
+      users = every_open (OfLock Users) ledger
+          (λ key waits e k. every_at (OfLock Users) (entries_of ledger.units key) e (every_stored Users ledger.units key h.stored_users) k);
       holders = every_open (OfLock (λ owner user. MayHold ledger owner)) ledger
           (λ key waits e k. subst (MayHold ledger) (sym (stored_owner ledger.units key e good k)) (ap may_hold waits));
-      stored_known = stored;
-      stored_users = first_users ledger;
+      stored_known = h.stored_known;
+      stored_users = h.stored_users;
     }
+
+pub first_owned : (ledger : Ledger) → IsFirst ledger → IsOwned ledger 1 [] (open_entries ledger)
+first_owned ledger first =
+    open_owned ledger 1 [] [] (first_stored ledger first)
+    (record { known = tt; users = tt; holders = tt; stored_known = first_known ledger first; stored_users = first_users ledger })

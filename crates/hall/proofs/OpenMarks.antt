@@ -109,7 +109,7 @@ beside_agree ledger key es lists shut h =
 entries_recorded : (ledger : Ledger) (unit : UnitOfWork) → unit_at ledger.units unit.key ≡ None → entries_of (ledger.units ++ unit ∷ []) unit.key ≡ unit.entries
 entries_recorded ledger unit none = ap (λ o. option_map_or (λ (u : UnitOfWork). u.entries) o []) (unit_new ledger.units unit none)
 
-entries_beside : (ledger : Ledger) (unit : UnitOfWork) (other : UnitKey) → same_unit unit.key other ≡ false → entries_of (ledger.units ++ unit ∷ []) other ≡ entries_of ledger.units other
+pub entries_beside : (ledger : Ledger) (unit : UnitOfWork) (other : UnitKey) → same_unit unit.key other ≡ false → entries_of (ledger.units ++ unit ∷ []) other ≡ entries_of ledger.units other
 entries_beside ledger unit other apart = ap (λ o. option_map_or (λ (u : UnitOfWork). u.entries) o []) (unit_other ledger.units unit other apart)
 
 -- of a session that is logged on

@@ -6,6 +6,7 @@ use Rattle.std.specs.Option.{option_map_or}
 use Rattle.std.proofs.lemmas.List.{append-nil}
 use Rattle.std.proofs.lemmas.List.Elements.{filter-append}
 use Rattle.enq_base.specs.Owners.{same_owner, same_unit}
+use Rattle.enq_base.specs.declared.condition.Condition.TheVariants.{Up}
 use Rattle.enq_base.specs.declared.owner.Owner.{Owner}
 use Rattle.enq_base.specs.declared.owner.Owner.TheVariants.{Dlg, Upd}
 use Rattle.enq_base.specs.declared.owner.UnitKey.{UnitKey}
@@ -45,20 +46,23 @@ use Rattle.update_records.specs.declared.records.MarkKind.{MarkKind}
 use Rattle.update_records.specs.declared.records.MarkKind.TheVariants as mark
 use Rattle.update_records.specs.declared.records.Unit.{Unit as UnitOfWork}
 use Rattle.hall.specs.declared.command.Session.{Session}
+use Rattle.hall.specs.Calls.{Call}
 use Rattle.hall.specs.History.{judged}
 use Rattle.hall.specs.Kept.{HasGoodLocks, HasSoundLocks, IsSteady, is_firm}
-use Rattle.hall.specs.Numbers.{drawn, raised_to}
+use Rattle.hall.specs.Numbers.{drawn, next_number, raised_to}
 use Rattle.hall.specs.OpenUnits.{HasItsLocks, HoldsOpenUnits, IsOpenIfHanded, IsOpenOwner}
 use Rattle.hall.specs.Orders.{order_of}
 use Rattle.hall.specs.Sessions.{owners_of, pair_of, unit_key, with_draw, with_session}
 use Rattle.hall.specs.State.{State}
-use Rattle.hall.specs.Step.{Found, committed, freed_all, handed_locks, locks_behind, locks_without, lowered as names_lowered, numbered, unit_of}
+use Rattle.hall.specs.Step.{Found, Verdict, committed, freed_all, handed_locks, locks_behind, locks_without, lowered as names_lowered, numbered, unit_of}
 use Rattle.hall.proofs.Alike.{HaveOneStatus, with_others}
 use Rattle.hall.proofs.ByCall.{OfEach}
 use Rattle.hall.proofs.Claims.{held_for}
+use Rattle.hall.proofs.Frames.{drawn_condition}
 use Rattle.hall.proofs.Fresh.{open_unheard}
 use Rattle.hall.proofs.Heard.{apart_by, apart_by_status, marked_other, numbers_leave, recorded_open, recorded_other, status_in, status_marked}
 use Rattle.hall.proofs.LockLists.{allowed, asked_allows, converted_allows, filter_source}
+use Rattle.hall.proofs.OpenEntries.{first_held}
 use Rattle.hall.proofs.Owned.{every_at, every_by, may_be_readmitted, recorded_here, stored_firm, stored_owner}
 use Rattle.hall.proofs.OwnLocks.{IsOther, filter_all, halves_of_others, none_of_others, none_stay}
 use Rattle.hall.proofs.OwnLocks.{its_conversion, its_freed, its_freed_owner, its_granted, its_handed_over}
@@ -424,30 +428,37 @@ reopens-held : (s : State) (unit : UnitKey) (es : List Entry) → es ≡ freed_o
     → AllByRecursion HasGoodLocks s.stored.units → HoldsIn s → HoldsOpenUnits es (with_mark s.stored unit mark.Again1)
 reopens-held s unit es is good h = subst (λ xs. HoldsOpenUnits xs (with_mark s.stored unit mark.Again1)) (sym is) (reopened-held s.stored unit s.locks good h)
 
--- Each call keeps it.
-pub held_call : (found : Found) (s : State) → IsSteady s → HasSoundLocks s → HoldsOpenUnits s.locks s.stored
-    → OfEach (λ call v. HoldsOpenUnits (judged s v).state.locks (judged s v).state.stored) found s
+-- Each call that leaves a lock server keeps it.
+abbrev pub HoldsAfter : State → Call → Verdict → Type 0
+HoldsAfter s call v = (judged s v).state.condition ≡ Up → HoldsOpenUnits (judged s v).state.locks (judged s v).state.stored
+
+pub held_call : (found : Found) (s : State) → IsSteady s → HasSoundLocks s → (s.condition ≡ Up → HoldsOpenUnits s.locks s.stored) → OfEach (HoldsAfter s) found s
 held_call found s steady sound h = record {
-  refuses = λ call r plain. h;
-  enters = λ name user free. h;
-  logs_off = λ name x at. freed-held s x (open_unheard s name x at steady.fresh) h;
-  grants = λ name x rs locks at e. granted-held s x rs locks (open_unheard s name x at steady.fresh) e h;
-  lowers = λ name x rs at. lowered-held s x rs (open_unheard s name x at steady.fresh) h;
-  frees = λ name x at. freed-held s x (open_unheard s name x at steady.fresh) h;
-  converts = λ name x wanted c at e. converted-held s x wanted c (open_unheard s name x at steady.fresh) sound.stored e h;
-  draws = λ name x object nr r at can. drawn-held s x (present s.stored.levels r.interval) _ h;
-  reserves = λ name x object nr upto r at can. raised-held s.stored (present s.stored.levels r.interval) upto s.locks h;
-  reads = λ name x table key at. h;
-  commits_nothing = λ name x parts stock at. h;
-  commits_numbers = λ name x parts stock at. numbered-held s x (x.draws ++ stock) h;
-  commits = λ name x parts stock at.
-      let new = open_unheard s name x at steady.fresh in committed-held s x parts (x.draws ++ stock) new (steady.marked (unit_key s.stored.start x) new) h;
-  rolls_back = λ name x at. update-held s x s.locks (open_unheard s name x at steady.fresh) h;
-  takes = λ worker part unit free e. h;
-  posts = λ worker part unit e. posted-held part s.stored unit (found.part part unit) s.locks (held_for part s.stored (order_of s.orders worker) unit e).1 h;
-  drops = λ worker unit e. h;
-  cancels = λ unit status can. cancelled-held s.stored unit status s.locks can.recorded h;
-  reopens = λ unit es here stand.
-      reopens-held s unit es (readmitted_is (table_in s) (owners_of unit) (entries_of s.stored.units unit) es stand) sound.stored h;
-  reposts = λ unit here. unopened-held s.stored unit mark.Again2 BadSecond s.locks here (λ e. cc) again2-ends h;
+  refuses = λ call r plain up. h up;
+  enters = λ name user free up. h up;
+  logs_off = λ name x at up. freed-held s x (open_unheard s name x at steady.fresh) (h up);
+  grants = λ name x rs locks at e up. granted-held s x rs locks (open_unheard s name x at steady.fresh) e (h up);
+  lowers = λ name x rs at up. lowered-held s x rs (open_unheard s name x at steady.fresh) (h up);
+  frees = λ name x at up. freed-held s x (open_unheard s name x at steady.fresh) (h up);
+  converts = λ name x wanted c at e up. converted-held s x wanted c (open_unheard s name x at steady.fresh) sound.stored e (h up);
+  draws = λ name x object nr r at can up.
+      let i = present s.stored.levels r.interval in
+      let number = next_number r i x in
+      drawn-held s x i number (h (sym (drawn_condition s x i number) ∙ up));
+  reserves = λ name x object nr upto r at can up. raised-held s.stored (present s.stored.levels r.interval) upto s.locks (h up);
+  reads = λ name x table key at up. h up;
+  commits_nothing = λ name x parts stock at up. h up;
+  commits_numbers = λ name x parts stock at up. numbered-held s x (x.draws ++ stock) (h up);
+  commits = λ name x parts stock at up.
+      let new = open_unheard s name x at steady.fresh in committed-held s x parts (x.draws ++ stock) new (steady.marked (unit_key s.stored.start x) new) (h up);
+  rolls_back = λ name x at up. update-held s x s.locks (open_unheard s name x at steady.fresh) (h up);
+  takes = λ worker part unit free e up. h up;
+  posts = λ worker part unit e up. posted-held part s.stored unit (found.part part unit) s.locks (held_for part s.stored (order_of s.orders worker) unit e).1 (h up);
+  drops = λ worker unit e up. h up;
+  kills = λ was up. absurd (cc);
+  restarts = λ none up. first_held s.stored sound.stored;
+  cancels = λ unit status can up. cancelled-held s.stored unit status s.locks can.recorded (h up);
+  reopens = λ unit es here stand up.
+      reopens-held s unit es (readmitted_is (table_in s) (owners_of unit) (entries_of s.stored.units unit) es stand) sound.stored (h up);
+  reposts = λ unit here up. unopened-held s.stored unit mark.Again2 BadSecond s.locks here (λ e. cc) again2-ends (h up);
 }

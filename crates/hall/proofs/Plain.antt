@@ -5,11 +5,12 @@ use Rattle.enq_base.specs.declared.refusal.Refusal.TheVariants as refusal
 use Rattle.lock_entry.specs.declared.fault.AskFault.{AskFault}
 use Rattle.hall.specs.Step.{ask_refusal}
 
--- a refusal of a device, or for want of memory
+-- a refusal of a device, or of what one has, or for want of memory
 abbrev pub is_fault : Refusal → Bool
 is_fault refusal.NoMemory = true
 is_fault refusal.StoreFault = true
 is_fault refusal.BackupFault = true
+is_fault (refusal.Unsound found) = true
 is_fault _ = false
 
 abbrev pub IsPlain : Refusal → Type 0

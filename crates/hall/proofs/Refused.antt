@@ -19,7 +19,7 @@ use Rattle.posting.specs.Views.{open_locks}
 use Rattle.range_list.specs.Levels.{IsFirstUnfit}
 use Rattle.store_reading.specs.Good.{IsSound}
 use Rattle.update_records.specs.Ledger.{Ledger, Levels}
-use Rattle.hall.specs.Faults.{CountsFileFault, CountsHallFault, FreesUnlike, IsBadFile, IsFileFault, IsHallFault, IsLateFault, IsRangesFault, LeavesFile, LeavesFileOf, MayBeHallFault, OnBadStore, OnKept, OnStore, file_fault, hall_fault}
+use Rattle.hall.specs.Faults.{CountsFileFault, CountsHallFault, IsBadFile, IsFileFault, IsHallFault, IsLateFault, IsRangesFault, LeavesFile, LeavesFileOf, MayBeHallFault, OnBadStore, OnKept, OnStore, file_fault, hall_fault}
 use Rattle.hall.specs.declared.opening.HallFault.{HallFault}
 use Rattle.hall.specs.declared.opening.HallFault.TheVariants as hall
 use Rattle.std.specs.Prelude.{true, Result, Ok, Err, IfOk, IfErr, IsTrue}

@@ -7,7 +7,7 @@ use Rattle.posting.specs.declared.prepared.Outcome.{Outcome}
 use Rattle.posting.specs.declared.prepared.Outcome.TheVariants as outcome
 use Rattle.hall.specs.Acts.{IsAct}
 use Rattle.hall.specs.Calls.{Call, call_of}
-use Rattle.hall.specs.Devices.{DeviceOutcome, AllWell, Wanting, StoreFails, BackupFails, MayHappen, found_by, is_file_failure, is_store_failure, may_want, uses_file, uses_store}
+use Rattle.hall.specs.Devices.{DeviceOutcome, AllWell, Wanting, StoreFails, BackupFails, NotRemade, RemakeFault, MeetsWant, FindsBad, MayHappen, fault_told, found_by, is_file_failure, is_store_failure, may_want, uses_file, uses_store}
 use Rattle.hall.specs.Filing.{HasFileCause}
 use Rattle.hall.specs.History.{IsGiven, Served, is_row, is_unrecorded, judged, served, step}
 use Rattle.hall.specs.Leaving.{HasCounted, HasStoreCause}
@@ -81,15 +81,22 @@ answered found s = record {
   takes = λ worker part unit free e. plainly s _ _ _ (of_unit unit);
   posts = λ worker part unit e. plainly s _ _ _ (posted part unit (found.part part unit));
   drops = λ worker unit e. plainly s _ _ _ (of_unit unit);
+  kills = λ up. plainly s _ _ _ done;
+  restarts = λ none. plainly s _ _ _ done;
   cancels = λ unit status can. plainly s _ _ _ (of_unit unit);
   reopens = λ unit es here stand. plainly s _ _ _ (of_unit unit);
   reposts = λ unit here. plainly s _ _ _ (of_unit unit);
 }
 
-verdict_answered : (found : Found) (s : State) (call : Call) → IsAnswered s call (call_verdict found s call)
+pub verdict_answered : (found : Found) (s : State) (call : Call) → IsAnswered s call (call_verdict found s call)
 verdict_answered found s call = by_call (IsAnswered s) found s (answered found s) call
 
 -- ---- what a call is answered tells of its devices
+
+-- that no lock server was made anew is noted
+told_noted : (fault : RemakeFault) → is_unrecorded (reply.Refused (fault_told fault)) ≡ false
+told_noted MeetsWant = refl
+told_noted (FindsBad place) = refl
 
 -- a call that isn't noted changes nothing
 pub unnoted_same : (o : DeviceOutcome) (s : State) (c : Command) → is_unrecorded (served o s c).reply ≡ true → (served o s c).state ≡ s
@@ -99,6 +106,7 @@ unnoted_same o s c =
       | Wanting ↦ λ e. refl
       | StoreFails ↦ λ e. absurd (never false refl e)
       | BackupFails ↦ λ e. absurd (never false refl e)
+      | NotRemade fault ↦ λ e. absurd (never _ (told_noted fault) e)
     ]
 
 abbrev IsStoreFault : Reply → Type 0
@@ -113,6 +121,10 @@ not_wanting e = cc
 not_filing : IsStoreFault (reply.Refused refusal.BackupFault) → ⊥
 not_filing e = cc
 
+not_told : (fault : RemakeFault) → IsStoreFault (reply.Refused (fault_told fault)) → ⊥
+not_told MeetsWant e = cc
+not_told (FindsBad place) e = cc
+
 -- that the store failed is answered only in a call that uses it
 pub fault_uses_store : (s : State) (c : Command) (after : State) → IsAct s c after (reply.Refused refusal.StoreFault) → IsTrue (uses_store s (call_of c))
 fault_uses_store s c after act =
@@ -122,6 +134,7 @@ fault_uses_store s c after act =
       | Wanting ↦ λ may is. absurd (not_wanting is)
       | StoreFails ↦ λ may is. may.1
       | BackupFails ↦ λ may is. absurd (not_filing is)
+      | NotRemade fault ↦ λ may is. absurd (not_told fault is)
     ] act.possible.event (ap (λ (r : Served). r.reply) act.same)
 
 -- ---- the store's count of faults
@@ -130,6 +143,10 @@ plain_counts : (r : Reply) (f g : ℕ) → is_fault_reply r ≡ false → HasSto
 plain_counts (reply.Refused refusal.StoreFault) f g own h = absurd (cc)
 plain_counts _ f g own h = h
 
+told_counts : (fault : RemakeFault) (f g : ℕ) → HasStoreCause f g (reply.Refused (fault_told fault)) → g ≡ f
+told_counts MeetsWant f g h = h
+told_counts (FindsBad place) f g h = h
+
 served_counts : (o : DeviceOutcome) (s : State) (c : Command) (f g : ℕ) → HasStoreCause f g (served o s c).reply → HasCounted (is_store_failure o.event) f g
 served_counts o s c f g =
     elim o.event as (λ e. HasStoreCause f g (served (record { event = e; reading = o.reading }) s c).reply → HasCounted (is_store_failure e) f g) [
@@ -137,6 +154,7 @@ served_counts o s c f g =
       | Wanting ↦ λ h. h
       | StoreFails ↦ λ h. h
       | BackupFails ↦ λ h. h
+      | NotRemade fault ↦ told_counts fault f g
     ]
 
 -- it rises just in a call in which the store fails
@@ -150,6 +168,10 @@ plain_file_counts : (r : Reply) (f g : ℕ) → is_fault_reply r ≡ false → H
 plain_file_counts (reply.Refused refusal.BackupFault) f g own h = absurd (cc)
 plain_file_counts _ f g own h = h
 
+told_file_counts : (fault : RemakeFault) (f g : ℕ) → HasFileCause f g (reply.Refused (fault_told fault)) → g ≡ f
+told_file_counts MeetsWant f g h = h
+told_file_counts (FindsBad place) f g h = h
+
 served_file_counts : (o : DeviceOutcome) (s : State) (c : Command) (f g : ℕ) → HasFileCause f g (served o s c).reply → HasCounted (is_file_failure o.event) f g
 served_file_counts o s c f g =
     elim o.event as (λ e. HasFileCause f g (served (record { event = e; reading = o.reading }) s c).reply → HasCounted (is_file_failure e) f g) [
@@ -157,6 +179,7 @@ served_file_counts o s c f g =
       | Wanting ↦ λ h. h
       | StoreFails ↦ λ h. h
       | BackupFails ↦ λ h. h
+      | NotRemade fault ↦ told_file_counts fault f g
     ]
 
 -- it rises just in a call in which the disk fails
@@ -176,6 +199,10 @@ file_not_wanting e = cc
 file_not_storing : IsFileFault (reply.Refused refusal.StoreFault) → ⊥
 file_not_storing e = cc
 
+file_not_told : (fault : RemakeFault) → IsFileFault (reply.Refused (fault_told fault)) → ⊥
+file_not_told MeetsWant e = cc
+file_not_told (FindsBad place) e = cc
+
 -- that the disk failed is answered only in a call that uses the file
 pub fault_uses_file : (s : State) (c : Command) (after : State) → IsAct s c after (reply.Refused refusal.BackupFault) → IsTrue (uses_file s (call_of c))
 fault_uses_file s c after act =
@@ -185,6 +212,7 @@ fault_uses_file s c after act =
       | Wanting ↦ λ may is. absurd (file_not_wanting is)
       | StoreFails ↦ λ may is. absurd (file_not_storing is)
       | BackupFails ↦ λ may is. may.1
+      | NotRemade fault ↦ λ may is. absurd (file_not_told fault is)
     ] act.possible.event (ap (λ (r : Served). r.reply) act.same)
 
 -- ---- a text that can't be told twice
@@ -219,6 +247,7 @@ row_wanting s c after r row act =
       | Wanting ↦ λ same. absurd (never false refl (row_of _ _ same row))
       | StoreFails ↦ λ same. absurd (never false refl (row_of _ _ same row))
       | BackupFails ↦ λ same. absurd (never false refl (row_of _ _ same row))
+      | NotRemade fault ↦ λ same. absurd (never false refl (row_of _ _ same row))
     ] act.same
 
 -- the answer as it is given

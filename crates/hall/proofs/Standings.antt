@@ -1,371 +1,202 @@
--- The locks of a unit that was committed stand as long as it waits for its V1 part.
-use Rattle.std.proofs.Common.{◌⊎◌, inl, inr, ◌≤◌, ◌≡◌, ◌≢◌, ℕ, ◌+◌, Bool, true, false, not, ◌&&◌, List, [], ◌∷◌, ◌++◌, refl, sym, ap, ◌∙◌, subst}
-use Rattle.std.specs.Prelude.{Contains, if◌then◌else◌, nat_eq, nat_le, Option, Some, None, Ok}
-use Rattle.std.specs.List.{AllByRecursion, list_all}
-use Rattle.std.proofs.lemmas.Bool.{and_from, or_parts}
-use Rattle.std.proofs.lemmas.List.Folds.{list_all-append}
+-- A unit that was committed waits for its V1 part with its locks until a call ends that, and while there is a lock server they
+-- stand.
+use Rattle.std.proofs.Common.{◌≡◌, ◌≢◌, ℕ, ◌+◌, ◌≤◌, Bool, true, false, List, [], ◌∷◌, ◌++◌, refl, sym, ap, ◌∙◌, subst}
+use Rattle.std.specs.Prelude.{Contains, if◌then◌else◌, nat_eq, nat_le, Some, None}
+use Rattle.std.proofs.lemmas.Bool.{or_parts}
 use Rattle.std.proofs.lemmas.List.Sums.{fold-append}
 use Rattle.enq_base.specs.Owners.{same_owner, same_unit}
+use Rattle.enq_base.specs.declared.condition.Condition.{Condition}
 use Rattle.enq_base.specs.declared.condition.Condition.TheVariants as condition
 use Rattle.enq_base.specs.declared.owner.Owner.TheVariants.{Upd}
 use Rattle.enq_base.specs.declared.owner.UnitKey.{UnitKey}
-use Rattle.enq_base.specs.declared.condition.Condition.{Condition}
 use Rattle.enq_base.specs.declared.refusal.Refusal.{Refusal}
 use Rattle.enq_base.specs.declared.refusal.Refusal.TheVariants as refusal
+use Rattle.enq_base.specs.declared.unit.Num.{Num}
 use Rattle.enq_base.specs.declared.unit.Parts.{Parts}
 use Rattle.enq_base.specs.declared.unit.Status.{Status}
-use Rattle.enq_base.specs.declared.unit.Status.TheVariants.{Open, Posted, Bad, Closed, Bad2 as BadSecond, Cancelled}
-use Rattle.lock_entry.proofs.Lists.{list_all-weaken}
+use Rattle.enq_base.specs.declared.unit.Status.TheVariants.{Open, Posted, Bad, Bad2 as BadSecond}
 use Rattle.lock_entry.proofs.Naming.{same_mode-same, same_owner-refl}
 use Rattle.lock_entry.specs.declared.entry.Entry.{Entry}
-use Rattle.lock_entry.specs.declared.entry.Asked.{Asked}
-use Rattle.lock_entry.specs.declared.entry.Request.{Request}
-use Rattle.lock_entry.specs.Converting.{Conversion, converted}
-use Rattle.lock_entry.specs.Freeing.{freed_owner, handed_over}
-use Rattle.lock_entry.specs.Granting.{asked}
-use Rattle.lock_entry.specs.Names.{halves, is_of}
-use Rattle.lock_entry.specs.Pairs.{in_pair}
+use Rattle.lock_entry.specs.Freeing.{handed_over}
+use Rattle.lock_entry.specs.Names.{is_of}
 use Rattle.mode_rules.specs.declared.Mode.TheVariants.{O}
 use Rattle.mode_rules.specs.Modes.{same_mode}
-use Rattle.update_records.proofs.Status.{flip, one_unit, status_push, unit_refl}
+use Rattle.number_ranges.specs.Intervals.{block_level, is_buffered, with_level}
+use Rattle.number_ranges.specs.declared.interval.Interval.{Interval}
+use Rattle.posting.specs.Intervals.{with_intervals}
 use Rattle.posting.specs.Posts.{WaitsFor, entries_of, kind_for}
-use Rattle.posting.specs.Steps.{IsOpenUnit, IsPostedUnit}
-use Rattle.update_records.specs.Growing.{next_mark, with_mark, with_unit}
-use Rattle.update_records.specs.Ledger.{Ledger}
-use Rattle.update_records.specs.Marks.{given, has_no_v2, status_after}
-use Rattle.update_records.specs.declared.records.MarkKind.{MarkKind}
-use Rattle.update_records.specs.declared.records.MarkKind.TheVariants as mark
-use Rattle.update_records.specs.declared.records.Unit.{Unit as UnitOfWork}
+use Rattle.posting.specs.Steps.{IsOpenUnit}
 use Rattle.posting.specs.declared.prepared.Outcome.{Outcome}
 use Rattle.posting.specs.declared.prepared.Outcome.TheVariants as outcome
+use Rattle.range_list.specs.Drawn.{handed_out, num_of, stored_as}
+use Rattle.range_list.specs.Levels.{present}
+use Rattle.update_records.proofs.Status.{flip}
+use Rattle.update_records.specs.Growing.{with_mark}
+use Rattle.update_records.specs.Ledger.{Ledger}
+use Rattle.update_records.specs.declared.records.MarkKind.{MarkKind}
+use Rattle.update_records.specs.declared.records.MarkKind.TheVariants as mark
 use Rattle.hall.specs.declared.command.Reply.{Reply}
 use Rattle.hall.specs.declared.command.Reply.TheVariants as reply
 use Rattle.hall.specs.declared.command.Session.{Session}
-use Rattle.hall.specs.Calls.{Call, LogsOn, OfSession, OfWorker, OfAdmin, Cancels, Resubmits, call_of, wants_server}
+use Rattle.hall.specs.Calls.{Call, LogsOn, OfSession, OfWorker, OfAdmin, Kills, Restarts, Cancels, Resubmits, call_of, is_of_server, restarts, wants_server}
 use Rattle.hall.specs.Calls.{LogsOff, Asks, Frees, FreesAll, Converts, Draws, Reserves, Reads, Commits, RollsBack}
-use Rattle.hall.specs.History.{Served, doubted, judged, served, unfiled}
-use Rattle.hall.specs.Kept.{HasGoodLocks, HasSoundLocks, IsOwned, IsSteady, is_firm}
-use Rattle.hall.specs.Orders.{order_of, without_order}
+use Rattle.hall.specs.Devices.{AllWell, Wanting, StoreFails, BackupFails, NotRemade, MayHappen, found_by}
+use Rattle.hall.specs.History.{Served, ends_in, judged, served}
+use Rattle.hall.specs.Kept.{HasOpenUnits, HasSoundLocks, IsSteady}
+use Rattle.hall.specs.Numbers.{from_memory, next_number, raised_to, stocked}
+use Rattle.hall.specs.OpenUnits.{HoldsOpenUnits}
+use Rattle.hall.specs.Orders.{order_of}
 use Rattle.hall.specs.Recall.{AreModelAnswers, IsModelAnswer, Made, StaysSound, again, recalled, state_after}
-use Rattle.hall.specs.Sessions.{owners_of, pair_of, unit_key, with_draw, with_session}
-use Rattle.hall.specs.Standing.{CallKeepsLocks, CallsKeepLocks, HandsOver, IsCommitOf, IsFirm, IsHandedTo, IsResubmissionOf, LocksAreBack, LocksReturn, LocksStand, NoneEndsWait, ReturnsLocked, StillWaits, WaitsLocked, WasFirm, ends_wait, is_commit, is_resubmission_of, with_handed}
-use Rattle.hall.specs.Numbers.{drawn, raised_to, stocked}
-use Rattle.range_list.specs.Drawn.{handed_out}
+use Rattle.hall.specs.Sessions.{unit_key, with_draw, with_session}
+use Rattle.hall.specs.Standing.{FirmAreHanded, IsCommitOf, IsFirm, LocksReturn, LocksStand, ReturnsLocked, StillWaits, WaitsLocked}
+use Rattle.hall.specs.Standing.{NoneEndsWait, NoneOfServer, ends_wait, is_commit, with_handed}
 use Rattle.hall.specs.State.{State, opened}
-use Rattle.enq_base.specs.declared.unit.Num.{Num}
-use Rattle.number_ranges.specs.Intervals.{block_level, is_buffered, with_level}
-use Rattle.posting.specs.Intervals.{with_intervals}
-use Rattle.range_list.specs.Drawn.{num_of, stored_as}
-use Rattle.range_list.specs.Levels.{present}
-use Rattle.hall.specs.Step.{Found, Leaves, call_verdict, cancelled, caller_refusal, committed, freed_all, is_full, lowered, or_else, locks_without, marked, numbered, own_verdict, posted_reply, reopened, reposted, rolled_back, server_refusal, unit_of, unless_refused}
-use Rattle.hall.proofs.Beginning.{AgreeWith, IsFirst, first_stored}
-use Rattle.hall.proofs.FirstState.{IsFirstTable, first_few, first_sound, first_steady, first_sure}
-use Rattle.number_ranges.specs.declared.interval.Interval.{Interval}
+use Rattle.hall.specs.Step.{Found, call_verdict, caller_refusal, is_full, or_else, own_verdict, server_refusal, unless_refused}
+use Rattle.hall.specs.Step.{committed, numbered, posted_reply, unit_of}
+use Rattle.hall.proofs.Beginning.{AgreeWith, IsFirst}
 use Rattle.hall.proofs.ByCall.{OfEach, by_call, by_event}
 use Rattle.hall.proofs.Claims.{held_for}
 use Rattle.hall.proofs.Fair.{step-sound}
 use Rattle.hall.proofs.Few.{Holds, served-holds, with_past}
-use Rattle.hall.proofs.Frames.{by_noting, in_doubt}
+use Rattle.hall.proofs.FirstState.{IsFirstTable, first_few, first_open, first_sound, first_steady}
+use Rattle.hall.proofs.Frames.{by_noting, in_doubt, verdict_condition}
 use Rattle.hall.proofs.Fresh.{open_unheard}
-use Rattle.hall.proofs.Heard.{EndsFirst, apart_by, apart_by_status, apart_from_ended, apart_from_open, marked_other, numbers_leave, recorded_open, status_in, status_marked}
-use Rattle.hall.proofs.LockLists.{Among, allowed, AreSure, IsOutside, all_among, among_from, asked_allows, contains_from, converted_allows, handed_source, hands_over, is_sure, kept_both, kept_conversion, kept_freed, kept_granted, kept_handed, kept_left, kept_right, kept_unit, kept_update, sure_conversion, sure_freed, sure_freed_owner, sure_granted, sure_handed_over, unnamed}
-use Rattle.hall.proofs.Owned.{none_held, stored_firm, stored_owner}
+use Rattle.hall.proofs.Heard.{apart_by, apart_by_status, marked_other, numbers_leave, recorded_open, status_in}
+use Rattle.hall.proofs.LockLists.{Among, among_from, contains_from, filter_source, hands_over, kept_filter}
+use Rattle.hall.proofs.OpenKept.{holds_up, served-open, while_up}
+use Rattle.hall.proofs.OpenMarks.{entries_beside}
+use Rattle.hall.proofs.Owned.{recorded_here}
 use Rattle.hall.proofs.Recalls.{AnswersFrom, answers_before, answers_behind}
-use Rattle.hall.proofs.Resubmissions.{readmitted_is, table_in}
 use Rattle.hall.proofs.WithoutServer.{unserved}
 
--- the same as `KeepsHanded`, by recursion over the locks
-abbrev KeepsAmong : State → State → Type 0
-KeepsAmong s t = (unit : UnitKey) (e : Entry) → IsHandedTo unit e → StillWaits unit t → Among s.locks e → Among t.locks e
+-- What a call leaves of the units that wait, by its answer: a unit whose wait it doesn't end waits with the same stored locks.
+record Stands (c : Call) (before : Ledger) (r : Reply) (after : Ledger) : Type 0 where
+  waits : (unit : UnitKey) → ends_wait unit c r ≡ false → IsOpenUnit before unit → IsOpenUnit after unit
+  same : (unit : UnitKey) → ends_wait unit c r ≡ false → IsOpenUnit before unit → entries_of after.units unit ≡ entries_of before.units unit
 
--- all that is wanted of a call, by the state behind it and its answer
-record Stands (c : Call) (s : State) (r : Served) : Type 0 where
-  -- no optimistic lock is handed
-  sure : AreSure s.locks → AreSure r.state.locks
-  kept : AreSure s.locks → KeepsAmong s r.state
-  waits : (unit : UnitKey) → ends_wait unit c r.reply ≡ false → StillWaits unit s → StillWaits unit r.state
-
-stands_still : {c : Call} (s : State) (r : Reply) → Stands c s (record { state = s; reply = r })
-stands_still s r = record { sure = λ h. h; kept = λ h unit e own waits k. k; waits = λ unit on w. w }
-
--- other locks, over the ledger as it was
-stands_over : {c : Call} (s t : State) (r : Reply) → t.condition ≡ s.condition → t.stored ≡ s.stored → (AreSure s.locks → AreSure t.locks) → ((unit : UnitKey) (e : Entry) → AreSure s.locks → IsHandedTo unit e → IsOpenUnit s.stored unit → Among s.locks e → Among t.locks e) → Stands c s (record { state = t; reply = r })
-stands_over s t r up l sure kept = record {
-  sure = sure;
-  kept = λ h unit e own w k. kept unit e h own (subst (λ x. IsOpenUnit x unit) l w.waits) k;
-  waits = λ unit on w. record { up = up ∙ w.up; waits = subst (λ x. IsOpenUnit x unit) (sym l) w.waits };
-}
-
--- neither locks nor ledger change
-stands_beside : {c : Call} (s t : State) (r : Reply) → t.condition ≡ s.condition → t.stored ≡ s.stored → t.locks ≡ s.locks → Stands c s (record { state = t; reply = r })
-stands_beside s t r up l locks =
-    stands_over s t r up l (λ h. subst AreSure (sym locks) h) (λ unit e h own waits k. subst (λ es. Among es e) (sym locks) k)
+stands_still : {c : Call} (ledger : Ledger) (r : Reply) → Stands c ledger r ledger
+stands_still ledger r = record { waits = λ unit on w. w; same = λ unit on w. refl }
 
 -- ---- calls of a session
 
--- nothing is recorded of the session's open unit
-abbrev IsNew : State → Session → Type 0
-IsNew s x = status_in s.stored (unit_key s.stored.start x) ≡ None
-
--- a lock of a unit that waits belongs to no owner of the session's pair
-outside : (s : State) (x : Session) (unit : UnitKey) (e : Entry) → IsNew s x → IsOpenUnit s.stored unit → IsHandedTo unit e → IsOutside (pair_of s.stored.start x) e
-outside s x unit e new waits own =
-    ap (in_pair (pair_of s.stored.start x)) own.owner ∙ apart_by_status s.stored unit (unit_key s.stored.start x) Open waits new
-
-second_no : (b c : Bool) → b ≡ true → not (b && c) ≡ true → c ≡ false
-second_no true true h k = cc
-second_no true false h k = refl
-second_no false c h k = cc
-
--- a lock that is handed isn't optimistic
-firm_of : (es : List Entry) (e : Entry) → AreSure es → Among es e → e.handed ≡ true → same_mode e.mode O ≡ false
-firm_of es e h k handed = second_no e.handed (same_mode e.mode O) handed (all_among is_sure es e h k)
-
-granted-stands : {c : Call} (s : State) (x : Session) (rs : List Request) (locks : List Entry) → IsNew s x → asked (table_in s) (pair_of s.stored.start x) x.user rs ≡ Ok locks → Stands c s (record { state = record s { locks = locks }; reply = reply.Done })
-granted-stands {c} s x rs locks new e =
-    let pair = pair_of s.stored.start x in
-    let Q : List Entry → Type 0 = λ es. Stands c s (record { state = record s { locks = es }; reply = reply.Done }) in
-    allowed Q _ locks
-    (asked_allows Q (table_in s) pair x.user rs
-    (stands_over s _ _ refl refl
-    (λ h. sure_granted s.locks x.user (halves pair rs) h)
-    (λ unit e h own waits k. kept_granted s.locks x.user (halves pair rs) e (unnamed pair rs e (outside s x unit e new waits own)) k))) e
-
-converted-stands : {c : Call} (s : State) (x : Session) (wanted : List Asked) (turned : Conversion) → IsNew s x → converted s.locks (pair_of s.stored.start x) wanted ≡ Ok turned → Stands c s (record { state = record s { locks = turned.entries }; reply = reply.Done })
-converted-stands {c} s x wanted turned new e =
-    let pair = pair_of s.stored.start x in
-    let Q : Conversion → Type 0 = λ t. Stands c s (record { state = record s { locks = t.entries }; reply = reply.Done }) in
-    allowed Q _ turned
-    (converted_allows Q s.locks pair wanted
-    (stands_over s _ _ refl refl
-    (λ h. sure_conversion s.locks pair wanted h)
-    (λ unit e h own waits k. kept_conversion s.locks pair wanted e (outside s x unit e new waits own) (firm_of s.locks e h k own.handed) k))) e
-
-committed-stands : {c : Call} (s : State) (x : Session) (parts : Parts) (numbers : List Num) (r : Reply) → IsNew s x → Stands c s (record { state = committed s x parts numbers; reply = r })
+committed-stands : {c : Call} (s : State) (x : Session) (parts : Parts) (numbers : List Num) (r : Reply) → status_in s.stored (unit_key s.stored.start x) ≡ None
+    → Stands c s.stored r (committed s x parts numbers).stored
 committed-stands s x parts numbers r new =
     let key = unit_key s.stored.start x in
+    let unit = unit_of s.stored.start s.locks x parts numbers in
     record {
-      sure = λ h. sure_handed_over s.locks key h;
-      kept = λ h u e own w k. kept_handed s.locks key e own.handed (firm_of s.locks e h k own.handed) k;
-      waits = λ u on w. record { up = w.up; waits = recorded_open s.stored (unit_of s.stored.start s.locks x parts numbers) u new w.waits };
+      waits = λ u on w. recorded_open s.stored unit u new w;
+      same = λ u on w. entries_beside s.stored unit u (flip key u (apart_by_status s.stored u key Open w new));
     }
-
-lowered-stands : {c : Call} (s : State) (x : Session) (rs : List Request) → IsNew s x → Stands c s (judged s (Leaves (lowered s x rs) reply.Done))
-lowered-stands s x rs new =
-    let pair = pair_of s.stored.start x in
-    stands_over s _ _ refl refl
-    (λ h. sure_freed s.locks (halves pair rs) h)
-    (λ unit e h own waits k. kept_freed s.locks (halves pair rs) e (unnamed pair rs e (outside s x unit e new waits own)) k)
-
-freed-stands : {c : Call} (s t : State) (x : Session) (r : Reply) → t.condition ≡ s.condition → t.stored ≡ s.stored → t.locks ≡ (freed_all s x).locks → IsNew s x → Stands c s (record { state = t; reply = r })
-freed-stands s t x r up l locks new =
-    let pair = pair_of s.stored.start x in
-    stands_over s t r up l
-    (λ h. subst AreSure (sym locks) (sure_freed_owner (freed_owner s.locks pair.dialogue) pair.update (sure_freed_owner s.locks pair.dialogue h)))
-    (λ unit e h own waits k. subst (λ es. Among es e) (sym locks) (kept_both s.locks pair e (outside s x unit e new waits own) k))
-
-rolled-stands : {c : Call} (s : State) (x : Session) → IsNew s x → Stands c s (judged s (Leaves (rolled_back s x) reply.Done))
-rolled-stands s x new =
-    let pair = pair_of s.stored.start x in
-    stands_over s _ _ refl refl
-    (λ h. sure_freed_owner s.locks pair.update h)
-    (λ unit e h own waits k. kept_update s.locks pair e (outside s x unit e new waits own) k)
 
 -- numbers that are recorded alone leave the units that wait
-numbered-stands : {c : Call} (s : State) (x : Session) (numbers : List Num) (r : Reply) → IsNew s x → Stands c s (record { state = numbered s x numbers; reply = r })
-numbered-stands s x numbers r new = record {
-  sure = λ h. h;
-  kept = λ h u e own w k. k;
-  waits = λ u on w. record { up = w.up; waits = numbers_leave s.stored (unit_key s.stored.start x) u numbers ∙ w.waits };
+numbered-stands : {c : Call} (s : State) (x : Session) (numbers : List Num) (r : Reply) → Stands c s.stored r (numbered s x numbers).stored
+numbered-stands s x numbers r = record {
+  waits = λ u on w. numbers_leave s.stored (unit_key s.stored.start x) u numbers ∙ w;
+  same = λ u on w. refl;
 }
 
--- a level that is raised leaves locks and units
-raised-stands : {c : Call} (s : State) (i : Interval) (upto : ℕ) (r : Reply) → Stands c s (record { state = record s { stored = raised_to i upto s.stored }; reply = r })
-raised-stands {c} s i upto r =
-    elim (nat_le upto i.level) as (λ b. Stands c s (record { state = record s { stored = if b then s.stored else with_intervals (stored_as (with_level (block_level i upto) i) ∷ []) s.stored }; reply = r })) [
-      | true ↦ record { sure = λ h. h; kept = λ h u e own w k. k; waits = λ u on w. w }
-      | false ↦ record { sure = λ h. h; kept = λ h u e own w k. k; waits = λ u on w. record { up = w.up; waits = w.waits } }
+-- and so does a level that is raised
+raised-stands : {c : Call} (ledger : Ledger) (i : Interval) (upto : ℕ) (r : Reply) → Stands c ledger r (raised_to i upto ledger)
+raised-stands {c} ledger i upto r =
+    elim (nat_le upto i.level) as (λ b. Stands c ledger r (if b then ledger else with_intervals (stored_as (with_level (block_level i upto) i) ∷ []) ledger)) [
+      | true ↦ stands_still ledger r
+      | false ↦ record { waits = λ u on w. w; same = λ u on w. refl }
     ]
 
-drawn-stands : {c : Call} (s : State) (x : Session) (i : Interval) (number : ℕ) (r : Reply) → Stands c s (record { state = drawn s x i number; reply = r })
-drawn-stands {c} s x i number r =
-    let t : State = record s { sessions = with_session x.name (with_draw (num_of i number)) s.sessions } in
-    elim (is_buffered i) as (λ b. Stands c s (record { state = if b then record t { ranges = handed_out i t.ranges; stored = raised_to i number t.stored } else t; reply = r })) [
-      | true ↦ let k = raised-stands {c = c} s i number r in record {
-        sure = λ h. k.sure h;
-        kept = λ h u e own w on. on;
-        waits = λ u on w. let now = k.waits u on w in record { up = now.up; waits = now.waits };
-      }
-      | false ↦ stands_beside s t r refl refl refl
+drawn-stands : {c : Call} (i : Interval) (number : ℕ) (s : State) (r : Reply) → Stands c s.stored r (from_memory i number s).stored
+drawn-stands {c} i number s r =
+    elim (is_buffered i) as (λ b. Stands c s.stored r (if b then record s { ranges = handed_out i s.ranges; stored = raised_to i number s.stored } else s).stored) [
+      | true ↦ raised-stands s.stored i number r
+      | false ↦ stands_still s.stored r
     ]
 
--- ---- calls of a worker
+-- ---- marks
 
-v1-ends : EndsFirst mark.V1
-v1-ends true before h = cc
-v1-ends false before h = cc
-
-by_unit : (P : Type 0) (key other : UnitKey) → (key ≡ other → P) → (same_unit key other ≡ false → P) → P
-by_unit P key other f g =
-    elim (same_unit key other) as (λ b. same_unit key other ≡ b → P) [ true ↦ λ same. f (one_unit key other same) | false ↦ λ apart. g apart ] refl
-
-marked-stands : {c : Call} (s : State) (worker : ℕ) (unit : UnitKey) (kind : MarkKind) (r : Reply) → EndsFirst kind → ((u : UnitKey) → ends_wait u c r ≡ same_unit unit u) → Stands c s (record { state = marked 1 s worker unit kind; reply = r })
-marked-stands s worker unit kind r ends told = record {
-  sure = λ h. sure_freed_owner s.locks (Upd unit) h;
-  kept = λ h u e own w k. kept_unit s.locks u unit e own.owner (flip u unit (apart_from_ended s.stored unit u kind ends w.waits)) k;
-  waits = λ u on w. record { up = w.up; waits = marked_other s.stored unit u kind (sym (told u) ∙ on) ∙ w.waits };
+-- the answer names the one unit whose wait ends
+marked-stands : {c : Call} (ledger : Ledger) (unit : UnitKey) (kind : MarkKind) (r : Reply) → ((u : UnitKey) → ends_wait u c r ≡ same_unit unit u)
+    → Stands c ledger r (with_mark ledger unit kind)
+marked-stands ledger unit kind r told = record {
+  waits = λ u on w. marked_other ledger unit u kind (sym (told u) ∙ on) ∙ w;
+  same = λ u on w. refl;
 }
 
--- a V2 part leaves the locks, and the units that wait for their V1 part
-closed-stands : {c : Call} (s : State) (worker : ℕ) (unit : UnitKey) (kind : MarkKind) (r : Reply) → IsPostedUnit s.stored unit → Stands c s (record { state = marked 2 s worker unit kind; reply = r })
-closed-stands s worker unit kind r posted = record {
-  sure = λ h. h;
-  kept = λ h u e own w k. k;
-  waits = λ u on w. record { up = w.up; waits = marked_other s.stored unit u kind (apart_from_open s.stored unit u posted w.waits) ∙ w.waits };
+-- a mark of a unit that doesn't wait
+beside-stands : {c : Call} (ledger : Ledger) (unit : UnitKey) (kind : MarkKind) (status : Status) (r : Reply)
+    → status_in ledger unit ≡ Some status → (status ≡ Open → ⊥) → Stands c ledger r (with_mark ledger unit kind)
+beside-stands ledger unit kind status r here differs = record {
+  waits = λ u on w. marked_other ledger unit u kind (apart_by ledger unit u status Open here w differs) ∙ w;
+  same = λ u on w. refl;
 }
 
-abbrev marked_by : Bool → State → ℕ → UnitKey → MarkKind → MarkKind → State
-marked_by first s worker unit one two =
-    record s {
-      orders = without_order s.orders worker;
-      locks = if first then freed_owner s.locks (Upd unit) else s.locks;
-      stored = with_mark s.stored unit (if first then one else two);
-    }
-
-abbrev StandsBy : Call → State → ℕ → UnitKey → MarkKind → MarkKind → Reply → Reply → Bool → Type 0
-StandsBy c s worker unit one two r q first =
-    status_in s.stored unit ≡ Some (if first then Open else Posted)
-    → Stands c s (record { state = marked_by first s worker unit one two; reply = if first then r else q })
+abbrev StandsBy : Call → Ledger → UnitKey → MarkKind → MarkKind → Reply → Reply → Bool → Type 0
+StandsBy c ledger unit one two r q first =
+    status_in ledger unit ≡ Some (if first then Open else Posted)
+    → Stands c ledger (if first then r else q) (with_mark ledger unit (if first then one else two))
 
 -- a part, V1 or else V2, of a unit that waits for it
-posted-stands : {c : Call} (part : ℕ) (s : State) (worker : ℕ) (unit : UnitKey) (o : Outcome) → WaitsFor part s.stored unit → Stands c s (record { state = marked part s worker unit (kind_for part o); reply = posted_reply part unit o })
-posted-stands {c} part s worker unit outcome.Done waits =
-    elim (nat_eq part 1) as (StandsBy c s worker unit mark.V1 mark.V2 (reply.Posted unit) (reply.Closed unit)) [
-      | true ↦ λ w. marked-stands s worker unit mark.V1 (reply.Posted unit) v1-ends (λ u. refl)
-      | false ↦ λ w. closed-stands s worker unit mark.V2 (reply.Closed unit) w
+posted-stands : {c : Call} (part : ℕ) (ledger : Ledger) (unit : UnitKey) (o : Outcome) → WaitsFor part ledger unit
+    → Stands c ledger (posted_reply part unit o) (with_mark ledger unit (kind_for part o))
+posted-stands {c} part ledger unit outcome.Done waits =
+    elim (nat_eq part 1) as (StandsBy c ledger unit mark.V1 mark.V2 (reply.Posted unit) (reply.Closed unit)) [
+      | true ↦ λ w. marked-stands ledger unit mark.V1 (reply.Posted unit) (λ u. refl)
+      | false ↦ λ w. beside-stands ledger unit mark.V2 Posted (reply.Closed unit) w (λ e. cc)
     ] waits
-posted-stands {c} part s worker unit (outcome.Refused index reason) waits =
-    elim (nat_eq part 1) as (StandsBy c s worker unit (mark.Bad1 index reason) (mark.Bad2 index reason) (reply.Bad unit index reason) (reply.Bad2 unit index reason)) [
-      | true ↦ λ w. marked-stands s worker unit (mark.Bad1 index reason) (reply.Bad unit index reason) (λ b before h. cc) (λ u. refl)
-      | false ↦ λ w. closed-stands s worker unit (mark.Bad2 index reason) (reply.Bad2 unit index reason) w
+posted-stands {c} part ledger unit (outcome.Refused index reason) waits =
+    elim (nat_eq part 1) as (StandsBy c ledger unit (mark.Bad1 index reason) (mark.Bad2 index reason) (reply.Bad unit index reason) (reply.Bad2 unit index reason)) [
+      | true ↦ λ w. marked-stands ledger unit (mark.Bad1 index reason) (reply.Bad unit index reason) (λ u. refl)
+      | false ↦ λ w. beside-stands ledger unit (mark.Bad2 index reason) Posted (reply.Bad2 unit index reason) w (λ e. cc)
     ] waits
-
--- ---- cancelling
-
-sure_without : (s : State) (unit : UnitKey) (status : Status) → AreSure s.locks → AreSure (locks_without status s.locks unit)
-sure_without s unit Open h = sure_freed_owner s.locks (Upd unit) h
-sure_without s unit Posted h = h
-sure_without s unit Bad h = h
-sure_without s unit Closed h = h
-sure_without s unit BadSecond h = h
-sure_without s unit Cancelled h = h
-
--- the locks of another unit stay
-kept_without : (s : State) (unit u : UnitKey) (status : Status) (e : Entry) → e.owner ≡ Upd u → same_unit u unit ≡ false → Among s.locks e → Among (locks_without status s.locks unit) e
-kept_without s unit u Open e own apart k = kept_unit s.locks u unit e own apart k
-kept_without s unit u Posted e own apart k = k
-kept_without s unit u Bad e own apart k = k
-kept_without s unit u Closed e own apart k = k
-kept_without s unit u BadSecond e own apart k = k
-kept_without s unit u Cancelled e own apart k = k
-
-cancelled-stands : (s : State) (unit : UnitKey) (status : Status) → Stands (OfAdmin (Cancels unit)) s (record { state = cancelled s unit status; reply = reply.Unit unit })
-cancelled-stands s unit status = record {
-  sure = λ h. sure_without s unit status h;
-  kept = λ h u e own w k. kept_without s unit u status e own.owner (flip u unit (apart_from_ended s.stored unit u mark.Gone (λ b before e. cc) w.waits)) k;
-  waits = λ u on w. record { up = w.up; waits = marked_other s.stored unit u mark.Gone on ∙ w.waits };
-}
-
--- ---- trying again
-
-firm_apart : (a b : Bool) → (a && not b) ≡ true → (a && b) ≡ false
-firm_apart true true h = cc
-firm_apart true false h = refl
-firm_apart false b h = refl
-
-firm_is_sure : (e : Entry) → is_firm e ≡ true → is_sure e ≡ true
-firm_is_sure e h = ap not (firm_apart e.handed (same_mode e.mode O) h)
-
-reopened-stands : (s : State) (unit : UnitKey) (es : List Entry) → status_in s.stored unit ≡ Some Bad → es ≡ freed_owner s.locks (Upd unit) ++ entries_of s.stored.units unit → IsOwned s.stored s.next_session s.sessions s.locks → AllByRecursion HasGoodLocks s.stored.units
-    → Stands (OfAdmin (Resubmits unit)) s (record { state = reopened s unit es; reply = reply.Unit unit })
-reopened-stands s unit es here is owned good =
-    let others = freed_owner s.locks (Upd unit) in
-    let given = entries_of s.stored.units unit in
-    record {
-      sure = λ h. subst AreSure (sym is)
-          (list_all-append is_sure others given ∙ and_from (list_all is_sure others) (list_all is_sure given) (sure_freed_owner s.locks (Upd unit) h) (list_all-weaken is_firm is_sure firm_is_sure given (stored_firm s.stored.units unit good)));
-      kept = λ h u e own w k. by_unit _ unit u
-          (λ same. absurd (none_held s.stored s.next_session s.sessions s.locks unit Bad here refl owned e k (own.owner ∙ ap Upd (sym same))))
-          (λ apart. subst (λ xs. Among xs e) (sym is) (kept_left others given e (kept_unit s.locks u unit e own.owner (flip u unit apart) k)));
-      waits = λ u on w. record { up = w.up; waits = marked_other s.stored unit u mark.Again1 (apart_by s.stored unit u Bad Open here w.waits (λ e. cc)) ∙ w.waits };
-    }
-
-reposted-stands : (s : State) (unit : UnitKey) → status_in s.stored unit ≡ Some BadSecond → Stands (OfAdmin (Resubmits unit)) s (record { state = reposted s unit; reply = reply.Unit unit })
-reposted-stands s unit here = record {
-  sure = λ h. h;
-  kept = λ h u e own w k. k;
-  waits = λ u on w. record { up = w.up; waits = marked_other s.stored unit u mark.Again2 (apart_by s.stored unit u BadSecond Open here w.waits (λ e. cc)) ∙ w.waits };
-}
 
 -- ---- all calls
 
--- what memory hands out is no part of that
-stocked-stands : {c : Call} (stock : List Num) (s t : State) (r : Reply) → Stands c s (record { state = t; reply = r }) → Stands c s (record { state = stocked stock t; reply = r })
-stocked-stands stock s t r h = record {
-  sure = λ k. h.sure k;
-  kept = λ sure unit e own w k. h.kept sure unit e own (record { up = w.up; waits = w.waits }) k;
-  waits = λ unit on w. let now = h.waits unit on w in record { up = now.up; waits = now.waits };
+abbrev StandsIn : State → Call → Served → Type 0
+StandsIn s call r = Stands call s.stored r.reply r.state.stored
+
+each-stands : (found : Found) (s : State) → IsSteady s → OfEach (λ call v. StandsIn s call (judged s v)) found s
+each-stands found s steady = record {
+  refuses = λ call r plain. stands_still s.stored _;
+  enters = λ name user free. stands_still s.stored _;
+  logs_off = λ name x at. stands_still s.stored _;
+  grants = λ name x rs locks at e. stands_still s.stored _;
+  lowers = λ name x rs at. stands_still s.stored _;
+  frees = λ name x at. stands_still s.stored _;
+  converts = λ name x wanted turned at e. stands_still s.stored _;
+  draws = λ name x object nr r at can.
+      let i = present s.stored.levels r.interval in
+      let number = next_number r i x in
+      drawn-stands i number (record s { sessions = with_session x.name (with_draw (num_of i number)) s.sessions }) _;
+  reserves = λ name x object nr upto r at can. raised-stands s.stored (present s.stored.levels r.interval) upto _;
+  reads = λ name x table key at. stands_still s.stored _;
+  commits_nothing = λ name x parts stock at. stands_still s.stored _;
+  commits_numbers = λ name x parts stock at. numbered-stands s x (x.draws ++ stock) _;
+  commits = λ name x parts stock at. committed-stands s x parts (x.draws ++ stock) _ (open_unheard s name x at steady.fresh);
+  rolls_back = λ name x at. stands_still s.stored _;
+  takes = λ worker part unit free e. stands_still s.stored _;
+  posts = λ worker part unit e. posted-stands part s.stored unit (found.part part unit) (held_for part s.stored (order_of s.orders worker) unit e).1;
+  drops = λ worker unit e. stands_still s.stored _;
+  kills = λ up. stands_still s.stored _;
+  restarts = λ none. stands_still s.stored _;
+  cancels = λ unit status can. marked-stands s.stored unit mark.Gone _ (λ u. refl);
+  reopens = λ unit es here stand. beside-stands s.stored unit mark.Again1 Bad _ here (λ e. cc);
+  reposts = λ unit here. beside-stands s.stored unit mark.Again2 BadSecond _ here (λ e. cc);
 }
 
-each-stands : (found : Found) (s : State) → IsSteady s → HasSoundLocks s → OfEach (λ call v. Stands call s (judged s v)) found s
-each-stands found s steady sound = record {
-  refuses = λ call r plain. stands_still s _;
-  enters = λ name user free. stands_beside s _ _ refl refl refl;
-  logs_off = λ name x at. freed-stands s _ x _ refl refl refl (open_unheard s name x at steady.fresh);
-  grants = λ name x rs locks at e. granted-stands s x rs locks (open_unheard s name x at steady.fresh) e;
-  lowers = λ name x rs at. lowered-stands s x rs (open_unheard s name x at steady.fresh);
-  frees = λ name x at. freed-stands s _ x _ refl refl refl (open_unheard s name x at steady.fresh);
-  converts = λ name x wanted turned at e. converted-stands s x wanted turned (open_unheard s name x at steady.fresh) e;
-  draws = λ name x object nr r at can. drawn-stands s x (present s.stored.levels r.interval) _ _;
-  reserves = λ name x object nr upto r at can. raised-stands s (present s.stored.levels r.interval) upto _;
-  reads = λ name x table key at. stands_still s _;
-  commits_nothing = λ name x parts stock at. stands_still s _;
-  commits_numbers = λ name x parts stock at. stocked-stands stock s _ _ (numbered-stands s x (x.draws ++ stock) _ (open_unheard s name x at steady.fresh));
-  commits = λ name x parts stock at. stocked-stands stock s _ _ (committed-stands s x parts (x.draws ++ stock) _ (open_unheard s name x at steady.fresh));
-  rolls_back = λ name x at. rolled-stands s x (open_unheard s name x at steady.fresh);
-  takes = λ worker part unit free e. stands_beside s _ _ refl refl refl;
-  posts = λ worker part unit e. posted-stands part s worker unit (found.part part unit) (held_for part s.stored (order_of s.orders worker) unit e).1;
-  drops = λ worker unit e. stands_beside s _ _ refl refl refl;
-  cancels = λ unit status can. cancelled-stands s unit status;
-  reopens = λ unit es here stand. reopened-stands s unit es here (readmitted_is (table_in s) (owners_of unit) (entries_of s.stored.units unit) es stand) steady.owned sound.stored;
-  reposts = λ unit here. reposted-stands s unit here;
-}
+ended : true ≡ false → ⊥
+ended e = cc
 
--- a server in doubt has no locks, and isn't up
-doubted-stands : {c : Call} (s : State) (pending : Option Ledger) → Stands c s (record { state = doubted s pending; reply = reply.Refused refusal.StoreFault })
-doubted-stands s pending = record {
-  sure = λ h. refl;
-  kept = λ h unit e own w k. let up = w.up in absurd (cc);
-  waits = λ unit on w. absurd (cc);
-}
+-- where the disk of the backup file fails every wait ends
+unfiled-stands : {c : Call} (before after : Ledger) → Stands c before (reply.Refused refusal.BackupFault) after
+unfiled-stands before after = record { waits = λ unit on w. absurd (ended on); same = λ unit on w. absurd (ended on) }
 
-unfiled-stands : {c : Call} (s : State) (stored : Ledger) → Stands c s (record { state = unfiled s stored; reply = reply.Refused refusal.BackupFault })
-unfiled-stands s stored = record {
-  sure = λ h. refl;
-  kept = λ h unit e own w k. let up = w.up in absurd (cc);
-  waits = λ unit on w. absurd (cc);
-}
-
-stepped-stands : (s : State) (m : Made) → IsSteady s → HasSoundLocks s → Stands (call_of m.call.command) s (again s m)
-stepped-stands s m steady sound =
+stepped-stands : (s : State) (m : Made) → IsSteady s → StandsIn s (call_of m.call.command) (again s m)
+stepped-stands s m steady =
     let c = m.call.command in
-    let Q : Served → Type 0 = Stands (call_of c) s in
-    let h = by_event Q m.outcome s c (λ found. by_call (λ call v. Stands call s (judged s v)) found s (each-stands found s steady sound) _) (stands_still s _) (λ found. doubted-stands s _) (λ found. unfiled-stands s _) in
-    by_noting Q m.call.line c (served m.outcome s c) h (record {
-      sure = λ k. h.sure k;
-      kept = λ sure unit e own w k. h.kept sure unit e own (record { up = w.up; waits = w.waits }) k;
-      waits = λ unit on w. let now = h.waits unit on w in record { up = now.up; waits = now.waits };
-    })
+    let Q : Served → Type 0 = StandsIn s (call_of c) in
+    let h =
+    by_event Q m.outcome s c (λ found. by_call (λ call v. StandsIn s call (judged s v)) found s (each-stands found s steady) _) (stands_still s.stored _)
+    (λ found. stands_still s.stored _) (λ found. unfiled-stands s.stored _) (λ r. stands_still s.stored _) in
+    by_noting Q m.call.line c (served m.outcome s c) h h
 
 -- ---- states that calls lead to
 
@@ -373,21 +204,21 @@ record IsReached (s : State) : Type 0 where
   calls : ℕ
   holds : Holds calls s
   sound : HasSoundLocks s
-  sure : AreSure s.locks
-
-reached_first : (limit mark_limit : ℕ) (intervals : List Interval) (told : Bool) (ledger : Ledger) → IsFirstTable limit ledger → mark_limit ≤ 1048576 → AgreeWith intervals ledger → IsFirst ledger → IsReached (opened limit mark_limit intervals told ledger)
-reached_first limit mark_limit intervals told ledger good limited agree first =
-    record { calls = 0; sound = first_sound limit mark_limit intervals told ledger good first; holds = record { few = first_few limit mark_limit intervals told ledger; steady = first_steady limit mark_limit intervals told ledger limited agree first }; sure = first_sure ledger (first_stored ledger first) }
+  open_units : HasOpenUnits s
 
 reached_next : (s : State) (m : Made) → IsModelAnswer s m → IsReached s → IsReached (recalled s m)
 reached_next s m answer h =
-    let r = served m.outcome s m.call.command in
-    let holds = served-holds h.calls m.outcome s m.call.command answer.allowed.call h.sound h.holds in
+    let c = m.call.command in
+    let r = served m.outcome s c in
+    let steady = h.holds.steady in
+    let holds = served-holds h.calls m.outcome s c answer.allowed.call h.sound h.holds in
+    let units = served-open m.outcome s c steady h.sound h.open_units in
     record {
       calls = h.calls + 1;
-      holds = by_noting (λ x. Holds (h.calls + 1) x.state) m.call.line m.call.command r holds (with_past (h.calls + 1) r.state _ holds);
-      sound = step-sound m.outcome s m.call.line m.call.command h.holds.steady.owned.users h.sound;
-      sure = (stepped-stands s m h.holds.steady h.sound).sure h.sure;
+      holds = by_noting (λ x. Holds (h.calls + 1) x.state) m.call.line c r holds (with_past (h.calls + 1) r.state _ holds);
+      sound = step-sound m.outcome s m.call.line c steady h.sound h.open_units;
+      open_units = by_noting (λ x. HasOpenUnits x.state) m.call.line c r units
+          (record { held = units.held; stored = units.stored; fit = units.fit; pending = units.pending });
     }
 
 reached_after : (s : State) (ms : List Made) → AnswersFrom s ms → IsReached s → IsReached (state_after s ms)
@@ -404,18 +235,14 @@ record Hands (unit : UnitKey) (s t : State) : Type 0 where
 abbrev HandsIf : UnitKey → State → Call → Served → Type 0
 HandsIf unit s call r = is_commit call ≡ true → r.reply ≡ reply.Unit unit → Hands unit s r.state
 
-recorded_here : (ledger : Ledger) (unit : UnitOfWork) → IsOpenUnit (with_unit ledger unit) unit.key
-recorded_here ledger unit =
-    let b = has_no_v2 (ledger.units ++ unit ∷ []) unit.key in
-    status_push b unit.key None ledger.marks (next_mark ledger unit.key mark.Rec)
-    ∙ ap (λ t. if t then given b mark.Rec (status_after b unit.key None ledger.marks) else status_after b unit.key None ledger.marks) (unit_refl unit.key)
-
-committed-hands : (unit : UnitKey) (s : State) (x : Session) (parts : Parts) (numbers stock : List Num) → s.condition ≡ condition.Up → reply.Unit (unit_key s.stored.start x) ≡ reply.Unit unit → Hands unit s (stocked stock (committed s x parts numbers))
+committed-hands : (unit : UnitKey) (s : State) (x : Session) (parts : Parts) (numbers stock : List Num) → s.condition ≡ condition.Up
+    → reply.Unit (unit_key s.stored.start x) ≡ reply.Unit unit → Hands unit s (stocked stock (committed s x parts numbers))
 committed-hands unit s x parts numbers stock up e =
     let same : unit_key s.stored.start x ≡ unit = cc in
+    let here = recorded_here s.stored (unit_of s.stored.start s.locks x parts numbers) in
     record {
       locks = ap (handed_over s.locks) same;
-      waits = record { up = up; waits = subst (IsOpenUnit (committed s x parts numbers).stored) same (recorded_here s.stored (unit_of s.stored.start s.locks x parts numbers)) };
+      waits = record { up = up; waits = subst (IsOpenUnit (committed s x parts numbers).stored) same here };
     }
 
 no_unit : (unit : UnitKey) (r : Refusal) → reply.Refused r ≡ reply.Unit unit → ⊥
@@ -446,6 +273,8 @@ each-hands unit found s up = record {
   takes = λ worker part other free e is told. absurd (no_commit is);
   posts = λ worker part other e is told. absurd (no_commit is);
   drops = λ worker other e is told. absurd (no_commit is);
+  kills = λ was is told. absurd (no_commit is);
+  restarts = λ none is told. absurd (no_commit is);
   cancels = λ other status can is told. absurd (no_commit is);
   reopens = λ other es here stand is told. absurd (no_commit is);
   reposts = λ other here is told. absurd (no_commit is);
@@ -493,7 +322,9 @@ recalled-hands : (unit : UnitKey) (s : State) (m : Made) → IsModelAnswer s m �
 recalled-hands unit s m answer is =
     let c = m.call.command in
     let Q : Served → Type 0 = HandsIf unit s (call_of c) in
-    let h = by_event Q m.outcome s c (λ found. verdict-hands unit found s (call_of c)) (λ is told. absurd (no_unit unit _ told)) (λ found is told. absurd (no_unit unit _ told)) (λ found is told. absurd (no_unit unit _ told)) in
+    let h =
+    by_event Q m.outcome s c (λ found. verdict-hands unit found s (call_of c)) (λ is told. absurd (no_unit unit _ told))
+    (λ found is told. absurd (no_unit unit _ told)) (λ found is told. absurd (no_unit unit _ told)) (λ r is told. absurd (no_unit unit _ told)) in
     by_noting Q m.call.line c (served m.outcome s c) h
     (λ is told. let k = h is told in record { locks = k.locks; waits = record { up = k.waits.up; waits = k.waits.waits } })
     is.commits (answer.reply ∙ is.answered)
@@ -502,176 +333,153 @@ firm_mode : (e : Entry) → e.mode ≢ O → same_mode e.mode O ≡ false
 firm_mode e h =
     elim (same_mode e.mode O) as (λ b. same_mode e.mode O ≡ b → b ≡ false) [ true ↦ λ t. absurd (h (same_mode-same e.mode O t)) | false ↦ λ t. refl ] refl
 
-no_firm : (e : Entry) → same_mode e.mode O ≡ false → e.mode ≢ O
-no_firm e h is = let both : true ≡ false = sym (ap (λ m. same_mode m O) is) ∙ h in cc
-
 handed-among : (unit : UnitKey) (s t : State) (e : Entry) → t.locks ≡ handed_over s.locks unit → IsFirm unit e → Among s.locks e → Among t.locks (with_handed e)
 handed-among unit s t e locks firm k =
     let own : is_of (Upd unit) e ≡ true = ap (λ o. same_owner o (Upd unit)) firm.owner ∙ same_owner-refl (Upd unit) in
     subst (λ es. Among es (with_handed e)) (sym locks) (hands_over s.locks unit e own (firm_mode e firm.mode) k)
 
-was_firm : (unit : UnitKey) (s t : State) (e : Entry) → t.locks ≡ handed_over s.locks unit → e.owner ≡ Upd unit → Among t.locks e → WasFirm unit s e
-was_firm unit s t e locks own k =
-    let source = handed_source s.locks unit e own (subst (λ es. Among es e) locks k) in
+-- ---- the locks of a unit that waits, in the table and in the store
+
+in_table : (unit : UnitKey) (s : State) (e : Entry) → HoldsOpenUnits s.locks s.stored → IsOpenUnit s.stored unit
+    → Among (entries_of s.stored.units unit) e → Among s.locks e
+in_table unit s e held waits k = (filter_source (is_of (Upd unit)) s.locks e (subst (λ es. Among es e) (sym (held.units unit waits)) k)).0
+
+in_store : (unit : UnitKey) (s : State) (e : Entry) → HoldsOpenUnits s.locks s.stored → IsOpenUnit s.stored unit
+    → e.owner ≡ Upd unit → Among s.locks e → Among (entries_of s.stored.units unit) e
+in_store unit s e held waits owner k =
+    let own : is_of (Upd unit) e ≡ true = ap (λ o. same_owner o (Upd unit)) owner ∙ same_owner-refl (Upd unit) in
+    subst (λ es. Among es e) (held.units unit waits) (kept_filter (is_of (Upd unit)) s.locks e own k)
+
+-- ---- through some calls, none of which ends the unit's wait
+
+-- the unit waits with the locks that were stored with it before them
+record StaysStored (unit : UnitKey) (before after : Ledger) : Type 0 where
+  waits : IsOpenUnit after unit
+  same : entries_of after.units unit ≡ entries_of before.units unit
+
+stays_stored : (unit : UnitKey) (t : State) (ms : List Made) → IsReached t → AnswersFrom t ms → NoneEndsWait unit ms → IsOpenUnit t.stored unit
+    → StaysStored unit t.stored (state_after t ms).stored
+stays_stored unit t [] reached answers on waits = record { waits = waits; same = refl }
+stays_stored unit t (m ∷ ms) reached answers on waits =
+    let ons = or_parts (ends_wait unit (call_of m.call.command) m.call.reply) _ on in
+    let off = ap (ends_wait unit (call_of m.call.command)) answers.0.reply ∙ ons.0 in
+    let stands = stepped-stands t m reached.holds.steady in
+    let rest = stays_stored unit (recalled t m) ms (reached_next t m answers.0 reached) answers.1 ons.1 (stands.waits unit off waits) in
+    record { waits = rest.waits; same = rest.same ∙ stands.same unit off waits }
+
+restart_of_server : (call : Call) → is_of_server call ≡ false → restarts call ≡ true → ⊥
+restart_of_server (LogsOn name user) off is = no_commit is
+restart_of_server (OfSession name call) off is = no_commit is
+restart_of_server (OfWorker worker call) off is = no_commit is
+restart_of_server (OfAdmin Kills) off is = no_commit is
+restart_of_server (OfAdmin Restarts) off is = ended off
+restart_of_server (OfAdmin (Cancels unit)) off is = no_commit is
+restart_of_server (OfAdmin (Resubmits unit)) off is = no_commit is
+
+-- a lock server stays up where a call isn't of the server, and no device failed
+recalled-up : (unit : UnitKey) (s : State) (m : Made) → IsModelAnswer s m → ends_wait unit (call_of m.call.command) m.call.reply ≡ false
+    → is_of_server (call_of m.call.command) ≡ false → s.condition ≡ condition.Up → (recalled s m).condition ≡ condition.Up
+recalled-up unit s m answer on off up =
+    let c = m.call.command in
+    let call = call_of c in
+    let v = call_verdict (found_by m.outcome.reading s) s call in
+    let Q : Served → Type 0 = λ r. ends_wait unit call r.reply ≡ false → r.state.condition ≡ condition.Up in
+    let h : Q (served m.outcome s c) =
+    elim m.outcome.event as (λ e. MayHappen e s call v → Q (ends_in e s call v)) [
+      | AllWell ↦ λ may told. verdict_condition _ s call off ∙ up
+      | Wanting ↦ λ may told. up
+      | StoreFails ↦ λ may told. absurd (ended told)
+      | BackupFails ↦ λ may told. absurd (ended told)
+      | NotRemade r ↦ λ may told. absurd (restart_of_server call off may.1)
+    ] answer.allowed.possible.event in
+    by_noting Q m.call.line c (served m.outcome s c) h h (ap (ends_wait unit call) answer.reply ∙ on)
+
+stays_up : (unit : UnitKey) (t : State) (ms : List Made) → AnswersFrom t ms → NoneEndsWait unit ms → NoneOfServer ms
+    → t.condition ≡ condition.Up → (state_after t ms).condition ≡ condition.Up
+stays_up unit t [] answers on off up = up
+stays_up unit t (m ∷ ms) answers on off up =
+    let ons = or_parts (ends_wait unit (call_of m.call.command) m.call.reply) _ on in
+    let offs = or_parts (is_of_server (call_of m.call.command)) _ off in
+    stays_up unit (recalled t m) ms answers.1 ons.1 offs.1 (recalled-up unit t m answers.0 ons.0 offs.0 up)
+
+-- the locks that were stored with it stand where there is a lock server
+stays_locked : (unit : UnitKey) (t : State) (ms : List Made) → IsReached t → AnswersFrom t ms → NoneEndsWait unit ms → IsOpenUnit t.stored unit
+    → (state_after t ms).condition ≡ condition.Up → (e : Entry) → Among (entries_of t.stored.units unit) e → Contains (state_after t ms).locks e
+stays_locked unit t ms reached answers on waits up e k =
+    let now = state_after t ms in
+    let stays = stays_stored unit t ms reached answers on waits in
+    let held = holds_up now (reached_after t ms answers reached).open_units up in
+    contains_from now.locks e (in_table unit now e held stays.waits (subst (λ es. Among es e) (sym stays.same) k))
+
+waits_locked : (unit : UnitKey) (s t : State) (ms : List Made) → Hands unit s t → IsReached t → AnswersFrom t ms → NoneEndsWait unit ms
+    → WaitsLocked unit ms s (state_after t ms)
+waits_locked unit s t ms hands reached answers on =
+    let waits = hands.waits.waits in
+    let held = holds_up t reached.open_units hands.waits.up in
     record {
-      before = source.0;
-      firm = record { owner = source.2; mode = no_firm source.0 source.3 };
-      stood = contains_from s.locks source.0 source.1;
-      same = source.4;
+      waits = (stays_stored unit t ms reached answers on waits).waits;
+      up = λ off. stays_up unit t ms answers on off hands.waits.up;
+      locks = while_up (state_after t ms).condition (FirmAreHanded unit s (state_after t ms))
+          (λ up e firm k.
+          stays_locked unit t ms reached answers on waits up (with_handed e)
+          (in_store unit t (with_handed e) held waits firm.owner (handed-among unit s t e hands.locks firm (among_from s.locks e k))));
     }
 
-hands-over : (unit : UnitKey) (s t : State) → Hands unit s t → HandsOver unit s t
-hands-over unit s t h = record {
-  waits = h.waits;
-  handed = λ e firm k. contains_from t.locks (with_handed e) (handed-among unit s t e h.locks firm (among_from s.locks e k));
-  only = λ e own k. was_firm unit s t e h.locks own (among_from t.locks e k);
+returns_locked : (unit : UnitKey) (t : State) (ms : List Made) → StillWaits unit t → IsReached t → AnswersFrom t ms → NoneEndsWait unit ms
+    → ReturnsLocked unit ms t (state_after t ms)
+returns_locked unit t ms waits reached answers on = record {
+  waits = (stays_stored unit t ms reached answers on waits.waits).waits;
+  up = λ off. stays_up unit t ms answers on off waits.up;
+  locks = while_up (state_after t ms).condition ((e : Entry) → Contains (entries_of t.stored.units unit) e → Contains (state_after t ms).locks e)
+      (λ up e k. stays_locked unit t ms reached answers on waits.waits up e (among_from (entries_of t.stored.units unit) e k));
 }
-
--- ---- resubmissions
-
--- what a resubmission leaves of its unit
-abbrev Back : UnitKey → State → Type 0
-Back unit t = StillWaits unit t → (e : Entry) → Among (entries_of t.stored.units unit) e → Among t.locks e
-
-abbrev BackIf : UnitKey → Call → Served → Type 0
-BackIf unit call r = is_resubmission_of unit call ≡ true → r.reply ≡ reply.Unit unit → Back unit r.state
-
-no_open : (o : Option Status) → o ≡ Some Posted → o ≡ Some Open → ⊥
-no_open None h k = cc
-no_open (Some status) h k = cc
-
-reopened-back : (unit : UnitKey) (s : State) (other : UnitKey) (es : List Entry) → es ≡ freed_owner s.locks (Upd other) ++ entries_of s.stored.units other → reply.Unit other ≡ reply.Unit unit → Back unit (reopened s other es)
-reopened-back unit s other es is told waits e k =
-    let same : other ≡ unit = cc in
-    subst (λ xs. Among xs e) (sym is)
-    (kept_right (freed_owner s.locks (Upd other)) (entries_of s.stored.units other) e (subst (λ u. Among (entries_of s.stored.units u) e) (sym same) k))
-
-reposted-back : (unit : UnitKey) (s : State) (other : UnitKey) → reply.Unit other ≡ reply.Unit unit → Back unit (reposted s other)
-reposted-back unit s other told waits e k =
-    let same : other ≡ unit = cc in
-    absurd (no_open _ (status_marked s.stored other mark.Again2) (subst (IsOpenUnit (with_mark s.stored other mark.Again2)) (sym same) waits.waits))
-
-each-back : (unit : UnitKey) (found : Found) (s : State) → OfEach (λ call v. BackIf unit call (judged s v)) found s
-each-back unit found s = record {
-  refuses = λ call r plain is told. absurd (no_unit unit r told);
-  enters = λ name user free is told. absurd (no_commit is);
-  logs_off = λ name x at is told. absurd (no_commit is);
-  grants = λ name x rs locks at e is told. absurd (no_commit is);
-  lowers = λ name x rs at is told. absurd (no_commit is);
-  frees = λ name x at is told. absurd (no_commit is);
-  converts = λ name x wanted c at e is told. absurd (no_commit is);
-  draws = λ name x object nr r at can is told. absurd (no_commit is);
-  reserves = λ name x object nr upto r at can is told. absurd (no_commit is);
-  reads = λ name x table key at is told. absurd (no_commit is);
-  commits_nothing = λ name x parts stock at is told. absurd (no_commit is);
-  commits_numbers = λ name x parts stock at is told. absurd (no_commit is);
-  commits = λ name x parts stock at is told. absurd (no_commit is);
-  rolls_back = λ name x at is told. absurd (no_commit is);
-  takes = λ worker part other free e is told. absurd (no_commit is);
-  posts = λ worker part other e is told. absurd (no_commit is);
-  drops = λ worker other e is told. absurd (no_commit is);
-  cancels = λ other status can is told. absurd (no_commit is);
-  reopens = λ other es here stand is told.
-      reopened-back unit s other es (readmitted_is (table_in s) (owners_of other) (entries_of s.stored.units other) es stand) told;
-  reposts = λ other here is told. reposted-back unit s other told;
-}
-
-recalled-back : (unit : UnitKey) (s : State) (m : Made) → IsModelAnswer s m → IsResubmissionOf unit m.call → Back unit (recalled s m)
-recalled-back unit s m answer is =
-    let c = m.call.command in
-    let Q : Served → Type 0 = BackIf unit (call_of c) in
-    let h = by_event Q m.outcome s c (λ found. by_call (λ call v. BackIf unit call (judged s v)) found s (each-back unit found s) _) (λ is told. absurd (no_unit unit _ told)) (λ found is told. absurd (no_unit unit _ told)) (λ found is told. absurd (no_unit unit _ told)) in
-    by_noting Q m.call.line c (served m.outcome s c) h (λ is told waits. h is told (record { up = waits.up; waits = waits.waits }))
-    is.resubmits (answer.reply ∙ is.answered)
-
-are-back : (unit : UnitKey) (t : State) → Back unit t → LocksAreBack unit t
-are-back unit t h waits e k = contains_from t.locks e (h waits e (among_from (entries_of t.stored.units unit) e k))
 
 -- ---- whole histories
 
-called : (s : State) (m : Made) → IsReached s → IsModelAnswer s m → CallKeepsLocks s m.call (recalled s m)
-called s m reached answer = record {
-  commits = λ unit is. hands-over unit s (recalled s m) (recalled-hands unit s m answer is);
-  resubmits = λ unit is. are-back unit (recalled s m) (recalled-back unit s m answer is);
-  kept = λ unit e own w k.
-      contains_from (recalled s m).locks e ((stepped-stands s m reached.holds.steady reached.sound).kept reached.sure unit e own w (among_from s.locks e k));
-}
+-- a history from the first state of a start on, each of whose calls is answered as the model answers it
+module _ (limit mark_limit : ℕ) (intervals : List Interval) (told : Bool) (ledger : Ledger) (made : List Made) (fits : IsFirstTable limit ledger)
+    (limited : mark_limit ≤ 1048576) (agree : AgreeWith intervals ledger) (begun : IsFirst ledger)
+    (answers : AreModelAnswers (opened limit mark_limit intervals told ledger) made) where
+  abbrev first : State
+  first = opened limit mark_limit intervals told ledger
 
--- in each state of a history no two locks of unrelated owners meet and clash
-pub stays_sound : (limit mark_limit : ℕ) (intervals : List Interval) (told : Bool) (ledger : Ledger) (made : List Made) → IsFirstTable limit ledger → mark_limit ≤ 1048576 → AgreeWith intervals ledger → IsFirst ledger → AreModelAnswers (opened limit mark_limit intervals told ledger) made → StaysSound (opened limit mark_limit intervals told ledger) made
-stays_sound limit mark_limit intervals told ledger made fits limited agree begun answers earlier later whole =
-    let first = opened limit mark_limit intervals told ledger in
-    (reached_after first earlier (answers_before first made earlier later answers whole) (reached_first limit mark_limit intervals told ledger fits limited agree begun)).sound.table.sound
+  reached_first : IsReached first
+  reached_first = record {
+    calls = 0;
+    holds = record {
+      few = first_few limit mark_limit intervals told ledger;
+      steady = first_steady limit mark_limit intervals told ledger limited fits agree begun;
+    };
+    sound = first_sound limit mark_limit intervals told ledger fits begun;
+    open_units = first_open limit mark_limit intervals told ledger fits begun;
+  }
 
--- each call of a history that is answered as the model answers it keeps the locks of committed units
-pub calls_keep_locks : (limit mark_limit : ℕ) (intervals : List Interval) (told : Bool) (ledger : Ledger) (made : List Made) → IsFirstTable limit ledger → mark_limit ≤ 1048576 → AgreeWith intervals ledger → IsFirst ledger → AreModelAnswers (opened limit mark_limit intervals told ledger) made → CallsKeepLocks (opened limit mark_limit intervals told ledger) made
-calls_keep_locks limit mark_limit intervals told ledger made fits limited agree begun answers earlier later m e =
-    let first = opened limit mark_limit intervals told ledger in
-    let s = state_after first earlier in
-    subst (CallKeepsLocks s m.call) (sym (fold-append recalled first earlier (m ∷ [])))
-    (called s m (reached_after first earlier (answers_before first made earlier (m ∷ later) answers e) (reached_first limit mark_limit intervals told ledger fits limited agree begun)) (answers earlier later m e))
+  reached : (earlier later : List Made) → made ≡ earlier ++ later → IsReached (state_after first earlier)
+  reached earlier later whole = reached_after first earlier (answers_before first made earlier later answers whole) reached_first
 
--- a unit that waits, with locks that were handed over to it, waits with them as long as no call ends that
-stays_handed : (unit : UnitKey) (Q : Entry → Type 0) (t : State) (ms : List Made) → ((e : Entry) → Q e → IsHandedTo unit e) → IsReached t → AnswersFrom t ms → NoneEndsWait unit ms → StillWaits unit t → ((e : Entry) → Q e → Among t.locks e) → StillWaits unit (state_after t ms) × ((e : Entry) → Q e → Among (state_after t ms).locks e)
-stays_handed unit Q t [] own reached answers on waits locks = (waits, locks)
-stays_handed unit Q t (m ∷ ms) own reached answers on waits locks =
-    let ons = or_parts (ends_wait unit (call_of m.call.command) m.call.reply) _ on in
-    let stands = stepped-stands t m reached.holds.steady reached.sound in
-    let now : StillWaits unit (recalled t m) = stands.waits unit (ap (ends_wait unit (call_of m.call.command)) answers.0.reply ∙ ons.0) waits in
-    stays_handed unit Q (recalled t m) ms own (reached_next t m answers.0 reached) answers.1 ons.1 now
-    (λ e q. stands.kept reached.sure unit e (own e q) now (locks e q))
+  -- in each state no two locks of unrelated owners meet and clash
+  pub stays_sound : StaysSound (opened limit mark_limit intervals told ledger) made
+  stays_sound earlier later whole = (reached earlier later whole).sound.table.sound
 
--- a lock that is a firm one of that state, handed over
-record IsOf (unit : UnitKey) (before : State) (e : Entry) : Type 0 where
-  was : Entry
-  firm : IsFirm unit was
-  stood : Contains before.locks was
-  same : e ≡ with_handed was
+  -- each committed unit waits with its locks until a call ends that
+  pub locks_stand : LocksStand (opened limit mark_limit intervals told ledger) made
+  locks_stand earlier between later m unit whole is on =
+      let s = state_after first earlier in
+      let answer = answers earlier (between ++ later) m whole in
+      subst (WaitsLocked unit between s) (sym (fold-append recalled first earlier (m ∷ between)))
+      (waits_locked unit s (recalled s m) between (recalled-hands unit s m answer is)
+      (reached_next s m answer (reached earlier (m ∷ (between ++ later)) whole))
+      (answers_behind first made earlier between later m answers whole) on)
 
-of_unit : (unit : UnitKey) (before : State) (e : Entry) → IsOf unit before e → IsHandedTo unit e
-of_unit unit before e h = subst (IsHandedTo unit) (sym h.same) (record { owner = h.firm.owner; handed = refl })
-
-handed_by : (a b : Bool) → (a && b) ≡ true → a ≡ true
-handed_by true b h = refl
-handed_by false b h = cc
-
-stored_handed : (unit : UnitKey) (s : State) (e : Entry) → HasSoundLocks s → Among (entries_of s.stored.units unit) e → IsHandedTo unit e
-stored_handed unit s e sound k = record {
-  owner = stored_owner s.stored.units unit e sound.stored k;
-  handed = handed_by e.handed _ (all_among is_firm (entries_of s.stored.units unit) e (stored_firm s.stored.units unit sound.stored) k);
-}
-
--- in a history that is answered as the model answers it each committed unit waits with its locks until a call ends that
-pub locks_stand : (limit mark_limit : ℕ) (intervals : List Interval) (told : Bool) (ledger : Ledger) (made : List Made) → IsFirstTable limit ledger → mark_limit ≤ 1048576 → AgreeWith intervals ledger → IsFirst ledger → AreModelAnswers (opened limit mark_limit intervals told ledger) made → LocksStand (opened limit mark_limit intervals told ledger) made
-locks_stand limit mark_limit intervals told ledger made fits limited agree begun answers earlier between later m unit whole is on =
-    let first = opened limit mark_limit intervals told ledger in
-    let s = state_after first earlier in
-    let t = recalled s m in
-    let reached = reached_after first earlier (answers_before first made earlier (m ∷ (between ++ later)) answers whole) (reached_first limit mark_limit intervals told ledger fits limited agree begun) in
-    let hands = hands-over unit s t (recalled-hands unit s m (answers earlier (between ++ later) m whole) is) in
-    let stays = stays_handed unit (IsOf unit s) t between (of_unit unit s) (reached_next s m (answers earlier (between ++ later) m whole) reached) (answers_behind first made earlier between later m answers whole) on hands.waits
-    (λ e q. subst (Among t.locks) (sym q.same) (among_from t.locks (with_handed q.was) (hands.handed q.was q.firm q.stood))) in
-    subst (WaitsLocked unit s) (sym (fold-append recalled first earlier (m ∷ between)))
-    (record {
-      waits = stays.0;
-      locks = λ e firm k. contains_from (state_after t between).locks (with_handed e) (stays.1 (with_handed e) (record { was = e; firm = firm; stood = k; same = refl }));
-    })
-
--- in a history that is answered as the model answers it each unit that waits again has its stored locks until a call ends
--- that
-pub locks_return : (limit mark_limit : ℕ) (intervals : List Interval) (told : Bool) (ledger : Ledger) (made : List Made) → IsFirstTable limit ledger → mark_limit ≤ 1048576 → AgreeWith intervals ledger → IsFirst ledger → AreModelAnswers (opened limit mark_limit intervals told ledger) made → LocksReturn (opened limit mark_limit intervals told ledger) made
-locks_return limit mark_limit intervals told ledger made fits limited agree begun answers earlier between later m unit whole is on waits =
-    let first = opened limit mark_limit intervals told ledger in
-    let s = state_after first earlier in
-    let t = recalled s m in
-    let to_here : state_after first (earlier ++ m ∷ []) ≡ t = fold-append recalled first earlier (m ∷ []) in
-    let here = reached_next s m (answers earlier (between ++ later) m whole) (reached_after first earlier (answers_before first made earlier (m ∷ (between ++ later)) answers whole) (reached_first limit mark_limit intervals told ledger fits limited agree begun)) in
-    let waits' : StillWaits unit t = subst (StillWaits unit) to_here waits in
-    let back = recalled-back unit s m (answers earlier (between ++ later) m whole) is waits' in
-    let stays = stays_handed unit (Among (entries_of t.stored.units unit)) t between (λ e k. stored_handed unit t e here.sound k) here (answers_behind first made earlier between later m answers whole) on waits' back in
-    subst (λ x. ReturnsLocked unit x (state_after first (earlier ++ m ∷ between))) (sym to_here)
-    (subst (ReturnsLocked unit t) (sym (fold-append recalled first earlier (m ∷ between)))
-    (record {
-      waits = stays.0;
-      locks = λ e k. contains_from (state_after t between).locks e (stays.1 e (among_from (entries_of t.stored.units unit) e k));
-    }))
+  -- each unit that waits again has its stored locks until a call ends that
+  pub locks_return : LocksReturn (opened limit mark_limit intervals told ledger) made
+  locks_return earlier between later m unit whole is on waits =
+      let s = state_after first earlier in
+      let t = recalled s m in
+      let answer = answers earlier (between ++ later) m whole in
+      let to_here : state_after first (earlier ++ m ∷ []) ≡ t = fold-append recalled first earlier (m ∷ []) in
+      subst (λ x. ReturnsLocked unit between x (state_after first (earlier ++ m ∷ between))) (sym to_here)
+      (subst (ReturnsLocked unit between t) (sym (fold-append recalled first earlier (m ∷ between)))
+      (returns_locked unit t between (subst (StillWaits unit) to_here waits)
+      (reached_next s m answer (reached earlier (m ∷ (between ++ later)) whole))
+      (answers_behind first made earlier between later m answers whole) on))

@@ -1,5 +1,5 @@
 -- Calls that want no lock server, and those that are refused where there is none.
-use Rattle.std.proofs.Common.{◌≡◌, ℕ, Bool, List, [], ◌∷◌, true, false, refl, sym, ap, ◌∙◌, subst}
+use Rattle.std.proofs.Common.{◌≡◌, ◌≤◌, ℕ, length, List, [], ◌∷◌, true, false, refl, sym, ap, ◌∙◌, subst}
 use Rattle.std.specs.Prelude.{if◌then◌else◌, nat_eq, nat_le, Option, Some, None}
 use Rattle.std.specs.List.{AllByRecursion}
 use Rattle.std.proofs.lemmas.Bool.{false≢true}
@@ -14,7 +14,7 @@ use Rattle.enq_base.specs.declared.unit.Status.TheVariants.{Open, Posted}
 use Rattle.number_ranges.specs.Intervals.{block_level, is_buffered, with_level}
 use Rattle.number_ranges.specs.declared.interval.Interval.{Interval}
 use Rattle.posting.specs.Posts.{WaitsFor, kind_for, post2_kind}
-use Rattle.posting.specs.Steps.{IsOpenUnit, post_kind}
+use Rattle.posting.specs.Steps.{post_kind}
 use Rattle.posting.specs.declared.prepared.Outcome.{Outcome}
 use Rattle.range_list.specs.Drawn.{handed_out, num_of, stored_as}
 use Rattle.range_list.specs.Levels.{present}
@@ -27,16 +27,16 @@ use Rattle.hall.specs.History.{judged}
 use Rattle.hall.specs.Kept.{HasGoodLocks}
 use Rattle.hall.specs.Numbers.{from_memory, next_number, raised_to}
 use Rattle.hall.specs.OpenUnits.{HoldsOpenUnits, IsOpenIfHanded, IsOpenOwner, open_entries}
-use Rattle.hall.specs.Orders.{order_for, order_of}
+use Rattle.hall.specs.Orders.{order_of}
 use Rattle.hall.specs.Sessions.{with_draw, with_session}
 use Rattle.hall.specs.State.{State}
-use Rattle.hall.specs.Step.{Found, Verdict, Refuses, Leaves, barred, call_verdict, caller_refusal, or_else, own_verdict, server_refusal, unavailable, unless_refused}
+use Rattle.hall.specs.Step.{Found, Verdict, Refuses, barred, call_verdict, caller_refusal, or_else, own_verdict, server_refusal, unavailable, unless_refused}
 use Rattle.enq_base.specs.declared.owner.Owner.{Owner}
 use Rattle.enq_base.specs.declared.owner.Owner.TheVariants.{Dlg, Upd}
 use Rattle.posting.specs.Posts.{entries_of}
 use Rattle.hall.proofs.ByCall.{OfEach}
 use Rattle.hall.proofs.Claims.{held_for}
-use Rattle.hall.proofs.OpenEntries.{first_held, open_stands}
+use Rattle.hall.proofs.OpenEntries.{first_held, open_fit, open_stands}
 use Rattle.hall.proofs.OpenMarks.{SameOpen, levels_same, second_same}
 use Rattle.hall.proofs.Users.{every_more}
 
@@ -118,6 +118,8 @@ leaves_open found s = record {
   takes = λ worker part unit free is e. same_self s.stored;
   posts = λ worker part unit is e. posted_same part s.stored unit (found.part part unit) e (held_for part s.stored (order_of s.orders worker) unit is).1;
   drops = λ worker unit is e. same_self s.stored;
+  kills = λ up e. no_wish e;
+  restarts = λ none e. same_self s.stored;
   cancels = λ unit status can e. no_wish e;
   reopens = λ unit es here stand e. no_wish e;
   reposts = λ unit here e. no_wish e;
@@ -134,6 +136,10 @@ held_same before after locks same h = record {
   units = λ unit waits. h.units unit (same.was unit waits) ∙ ap (λ us. entries_of us unit) (sym same.units);
   handed = every_more (IsOpenIfHanded before) (IsOpenIfHanded after) (λ e k handed. owner_same before after same e.owner (k handed)) locks h.handed;
 }
+
+-- they are no more behind it
+pub same_fit : (before after : Ledger) → AllByRecursion HasGoodLocks before.units → SameOpen before after → length (open_entries after) ≤ length (open_entries before)
+same_fit before after good same = open_fit (open_entries before) after (held_same before after (open_entries before) same (first_held before good))
 
 -- they can stand together behind it
 pub same_stand : (before after : Ledger) → AllByRecursion HasGoodLocks before.units → SameOpen before after → IsSound (open_entries before) → IsSound (open_entries after)

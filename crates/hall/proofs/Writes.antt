@@ -48,7 +48,7 @@ use Rattle.hall.specs.declared.command.Reply.TheVariants as reply
 use Rattle.hall.specs.declared.command.Session.{Session}
 use Rattle.hall.specs.declared.units.InFlight.TheVariants as flight
 use Rattle.hall.specs.Acts.{Admits, IsAct, locks_posted, post_of}
-use Rattle.hall.specs.Calls.{OfAdmin, OfSession, OfWorker, Cancels, Resubmits, Commits, Posts, Reads, call_of, only_reads, writes_store_first}
+use Rattle.hall.specs.Calls.{OfSession, OfWorker, Commits, Posts, Reads, call_of, only_reads, writes_store_first}
 use Rattle.hall.specs.Devices.{AllWell, BackupFails, Comes, IsTold, MayRead, Shows, StoreFails, found_by, may_want, only, uses_file, uses_store}
 use Rattle.hall.specs.Filing.{is_open}
 use Rattle.enq_server.specs.Server.{lasting}
@@ -65,7 +65,7 @@ use Rattle.hall.specs.Orders.{first_unclaimed, is_claimed, order_for, order_of}
 use Rattle.hall.specs.Sessions.{is_called, owners_of, session_at, unit_key, with_next_unit, with_session, without_draws}
 use Rattle.hall.specs.Numbers.{stocked, with_numbers}
 use Rattle.hall.specs.State.{State}
-use Rattle.hall.specs.Step.{Found, Verdict, Refuses, Leaves, ask_refusal, called, cancel, cancelled, cancelling, commit, committed, effects_in, found_in, leaves, locks_behind, locks_without, marked, numbered, own_verdict, passing, posted_reply, posting, reopened, reopening, reposted, resubmit, resubmitting, row_in, take, taking, to_cancel, to_resubmit, unavailable, unit_of, with_room}
+use Rattle.hall.specs.Step.{Found, Verdict, Refuses, Leaves, ask_refusal, called, cancel, cancelled, cancelling, commit, committed, effects_in, found_in, leaves, locks_behind, locks_without, marked, numbered, own_verdict, passing, posted_reply, posting, reopened, reopening, reposted, resubmit, resubmitting, row_in, take, taking, to_cancel, to_resubmit, unit_of, with_room}
 use Rattle.hall.proofs.Calls.{admitted, at_state, fails, fails_filing, found_at, is_done, is_wanting, leaves_as, refuses}
 use Rattle.hall.proofs.Ends.{IsPart, posts_part}
 use Rattle.hall.proofs.Fresh.{found_in as found_all_in}

@@ -35,6 +35,10 @@ pub data WorkerCall : Type 0 where
 
 -- what an administrator may do
 pub data AdminCall : Type 0 where
+  -- ends the lock server
+  Kills : AdminCall
+  -- makes a lock server anew, with the locks of the units that wait for their V1 part
+  Restarts : AdminCall
   Cancels : UnitKey → AdminCall
   Resubmits : UnitKey → AdminCall
 
@@ -62,6 +66,8 @@ call_of (command.Take2 worker) = OfWorker worker (Takes 2)
 call_of (command.Do1 worker) = OfWorker worker (Posts 1)
 call_of (command.Do2 worker) = OfWorker worker (Posts 2)
 call_of (command.DropOrder worker) = OfWorker worker Drops
+call_of command.Kill = OfAdmin Kills
+call_of command.Restart = OfAdmin Restarts
 call_of (command.Cancel unit) = OfAdmin (Cancels unit)
 call_of (command.Resubmit unit) = OfAdmin (Resubmits unit)
 
@@ -88,11 +94,27 @@ abbrev pub worker_wants_server : WorkerCall → Bool
 worker_wants_server (Posts part) = nat_eq part 1
 worker_wants_server call = false
 
+-- all but a restart
+abbrev pub admin_wants_server : AdminCall → Bool
+admin_wants_server Restarts = false
+admin_wants_server call = true
+
 abbrev pub wants_server : Call → Bool
 wants_server (LogsOn session user) = false
 wants_server (OfSession session call) = session_wants_server call
 wants_server (OfWorker worker call) = worker_wants_server call
-wants_server (OfAdmin call) = true
+wants_server (OfAdmin call) = admin_wants_server call
+
+-- the calls that end a lock server or make one anew
+abbrev pub is_of_server : Call → Bool
+is_of_server (OfAdmin Kills) = true
+is_of_server (OfAdmin Restarts) = true
+is_of_server call = false
+
+-- a lock server is made anew, whatever became of the one before
+abbrev pub restarts : Call → Bool
+restarts (OfAdmin Restarts) = true
+restarts call = false
 
 -- what a session may still do that lost a lock with a lock server
 abbrev pub ends_unit : SessionCall → Bool
@@ -118,12 +140,17 @@ abbrev pub worker_touches_store : WorkerCall → Bool
 worker_touches_store (Posts part) = true
 worker_touches_store call = false
 
+abbrev pub admin_touches_store : AdminCall → Bool
+admin_touches_store Kills = false
+admin_touches_store Restarts = false
+admin_touches_store call = true
+
 -- the calls that read rows of the store, or write some where they aren't refused
 abbrev pub touches_store : Call → Bool
 touches_store (LogsOn session user) = false
 touches_store (OfSession session call) = session_touches_store call
 touches_store (OfWorker worker call) = worker_touches_store call
-touches_store (OfAdmin call) = true
+touches_store (OfAdmin call) = admin_touches_store call
 
 -- ---- what calls do to the backup file
 
@@ -135,12 +162,16 @@ abbrev pub worker_touches_file : WorkerCall → Bool
 worker_touches_file (Posts part) = nat_eq part 1
 worker_touches_file call = false
 
--- the calls that hand locks of a unit over to the update, end them, or take them back
+abbrev pub admin_touches_file : AdminCall → Bool
+admin_touches_file Kills = false
+admin_touches_file call = true
+
+-- the calls that hand locks of a unit over to the update, end them, or take them back, and a restart
 abbrev pub touches_file : Call → Bool
 touches_file (LogsOn session user) = false
 touches_file (OfSession session call) = session_touches_file call
 touches_file (OfWorker worker call) = worker_touches_file call
-touches_file (OfAdmin call) = true
+touches_file (OfAdmin call) = admin_touches_file call
 
 -- of these the ones that write the store first: where the disk fails their mark stands already
 abbrev pub writes_store_first : Call → Bool

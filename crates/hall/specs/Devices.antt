@@ -1,6 +1,10 @@
 -- What the devices do in a call, and which of it may be.
 use Rattle.std.specs.Prelude.{◌≡◌, ℕ, Bool, true, false, ◌&&◌, ◌||◌, ◌++◌, nat_eq, nat_lt, length, List, [], if◌then◌else◌, Option, None, IfSome, IsTrue, is_ok, is_some}
+use Rattle.enq_base.specs.declared.condition.BackupBad.{BackupBad}
+use Rattle.enq_base.specs.declared.condition.Bad.TheVariants as bad
 use Rattle.enq_base.specs.declared.owner.UnitKey.{UnitKey}
+use Rattle.enq_base.specs.declared.refusal.Refusal.{Refusal}
+use Rattle.enq_base.specs.declared.refusal.Refusal.TheVariants as refusal
 use Rattle.enq_base.specs.declared.unit.Num.{Num}
 use Rattle.enq_base.specs.declared.unit.Parts.{Parts}
 use Rattle.enq_base.specs.declared.unit.Status.TheVariants as status
@@ -10,8 +14,8 @@ use Rattle.posting.specs.Posts.{entries_of}
 use Rattle.update_records.specs.Marks.{has_status, status_of}
 use Rattle.posting.specs.declared.prepared.Outcome.{Outcome}
 use Rattle.hall.specs.declared.command.Command.{Command}
-use Rattle.hall.specs.Calls.{AdminCall, Cancels, Resubmits, Call, LogsOn, OfSession, OfWorker, OfAdmin, WorkerCall, Posts}
-use Rattle.hall.specs.Calls.{SessionCall, LogsOff, Frees, FreesAll, Draws, Reserves, Reads, Commits, RollsBack, call_of, session_touches_store, touches_store}
+use Rattle.hall.specs.Calls.{AdminCall, Kills, Restarts, Cancels, Resubmits, Call, LogsOn, OfSession, OfWorker, OfAdmin, WorkerCall, Posts}
+use Rattle.hall.specs.Calls.{SessionCall, LogsOff, Frees, FreesAll, Draws, Reserves, Reads, Commits, RollsBack, admin_touches_store, call_of, restarts, session_touches_store, touches_store}
 use Rattle.hall.specs.declared.command.Session.{Session}
 use Rattle.hall.specs.Sessions.{session_at, unit_key}
 use Rattle.number_ranges.specs.Intervals.{is_buffered}
@@ -33,6 +37,17 @@ pub data Reading : Type 0 where
   -- a row has this text, or isn't there
   Shows : Option (List ℕ) → Reading
 
+-- why no lock server could be made anew, but for a failure of the disk
+pub data RemakeFault : Type 0 where
+  -- memory was wanting behind the first call of the disk
+  MeetsWant : RemakeFault
+  -- the backup file isn't good
+  FindsBad : BackupBad → RemakeFault
+
+abbrev pub fault_told : RemakeFault → Refusal
+fault_told MeetsWant = refusal.NoMemory
+fault_told (FindsBad place) = refusal.Unsound (bad.Backup place)
+
 -- what went wrong
 pub data Event : Type 0 where
   AllWell : Event
@@ -42,21 +57,22 @@ pub data Event : Type 0 where
   StoreFails : Event
   -- the disk of the backup file failed
   BackupFails : Event
+  -- no lock server could be made anew, for this reason
+  NotRemade : RemakeFault → Event
 
 abbrev pub is_store_failure : Event → Bool
 is_store_failure AllWell = false
 is_store_failure Wanting = false
 is_store_failure StoreFails = true
 is_store_failure BackupFails = false
+is_store_failure (NotRemade fault) = false
 
 abbrev pub is_file_failure : Event → Bool
 is_file_failure AllWell = false
 is_file_failure Wanting = false
 is_file_failure StoreFails = false
 is_file_failure BackupFails = true
-
-abbrev pub is_failure : Event → Bool
-is_failure event = is_store_failure event || is_file_failure event
+is_file_failure (NotRemade fault) = false
 
 pub record DeviceOutcome : Type 0 where
   pub event : Event
@@ -135,7 +151,7 @@ abbrev pub uses_store : State → Call → Bool
 uses_store s (LogsOn session user) = false
 uses_store s (OfSession session call) = session_uses_store s session call
 uses_store s (OfWorker worker call) = worker_uses_store call
-uses_store s (OfAdmin call) = true
+uses_store s (OfAdmin call) = admin_touches_store call
 
 -- the session's open unit has locks to hand over, and something to record
 abbrev pub hands_over : State → List ℕ → Parts → Bool
@@ -157,11 +173,13 @@ refused_locks s unit =
     if has_status status.Bad (status_of s.stored.units s.stored.marks unit) then entries_of s.stored.units unit else []
 
 abbrev pub admin_uses_file : State → AdminCall → Bool
+admin_uses_file s Kills = false
+admin_uses_file s Restarts = true
 admin_uses_file s (Cancels unit) = has_status status.Open (status_of s.stored.units s.stored.marks unit)
 admin_uses_file s (Resubmits unit) = nat_lt 0 (length (refused_locks s unit))
 
 -- the calls that write the backup file: those that record a unit with locks, that end a V1 part, or that cancel a unit which
--- waits for it, and those by which a refused V1 part is tried again whose unit has locks
+-- waits for it, and those by which a refused V1 part is tried again whose unit has locks; and a restart
 abbrev pub uses_file : State → Call → Bool
 uses_file s (LogsOn session user) = false
 uses_file s (OfSession session call) = session_uses_file s session call
@@ -180,6 +198,8 @@ worker_may_want s worker (Posts part) = is_some (order_for part s.stored s.order
 worker_may_want s worker call = false
 
 abbrev pub admin_may_want : State → Verdict → AdminCall → Bool
+admin_may_want s v Kills = false
+admin_may_want s v Restarts = leaves v
 admin_may_want s v (Cancels unit) = leaves v
 admin_may_want s v (Resubmits unit) = is_ok (to_resubmit s.stored s.mark_limit unit)
 
@@ -196,6 +216,7 @@ MayHappen AllWell s call v = Unit {0}
 MayHappen Wanting s call v = (unavailable s call ≡ None) × IsTrue (may_want s v call)
 MayHappen StoreFails s call v = IsTrue (leaves v) × IsTrue (uses_store s call)
 MayHappen BackupFails s call v = IsTrue (leaves v) × IsTrue (uses_file s call)
+MayHappen (NotRemade fault) s call v = IsTrue (leaves v) × IsTrue (restarts call)
 
 -- the devices may have done this in a call
 pub record IsPossible (o : DeviceOutcome) (s : State) (c : Command) : Type 0 where

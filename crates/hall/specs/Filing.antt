@@ -1,5 +1,5 @@
 -- What the backup file has, and what a stop may leave of it.
-use Rattle.std.specs.Prelude.{ℕ, ◌≡◌, ◌≤◌, ◌⊎◌, Bool, true, false, if◌then◌else◌, List, Option, Some, Result, IsTrue, OnErr, OnOk}
+use Rattle.std.specs.Prelude.{ℕ, ◌≡◌, ◌≤◌, ◌⊎◌, Bool, true, false, if◌then◌else◌, List, Option, Result, IsTrue, OnErr, OnOk}
 use Rattle.enq_base.specs.declared.condition.Condition.{Condition}
 use Rattle.std.specs.Option.{option_map}
 use Rattle.backup_file.specs.Backup.{BackupView, IsReady, IsSame}

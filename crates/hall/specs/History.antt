@@ -9,7 +9,7 @@ use Rattle.hall.specs.declared.command.PastEntry.{PastEntry}
 use Rattle.hall.specs.declared.command.Reply.{Reply}
 use Rattle.hall.specs.declared.command.Reply.TheVariants as reply
 use Rattle.hall.specs.Calls.{Call, call_of, only_reads, who_of, writes_store_first}
-use Rattle.hall.specs.Devices.{DeviceOutcome, Event, AllWell, Wanting, StoreFails, BackupFails, IsAllowed, found_by}
+use Rattle.hall.specs.Devices.{DeviceOutcome, Event, AllWell, Wanting, StoreFails, BackupFails, NotRemade, IsAllowed, fault_told, found_by}
 use Rattle.hall.specs.State.{State}
 use Rattle.hall.specs.Step.{Verdict, Refuses, Leaves, call_verdict}
 use Rattle.update_records.specs.Ledger.{Ledger}
@@ -35,6 +35,7 @@ doubted s pending =
       condition = condition.Doubt (length s.past + 1);
       locks = [];
       copy = None;
+      gone = [];
       pending = pending;
     }
 
@@ -57,6 +58,7 @@ ends_in AllWell s call v = judged s v
 ends_in Wanting s call v = refused s refusal.NoMemory
 ends_in StoreFails s call v = refused (doubted s (pending_after s call v)) refusal.StoreFault
 ends_in BackupFails s call v = refused (unfiled s (stored_before_file s call v)) refusal.BackupFault
+ends_in (NotRemade fault) s call v = refused (doubted s s.pending) (fault_told fault)
 
 abbrev pub served : DeviceOutcome → State → Command → Served
 served o s c = ends_in o.event s (call_of c) (call_verdict (found_by o.reading s) s (call_of c))
@@ -76,7 +78,7 @@ is_row _ = false
 abbrev pub IsGiven : Reply → Reply → Type 0
 IsGiven made given = (given ≡ made) ⊎ (IsTrue (is_row made) × (given ≡ reply.Refused refusal.NoMemory))
 
--- what stands after a call; there is no replica yet, and no restart
+-- what stands after a call; there is no replica yet, and a restart finds no change in flight
 abbrev pub after_of : State → After
 after_of s = record { condition = s.condition; attached = false; taken = false }
 

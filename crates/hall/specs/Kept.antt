@@ -1,5 +1,5 @@
 -- What a state that calls lead to keeps.
-use Rattle.std.specs.Prelude.{◌≡◌, ◌⊎◌, ℕ, ◌+◌, ◌≤◌, ◌<◌, Bool, true, false, not, ◌&&◌, nat_eq}
+use Rattle.std.specs.Prelude.{◌≡◌, ◌⊎◌, ℕ, ◌+◌, ◌^◌, ◌≤◌, ◌<◌, Bool, true, false, not, ◌&&◌, nat_eq}
 use Rattle.std.specs.Prelude.{List, [], ◌∷◌, length, map, count_by, Option, Some, None}
 use Rattle.std.specs.List.{AllByRecursion, list_all}
 use Rattle.enq_base.specs.declared.condition.Condition.{Condition}
@@ -158,6 +158,7 @@ OutsideDoubt (condition.Doubt k) P = Unit {0}
 pub record IsSteady (s : State) : Type 0 where
   pub started : 1 ≤ s.stored.start
   pub limited : s.mark_limit ≤ 1048576
+  pub locks_fit : s.max_locks < 2 ^ 32
   pub named : HaveOwnNames s.sessions
   pub drawn : IsDrawn s
   pub marked : HaveMarks s.stored
@@ -174,6 +175,8 @@ pub record IsSteady (s : State) : Type 0 where
 pub record HasOpenUnits (s : State) : Type 0 where
   pub held : WhileUp s.condition (HoldsOpenUnits s.locks s.stored)
   pub stored : IsSound (open_entries s.stored)
+  -- as a table of 32 bits holds them
+  pub fit : length (open_entries s.stored) < 2 ^ 32
   pub pending : OfPending s.pending (λ ledger. IsSound (open_entries ledger))
 
 pub record IsKept (s : State) : Type 0 where

@@ -1,14 +1,15 @@
 -- A call that the server serves, apart from its place in the history.
 use Rattle.std.specs.Prelude.{◌≡◌, ℕ, Bool, true, false, List, Option, is_some}
-use Rattle.enq_server.specs.Following.{KeepsOn}
+use Rattle.backup_file.specs.Backup.{BackupView}
+use Rattle.enq_server.specs.Following.{Following, IsLater, KeepsOn}
 use Rattle.keeper_api.specs.Rows.{Rows}
 use Rattle.hall.specs.declared.command.Command.{Command}
 use Rattle.hall.specs.declared.command.PastEntry.{PastEntry}
 use Rattle.hall.specs.declared.command.Reply.{Reply}
 use Rattle.hall.specs.Acts.{Admits, IsAct}
-use Rattle.hall.specs.Calls.{call_of, touches_file}
+use Rattle.hall.specs.Calls.{call_of, restarts, touches_file}
 use Rattle.hall.specs.Devices.{reaches_store}
-use Rattle.hall.specs.Filing.{DoesFile}
+use Rattle.hall.specs.Filing.{DoesFile, HasFileCause}
 use Rattle.hall.specs.Kept.{IsKept}
 use Rattle.hall.specs.Leaving.{HasStoreCause, KeepsStore}
 use Rattle.hall.specs.State.{State, View}
@@ -33,9 +34,19 @@ abbrev pub DoesStore : {K : Type 0} → (K → Option Rows) → (K → Rows → 
 DoesStore held may_leave faults true old new r = MayWrite held may_leave faults old new r
 DoesStore held may_leave faults false old new r = new ≡ old
 
+-- a restart makes the backup file anew, and any other call does what calls do to it
+abbrev pub LeavesFile : {D : Type 0} → (D → ℕ) → (remakes touches : Bool) → BackupView D → BackupView D → Reply → Type 0
+LeavesFile faults true touches old new r = HasFileCause (faults old.disk) (faults new.disk) r
+LeavesFile faults false touches old new r = DoesFile faults touches old new r
+
+-- no replica follows the table of a lock server that was made anew
+abbrev pub Follows : {L : Type 0} → (faults refusals : L → ℕ) → (remakes : Bool) → Following L → Following L → Type 0
+Follows faults refusals true old new = IsLater faults refusals old new
+Follows faults refusals false old new = KeepsOn faults refusals old new
+
 -- what a call does to the state, to the store, to the backup file and to what follows the table
 pub record Serves {K D L : Type 0} (held : K → Option Rows) (may_leave : K → Rows → Type 0) (faults : K → ℕ) (disk_faults : D → ℕ) (link_faults refusals : L → ℕ) (old new : View K D L) (past : List PastEntry) (c : Command) (r : Reply) : Type 0 where
   pub call : IsAct (with_calls old.state past) c (with_calls new.state past) r
   pub store : DoesStore held may_leave faults (reaches_store old.state (call_of c)) old.keeper new.keeper r
-  pub file : DoesFile disk_faults (touches_file (call_of c)) old.file new.file r
-  pub follower : KeepsOn link_faults refusals old.follower new.follower
+  pub file : LeavesFile disk_faults (restarts (call_of c)) (touches_file (call_of c)) old.file new.file r
+  pub follower : Follows link_faults refusals (restarts (call_of c)) old.follower new.follower

@@ -13,7 +13,8 @@ use Rattle.posting.specs.Steps.{IsOpenUnit}
 use Rattle.hall.specs.declared.command.PastEntry.{PastEntry}
 use Rattle.hall.specs.declared.command.Reply.{Reply}
 use Rattle.hall.specs.declared.command.Reply.TheVariants as reply
-use Rattle.hall.specs.Calls.{Call, OfSession, OfAdmin, Cancels, Commits, Resubmits, call_of}
+use Rattle.hall.specs.Calls.{Call, OfSession, OfAdmin, Cancels, Commits, Resubmits, call_of, is_of_server}
+use Rattle.hall.specs.Kept.{WhileUp}
 use Rattle.hall.specs.Recall.{Made, state_after}
 use Rattle.hall.specs.State.{State}
 
@@ -60,17 +61,16 @@ abbrev pub NoneEndsWait : UnitKey → List Made → Type 0
 NoneEndsWait unit made =
     list_any (λ (m : Made). ends_wait unit (call_of m.call.command) m.call.reply) made ≡ false
 
+-- none of these calls ends the lock server or makes one anew
+abbrev pub NoneOfServer : List Made → Type 0
+NoneOfServer made = list_any (λ (m : Made). is_of_server (call_of m.call.command)) made ≡ false
+
 -- ---- locks of a unit
 
 -- a lock of the unit that its commit hands over to the update; the optimistic ones go
 pub record IsFirm (unit : UnitKey) (e : Entry) : Type 0 where
   pub owner : e.owner ≡ Upd unit
   pub mode : e.mode ≢ O
-
--- a lock that was handed over to the update of the unit
-pub record IsHandedTo (unit : UnitKey) (e : Entry) : Type 0 where
-  pub owner : e.owner ≡ Upd unit
-  pub handed : e.handed ≡ true
 
 abbrev pub with_handed : Entry → Entry
 with_handed e = record e { handed = true }
@@ -79,61 +79,28 @@ with_handed e = record e { handed = true }
 abbrev pub FirmAreHanded : UnitKey → State → State → Type 0
 FirmAreHanded unit s t = (e : Entry) → IsFirm unit e → Contains s.locks e → Contains t.locks (with_handed e)
 
--- the lock is a firm one of that state, handed over
-pub record WasFirm (unit : UnitKey) (s : State) (e : Entry) : Type 0 where
-  pub before : Entry
-  pub firm : IsFirm unit before
-  pub stood : Contains s.locks before
-  pub same : e ≡ with_handed before
-
--- ---- through one call
-
--- what the commit of a unit leaves: the unit waits, and has just its firm locks, handed over
-pub record HandsOver (unit : UnitKey) (s t : State) : Type 0 where
-  pub waits : StillWaits unit t
-  pub handed : FirmAreHanded unit s t
-  pub only : (e : Entry) → e.owner ≡ Upd unit → Contains t.locks e → WasFirm unit s e
-
--- no lock goes that was handed over to a unit which still waits afterwards
-abbrev pub KeepsHanded : State → State → Type 0
-KeepsHanded s t =
-    (unit : UnitKey) (e : Entry) → IsHandedTo unit e → StillWaits unit t
-    → Contains s.locks e → Contains t.locks e
-
--- where the unit waits for its V1 part the locks that were stored with it stand
-abbrev pub LocksAreBack : UnitKey → State → Type 0
-LocksAreBack unit t =
-    StillWaits unit t → (e : Entry) → Contains (entries_of t.stored.units unit) e → Contains t.locks e
-
-pub record CallKeepsLocks (s : State) (call : PastEntry) (t : State) : Type 0 where
-  pub commits : (unit : UnitKey) → IsCommitOf unit call → HandsOver unit s t
-  pub resubmits : (unit : UnitKey) → IsResubmissionOf unit call → LocksAreBack unit t
-  pub kept : KeepsHanded s t
-
 -- ---- through a history
 
--- each call keeps what was handed over, and each commit hands over
-abbrev pub CallsKeepLocks : State → List Made → Type 0
-CallsKeepLocks first made =
-    (earlier later : List Made) (m : Made) → made ≡ earlier ++ m ∷ later
-    → CallKeepsLocks (state_after first earlier) m.call (state_after first (earlier ++ m ∷ []))
+-- From the state before its commit on, the unit waits; and while there is a lock server it has the locks that it had. There is
+-- one where none of these calls ended it.
+pub record WaitsLocked (unit : UnitKey) (calls : List Made) (before now : State) : Type 0 where
+  pub waits : IsOpenUnit now.stored unit
+  pub up : NoneOfServer calls → now.condition ≡ Up
+  pub locks : WhileUp now.condition (FirmAreHanded unit before now)
 
--- from the state before its commit on, the unit waits with the locks that it had
-pub record WaitsLocked (unit : UnitKey) (before now : State) : Type 0 where
-  pub waits : StillWaits unit now
-  pub locks : FirmAreHanded unit before now
-
--- a committed unit waits for its V1 part, and its locks stand, until a call ends that
+-- A committed unit waits for its V1 part, and its locks stand, until a call ends that. A lock server that is made anew has them
+-- again.
 abbrev pub LocksStand : State → List Made → Type 0
 LocksStand first made =
     (earlier between later : List Made) (m : Made) (unit : UnitKey)
     → made ≡ earlier ++ m ∷ (between ++ later) → IsCommitOf unit m.call → NoneEndsWait unit between
-    → WaitsLocked unit (state_after first earlier) (state_after first (earlier ++ m ∷ between))
+    → WaitsLocked unit between (state_after first earlier) (state_after first (earlier ++ m ∷ between))
 
--- the unit waits, and the locks stand that were stored with it when its V1 part was tried again
-pub record ReturnsLocked (unit : UnitKey) (begun now : State) : Type 0 where
-  pub waits : StillWaits unit now
-  pub locks : (e : Entry) → Contains (entries_of begun.stored.units unit) e → Contains now.locks e
+-- the unit waits, and while there is a lock server the locks stand that were stored with it when its V1 part was tried again
+pub record ReturnsLocked (unit : UnitKey) (calls : List Made) (begun now : State) : Type 0 where
+  pub waits : IsOpenUnit now.stored unit
+  pub up : NoneOfServer calls → now.condition ≡ Up
+  pub locks : WhileUp now.condition ((e : Entry) → Contains (entries_of begun.stored.units unit) e → Contains now.locks e)
 
 -- where a unit waits for its V1 part again its stored locks stand, until a call ends that
 abbrev pub LocksReturn : State → List Made → Type 0
@@ -141,4 +108,4 @@ LocksReturn first made =
     (earlier between later : List Made) (m : Made) (unit : UnitKey)
     → made ≡ earlier ++ m ∷ (between ++ later) → IsResubmissionOf unit m.call → NoneEndsWait unit between
     → StillWaits unit (state_after first (earlier ++ m ∷ []))
-    → ReturnsLocked unit (state_after first (earlier ++ m ∷ [])) (state_after first (earlier ++ m ∷ between))
+    → ReturnsLocked unit between (state_after first (earlier ++ m ∷ [])) (state_after first (earlier ++ m ∷ between))

@@ -31,6 +31,8 @@ pub(crate) fn caller_refusal(sessions: &Sessions, command: &Command) -> Option<R
         | Command::Take2 { .. }
         | Command::Do2 { .. }
         | Command::DropOrder { .. }
+        | Command::Kill
+        | Command::Restart
         | Command::Cancel { .. }
         | Command::Resubmit { .. } => None,
     }
@@ -57,7 +59,7 @@ pub(crate) fn server_refusal(condition: Condition, command: &Command) -> Option<
 }
 
 /// Whether a call wants a lock server: all but those for numbers and rows, of workers the posts of V1 parts, and all of the
-/// administrator.
+/// administrator but the restart.
 fn wants_server(command: &Command) -> bool
     ensures { result ≡ wants_server (call_of command.now) }
 {
@@ -70,6 +72,7 @@ fn wants_server(command: &Command) -> bool
         | Command::Rollback { .. }
         | Command::Commit { .. }
         | Command::Do1 { .. }
+        | Command::Kill
         | Command::Cancel { .. }
         | Command::Resubmit { .. } => true,
         Command::Logon { .. }
@@ -79,6 +82,7 @@ fn wants_server(command: &Command) -> bool
         | Command::Take1 { .. }
         | Command::Take2 { .. }
         | Command::Do2 { .. }
-        | Command::DropOrder { .. } => false,
+        | Command::DropOrder { .. }
+        | Command::Restart => false,
     }
 }

@@ -28,7 +28,7 @@ pub struct Session {
     pub luw: u32,
     /// The numbers that the open unit has drawn and not recorded, in order.
     pub draws: Items<Num>,
-    /// Whether the session lost a lock with a lock server, and has to roll back first. None has yet.
+    /// Whether the session lost a lock with a lock server, and has to roll back first.
     pub lost: bool,
 }
 
@@ -100,6 +100,10 @@ pub enum Command {
     DropOrder {
         worker: u8,
     },
+    /// Ends the lock server.
+    Kill,
+    /// Makes a lock server anew, with the locks of the units that wait for their V1 part.
+    Restart,
     Cancel {
         unit: UnitKey,
     },
@@ -130,7 +134,8 @@ impl Command {
             | Command::Take2 { worker }
             | Command::Do2 { worker }
             | Command::DropOrder { worker } => Who::Worker(*worker),
-            Command::Cancel { .. } | Command::Resubmit { .. } => Who::Admin,
+            Command::Kill | Command::Restart | Command::Cancel { .. } | Command::Resubmit { .. } =>
+                Who::Admin,
         }
     }
 }
@@ -175,7 +180,7 @@ pub struct After {
     pub condition: Condition,
     /// Whether a replica follows the lock table. There is none yet.
     pub attached: bool,
-    /// Whether a restart found the change that was in doubt. There is no restart yet.
+    /// Whether a restart found the change that was in doubt. None does yet.
     pub taken: bool,
 }
 

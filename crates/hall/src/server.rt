@@ -1,5 +1,5 @@
-ghost use Rattle.std.specs.Prelude.{◌≡◌, ◌⊎◌, [], false, length, replicate, None, IfOk, is_some};
-ghost use Rattle.enq_server.specs.Following.{KeepsOn};
+ghost use Rattle.std.specs.Prelude.{◌≡◌, ◌⊎◌, [], false, length, replicate, None, IfOk, is_some, IsTrue};
+ghost use Rattle.enq_server.specs.Following.{IsLater, KeepsOn};
 ghost use Rattle.enq_server.specs.Server.{recovered};
 ghost use Rattle.posting.specs.Views.{open_locks};
 ghost use Rattle.hall.specs.declared.command.Command.TheVariants as command;
@@ -7,12 +7,13 @@ ghost use Rattle.hall.specs.Acts.{IsAct, post_of, take_of, written_condition, wr
 ghost use Rattle.hall.specs.Kept.{IsDrawn, IsKept};
 ghost use Rattle.range_list.specs.Levels.{first_ranges, intervals_of};
 ghost use Rattle.std.specs.List.{AllByRecursion};
-ghost use Rattle.hall.specs.Filing.{HasOpenLists, LeavesLists, MayFile};
+ghost use Rattle.hall.specs.Filing.{HasFileCause, HasOpenLists, KeepsFile, LeavesLists};
 ghost use Rattle.hall.specs.Leaving.{LeavesState};
-ghost use Rattle.hall.specs.Calls.{call_of, touches_file};
+ghost use Rattle.hall.specs.Calls.{call_of, restarts, touches_file};
 ghost use Rattle.hall.specs.Devices.{reaches_store};
 ghost use Rattle.hall.specs.Serving.{IsDue, MayWrite, Serves, with_calls};
 ghost use Rattle.hall.specs.State.{opened};
+ghost use Rattle.hall.specs.Unsound.{OnRestart, is_unsound};
 ghost use Rattle.hall.specs.Stocks.{IsStockIn, MayCall};
 ghost use Rattle.hall.specs.History.{after_of, is_unrecorded};
 ghost use Rattle.hall.specs.Step.{barred, is_full, unavailable};
@@ -25,11 +26,12 @@ use crate::locks::{ask, convert, free, free_all, log_off, roll_back};
 use crate::numbers::{draw, reserve};
 use crate::opening::HISTORY_LIMIT;
 use crate::orders::{drop_order, take};
+use crate::remaking::{remake, settled};
 use crate::sessions::{Sessions, log_on};
 use crate::shown::shown_ranges;
 use crate::units::{InFlight, Written, cancel, commit, post, read, resubmit};
 use bk_disk::Disk;
-use enq_base::{Condition, Key, Name, NoMemory, Num, Parts, Refusal, UnitKey};
+use enq_base::{Condition, Items, Key, Name, NoMemory, Num, Parts, Refusal, UnitKey};
 use enq_server::EnqServer;
 use keeper_api::Keeper;
 use lock_entry::{Asked, Entry, LockStore, Request};
@@ -255,10 +257,13 @@ impl<T: LockStore, K: Keeper, D: Disk, L: Link> Server<T, K, D, L> {
         ensures call { IsAct (with_calls self.old.state past.now.items) command.now (with_calls self.new.state past.now.items) result }
         ensures store { MayWrite K.held K.may_leave K.faults self.old.keeper self.new.keeper result }
         ensures keeper { reaches_store self.old.state (call_of command.now) ≡ false → self.new.keeper ≡ self.old.keeper }
-        ensures file { MayFile D.faults self.old.file self.new.file result }
+        ensures file_cause { HasFileCause (D.faults self.old.file.disk) (D.faults self.new.file.disk) result }
+        ensures file { restarts (call_of command.now) ≡ false → KeepsFile self.old.file self.new.file result }
         ensures unfiled { touches_file (call_of command.now) ≡ false → self.new.file ≡ self.old.file }
-        ensures follower { KeepsOn L.faults L.refusals self.old.follower self.new.follower }
+        ensures link { IsLater L.faults L.refusals self.old.follower self.new.follower }
+        ensures follower { restarts (call_of command.now) ≡ false → KeepsOn L.faults L.refusals self.old.follower self.new.follower }
         ensures room { is_unrecorded result ≡ false → is_full (with_calls self.old.state past.now.items) ≡ false }
+        ensures good_file { IsTrue D.tells → is_unsound result ≡ false }
     {
         match self.unavailable(past, command) {
             Some(refusal) => Reply::Refused(refusal),
@@ -270,19 +275,16 @@ impl<T: LockStore, K: Keeper, D: Disk, L: Link> Server<T, K, D, L> {
     fn act(&mut self, alloc: Global, past: &Vec<PastEntry>, command: &Command) -> Reply
         requires due { IsDue self.old.state past.now.items command.now }
         requires call { MayCall self.old.state (call_of command.now) }
-        ensures { Serves K.held K.may_leave K.faults D.faults L.faults L.refusals self.old self.new past.now.items command.now result }
+        ensures serves { Serves K.held K.may_leave K.faults D.faults L.faults L.refusals self.old self.new past.now.items command.now result }
+        ensures good_file { OnRestart (call_of command.now) (IsTrue D.tells → is_unsound result ≡ false) }
     {
         match command {
             Command::Logon { session, user } => self.log_on(alloc, past, *session, *user),
             Command::Logoff { session } => self.log_off(past, session),
-            Command::Ask { session, requests } => {
-                self.ask(alloc, past, session, requests.as_slice())
-            }
+            Command::Ask { session, requests } => self.ask(alloc, past, session, requests),
             Command::Free { session, requests } => self.free(past, session, requests.as_slice()),
             Command::FreeAll { session } => self.free_all(past, session),
-            Command::Convert { session, asked } => {
-                self.convert(alloc, past, session, asked.as_slice())
-            }
+            Command::Convert { session, asked } => self.convert(alloc, past, session, asked),
             Command::Rollback { session } => self.roll_back(alloc, past, session),
             Command::Read {
                 session,
@@ -310,6 +312,8 @@ impl<T: LockStore, K: Keeper, D: Disk, L: Link> Server<T, K, D, L> {
             Command::Take2 { worker } => self.take(past, *worker, 2),
             Command::Do2 { worker } => self.post(alloc, past, *worker, 2),
             Command::DropOrder { worker } => self.drop_order(past, *worker),
+            Command::Kill => self.kill(past),
+            Command::Restart => self.restart(alloc, past),
             Command::Cancel { unit } => self.cancel(alloc, past, *unit),
             Command::Resubmit { unit } => self.resubmit(alloc, past, *unit),
         }
@@ -341,7 +345,7 @@ impl<T: LockStore, K: Keeper, D: Disk, L: Link> Server<T, K, D, L> {
         alloc: Global,
         past: &Vec<PastEntry>,
         session: &Name,
-        requests: &[Request],
+        requests: &Items<Request>,
     ) -> Reply
         requires { IsDue self.old.state past.now.items (command.Ask session.now requests.now) }
         ensures { Serves K.held K.may_leave K.faults D.faults L.faults L.refusals self.old self.new past.now.items (command.Ask session.now requests.now) result }
@@ -353,7 +357,7 @@ impl<T: LockStore, K: Keeper, D: Disk, L: Link> Server<T, K, D, L> {
             &self.sessions,
             &mut self.locks,
             session,
-            requests,
+            requests.as_slice(),
         ))
     }
 
@@ -378,7 +382,7 @@ impl<T: LockStore, K: Keeper, D: Disk, L: Link> Server<T, K, D, L> {
         alloc: Global,
         past: &Vec<PastEntry>,
         session: &Name,
-        asked: &[Asked],
+        asked: &Items<Asked>,
     ) -> Reply
         requires { IsDue self.old.state past.now.items (command.Convert session.now asked.now) }
         ensures { Serves K.held K.may_leave K.faults D.faults L.faults L.refusals self.old self.new past.now.items (command.Convert session.now asked.now) result }
@@ -390,7 +394,7 @@ impl<T: LockStore, K: Keeper, D: Disk, L: Link> Server<T, K, D, L> {
             &self.sessions,
             &mut self.locks,
             session,
-            asked,
+            asked.as_slice(),
         ))
     }
 
@@ -526,6 +530,33 @@ impl<T: LockStore, K: Keeper, D: Disk, L: Link> Server<T, K, D, L> {
         ensures { Serves K.held K.may_leave K.faults D.faults L.faults L.refusals self.old self.new past.now.items (command.DropOrder worker) result }
     {
         drop_order(&mut self.orders, worker)
+    }
+
+    /// Ends the lock server. Its table stays in memory, unseen, until another one is made.
+    fn kill(&mut self, past: &Vec<PastEntry>) -> Reply
+        requires { IsDue self.old.state past.now.items command.Kill }
+        ensures { Serves K.held K.may_leave K.faults D.faults L.faults L.refusals self.old self.new past.now.items command.Kill result }
+    {
+        self.condition = Condition::NoServer;
+        Reply::Done
+    }
+
+    /// Makes a lock server anew.
+    fn restart(&mut self, alloc: Global, past: &Vec<PastEntry>) -> Reply
+        requires { IsDue self.old.state past.now.items command.Restart }
+        ensures serves { Serves K.held K.may_leave K.faults D.faults L.faults L.refusals self.old self.new past.now.items command.Restart result }
+        ensures good_file { IsTrue D.tells → is_unsound result ≡ false }
+    {
+        let remade = remake(
+            alloc,
+            self.condition,
+            &mut self.sessions,
+            &mut self.orders,
+            &mut self.locks,
+            &self.books,
+            self.max_locks,
+        );
+        settled(&mut self.condition, past, remade)
     }
 
     fn cancel(&mut self, alloc: Global, past: &Vec<PastEntry>, unit: UnitKey) -> Reply

@@ -170,6 +170,10 @@ meaning_logged w (line.Do2 worker) h =
     λ d n. settled_logged (line.Do2 worker) (step d w.hall n (command.Do2 worker)).reply w.hall.sessions _ w.sides (λ m off. step_keeps d w.hall n (command.Do2 worker) m refl) tt h
 meaning_logged w (line.DropOrder worker) h =
     λ d n. settled_logged (line.DropOrder worker) (step d w.hall n (command.DropOrder worker)).reply w.hall.sessions _ w.sides (λ m off. step_keeps d w.hall n (command.DropOrder worker) m refl) tt h
+meaning_logged w line.Kill h =
+    λ d n. settled_logged line.Kill (step d w.hall n command.Kill).reply w.hall.sessions _ w.sides (λ m off. step_keeps d w.hall n command.Kill m refl) tt h
+meaning_logged w line.Restart h =
+    λ d n. settled_logged line.Restart (step d w.hall n command.Restart).reply w.hall.sessions _ w.sides (λ m off. step_keeps d w.hall n command.Restart m refl) tt h
 meaning_logged w (line.Cancel unit) h =
     λ d n. settled_logged (line.Cancel unit) (step d w.hall n (command.Cancel unit)).reply w.hall.sessions _ w.sides (λ m off. step_keeps d w.hall n (command.Cancel unit) m refl) tt h
 meaning_logged w (line.Resubmit unit) h =

@@ -4,7 +4,7 @@ use Rattle.std.specs.Prelude.{Option, Some, None, is_some, IsTrue}
 use Rattle.enq_base.specs.declared.refusal.Refusal.TheVariants as refusal
 use Rattle.hall.specs.declared.command.Reply.{Reply}
 use Rattle.hall.specs.declared.command.Reply.TheVariants as reply
-use Rattle.hall.specs.Devices.{DeviceOutcome, Event, AllWell, Wanting, StoreFails, BackupFails, Reading, all_well, is_file_failure, is_store_failure}
+use Rattle.hall.specs.Devices.{DeviceOutcome, Event, AllWell, NotRemade, Wanting, StoreFails, BackupFails, Reading, all_well, is_file_failure, is_store_failure}
 use Rattle.script_lang.specs.declared.script_line.ScriptLine.{ScriptLine}
 use Rattle.script_runner.specs.declared.runner.Why.{Why}
 use Rattle.script_runner.specs.declared.runner.Why.TheVariants.{NoMemory}
@@ -12,6 +12,7 @@ use Rattle.script_runner.specs.Lines.{Meaning, Silent, Shows, Calls, Declines, C
 use Rattle.script_runner.specs.Run.{CallMayHave, LineOutcome, MayHave, NoRoom, Called, answered, does, done, said, file_fails, line_does, store_fails}
 use Rattle.script_runner.specs.Whole.{IsCalm}
 use Rattle.script_runner.specs.World.{World}
+use Rattle.script_runner.proofs.Doubts.{is_unmade, unmade}
 use Rattle.script_runner.proofs.Makings.{MayMake, line_may}
 
 -- a run that goes on, or ends for want of memory
@@ -43,20 +44,22 @@ calmed_by AllWell reading = record { event = AllWell; reading = reading }
 calmed_by Wanting reading = all_well
 calmed_by StoreFails reading = record { event = StoreFails; reading = reading }
 calmed_by BackupFails reading = record { event = BackupFails; reading = reading }
+calmed_by (NotRemade fault) reading = record { event = NotRemade fault; reading = reading }
 
 abbrev pub calmed : LineOutcome → LineOutcome
 calmed NoRoom = Called all_well
 calmed (Called outcome) = Called (calmed_by outcome.event outcome.reading)
 
-calm_event : (e : Event) (g : Reading) → is_store_failure e ≡ false → is_file_failure e ≡ false → (calmed_by e g).event ≡ AllWell
-calm_event AllWell g off unfiled = refl
-calm_event Wanting g off unfiled = refl
-calm_event StoreFails g off unfiled = absurd (cc)
-calm_event BackupFails g off unfiled = absurd (cc)
+calm_event : (e : Event) (g : Reading) → is_store_failure e ≡ false → is_file_failure e ≡ false → is_unmade e ≡ false → (calmed_by e g).event ≡ AllWell
+calm_event AllWell g off unfiled made = refl
+calm_event Wanting g off unfiled made = refl
+calm_event StoreFails g off unfiled made = absurd (cc)
+calm_event BackupFails g off unfiled made = absurd (cc)
+calm_event (NotRemade fault) g off unfiled made = absurd (cc)
 
-pub calmed_calm : (o : LineOutcome) → store_fails o ≡ false → file_fails o ≡ false → IsCalm (calmed o)
-calmed_calm NoRoom off unfiled = refl
-calmed_calm (Called o) off unfiled = calm_event o.event o.reading off unfiled
+pub calmed_calm : (o : LineOutcome) → store_fails o ≡ false → file_fails o ≡ false → unmade o ≡ false → IsCalm (calmed o)
+calmed_calm NoRoom off unfiled made = refl
+calmed_calm (Called o) off unfiled made = calm_event o.event o.reading off unfiled made
 
 -- where the devices do nothing out of the common the line may have it
 well_may : (w : World) (m : Meaning) → MayMake w.hall m → CallMayHave w all_well m
@@ -75,6 +78,7 @@ event_may w lists known AllWell g h = h
 event_may w lists known Wanting g h = all_well_may w lists known
 event_may w lists known StoreFails g h = h
 event_may w lists known BackupFails g h = h
+event_may w lists known (NotRemade fault) g h = h
 
 pub calmed_may : (w : World) (lists : Bool) (known : Option ScriptLine) (o : LineOutcome) → MayHave w lists known o → MayHave w lists known (calmed o)
 calmed_may w lists known NoRoom h = all_well_may w lists known
@@ -92,6 +96,7 @@ event_well w n l AllWell g h = refl
 event_well w n l Wanting g h = wanting_stops w n l g (meaning w l) h
 event_well w n l StoreFails g h = refl
 event_well w n l BackupFails g h = refl
+event_well w n l (NotRemade fault) g h = refl
 
 said_well : (w : World) (n : ℕ) (known : Option ScriptLine) (outcome : LineOutcome) → (said w n known outcome).stop ≡ None → said w n known outcome ≡ said w n known (calmed outcome)
 said_well w n known NoRoom h = cc

@@ -12,10 +12,10 @@ use Rattle.script_runner.specs.declared.runner.Why.{Why}
 use Rattle.script_runner.specs.declared.runner.Why.TheVariants.{Done, BadWords, BadLandscape, BadLine, SourceFault, SinkFault, LongLine, ManyLines, StoreFault, BackupFault, BadStore, BadBackup, NoStart, NoMemory}
 use Rattle.script_runner.specs.Run.{AreAllowed, Turn, Progress, begun, next, run, moved, after_turn, file_fails_in, line_does, store_fails_in}
 use Rattle.script_runner.specs.World.{World}
-use Rattle.script_runner.specs.Replay.{Replays, Seen, IsEnd, IsReadToEnd}
+use Rattle.script_runner.specs.Replay.{Replays, Seen, IsEnd, IsFoundBad, IsReadToEnd}
 use Rattle.hall.specs.Leaving.{HasCounted}
 use Rattle.script_runner.proofs.Counted.{all_counted}
-use Rattle.script_runner.proofs.Doubts.{or_left, or_right, run_doubt}
+use Rattle.script_runner.proofs.Doubts.{or_left, or_right, run_stays_or_fails, run_stops, stays_filed, stays_or_found, stays_shelved, stays_stored, stays_up, stopped, unmade_in, was_in_doubt}
 use Rattle.enq_base.specs.Causes.{Rose}
 use Rattle.script_runner.specs.Lines.{line_in}
 use Rattle.script_runner.proofs.Outcomes.{IsFine, calmed, calmed_calm, calmed_may, line_fine, line_well}
@@ -105,19 +105,11 @@ run_fine p (t ∷ ts) all fine = run_fine (next p t) ts all.1 (next_fine p t all
 abbrev calm_turn : Turn → Turn
 calm_turn t = record { line = t.line; outcome = calmed t.outcome }
 
-stopped : (p : Progress) (t : Turn) (o : Option Why) → p.stop ≡ o → (after_turn o p t).stop ≡ None → o ≡ None
-stopped p t None e h = refl
-stopped p t (Some why) e h = sym e ∙ h
-
 next_well : (p : Progress) (t : Turn) → (next p t).stop ≡ None → next p t ≡ next p (calm_turn t)
 next_well p t h =
     let e : p.stop ≡ None = stopped p t p.stop refl h in
     let h : (line_does p.world (p.number + 1) t.line t.outcome).stop ≡ None = sym (ap (λ o. (after_turn o p t).stop) e) ∙ h in
     ap (λ o. after_turn o p t) e ∙ ap (moved p) (line_well p.world (p.number + 1) t.line t.outcome h) ∙ sym (ap (λ o. after_turn o p (calm_turn t)) e)
-
-pub run_stops : (p : Progress) (turns : List Turn) → (run_on p turns).stop ≡ None → p.stop ≡ None
-run_stops p [] h = h
-run_stops p (t ∷ ts) h = stopped p t p.stop refl (run_stops (next p t) ts h)
 
 -- a run that goes on to the end is the run in which nothing was wanting
 run_well : (p : Progress) (turns : List Turn) → (run_on p turns).stop ≡ None → run_on p turns ≡ run_on p (map calm_turn turns)
@@ -126,11 +118,11 @@ run_well p (t ∷ ts) h =
     let goes = run_stops (next p t) ts h in
     run_well (next p t) ts h ∙ ap (λ q. run_on q (map calm_turn ts)) (next_well p t goes)
 
-run_calm : (turns : List Turn) → list_any store_fails_in turns ≡ false → list_any file_fails_in turns ≡ false → AllByRecursion (λ t. IsCalm t.outcome) (map calm_turn turns)
-run_calm [] off unfiled = tt
-run_calm (t ∷ ts) off unfiled = (
-  calmed_calm t.outcome (or_left (store_fails_in t) (list_any store_fails_in ts) off) (or_left (file_fails_in t) (list_any file_fails_in ts) unfiled),
-  run_calm ts (or_right (store_fails_in t) (list_any store_fails_in ts) off) (or_right (file_fails_in t) (list_any file_fails_in ts) unfiled),
+run_calm : (turns : List Turn) → list_any store_fails_in turns ≡ false → list_any file_fails_in turns ≡ false → list_any unmade_in turns ≡ false → AllByRecursion (λ t. IsCalm t.outcome) (map calm_turn turns)
+run_calm [] off unfiled made = tt
+run_calm (t ∷ ts) off unfiled made = (
+  calmed_calm t.outcome (or_left (store_fails_in t) (list_any store_fails_in ts) off) (or_left (file_fails_in t) (list_any file_fails_in ts) unfiled) (or_left (unmade_in t) (list_any unmade_in ts) made),
+  run_calm ts (or_right (store_fails_in t) (list_any store_fails_in ts) off) (or_right (file_fails_in t) (list_any file_fails_in ts) unfiled) (or_right (unmade_in t) (list_any unmade_in ts) made),
 )
 
 run_allowed : (p : Progress) (turns : List Turn) → (run_on p turns).stop ≡ None → AreAllowed p turns → AreAllowed p (map calm_turn turns)
@@ -191,15 +183,15 @@ too_long xs ys rest left e long unbroken all =
     omega (arith, good.fits.fits, l.long)
 
 -- what is seen at the end, over bytes that the source told
-all_done : (before after : World) (bytes left rest : List ℕ) (turns : List Turn) (old new : Seen) → AreAllowed (begun before) turns → new.left ≡ Some left → lines_of bytes ≡ lines_in turns ++ lines_of (rest ++ left) → list_any store_fails_in turns ≡ false → list_any file_fails_in turns ≡ false → after ≡ (run before turns).world → IsReadToEnd before turns rest old new → IsAllDone before after.hall bytes old.written new.written
-all_done before after bytes left rest turns old new allowed is all off unfiled hall end =
+all_done : (before after : World) (bytes left rest : List ℕ) (turns : List Turn) (old new : Seen) → AreAllowed (begun before) turns → new.left ≡ Some left → lines_of bytes ≡ lines_in turns ++ lines_of (rest ++ left) → list_any store_fails_in turns ≡ false → list_any file_fails_in turns ≡ false → list_any unmade_in turns ≡ false → after ≡ (run before turns).world → IsReadToEnd before turns rest old new → IsAllDone before after.hall bytes old.written new.written
+all_done before after bytes left rest turns old new allowed is all off unfiled made hall end =
     let at_end : left ≡ [] = subst IsAtEnd is end.1 in
     let each : lines_of bytes ≡ lines_in turns = all ∙ ap (λ x. lines_in turns ++ lines_of x) (ap (λ x. x ++ left) end.0 ∙ at_end) ∙ append-nil (lines_in turns) in
     let same : run before turns ≡ run before (map calm_turn turns) = run_well (begun before) turns end.2 in
     record {
       turns = map calm_turn turns;
       each = same_lines turns ∙ sym each;
-      calm = run_calm turns off unfiled;
+      calm = run_calm turns off unfiled made;
       allowed = run_allowed (begun before) turns end.2 allowed;
       state = ap (λ (x : World). x.hall) hall ∙ ap (λ (p : Progress). p.world.hall) same;
       text = subst (λ (p : Progress). Appends old.written new.written p.text) same end.3;
@@ -207,13 +199,24 @@ all_done before after bytes left rest turns old new allowed is all off unfiled h
 
 ends : (before after : World) (bytes left lines rest : List ℕ) (turns : List Turn) (old new : Seen) (why : Why) → AreAllowed (begun before) turns → new.left ≡ Some left → lines_of bytes ≡ lines_in turns ++ lines_of (rest ++ left) → IsScript bytes → (Rose old.source_faults new.source_faults → ⊥) → (Rose old.sink_faults new.sink_faults → ⊥) → list_any store_fails_in turns ≡ false → list_any file_fails_in turns ≡ false → after ≡ (run before turns).world → IsEnd before turns rest old new why → IsComplete before after.hall bytes old.written new.written why
 ends before after bytes left lines rest turns old new Done allowed is all script quiet_source quiet_sink off unfiled hall end =
-    all_done before after bytes left rest turns old new allowed is all off unfiled hall end.0
+    let stays = stays_up _ _ _ before.hall (run before turns).world.hall (run_stays_or_fails before turns end.0.2 allowed) end.1 in
+    all_done before after bytes left rest turns old new allowed is all off unfiled stays.1 hall end.0
 ends before after bytes left lines rest turns old new (StoreFault k) allowed is all script quiet_source quiet_sink off unfiled hall end =
-    (sym (run_doubt (begun before) turns off unfiled) ∙ end.1, all_done before after bytes left rest turns old new allowed is all off unfiled hall end.0)
+    let stays = stays_stored _ _ _ before.hall (run before turns).world.hall k (run_stays_or_fails before turns end.0.2 allowed) off end.1 end.2 in
+    (sym stays.0 ∙ end.1, all_done before after bytes left rest turns old new allowed is all off unfiled stays.1 hall end.0)
 ends before after bytes left lines rest turns old new (BackupFault k) allowed is all script quiet_source quiet_sink off unfiled hall end =
-    (sym (run_doubt (begun before) turns off unfiled) ∙ end.1, all_done before after bytes left rest turns old new allowed is all off unfiled hall end.0)
-ends before after bytes left lines rest turns old new (BadStore table row) allowed is all script quiet_source quiet_sink off unfiled hall end = absurd end
-ends before after bytes left lines rest turns old new (BadBackup place) allowed is all script quiet_source quiet_sink off unfiled hall end = absurd end
+    let stays = stays_filed _ _ _ before.hall (run before turns).world.hall k (run_stays_or_fails before turns end.0.2 allowed) unfiled end.1 in
+    (sym stays.0 ∙ end.1.0, all_done before after bytes left rest turns old new allowed is all off unfiled stays.1 hall end.0)
+ends before after bytes left lines rest turns old new (BadStore table row) allowed is all script quiet_source quiet_sink off unfiled hall end =
+    let now = (run before turns).world.hall in
+    let stays = stays_shelved _ _ _ before.hall now table row (run_stays_or_fails before turns end.0.2 allowed) end.1 in
+    (was_in_doubt before.hall now end.1.0 stays.0 end.1.1.0, all_done before after bytes left rest turns old new allowed is all off unfiled stays.1 hall end.0)
+ends before after bytes left lines rest turns old new (BadBackup place) allowed is all script quiet_source quiet_sink off unfiled hall end =
+    let now = (run before turns).world.hall in
+    elim (stays_or_found _ _ _ before.hall now place (run_stays_or_fails before turns end.0.2 allowed) end.1) [
+      | inl stays ↦ inl (was_in_doubt before.hall now end.1.0 stays.0 end.1.1.0, all_done before after bytes left rest turns old new allowed is all off unfiled stays.1 hall end.0)
+      | inr found ↦ inr (subst (λ (w : World). IsFoundBad before.hall w.hall place) (sym hall) found)
+    ]
 ends before after bytes left lines rest turns old new NoStart allowed is all script quiet_source quiet_sink off unfiled hall end = absurd end
 ends before after bytes left lines rest turns old new BadWords allowed is all script quiet_source quiet_sink off unfiled hall end = absurd end
 ends before after bytes left lines rest turns old new (BadLandscape rule place) allowed is all script quiet_source quiet_sink off unfiled hall end = absurd end

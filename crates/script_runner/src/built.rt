@@ -53,6 +53,8 @@ pub(crate) fn is_built(line: &ScriptLine) -> bool
             | ScriptLine::Take2 { .. }
             | ScriptLine::Do2 { .. }
             | ScriptLine::DropOrder { .. }
+            | ScriptLine::Kill
+            | ScriptLine::Restart
             | ScriptLine::Cancel { .. }
             | ScriptLine::Resubmit { .. }
     )

@@ -1,4 +1,4 @@
-ghost use Rattle.std.specs.Prelude.{◌≡◌, ◌⊎◌, ◌≤◌, [], List, OnOk, false, true};
+ghost use Rattle.std.specs.Prelude.{◌≡◌, ◌⊎◌, ◌≤◌, [], List, Ok, OnOk, false, true};
 ghost use Rattle.hall.specs.State.{State};
 ghost use Rattle.lock_objects.specs.Objects.{Object};
 ghost use Rattle.script_lang.specs.declared.script_line.ScriptLine.TheVariants as line;
@@ -68,17 +68,24 @@ pub(crate) fn prepare(
         } => read(alloc, sides, *session, *table, key.as_slice()),
         ScriptLine::Put { .. } | ScriptLine::Ins { .. } => prepare_text(alloc, line, sides),
         ScriptLine::Del { .. } | ScriptLine::Add { .. } => prepare_other_effect(alloc, line, sides),
-        ScriptLine::Take1 { worker } => Ok(Prepared::Call(Command::Take1 { worker: *worker })),
-        ScriptLine::Do1 { worker } => Ok(Prepared::Call(Command::Do1 { worker: *worker })),
-        ScriptLine::Take2 { worker } => Ok(Prepared::Call(Command::Take2 { worker: *worker })),
-        ScriptLine::Do2 { worker } => Ok(Prepared::Call(Command::Do2 { worker: *worker })),
-        ScriptLine::DropOrder { worker } => {
-            Ok(Prepared::Call(Command::DropOrder { worker: *worker }))
-        }
-        ScriptLine::Cancel { unit } => Ok(Prepared::Call(Command::Cancel { unit: *unit })),
-        ScriptLine::Resubmit { unit } => Ok(Prepared::Call(Command::Resubmit { unit: *unit })),
+        ScriptLine::Take1 { worker } => call(Command::Take1 { worker: *worker }),
+        ScriptLine::Do1 { worker } => call(Command::Do1 { worker: *worker }),
+        ScriptLine::Take2 { worker } => call(Command::Take2 { worker: *worker }),
+        ScriptLine::Do2 { worker } => call(Command::Do2 { worker: *worker }),
+        ScriptLine::DropOrder { worker } => call(Command::DropOrder { worker: *worker }),
+        ScriptLine::Kill => call(Command::Kill),
+        ScriptLine::Restart => call(Command::Restart),
+        ScriptLine::Cancel { unit } => call(Command::Cancel { unit: *unit }),
+        ScriptLine::Resubmit { unit } => call(Command::Resubmit { unit: *unit }),
         _ => unreachable!(),
     }
+}
+
+/// A line that comes to this call whatever the private side is.
+fn call(command: Command) -> Result<Prepared, Refusal>
+    ensures { result ≡ Ok (Prepared.Call command) }
+{
+    Ok(Prepared::Call(command))
 }
 
 /// A line that asks for locks of an object, or gives some back.

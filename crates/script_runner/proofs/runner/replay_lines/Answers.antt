@@ -9,7 +9,7 @@ use Rattle.script_runner.proofs.TurnLemmas.{taken_at}
 use Rattle.script_runner.proofs.runner.replay_lines.Goals as goal
 
 pub lines-init : goal.lines-init
-lines-init g c = (begins _ _ _ c.new-reader.ensures.number c.new-reader.ensures.reading, refl)
+lines-init g c = (begins _ _ _ c.new-reader.ensures.number c.new-reader.ensures.reading, refl, λ yes none. none)
 
 pub take_turn-requires : goal.take_turn-requires
 take_turn-requires g c =
@@ -27,6 +27,7 @@ lines-preserved g c = (
       (taken_at _ _ _ _ _ _ _ _ _ _ _ _ _ c.number.ensures c.line.ensures c.in_default.ensures.turn)
       c.take_turn.ensures.later,
   c.in_default.ensures.turn.devices.told ∙ c.lines.invariant.1,
+  λ yes none. c.take_turn.ensures.good_file yes (c.lines.invariant.2 yes none),
 )
 
 pub returns-in-Ok-false-clause-run : goal.returns-in-Ok-false-clause-run
@@ -50,3 +51,12 @@ returns-in-Err-take_turn-clause-run g c =
 
 pub returns-in-Err-take_turn-clause-told : goal.returns-in-Err-take_turn-clause-told
 returns-in-Err-take_turn-clause-told g c = c.in-Err-take_turn.ensures.turn.devices.told ∙ c.lines.invariant.1
+
+pub returns-in-Ok-false-clause-good_file : goal.returns-in-Ok-false-clause-good_file
+returns-in-Ok-false-clause-good_file g c = c.lines.invariant.2
+
+pub returns-in-Err-clause-good_file : goal.returns-in-Err-clause-good_file
+returns-in-Err-clause-good_file g c = c.lines.invariant.2
+
+pub returns-in-Err-take_turn-clause-good_file : goal.returns-in-Err-take_turn-clause-good_file
+returns-in-Err-take_turn-clause-good_file g c = λ yes none. c.take_turn.ensures.good_file yes (c.lines.invariant.2 yes none)

@@ -1,5 +1,6 @@
 use Rattle.std.proofs.Common.{◌≡◌, ◌-◌}
-use Rattle.std.specs.Prelude.{is_some}
+use Rattle.std.specs.Prelude.{is_some, IsTrue}
+use Rattle.script_runner.specs.Faults.{NoneUnsound}
 use Rattle.script_runner.specs.Replay.{seen}
 use Rattle.script_runner.specs.World.{world}
 use Rattle.script_runner.proofs.Loop.{GoesOn}
@@ -12,6 +13,7 @@ invariant-lines g l =
     (seen (g.S.Source.left l.source) (g.W.Sink.written l.sink) (g.S.Source.faults l.source) (g.W.Sink.faults l.sink) (g.K.Keeper.faults l.hall.keeper) (g.D.Disk.faults l.hall.file.disk))
     l.reader
     × (is_some (g.K.Keeper.held l.hall.keeper) ≡ is_some (g.K.Keeper.held l.initial.hall.keeper))
+    × (IsTrue g.D.Disk.tells → NoneUnsound l.initial.hall.state.past → NoneUnsound l.hall.state.past)
 
 abbrev pub decreases-lines : goal.decreases-lines
 decreases-lines g l = 200000 - l.reader.number

@@ -9,4 +9,4 @@ pub returns-in-Shown-clause-turn : goal.returns-in-Shown-clause-turn
 returns-in-Shown-clause-turn g c = λ bytes known. turn_shown _ _ _ _ _ _ _ bytes _ _ _ known (sym c.line_kind.ensures ∙ c.in-Shown.is) c.show.ensures.shown
 
 pub returns-in-Replied-clause-turn : goal.returns-in-Replied-clause-turn
-returns-in-Replied-clause-turn g c = λ bytes known. turn_done _ _ _ _ _ _ _ _ _ bytes _ _ _ known c.do_line-reply.ensures c.answer.ensures.answer
+returns-in-Replied-clause-turn g c = λ bytes known. turn_done _ _ _ _ _ _ _ _ _ bytes _ _ _ known c.do_line-reply.ensures.does c.answer.ensures.answer

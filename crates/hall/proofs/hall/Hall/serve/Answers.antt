@@ -2,6 +2,7 @@ use Rattle.std.proofs.Common.{[], ◌∷◌, ◌++◌, sym, ◌∙◌, subst, ru
 use Rattle.hall.proofs.Endings.{given_noted, unrecorded_same}
 use Rattle.hall.proofs.Few.{kept_call}
 use Rattle.hall.proofs.Frames.{noted_step}
+use Rattle.hall.proofs.GoodFiles.{given_sound}
 use Rattle.hall.proofs.Replies.{given_act}
 use Rattle.hall.specs.History.{IsStep, entry_of}
 use Rattle.hall.specs.Kept.{IsKept}
@@ -47,3 +48,6 @@ returns-clause-step g c =
     subst (λ v. IsStep v.state (with_calls c.serve-reply.new.self.state c.note.new.past.items) c.args.line c.args.command given) c.self.view_is
     (subst (λ p. IsStep s (with_calls c.serve-reply.new.self.state p) c.args.line c.args.command given) (sym noted)
     (noted_step s c.args.line c.args.command after given asked act (given_noted c.serve-reply.result given c.told_twice-noted.ensures.given on)))
+
+pub returns-clause-good_file : goal.returns-clause-good_file
+returns-clause-good_file g c = λ yes. given_sound c.serve-reply.result c.told_twice-noted.result.1 c.told_twice-noted.ensures.given (c.serve-reply.ensures.good_file yes)

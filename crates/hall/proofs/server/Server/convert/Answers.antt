@@ -1,10 +1,12 @@
-use Rattle.std.proofs.Common.{[], refl, sym, is_some}
+use Rattle.std.proofs.Common.{[], refl, sym, subst, is_some}
 use Rattle.enq_base.specs.declared.condition.Condition.{Condition}
 use Rattle.enq_base.specs.declared.condition.Condition.TheVariants.{Up}
 use Rattle.hall.proofs.Calls.{at_state}
 use Rattle.hall.proofs.Endings.{serves_beside, state_with}
+use Rattle.hall.specs.Acts.{Admits, IsAct}
 use Rattle.hall.specs.Serving.{with_calls}
 use Rattle.hall.specs.State.{View}
+use Rattle.hall.specs.Step.{answer_of}
 use Rattle.hall.specs.declared.command.Command.TheVariants as command
 use Rattle.hall.proofs.server.Server.convert.Goals as goal
 
@@ -24,6 +26,9 @@ returns g c =
       file = c.convert.new.locks.file;
       follower = c.convert.new.locks.copy;
     } in
+    let s = with_calls (before Up).state c.args.past.now.items in
     serves_beside g.K.Keeper.held g.K.Keeper.may_leave g.K.Keeper.faults g.D.Disk.faults g.L.Link.faults g.L.Link.refusals before after old.condition c.args.self.now c.args.past.now.items (command.Convert c.args.session.now c.args.asked.now) _ _
-    c.self.view_is refl refl c.convert.ensures.file c.convert.ensures.follower refl c.requires refl refl c.of.ensures
-    (λ room. at_state _ _ _ _ _ (λ i. record (with_calls (after Up).state c.args.past.now.items) { limit = sym c.convert.ensures.limit i }) (c.convert.ensures.act (with_calls (before Up).state c.args.past.now.items) (sym c.start-start.ensures) refl refl room))
+    c.self.view_is refl refl c.convert.ensures.file c.convert.ensures.follower refl c.requires refl refl refl c.of.ensures
+    (λ room. at_state _ _ _ _ _ (λ i. record (with_calls (after Up).state c.args.past.now.items) { limit = sym c.convert.ensures.limit i })
+    (subst (λ xs. Admits s (command.Convert c.args.session.now xs) → IsAct s (command.Convert c.args.session.now xs) (record s { locks = c.convert.new.locks.table.entries }) (answer_of c.convert.result)) c.as_slice.ensures
+    (c.convert.ensures.act s (sym c.start-start.ensures) refl refl) room))

@@ -48,7 +48,7 @@ returns g c =
       call =
           written_call (is_some (held old.books.keeper)) (is_some (held called.new.books.keeper)) old.condition ended.new.condition old.sessions called.new.sessions old.next_session old.orders.items old.orders.items old.locks.table old.locks.table old.max_locks old.max_marks old.ranges called.new.ranges old.books.ledger called.new.books.ledger
           old.pending ended.new.pending past called.result (command.Number c.args.session.now c.args.object.now c.args.nr) ended.result due
-          called.ensures.store.told ended.ensures.condition ended.ensures.pending ended.ensures.reply refl called.ensures.sessions (also_failed _ called.result refl) called.ensures.store.ledger
+          called.ensures.store.told ended.ensures.condition ended.ensures.pending ended.ensures.reply refl refl called.ensures.sessions (also_failed _ called.result refl) called.ensures.store.ledger
           called.ensures.ranges
           (λ none room. called.ensures.act (before old.condition) refl refl refl room);
       store = does_store held may_leave faults (reaches_store start (OfSession c.args.session.now (Draws c.args.object.now c.args.nr))) old.books.keeper called.new.books.keeper ended.result (record {

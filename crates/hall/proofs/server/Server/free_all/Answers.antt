@@ -25,5 +25,5 @@ returns g c =
       follower = c.free_all.new.locks.copy;
     } in
     serves_beside g.K.Keeper.held g.K.Keeper.may_leave g.K.Keeper.faults g.D.Disk.faults g.L.Link.faults g.L.Link.refusals before after old.condition c.args.self.now c.args.past.now.items (command.FreeAll c.args.session.now) _ _
-    c.self.view_is refl refl c.free_all.ensures.file c.free_all.ensures.follower refl c.requires refl refl c.of.ensures
+    c.self.view_is refl refl c.free_all.ensures.file c.free_all.ensures.follower refl c.requires refl refl refl c.of.ensures
     (λ room. at_state _ _ _ _ _ (λ i. record (with_calls (after Up).state c.args.past.now.items) { limit = sym c.free_all.ensures.limit i }) (c.free_all.ensures.act (with_calls (before Up).state c.args.past.now.items) (sym c.start-start.ensures) refl refl room))

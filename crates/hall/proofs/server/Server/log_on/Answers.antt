@@ -24,5 +24,5 @@ returns g c =
       follower = old.locks.copy;
     } in
     serves_apart g.K.Keeper.held g.K.Keeper.may_leave g.K.Keeper.faults g.D.Disk.faults g.L.Link.faults g.L.Link.refusals before after old.condition c.args.self.now c.args.past.now.items (command.Logon c.args.session c.args.user) _ _
-    c.self.view_is refl refl (keeps_none g.L.Link.faults g.L.Link.refusals old.locks.copy) c.requires refl refl c.of.ensures
+    c.self.view_is refl refl (keeps_none g.L.Link.faults g.L.Link.refusals old.locks.copy) c.requires refl refl refl c.of.ensures
     (λ room. c.log_on.ensures.act (with_calls (before old.condition).state c.args.past.now.items) refl refl room)

@@ -2,16 +2,16 @@ use Rattle.std.proofs.Common.{◌≡◌, [], true, refl, sym, ap, ◌∙◌, sub
 use Rattle.std.specs.Prelude.{nat_eq}
 use Rattle.enq_base.specs.declared.condition.Condition.{Condition}
 use Rattle.enq_base.specs.declared.condition.Condition.TheVariants.{Up}
-use Rattle.hall.proofs.Endings.{no_flight, posted_in, posts_file, server_up, state_with, written_call}
+use Rattle.hall.proofs.Endings.{no_flight, posted_gone, posted_in, posts_file, server_up, state_with, written_call}
 use Rattle.hall.proofs.Filing.{recovers_after}
 use Rattle.hall.proofs.Ends.{posts_part}
 use Rattle.hall.specs.Devices.{reaches_store}
 use Rattle.hall.proofs.Leaves.{also_failed, leaves_after, usable_after}
 use Rattle.hall.specs.Acts.{IsWritten, post_of}
-use Rattle.hall.specs.Calls.{wants_server}
+use Rattle.hall.specs.Calls.{restarts, wants_server}
 use Rattle.hall.specs.Filing.{MayFile}
 use Rattle.hall.specs.Leaving.{HasStoreCause, KeepsStore}
-use Rattle.hall.specs.Serving.{DoesStore, IsDue, Serves}
+use Rattle.hall.specs.Serving.{DoesStore, Follows, IsDue, Serves}
 use Rattle.hall.specs.State.{State, locks_in}
 use Rattle.hall.proofs.server.Server.post.Goals as goal
 
@@ -46,7 +46,10 @@ returns g c =
       call =
           written_call (is_some (held old.books.keeper)) (is_some (held called.new.books.keeper)) old.condition ended.new.condition old.sessions old.sessions old.next_session old.orders.items called.new.orders.items old.locks.table called.new.locks.table old.max_locks old.max_marks old.ranges old.ranges old.books.ledger called.new.books.ledger
           old.pending ended.new.pending past called.result (post_of c.args.part c.args.worker) ended.result due
-          called.ensures.told ended.ensures.condition ended.ensures.pending ended.ensures.reply called.ensures.limit (also_failed _ called.result refl) called.ensures.orders called.ensures.ledger
+          called.ensures.told ended.ensures.condition ended.ensures.pending ended.ensures.reply called.ensures.limit
+          (posted_gone old.condition c.args.part old.locks.table.entries called.new.locks.table.entries
+          (λ first. server_up (before old.condition) (post_of c.args.part c.args.worker) (ap wants_server (posts_part c.args.part c.args.worker c.requires.part) ∙ first) due.admits) called.ensures.second)
+          (also_failed _ called.result refl) called.ensures.orders called.ensures.ledger
           (also_failed _ called.result refl)
           (λ none room.
           let up : nat_eq c.args.part 1 ≡ true → old.condition ≡ Up = λ first. server_up (before old.condition) (post_of c.args.part c.args.worker) (ap wants_server (posts_part c.args.part c.args.worker c.requires.part) ∙ first) room in
@@ -59,5 +62,5 @@ returns g c =
         kept = subst (KeepsStore held may_leave old.books.keeper called.new.books.keeper) (sym ended.ensures.reply) called.ensures.kept;
       });
       file = posts_file g.D.Disk.faults old.locks.file called.new.locks.file c.args.part c.args.worker ended.result c.requires.part (subst (MayFile g.D.Disk.faults old.locks.file called.new.locks.file) (sym ended.ensures.reply) called.ensures.file.does) called.ensures.unfiled;
-      follower = called.ensures.follower;
+      follower = subst (λ call. Follows g.L.Link.faults g.L.Link.refusals (restarts call) old.locks.copy called.new.locks.copy) (sym (posts_part c.args.part c.args.worker c.requires.part)) called.ensures.follower;
     })

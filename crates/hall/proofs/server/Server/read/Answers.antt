@@ -45,7 +45,7 @@ returns g c =
       call =
           written_call (is_some (held old.books.keeper)) (is_some (held called.new.books.keeper)) old.condition ended.new.condition old.sessions old.sessions old.next_session old.orders.items old.orders.items old.locks.table old.locks.table old.max_locks old.max_marks old.ranges old.ranges old.books.ledger called.new.books.ledger
           old.pending ended.new.pending past called.result (command.Read c.args.session.now c.args.table.now c.args.key.now) ended.result due
-          called.ensures.told ended.ensures.condition ended.ensures.pending ended.ensures.reply refl (also_failed _ called.result refl) (also_failed _ called.result refl) (also_store_failed _ called.result called.ensures.ledger)
+          called.ensures.told ended.ensures.condition ended.ensures.pending ended.ensures.reply refl refl (also_failed _ called.result refl) (also_failed _ called.result refl) (also_store_failed _ called.result called.ensures.ledger)
           (also_failed _ called.result refl)
           (λ none room. called.ensures.act (before old.condition) refl refl refl none room);
       store = record {

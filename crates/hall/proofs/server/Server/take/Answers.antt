@@ -2,11 +2,10 @@ use Rattle.std.proofs.Common.{[], refl, sym, subst, is_some}
 use Rattle.enq_server.proofs.Following.{keeps_none}
 use Rattle.hall.proofs.Endings.{state_with}
 use Rattle.hall.proofs.Ends.{taken_call, takes_part}
-use Rattle.hall.specs.Calls.{touches_file}
+use Rattle.hall.specs.Calls.{restarts, touches_file}
 use Rattle.hall.specs.Devices.{reaches_store}
-use Rattle.hall.specs.Filing.{DoesFile}
 use Rattle.hall.specs.Acts.{take_of}
-use Rattle.hall.specs.Serving.{DoesStore, IsDue, Serves, with_calls}
+use Rattle.hall.specs.Serving.{DoesStore, Follows, IsDue, LeavesFile, Serves, with_calls}
 use Rattle.hall.specs.State.{State}
 use Rattle.hall.proofs.server.Server.take.Goals as goal
 
@@ -24,6 +23,6 @@ returns g c =
     (record {
       call = taken_call c.args.part s c.args.worker (with_calls new past) c.take.result c.requires.part due.admits (c.take.ensures.verdict s refl refl);
       store = subst (λ call. DoesStore held may_leave faults (reaches_store (state_with (is_some (held old.books.keeper)) old.condition old.sessions old.next_session old.orders.items old.locks.table old.max_locks old.max_marks old.ranges old.books.ledger old.pending []) call) old.books.keeper old.books.keeper c.take.result) (sym (takes_part c.args.part c.args.worker c.requires.part)) refl;
-      file = subst (λ call. DoesFile g.D.Disk.faults (touches_file call) old.locks.file old.locks.file c.take.result) (sym (takes_part c.args.part c.args.worker c.requires.part)) refl;
-      follower = keeps_none g.L.Link.faults g.L.Link.refusals old.locks.copy;
+      file = subst (λ call. LeavesFile g.D.Disk.faults (restarts call) (touches_file call) old.locks.file old.locks.file c.take.result) (sym (takes_part c.args.part c.args.worker c.requires.part)) refl;
+      follower = subst (λ call. Follows g.L.Link.faults g.L.Link.refusals (restarts call) old.locks.copy old.locks.copy) (sym (takes_part c.args.part c.args.worker c.requires.part)) (keeps_none g.L.Link.faults g.L.Link.refusals old.locks.copy);
     })

@@ -1,0 +1,129 @@
+-- Where the disk tells its bytes no restart finds a backup file that isn't good.
+use Rattle.std.proofs.Common.{◌≡◌, inl, inr, ℕ, true, false, List, [], ◌∷◌, ◌++◌, Some, IsTrue, refl, sym, ap, ◌∙◌, subst}
+use Rattle.std.specs.List.{All, AllByRecursion, slice_get}
+use Rattle.std.proofs.lemmas.List.Elements.{recursion_from_All}
+use Rattle.enq_base.specs.declared.condition.BackupBad.{BackupBad}
+use Rattle.enq_base.specs.declared.condition.BackupBad.TheVariants as backup
+use Rattle.enq_base.specs.declared.owner.UnitKey.{UnitKey}
+use Rattle.enq_base.specs.declared.refusal.Refusal.{Refusal}
+use Rattle.enq_base.specs.declared.refusal.Refusal.TheVariants as refusal
+use Rattle.gate_log.proofs.Logs.{stands_once, stands_unbroken}
+use Rattle.backup_file.proofs.Records.{record_reader}
+use Rattle.backup_file.specs.Backup.{BackupView}
+use Rattle.backup_file.specs.File.{Stands, grammar}
+use Rattle.backup_file.specs.Reading.{record_at}
+use Rattle.backup_file.specs.declared.handed.Handed.{Handed}
+use Rattle.enq_server.specs.Faults.{IsOpenFault}
+use Rattle.enq_server.specs.Recovery.{Agrees, IsFirstDifference, IsMissing, entries_of, joined}
+use Rattle.enq_server.specs.declared.fault.OpenFault.{OpenFault}
+use Rattle.enq_server.specs.declared.fault.OpenFault.TheVariants as opening
+use Rattle.lock_entry.specs.Sound.{IsSound}
+use Rattle.lock_entry.specs.declared.entry.Entry.{Entry}
+use Rattle.lock_entry.specs.declared.entry.UnitLocks.{UnitLocks}
+use Rattle.posting.specs.Views.{open_locks}
+use Rattle.update_records.specs.Ledger.{Ledger}
+use Rattle.hall.specs.Acts.{IsAct}
+use Rattle.hall.specs.Calls.{Call, LogsOn, OfSession, OfWorker, OfAdmin, Kills, Restarts, Cancels, Resubmits, call_of, restarts}
+use Rattle.hall.specs.Devices.{AllWell, BackupFails, MayHappen, NotRemade, StoreFails, Wanting, found_by}
+use Rattle.hall.specs.Filing.{HasOpenLists}
+use Rattle.hall.specs.History.{IsGiven, Served, judged, served}
+use Rattle.hall.specs.OpenUnits.{open_entries}
+use Rattle.hall.specs.Remaking.{remake_refusal}
+use Rattle.hall.specs.State.{State}
+use Rattle.hall.specs.Step.{Found, call_verdict, found_in, own_verdict, unavailable, unless_refused}
+use Rattle.hall.specs.Unsound.{OnRestart, is_unsound}
+use Rattle.hall.specs.declared.command.Command.{Command}
+use Rattle.hall.specs.declared.command.Reply.{Reply}
+use Rattle.hall.specs.declared.command.Reply.TheVariants as reply
+use Rattle.hall.proofs.Replies.{is_fault_reply, verdict_answered}
+
+-- ---- a backup file that has the locks of these units
+
+agrees_at : (lists : List Handed) (front : List UnitLocks) (found : UnitLocks) (rest : List UnitLocks) → AllByRecursion (Agrees lists) (front ++ found ∷ rest) → Agrees lists found
+agrees_at lists [] found rest h = h.0
+agrees_at lists (u ∷ front) found rest h = agrees_at lists front found rest h.1
+
+no_difference : (xs ys : List Entry) (at : ℕ) → xs ≡ ys → IsFirstDifference xs ys at → ⊥
+no_difference xs ys at same d = d.differ (ap (λ zs. slice_get zs d.before) same)
+
+none_missing : (lists : List Handed) (units : List UnitLocks) (unit : UnitKey) (at : ℕ) → AllByRecursion (Agrees lists) units → IsMissing lists units unit at → ⊥
+none_missing lists units unit at agree m =
+    let own : Agrees lists m.found = agrees_at lists m.front m.found m.rest (subst (AllByRecursion (Agrees lists)) m.whole agree) in
+    no_difference m.found.entries (entries_of lists unit) at (own ∙ ap (entries_of lists) m.named) m.difference
+
+-- no place of it is bad
+pub no_bad_place : (bytes : List ℕ) (units : List UnitLocks) (lists : List Handed) (place : BackupBad) → Stands bytes lists → All (Agrees lists) units → IsSound (joined units) → IsOpenFault bytes units (opening.Bad place) → ⊥
+no_bad_place bytes units lists (backup.Bytes at) stands agree sound bad = stands_unbroken grammar record_at record_reader bytes lists at stands bad
+no_bad_place bytes units lists (backup.Clash first second) stands agree sound bad = bad.2.unsound sound
+no_bad_place bytes units lists (backup.Missing unit at) stands agree sound bad =
+    let one : bad.0 ≡ lists = stands_once grammar record_at record_reader bytes bad.0 lists bad.1 stands in
+    none_missing lists units unit at (recursion_from_All (Agrees lists) units agree) (subst (λ l. IsMissing l units unit at) one bad.2)
+
+-- a file that is ready for the open units isn't bad
+no_bad_file : {D : Type 0} (tells : _) (reads : D → List ℕ) (may_leave : D → List ℕ → Type 0) (ledger : Ledger) (file : BackupView D) (units : List UnitLocks) (place : BackupBad)
+    → IsTrue tells → units ≡ open_locks ledger → HasOpenLists tells reads may_leave ledger file → IsSound (open_entries ledger) → IsOpenFault (reads file.disk) units (opening.Bad place) → ⊥
+no_bad_file tells reads may_leave ledger file units place is_told all filed sound bad =
+    let ready = filed.ready is_told in
+    no_bad_place (reads file.disk) (open_locks ledger) ready.lists place ready.ready.stands ready.just.agree sound (subst (λ us. IsOpenFault (reads file.disk) us (opening.Bad place)) all bad)
+
+-- why no lock server is made anew, where the file was ready
+pub ready_sound : {D : Type 0} (tells : _) (reads : D → List ℕ) (may_leave : D → List ℕ → Type 0) (ledger : Ledger) (file : BackupView D) (units : List UnitLocks) (fault : OpenFault) (r : Refusal)
+    → r ≡ remake_refusal fault → IsTrue tells → units ≡ open_locks ledger → HasOpenLists tells reads may_leave ledger file → IsSound (open_entries ledger) → IsOpenFault (reads file.disk) units fault → is_unsound (reply.Refused r) ≡ false
+ready_sound tells reads may_leave ledger file units opening.Failed r is is_told all filed sound bad = ap (λ x. is_unsound (reply.Refused x)) is
+ready_sound tells reads may_leave ledger file units opening.NoMemory r is is_told all filed sound bad = ap (λ x. is_unsound (reply.Refused x)) is
+ready_sound tells reads may_leave ledger file units (opening.Bad place) r is is_told all filed sound bad = absurd (no_bad_file tells reads may_leave ledger file units place is_told all filed sound bad)
+
+-- ---- other calls
+
+plain_sound : (r : Reply) → is_fault_reply r ≡ false → is_unsound r ≡ false
+plain_sound (reply.Refused (refusal.Unsound found)) own = absurd (cc)
+plain_sound _ own = refl
+
+of_restart : (call : Call) (P : Type 0) → restarts call ≡ true → OnRestart call P → P
+of_restart (OfAdmin Restarts) P is h = h
+of_restart (OfAdmin Kills) P is h = absurd (cc)
+of_restart (OfAdmin (Cancels unit)) P is h = absurd (cc)
+of_restart (OfAdmin (Resubmits unit)) P is h = absurd (cc)
+of_restart (LogsOn session user) P is h = absurd (cc)
+of_restart (OfSession session call) P is h = absurd (cc)
+of_restart (OfWorker worker call) P is h = absurd (cc)
+
+-- only a restart may find a device that isn't good
+pub act_sound : (s : State) (c : Command) (after : State) (r : Reply) → IsAct s c after r → OnRestart (call_of c) (is_unsound r ≡ false) → is_unsound r ≡ false
+act_sound s c after r act restarted =
+    let o = act.outcome in
+    let told : (served o s c).reply ≡ r = ap (λ (x : Served). x.reply) act.same in
+    elim o.event as (λ e. MayHappen e s (call_of c) (call_verdict (found_by o.reading s) s (call_of c)) → (served (record { event = e; reading = o.reading }) s c).reply ≡ r → is_unsound r ≡ false) [
+      | AllWell ↦ λ may is. subst (λ x. is_unsound x ≡ false) is (plain_sound _ (verdict_answered (found_by o.reading s) s (call_of c)).own)
+      | Wanting ↦ λ may is. sym (ap is_unsound is)
+      | StoreFails ↦ λ may is. sym (ap is_unsound is)
+      | BackupFails ↦ λ may is. sym (ap is_unsound is)
+      | NotRemade fault ↦ λ may is. of_restart (call_of c) (is_unsound r ≡ false) may.1 restarted
+    ] act.possible.event told
+
+barred_sound : (found : Found) (s : State) (call : Call) (r : Refusal) → unavailable s call ≡ Some r → is_fault_reply (judged s (call_verdict found s call)).reply ≡ false → is_unsound (reply.Refused r) ≡ false
+unfolding call_verdict
+barred_sound found s call r is own =
+    plain_sound (reply.Refused r) (subst (λ o. is_fault_reply (judged s (unless_refused o (own_verdict found s call))).reply ≡ false) is own)
+
+-- a call that is barred finds none
+pub refused_sound : (s : State) (call : Call) (r : Refusal) → unavailable s call ≡ Some r → is_unsound (reply.Refused r) ≡ false
+refused_sound s call r is = barred_sound (found_in s) s call r is (verdict_answered (found_in s) s call).own
+
+-- a text that can't be told twice tells of none either
+pub given_sound : (made given : Reply) → IsGiven made given → is_unsound made ≡ false → is_unsound given ≡ false
+given_sound made given (inl same) sound = ap is_unsound same ∙ sound
+given_sound made given (inr h) sound = ap is_unsound h.1
+
+on_restart : (call : Call) (tells : Type 0) (P : Type 0) → tells → OnRestart call (tells → P) → OnRestart call P
+on_restart (OfAdmin Restarts) tells P is_told h = h is_told
+on_restart (OfAdmin Kills) tells P is_told h = tt
+on_restart (OfAdmin (Cancels unit)) tells P is_told h = tt
+on_restart (OfAdmin (Resubmits unit)) tells P is_told h = tt
+on_restart (LogsOn session user) tells P is_told h = tt
+on_restart (OfSession session call) tells P is_told h = tt
+on_restart (OfWorker worker call) tells P is_told h = tt
+
+-- a call that is served
+pub served_sound : (tells : Type 0) (s : State) (c : Command) (after : State) (r : Reply) → IsAct s c after r → OnRestart (call_of c) (tells → is_unsound r ≡ false) → tells → is_unsound r ≡ false
+served_sound tells s c after r act h is_told = act_sound s c after r act (on_restart (call_of c) tells (is_unsound r ≡ false) is_told h)
