@@ -1,5 +1,5 @@
 -- The numbers that are committed stay right, whatever is called.
-use Rattle.std.proofs.Common.{◌≡◌, inl, inr, ℕ, zero, suc, ◌+◌, ◌-◌, ◌≤◌, ◌<◌, Bool, true, false, not, nat_eq, List, [], ◌∷◌, ◌++◌, Option, Some, None, refl, sym, subst, arith, append-nil}
+use Rattle.std.proofs.Common.{◌≡◌, inl, inr, ℕ, zero, suc, ◌+◌, ◌-◌, ◌≤◌, ◌<◌, ◌||◌, Bool, true, false, not, nat_eq, List, [], ◌∷◌, ◌++◌, Option, Some, None, refl, sym, subst, arith, append-nil}
 use Rattle.std.specs.Prelude.{Contains, IfSome, if◌then◌else◌, nat_le, nat_lt}
 use Rattle.std.specs.FinMap.{empty, get, get-empty}
 use Rattle.std.specs.List.{All, AllByRecursion, IsDistinct, range_with_len}
@@ -34,25 +34,24 @@ use Rattle.update_records.specs.declared.records.MarkKind.{MarkKind}
 use Rattle.update_records.specs.declared.records.MarkKind.TheVariants as mark
 use Rattle.hall.specs.declared.command.Command.{Command}
 use Rattle.hall.specs.declared.command.Session.{Session}
-use Rattle.hall.specs.Devices.{DeviceOutcome}
-use Rattle.hall.specs.History.{judged, served}
-use Rattle.hall.specs.Kept.{HasOpenUnits, HasSoundLocks, IsDrawn, IsSteady}
+use Rattle.hall.specs.Devices.{DeviceOutcome, Reading, found_by}
+use Rattle.hall.specs.History.{is_unread, judged, pending_after, served, takes_flight}
+use Rattle.hall.specs.Kept.{IsDrawn, IsSteady}
 use Rattle.hall.specs.Numbers.{drawn, next_number, raised_to}
-use Rattle.hall.specs.Calls.{call_of}
+use Rattle.hall.specs.Calls.{Call, call_of, only_reads}
+use Rattle.hall.specs.OpenUnits.{OfPending}
 use Rattle.hall.specs.Recall.{IsModelAnswer, Made, recalled, state_after}
 use Rattle.hall.specs.Sessions.{is_called, session_at, unit_key, with_draw, with_session, without_draws}
 use Rattle.hall.specs.State.{State, opened}
 use Rattle.hall.specs.Stocks.{IsStockIn, MayCall}
-use Rattle.hall.specs.Step.{Found, committed as recorded, numbered, unit_of}
+use Rattle.hall.specs.Step.{Found, Leaves, Refuses, Verdict, call_verdict, committed as recorded, is_taken, numbered, stored_anew, unit_of}
 use Rattle.hall.proofs.Beginning.{AgreeWith, IsFirst}
-use Rattle.hall.proofs.ByCall.{CanDraw, OfEach, by_event, by_filing, by_made}
+use Rattle.hall.proofs.ByCall.{CanDraw, OfEach, by_event, by_filing, by_made, by_stock}
 use Rattle.hall.proofs.Drawn.{CommitsNone, blocks, post_commits_none}
-use Rattle.hall.proofs.Fair.{step-sound}
 use Rattle.hall.proofs.FirstState.{IsFirstTable, first_few, first_open, first_sound, first_steady}
-use Rattle.hall.proofs.Few.{Holds, served-holds, with_past}
-use Rattle.hall.proofs.Frames.{by_noting}
+use Rattle.hall.proofs.Frames.{by_noting, verdict_pending}
 use Rattle.hall.proofs.Fresh.{open_unheard}
-use Rattle.hall.proofs.OpenKept.{served-open}
+use Rattle.hall.proofs.Landings.{HoldsAll, step_all}
 use Rattle.enq_cmd.specs.Main.{HandedAreOpen}
 use Rattle.hall.proofs.Recalls.{AnswersFrom}
 
@@ -125,8 +124,14 @@ agreed_recorded s name x parts stock at fits steady h =
     (sym (numbers_recorded units unit old (next_mark s.stored unit.key mark.Rec).seq (none_of (has_no_v2 units unit.key) unit.key old fresh) (steady.marked unit.key fresh)))
     (may.agree h)
 
-each-agreed : (found : Found) (s : State) → IsSteady s → Agrees s.stored → OfEach (λ call v. MayCall s call → Agrees (judged s v).state.stored) found s
-each-agreed found s steady h = record {
+-- what a restart finds in the store
+agreed_anew : (taken : Bool) (stored : Ledger) (pending : Option Ledger) → Agrees stored → OfPending pending Agrees → Agrees (stored_anew taken stored pending)
+agreed_anew false stored pending h flight = h
+agreed_anew true stored None h flight = h
+agreed_anew true stored (Some changed) h flight = flight
+
+each-agreed : (found : Found) (s : State) → IsSteady s → Agrees s.stored → OfPending s.pending Agrees → OfEach (λ call v. MayCall s call → Agrees (judged s v).state.stored) found s
+each-agreed found s steady h flight = record {
   refuses = λ call r plain may. h;
   enters = λ name user free may. h;
   logs_off = λ name x at may. h;
@@ -146,44 +151,65 @@ each-agreed found s steady h = record {
   posts = λ worker part unit e may. agreed_marked s.stored unit (kind_for part (found.part part unit)) (post_commits_none part (found.part part unit)) h;
   drops = λ worker unit e may. h;
   kills = λ up may. h;
-  restarts = λ none may. h;
+  restarts = λ off may. agreed_anew (is_taken found.anew) s.stored s.pending h flight;
   cancels = λ unit status can may. agreed_marked s.stored unit mark.Gone (λ units seq key. refl) h;
   reopens = λ unit es here stand may. agreed_marked s.stored unit mark.Again1 (λ units seq key. refl) h;
   reposts = λ unit here may. agreed_marked s.stored unit mark.Again2 (λ units seq key. refl) h;
 }
 
-served-agreed : (o : DeviceOutcome) (s : State) (c : Command) → MayCall s (call_of c) → IsSteady s → Agrees s.stored → Agrees (served o s c).state.stored
-served-agreed o s c may steady h =
+judged-agreed : (found : Found) (s : State) (call : Call) → MayCall s call → IsSteady s → Agrees s.stored → OfPending s.pending Agrees → Agrees (judged s (call_verdict found s call)).state.stored
+judged-agreed found s call may steady h flight =
+    by_made (λ call v. Agrees (judged s v).state.stored) found s (each-agreed found s steady h flight) call may
+
+served-agreed : (o : DeviceOutcome) (s : State) (c : Command) → MayCall s (call_of c) → IsSteady s → Agrees s.stored → OfPending s.pending Agrees → Agrees (served o s c).state.stored
+served-agreed o s c may steady h flight =
     by_event (λ r. Agrees r.state.stored) o s c
-    (λ found. by_made (λ call v. Agrees (judged s v).state.stored) found s (each-agreed found s steady h) (call_of c) may) h (λ found. h)
-    (λ found. by_filing Agrees found s c h
+    (λ found. judged-agreed found s (call_of c) may steady h flight) h
+    (λ reading. by_stock (λ call t. Agrees t.stored) s (λ name parts stock. h) (λ call. h) (call_of c))
+    (λ reading.
+    let found = found_by reading s in
+    by_filing Agrees found s (call_of c) h
     (λ worker part unit e. agreed_marked s.stored unit (kind_for part (found.part part unit)) (post_commits_none part (found.part part unit)) h)
     (λ unit status can. agreed_marked s.stored unit mark.Gone (λ units seq key. refl) h))
-    (λ r. h)
+    (λ read r. h)
+
+-- the change in flight where the store fails
+failing-agreed : (reading : Reading) (s : State) (call : Call) (v : Verdict) → OfPending s.pending Agrees → Agrees (judged s v).state.stored → OfPending (pending_after reading s call v) Agrees
+failing-agreed reading s call (Refuses r) flight h = flight
+failing-agreed reading s call (Leaves after r) flight h =
+    elim (only_reads call || is_unread reading call) as (λ b. OfPending (if b then s.pending else Some after.stored) Agrees) [ true ↦ flight | false ↦ h ]
+
+flight-agreed : (o : DeviceOutcome) (s : State) (c : Command) → MayCall s (call_of c) → IsSteady s → Agrees s.stored → OfPending s.pending Agrees → OfPending (served o s c).state.pending Agrees
+flight-agreed o s c may steady h flight =
+    by_event (λ r. OfPending r.state.pending Agrees) o s c
+    (λ found. verdict_pending (λ o. OfPending o Agrees) found s (call_of c) flight tt) flight
+    (λ reading.
+    let found = found_by reading s in
+    failing-agreed reading s (call_of c) (call_verdict found s (call_of c)) flight (judged-agreed found s (call_of c) may steady h flight))
+    (λ reading. flight) (λ read r. flight)
 
 -- ---- states that calls lead to
 
 record IsReached (s : State) : Type 0 where
   calls : ℕ
-  holds : Holds calls s
-  sound : HasSoundLocks s
-  units : HasOpenUnits s
+  all : HoldsAll calls s
   agreed : Agrees s.stored
+  flight : OfPending s.pending Agrees
 
 reached_next : (s : State) (m : Made) → IsModelAnswer s m → IsReached s → IsReached (recalled s m)
 reached_next s m answer h =
     let c = m.call.command in
+    let o = m.outcome in
     let may = answer.allowed.call in
-    let r = served m.outcome s c in
-    let holds = served-holds h.calls m.outcome s c may h.sound h.holds in
-    let units = served-open m.outcome s c h.holds.steady h.sound h.units in
-    let agreed = served-agreed m.outcome s c may h.holds.steady h.agreed in
+    let r = served o s c in
+    let steady = h.all.holds.steady in
+    let agreed = served-agreed o s c may steady h.agreed h.flight in
+    let flight = flight-agreed o s c may steady h.agreed h.flight in
     record {
       calls = h.calls + 1;
-      holds = by_noting (λ x. Holds (h.calls + 1) x.state) m.call.line c r holds (with_past (h.calls + 1) r.state _ holds);
-      sound = step-sound m.outcome s m.call.line c h.holds.steady h.sound h.units;
-      units = by_noting (λ x. HasOpenUnits x.state) m.call.line c r units (record { held = units.held; stored = units.stored; fit = units.fit; pending = units.pending });
-      agreed = by_noting (λ x. Agrees x.state.stored) m.call.line c r agreed agreed;
+      all = step_all h.calls o s m.call.line c answer.allowed h.all;
+      agreed = by_noting (λ x. Agrees x.state.stored) m.call.line c (takes_flight o) r agreed agreed;
+      flight = by_noting (λ x. OfPending x.state.pending Agrees) m.call.line c (takes_flight o) r flight flight;
     }
 
 reached_after : (s : State) (ms : List Made) → AnswersFrom s ms → IsReached s → IsReached (state_after s ms)
@@ -262,10 +288,14 @@ reached limit mark_limit intervals told ledger made fits limited agree first ans
     let start = opened limit mark_limit intervals told ledger in
     reached_after start made answers (record {
       calls = 0;
-      holds = record { few = first_few limit mark_limit intervals told ledger; steady = first_steady limit mark_limit intervals told ledger limited fits agree first };
-      sound = first_sound limit mark_limit intervals told ledger fits first;
-      units = first_open limit mark_limit intervals told ledger fits first;
+      all = record {
+        holds = record { few = first_few limit mark_limit intervals told ledger; steady = first_steady limit mark_limit intervals told ledger limited fits agree first };
+        sound = first_sound limit mark_limit intervals told ledger fits first;
+        open_units = first_open limit mark_limit intervals told ledger fits first;
+        landing = tt;
+      };
       agreed = first_agrees ledger first;
+      flight = tt;
     })
 
 -- in each state to which calls lead that are answered as the model answers them the committed numbers are right
@@ -276,4 +306,4 @@ numbers_right limit mark_limit intervals told ledger made fits limited agree fir
 -- and while the server is up the locks that were handed over are just those of the units that wait
 pub handed_held : (limit mark_limit : ℕ) (intervals : List Interval) (told : Bool) (ledger : Ledger) (made : List Made) → IsFirstTable limit ledger → mark_limit ≤ 1048576 → AgreeWith intervals ledger → IsFirst ledger → AnswersFrom (opened limit mark_limit intervals told ledger) made → HandedAreOpen (state_after (opened limit mark_limit intervals told ledger) made)
 handed_held limit mark_limit intervals told ledger made fits limited agree first answers =
-    (reached limit mark_limit intervals told ledger made fits limited agree first answers).units.held
+    (reached limit mark_limit intervals told ledger made fits limited agree first answers).all.open_units.held

@@ -18,11 +18,9 @@ use Rattle.posting.specs.Intervals.{in_row_order}
 use Rattle.posting.specs.Reopening.{HasStood, IsRaised, MayBeLeftBy}
 use Rattle.posting.specs.Views.{open_locks}
 use Rattle.range_list.specs.Levels.{fits}
-use Rattle.store_laws.proofs.Faultfree.{good_rules_kept, not_both}
-use Rattle.store_laws.proofs.LedgerRows.{good_rows_spelled}
 use Rattle.store_reading.specs.Good.{IsBadPlace}
-use Rattle.store_reading.specs.Stores.{store_fault}
 use Rattle.update_records.specs.Ledger.{IsGood, Ledger}
+use Rattle.hall.proofs.Rereads.{bad_is_not_good}
 use Rattle.hall.specs.declared.command.PastEntry.{PastEntry}
 use Rattle.hall.specs.declared.opening.HallFault.{HallFault}
 use Rattle.hall.specs.declared.opening.HallFault.TheVariants as fault
@@ -126,12 +124,6 @@ unopened f t o before after tells may_leave disk disk_now old new past why is to
   unfiled = subst (λ w. OnStoreEnd w (disk_now ≡ disk)) (sym is) (store_end f (disk_now ≡ disk) file.unfiled);
   filed = λ yes. subst (λ w. MayRemainFiled t before w (may_leave disk) (may_leave disk_now)) (sym is) (remains_filed f t o before (may_leave disk) (may_leave disk_now) told (file.images yes));
 }
-
--- a good store has no bad place
-bad_is_not_good : (rows : Rows) (table row : ℕ) → IsBadPlace rows table row → IsGood rows → ⊥
-bad_is_not_good rows table row (inl outside) good = good_rows_spelled rows good table row outside
-bad_is_not_good rows table row (inr first) good =
-    not_both (store_fault first.0) (record { table = table; row = row }) (good_rules_kept rows first.0 good first.1) first.2
 
 not_bad : (may_be : Rows → Type 0) (o : Option Rows) (table row : ℕ) → IsTrue (is_some o) → ((rows : Rows) → may_be rows → IsGood rows)
     → IfSome o (λ rows. IsBadPlace rows table row) → IfSome o may_be → ⊥

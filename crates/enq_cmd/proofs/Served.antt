@@ -1,5 +1,5 @@
 -- What a program does whose site was opened, and what it does whose site wasn't.
-use Rattle.std.proofs.Common.{◌≡◌, ◌⊎◌, inl, inr, Bool, ℕ, List, [], Option, Some, None, refl, sym, ap, ◌∙◌, subst, arith}
+use Rattle.std.proofs.Common.{◌≡◌, ◌⊎◌, inl, inr, Bool, true, ℕ, List, [], Option, Some, None, refl, sym, ap, ◌∙◌, subst, arith}
 use Rattle.std.specs.Prelude.{is_some, IfSome, IsTrue}
 use Rattle.enq_base.specs.Causes.{Rose}
 use Rattle.hall.specs.Filing.{AllRecover, LeavesLists}
@@ -12,8 +12,9 @@ use Rattle.hall.specs.declared.command.PastEntry.{PastEntry}
 use Rattle.keeper_api.specs.Rows.{Rows}
 use Rattle.landscape.proofs.Limits.{read_limits}
 use Rattle.lock_objects.specs.Objects.{Object}
-use Rattle.script_runner.specs.Faults.{NoneUnsound}
-use Rattle.script_runner.specs.Replay.{RunsScript, Seen, doubt_of, seen}
+use Rattle.hall.specs.Unsound.{is_unsound_file, is_unsound_store}
+use Rattle.script_runner.specs.Faults.{NoneUnsound, NoneUnsoundStore}
+use Rattle.script_runner.specs.Replay.{RunsScript, Seen, seen}
 use Rattle.script_runner.specs.Shown.{audit_shown}
 use Rattle.script_runner.specs.declared.runner.Why.{Why}
 use Rattle.script_runner.specs.declared.runner.Why.TheVariants.{Done, BadWords, BadLandscape, BadLine, SourceFault, SinkFault, LongLine, ManyLines, StoreFault, BackupFault, BadStore, BadBackup, NoStart, NoMemory}
@@ -29,18 +30,20 @@ pub served_by : {K D L : Type 0} (held : K → Option Rows) (may_leave : K → R
     (after : View K D L) (keeper_now : K) (disk_now : D) → keeper_now ≡ after.keeper → disk_now ≡ after.file.disk → is_some (held after.keeper) ≡ is_some (held hall.keeper)
     → LeavesState held may_leave after → LeavesLists tells images after → HasOpenUnits after.state
     → (IsTrue tells → NoneUnsound hall.state.past → NoneUnsound after.state.past)
+    → (is_some (held hall.keeper) ≡ true → NoneUnsoundStore hall.state.past → NoneUnsoundStore after.state.past)
     → (known : List Object) (old new : Seen) (past : List PastEntry) (why : Why) → HasRun o.land (is_some (held keeper)) hall.state.stored hall.state after.state known old new past why
     → (s : IsServed o.land (is_some (held keeper)) (may_leave keeper) (may_leave keeper_now) tells (reads disk) (images disk_now) old new past why) × (after.state ≡ state_after (first_state o.land (is_some (held keeper)) s.stored) s.made)
-served_by held may_leave faults tells reads images file_faults left keeper disk hall objects o after keeper_now disk_now kept kept_disk told leaves lists units trusted known old new past why run =
+served_by held may_leave faults tells reads images file_faults left keeper disk hall objects o after keeper_now disk_now kept kept_disk told leaves lists units files stores known old new past why run =
     served_with o.land (is_some (held keeper)) hall.state.stored (may_leave keeper) (may_leave keeper_now) tells (reads disk) (images disk_now) hall.state after.state known old new past why
     (read_limits o.read.bytes o.land o.read.gives)
     o.sound
     (λ yes. where_told _ (held hall.keeper) (subst IsTrue (sym o.told) yes) o.stored)
     o.fits o.table o.filed run
     (λ yes. subst (λ k. (rows : Rows) → may_leave k rows → StandForState rows after.state) (sym kept) (where_told _ (held after.keeper) (subst IsTrue (sym (told ∙ o.told)) yes) leaves))
-    (subst (λ d. AllRecover tells images after.state.condition after.state.stored after.state.pending (record after.file { disk = d })) (sym kept_disk) lists)
+    (subst (λ d. AllRecover tells images after.state.condition after.state.stored after.state.pending after.state.found (record after.file { disk = d })) (sym kept_disk) lists)
     units
-    (λ yes. subst NoneUnsound (sym run.history) (trusted yes (first_sound o.land (is_some (held keeper)) hall.state.stored hall.state o.first)))
+    (λ yes. subst NoneUnsound (sym run.history) (files yes (first_sound is_unsound_file o.land (is_some (held keeper)) hall.state.stored hall.state o.first)))
+    (λ yes. subst NoneUnsoundStore (sym run.history) (stores (o.told ∙ yes) (first_sound is_unsound_store o.land (is_some (held keeper)) hall.state.stored hall.state o.first)))
 
 -- a run of a script in memory, with the devices as they were given and as they are given back
 pub load_run : {K D L : Type 0} (held : K → Option Rows) (may_leave : K → Rows → Type 0) (faults : K → ℕ) (tells : Bool) (reads : D → List ℕ) (file_faults : D → ℕ)
@@ -144,59 +147,62 @@ loaded_as m n same left told before after tells bytes images disk disk_now old n
 
 -- ---- the ends of a run
 
-by_run : (P : Why → Type 0) (why : Why) → IsRunEnd why → P Done → ((n : ℕ) → P (BadLine n)) → P SourceFault → P SinkFault → ((n : ℕ) → P (LongLine n)) → P ManyLines → ((k : ℕ) → P (StoreFault k)) → ((k : ℕ) → P (BackupFault k)) → ((place : BackupBad) → P (BadBackup place)) → P NoMemory → P why
-by_run P Done h done bad source sink long many store file shut memory = done
-by_run P BadWords h done bad source sink long many store file shut memory = absurd h
-by_run P (BadLandscape rule place) h done bad source sink long many store file shut memory = absurd h
-by_run P (BadLine n) h done bad source sink long many store file shut memory = bad n
-by_run P SourceFault h done bad source sink long many store file shut memory = source
-by_run P SinkFault h done bad source sink long many store file shut memory = sink
-by_run P (LongLine n) h done bad source sink long many store file shut memory = long n
-by_run P ManyLines h done bad source sink long many store file shut memory = many
-by_run P (StoreFault k) h done bad source sink long many store file shut memory = store k
-by_run P (BackupFault k) h done bad source sink long many store file shut memory = file k
-by_run P (BadStore table row) h done bad source sink long many store file shut memory = absurd h
-by_run P (BadBackup place) h done bad source sink long many store file shut memory = shut place
-by_run P NoStart h done bad source sink long many store file shut memory = absurd h
-by_run P NoMemory h done bad source sink long many store file shut memory = memory
+by_run : (P : Why → Type 0) (why : Why) → IsRunEnd why → P Done → ((n : ℕ) → P (BadLine n)) → P SourceFault → P SinkFault → ((n : ℕ) → P (LongLine n)) → P ManyLines → ((k : ℕ) → P (StoreFault k)) → ((k : ℕ) → P (BackupFault k)) → ((table row : ℕ) → P (BadStore table row)) → ((place : BackupBad) → P (BadBackup place)) → P NoMemory → P why
+by_run P Done h done bad source sink long many store file shelf shut memory = done
+by_run P BadWords h done bad source sink long many store file shelf shut memory = absurd h
+by_run P (BadLandscape rule place) h done bad source sink long many store file shelf shut memory = absurd h
+by_run P (BadLine n) h done bad source sink long many store file shelf shut memory = bad n
+by_run P SourceFault h done bad source sink long many store file shelf shut memory = source
+by_run P SinkFault h done bad source sink long many store file shelf shut memory = sink
+by_run P (LongLine n) h done bad source sink long many store file shelf shut memory = long n
+by_run P ManyLines h done bad source sink long many store file shelf shut memory = many
+by_run P (StoreFault k) h done bad source sink long many store file shelf shut memory = store k
+by_run P (BackupFault k) h done bad source sink long many store file shelf shut memory = file k
+by_run P (BadStore table row) h done bad source sink long many store file shelf shut memory = shelf table row
+by_run P (BadBackup place) h done bad source sink long many store file shelf shut memory = shut place
+by_run P NoStart h done bad source sink long many store file shelf shut memory = absurd h
+by_run P NoMemory h done bad source sink long many store file shelf shut memory = memory
 
 some_of : {A : Type 0} (P : A → Type 0) (o : Option A) → ((x : A) → P x) → IfSome o P
 some_of P None h = tt
 some_of P (Some x) h = h x
 
--- none of them tells a rule, a bad place or a last start
+-- none of them tells a rule or a last start
 pub run_unfit : (o : Option Rows) (left : Option (List ℕ)) (may_be : Rows → Type 0) (why : Why) → IsRunEnd why → IfSome o (λ _. IsUnfitEnd left may_be why)
-run_unfit o left may_be why h = some_of _ o (λ rows. by_run (IsUnfitEnd left may_be) why h tt (λ n. tt) tt tt (λ n. tt) tt (λ k. tt) (λ k. tt) (λ place. tt) tt)
+run_unfit o left may_be why h = some_of _ o (λ rows. by_run (IsUnfitEnd left may_be) why h tt (λ n. tt) tt tt (λ n. tt) tt (λ k. tt) (λ k. tt) (λ table row. tt) (λ place. tt) tt)
 
-pub run_place : (o : Option Rows) (why : Why) → IsRunEnd why → IfSome o (λ rows. IsBadStore rows why)
-run_place o why h = some_of _ o (λ rows. by_run (IsBadStore rows) why h tt (λ n. tt) tt tt (λ n. tt) tt (λ k. tt) (λ k. tt) (λ place. tt) tt)
+-- and a bad place only where a call found one
+never_placed : (rows : Rows) (why : Why) → IsRunEnd why → ((table row : ℕ) → why ≡ BadStore table row → ⊥) → IsBadStore rows why
+never_placed rows why h =
+    by_run (λ w. ((table row : ℕ) → w ≡ BadStore table row → ⊥) → IsBadStore rows w) why h
+    (λ none. tt) (λ n none. tt) (λ none. tt) (λ none. tt) (λ n none. tt) (λ none. tt) (λ k none. tt) (λ k none. tt) (λ table row none. absurd (none table row refl)) (λ place none. tt) (λ none. tt)
+
+pub run_place : (o : Option Rows) (why : Why) → IsRunEnd why → (is_some o ≡ true → (table row : ℕ) → why ≡ BadStore table row → ⊥) → IfSome o (λ rows. IsBadStore rows why)
+run_place None why h none = tt
+run_place (Some rows) why h none = never_placed rows why h (none refl)
 
 pub run_document : (why : Why) → IsRunEnd why → IsBadDocument why → ⊥
-run_document why h = by_run (λ w. IsBadDocument w → ⊥) why h (λ d. d) (λ n d. d) (λ d. d) (λ d. d) (λ n d. d) (λ d. d) (λ k d. d) (λ k d. d) (λ place d. d) (λ d. d)
+run_document why h = by_run (λ w. IsBadDocument w → ⊥) why h (λ d. d) (λ n d. d) (λ d. d) (λ d. d) (λ n d. d) (λ d. d) (λ k d. d) (λ k d. d) (λ table row d. d) (λ place d. d) (λ d. d)
 
--- a run that began in no doubt finds no bad store
-no_doubt : (before : State) → doubt_of before ≡ None → IsTrue (is_some (doubt_of before)) → ⊥
-no_doubt before up doubted = let off = sym doubted ∙ ap is_some up in cc
-
-ends_so : (before after : State) (objects : List Object) (old new : Seen) (why : Why) → RunsScript objects before after old new why → doubt_of before ≡ None → ((table row : ℕ) → why ≡ BadStore table row → IsTrue (is_some (doubt_of before))) → IsRunEnd why
-ends_so before after objects old new Done run up stored = tt
-ends_so before after objects old new BadWords run up stored = absurd (run.replays.end)
-ends_so before after objects old new (BadLandscape rule place) run up stored = absurd (run.replays.end)
-ends_so before after objects old new (BadLine n) run up stored = tt
-ends_so before after objects old new SourceFault run up stored = tt
-ends_so before after objects old new SinkFault run up stored = tt
-ends_so before after objects old new (LongLine n) run up stored = tt
-ends_so before after objects old new ManyLines run up stored = tt
-ends_so before after objects old new (StoreFault k) run up stored = tt
-ends_so before after objects old new (BackupFault k) run up stored = tt
-ends_so before after objects old new (BadStore table row) run up stored = absurd (no_doubt before up (stored table row refl))
-ends_so before after objects old new (BadBackup place) run up stored = tt
-ends_so before after objects old new NoStart run up stored = absurd (run.replays.end)
-ends_so before after objects old new NoMemory run up stored = tt
+ends_so : (before after : State) (objects : List Object) (old new : Seen) (why : Why) → RunsScript objects before after old new why → IsRunEnd why
+ends_so before after objects old new Done run = tt
+ends_so before after objects old new BadWords run = absurd (run.replays.end)
+ends_so before after objects old new (BadLandscape rule place) run = absurd (run.replays.end)
+ends_so before after objects old new (BadLine n) run = tt
+ends_so before after objects old new SourceFault run = tt
+ends_so before after objects old new SinkFault run = tt
+ends_so before after objects old new (LongLine n) run = tt
+ends_so before after objects old new ManyLines run = tt
+ends_so before after objects old new (StoreFault k) run = tt
+ends_so before after objects old new (BackupFault k) run = tt
+ends_so before after objects old new (BadStore table row) run = tt
+ends_so before after objects old new (BadBackup place) run = tt
+ends_so before after objects old new NoStart run = absurd (run.replays.end)
+ends_so before after objects old new NoMemory run = tt
 
 -- the kind of such a run's end
-pub run_kind : (before after : State) (objects : List Object) (old new : Seen) (why end : Why) → end ≡ why → RunsScript objects before after old new why → doubt_of before ≡ None → ((table row : ℕ) → why ≡ BadStore table row → IsTrue (is_some (doubt_of before))) → IsRunEnd end
-run_kind before after objects old new why end is run up stored = subst IsRunEnd (sym is) (ends_so before after objects old new why run up stored)
+pub run_kind : (before after : State) (objects : List Object) (old new : Seen) (why end : Why) → end ≡ why → RunsScript objects before after old new why → IsRunEnd end
+run_kind before after objects old new why end is run = subst IsRunEnd (sym is) (ends_so before after objects old new why run)
 
 -- a count that stood still under other names
 pub still_by : (a b c d : ℕ) → a ≡ c → b ≡ d → (Rose c d → ⊥) → Rose a b → ⊥

@@ -1,11 +1,11 @@
 -- The history of a run leads to the state that it ends in.
-use Rattle.std.proofs.Common.{inl, inr, is_some, IsTrue, IfSome, ◌≡◌, ℕ, ◌+◌, Bool, true, List, [], ◌∷◌, fold, refl, sym, ap, ◌∙◌, subst}
+use Rattle.std.proofs.Common.{inl, inr, is_some, IsTrue, IfSome, ◌≡◌, ℕ, ◌+◌, Bool, true, false, List, [], ◌∷◌, fold, refl, sym, ap, ◌∙◌, subst}
 use Rattle.std.specs.Prelude.{Option, Some, None}
-use Rattle.enq_base.specs.declared.condition.BackupBad.{BackupBad}
-use Rattle.enq_base.specs.declared.condition.Bad.TheVariants as bad
+use Rattle.enq_base.specs.declared.condition.Bad.{Bad}
 use Rattle.enq_base.specs.declared.refusal.Refusal.TheVariants as refusal
 use Rattle.hall.specs.declared.command.Command.{Command}
 use Rattle.hall.specs.declared.command.PastEntry.{PastEntry}
+use Rattle.hall.specs.declared.command.Reply.{Reply}
 use Rattle.hall.specs.declared.command.Reply.TheVariants as reply
 use Rattle.hall.specs.Devices.{DeviceOutcome, IsAllowed}
 use Rattle.hall.specs.History.{step}
@@ -30,11 +30,11 @@ use Rattle.script_runner.specs.Replay.{RunsScript, Seen}
 use Rattle.script_runner.specs.Run.{AreAllowed, CallMayHave, Called, LineMayHave, LineOutcome, MayHave, NoRoom, Progress, Turn, after_turn, begun, does, line_does, next, run, said}
 use Rattle.script_runner.proofs.TurnLemmas.{answered-world}
 use Rattle.script_runner.specs.World.{World, first_world, world}
-use Rattle.script_runner.proofs.GoodFiles.{answer_sound}
-use Rattle.script_runner.specs.Faults.{NoneUnsound}
+use Rattle.script_runner.proofs.GoodFiles.{answer_sound, never_met}
+use Rattle.script_runner.specs.Faults.{NoneTells, NoneUnsound, NoneUnsoundStore}
 use Rattle.script_runner.specs.Replay.{HasBadCause, IsFoundBad, doubt_of}
 use Rattle.script_runner.specs.Whole.{IsComplete, IsScript}
-use Rattle.enq_cmd.specs.Main.{EndsComplete, HadHanded, HasHanded, IsFaultless, IsGoodFile, IsLedgerOf, IsNextOf, IsServed, Ran, SurvivesStop, first_state}
+use Rattle.enq_cmd.specs.Main.{EndsComplete, HadHanded, HasHanded, IsFaultless, IsGoodFile, IsLedgerBy, IsLedgerOf, IsNextOf, IsServed, Ran, SurvivesStop, first_state}
 use Rattle.enq_cmd.proofs.Lands.{landed_intervals}
 use Rattle.enq_cmd.proofs.Numbers.{handed_held, numbers_right}
 use Rattle.posting.specs.Views.{open_locks}
@@ -44,10 +44,10 @@ use Rattle.update_records.specs.Growing.{with_start}
 use Rattle.keeper_api.specs.Rows.{Rows}
 use Rattle.posting.specs.Reopening.{HasStood, IsRaised}
 use Rattle.store_reading.specs.Good.{IsSound}
-use Rattle.update_records.specs.Ledger.{Ledger}
-use Rattle.hall.specs.Filing.{RecoversFrom}
+use Rattle.update_records.specs.Ledger.{Ledger, StandFor}
+use Rattle.hall.specs.Filing.{RecoversFrom, UnlessTaken, UnlessUntaken}
 use Rattle.hall.specs.Kept.{HasOpenUnits}
-use Rattle.hall.specs.Leaving.{StandForPending, StandForState}
+use Rattle.hall.specs.Leaving.{StandForKnown, StandForPending, StandForState}
 use Rattle.hall.specs.OpenUnits.{AgreeAll, OfPending, open_entries}
 use Rattle.backup_file.specs.declared.handed.Handed.{Handed}
 use Rattle.lock_entry.specs.Sound.{IsSound as IsSoundTable}
@@ -121,60 +121,65 @@ ran land t l before after objects old new past why h told =
 never_in_doubt : (land : Landscape) (t : Bool) (l : Ledger) (before : State) → before ≡ first_state land t l → IsTrue (is_some (doubt_of before)) → ⊥
 never_in_doubt land t l before e doubted = let up = sym doubted ∙ ap (λ (s : State). is_some (doubt_of s)) e in cc
 
--- no call of such a history found a backup file that isn't good
-pub never_found : (before after : State) (place : BackupBad) → NoneUnsound after.past → IsFoundBad before after place → ⊥
-never_found before after place none found =
-    let sound = answer_sound after.past found.call (reply.Refused (refusal.Unsound (bad.Backup place))) none found.doubted.1 in cc
+-- no call of such a history found a device that isn't good
+never_found : (tells : Reply → Bool) (before after : State) (place : Bad) → tells (reply.Refused (refusal.Unsound place)) ≡ true → NoneTells tells after.past → IsFoundBad before after place → ⊥
+never_found tells before after place on none found =
+    let wrong : true ≡ false = sym on ∙ answer_sound tells after.past found.call (reply.Refused (refusal.Unsound place)) none found.doubted.1 in cc
 
 -- a run that is complete from a server that is up is done, or memory was wanting
-complete_ends : (may_be : Rows → Type 0) (land : Landscape) (t : Bool) (l : Ledger) (objects : List Object) (before after : State) (bytes : List ℕ) (old new : Option (List ℕ)) (why : Why) → before ≡ first_state land t l → NoneUnsound after.past → IsComplete (first_world objects before) after bytes old new why → EndsComplete may_be why
-complete_ends may_be land t l objects before after bytes old new Done e none h = inl refl
-complete_ends may_be land t l objects before after bytes old new (StoreFault k) e none h = absurd (let up = sym h.0 ∙ ap doubt_of e in cc)
-complete_ends may_be land t l objects before after bytes old new (BackupFault k) e none h = absurd (let up = sym h.0 ∙ ap doubt_of e in cc)
-complete_ends may_be land t l objects before after bytes old new NoMemory e none h = inr (inl refl)
-complete_ends may_be land t l objects before after bytes old new BadWords e none h = absurd h
-complete_ends may_be land t l objects before after bytes old new (BadLandscape rule place) e none h = absurd h
-complete_ends may_be land t l objects before after bytes old new (BadLine n) e none h = absurd h
-complete_ends may_be land t l objects before after bytes old new SourceFault e none h = absurd h
-complete_ends may_be land t l objects before after bytes old new SinkFault e none h = absurd h
-complete_ends may_be land t l objects before after bytes old new (LongLine n) e none h = absurd h
-complete_ends may_be land t l objects before after bytes old new ManyLines e none h = absurd h
-complete_ends may_be land t l objects before after bytes old new (BadStore table row) e none h = absurd (never_in_doubt land t l before e h.0)
-complete_ends may_be land t l objects before after bytes old new (BadBackup place) e none (inl h) = absurd (never_in_doubt land t l before e h.0)
-complete_ends may_be land t l objects before after bytes old new (BadBackup place) e none (inr found) = absurd (never_found before after place none found)
-complete_ends may_be land t l objects before after bytes old new NoStart e none h = absurd h
+complete_ends : (may_be : Rows → Type 0) (land : Landscape) (t : Bool) (l : Ledger) (objects : List Object) (before after : State) (bytes : List ℕ) (old new : Option (List ℕ)) (why : Why) → before ≡ first_state land t l → NoneUnsound after.past → NoneUnsoundStore after.past → IsComplete (first_world objects before) after bytes old new why → EndsComplete may_be why
+complete_ends may_be land t l objects before after bytes old new Done e none stores h = inl refl
+complete_ends may_be land t l objects before after bytes old new (StoreFault k) e none stores h = absurd (let up = sym h.0 ∙ ap doubt_of e in cc)
+complete_ends may_be land t l objects before after bytes old new (BackupFault k) e none stores h = absurd (let up = sym h.0 ∙ ap doubt_of e in cc)
+complete_ends may_be land t l objects before after bytes old new NoMemory e none stores h = inr (inl refl)
+complete_ends may_be land t l objects before after bytes old new BadWords e none stores h = absurd h
+complete_ends may_be land t l objects before after bytes old new (BadLandscape rule place) e none stores h = absurd h
+complete_ends may_be land t l objects before after bytes old new (BadLine n) e none stores h = absurd h
+complete_ends may_be land t l objects before after bytes old new SourceFault e none stores h = absurd h
+complete_ends may_be land t l objects before after bytes old new SinkFault e none stores h = absurd h
+complete_ends may_be land t l objects before after bytes old new (LongLine n) e none stores h = absurd h
+complete_ends may_be land t l objects before after bytes old new ManyLines e none stores h = absurd h
+complete_ends may_be land t l objects before after bytes old new (BadStore table row) e none stores (inl h) = absurd (never_in_doubt land t l before e h.0)
+complete_ends may_be land t l objects before after bytes old new (BadStore table row) e none stores (inr met) = absurd (never_met before after none stores met)
+complete_ends may_be land t l objects before after bytes old new (BadBackup place) e none stores (inl h) = absurd (never_in_doubt land t l before e h.0)
+complete_ends may_be land t l objects before after bytes old new (BadBackup place) e none stores (inr met) = absurd (never_met before after none stores met)
+complete_ends may_be land t l objects before after bytes old new NoStart e none stores h = absurd h
 
-pub completes_as : (may_be : Rows → Type 0) (land : Landscape) (t : Bool) (l : Ledger) (objects : List Object) (before after : State) (bytes : List ℕ) (old new : Option (List ℕ)) (why end : Why) → before ≡ first_state land t l → why ≡ end → NoneUnsound after.past → IsComplete (first_world objects before) after bytes old new why → EndsComplete may_be end
-completes_as may_be land t l objects before after bytes old new why end e w none h =
-    subst (EndsComplete may_be) w (complete_ends may_be land t l objects before after bytes old new why e none h)
+pub completes_as : (may_be : Rows → Type 0) (land : Landscape) (t : Bool) (l : Ledger) (objects : List Object) (before after : State) (bytes : List ℕ) (old new : Option (List ℕ)) (why end : Why) → before ≡ first_state land t l → why ≡ end → NoneUnsound after.past → NoneUnsoundStore after.past → IsComplete (first_world objects before) after bytes old new why → EndsComplete may_be end
+completes_as may_be land t l objects before after bytes old new why end e w none stores h =
+    subst (EndsComplete may_be) w (complete_ends may_be land t l objects before after bytes old new why e none stores h)
 
 -- no call before a first state was answered so
-pub first_sound : (land : Landscape) (t : Bool) (l : Ledger) (before : State) → before ≡ first_state land t l → NoneUnsound before.past
-first_sound land t l before e = subst (λ (s : State). NoneUnsound s.past) (sym e) refl
+pub first_sound : (tells : Reply → Bool) (land : Landscape) (t : Bool) (l : Ledger) (before : State) → before ≡ first_state land t l → NoneTells tells before.past
+first_sound tells land t l before e = subst (λ (s : State). NoneTells tells s.past) (sym e) refl
 
-pub first_doubt : (land : Landscape) (t : Bool) (l : Ledger) (before : State) → before ≡ first_state land t l → doubt_of before ≡ None
-first_doubt land t l before e = ap doubt_of e
-
--- a backup file that isn't good is told by no run from a first state
-pub never_bad : (land : Landscape) (t : Bool) (l : Ledger) (before after : State) (place : BackupBad) → before ≡ first_state land t l → NoneUnsound after.past → HasBadCause before after place → ⊥
-never_bad land t l before after place e none (inl doubted) = never_in_doubt land t l before e doubted
-never_bad land t l before after place e none (inr found) = never_found before after place none found
+-- a device that isn't good is told by no run from a first state
+pub never_bad : (tells : Reply → Bool) (land : Landscape) (t : Bool) (l : Ledger) (before after : State) (place : Bad) → tells (reply.Refused (refusal.Unsound place)) ≡ true → before ≡ first_state land t l → NoneTells tells after.past → HasBadCause before after place → ⊥
+never_bad tells land t l before after place on e none (inl doubted) = never_in_doubt land t l before e doubted
+never_bad tells land t l before after place on e none (inr found) = never_found tells before after place on none found
 
 -- what is said where rows are told
 pub where_told : (P : Type 0) (o : Option Rows) → IsTrue (is_some o) → IfSome o (λ _. P) → P
 where_told P None told h = absurd (cc)
 where_told P (Some rows) told h = h
 
-survives_pending : (rows : Rows) (s : State) (pending : Option Ledger) → s.pending ≡ pending → StandForPending rows pending → SurvivesStop rows s
-survives_pending rows s None is stand = absurd stand
-survives_pending rows s (Some ledger) is stand = record { ledger = ledger; known = inr is; stand = stand; right = books_right rows ledger stand; business = holds_books rows ledger stand }
+survives_with : (rows : Rows) (s : State) (ledger : Ledger) → IsLedgerOf s ledger → StandFor rows ledger → SurvivesStop rows s
+survives_with rows s ledger known stand = record { ledger = ledger; known = known; stand = stand; right = books_right rows ledger stand; business = holds_books rows ledger stand }
+
+survives_pending : (rows : Rows) (s : State) (pending : Option Ledger) → s.pending ≡ pending → ((ledger : Ledger) → s.pending ≡ Some ledger → IsLedgerOf s ledger) → StandForPending rows pending → SurvivesStop rows s
+survives_pending rows s None is known stand = absurd stand
+survives_pending rows s (Some ledger) is known stand = survives_with rows s ledger (known ledger is) stand
+
+-- by what is known of the change in flight
+survives_by : (rows : Rows) (s : State) (found : Option Bool) → s.found ≡ found → StandForKnown found rows s.stored s.pending → SurvivesStop rows s
+survives_by rows s None is (inl stand) = survives_with rows s s.stored (subst (λ o. IsLedgerBy o s s.stored) (sym is) (inl refl)) stand
+survives_by rows s None is (inr stand) = survives_pending rows s s.pending refl (λ ledger e. subst (λ o. IsLedgerBy o s ledger) (sym is) (inr e)) stand
+survives_by rows s (Some false) is stand = survives_with rows s s.stored (subst (λ o. IsLedgerBy o s s.stored) (sym is) refl) stand
+survives_by rows s (Some true) is stand = survives_pending rows s s.pending refl (λ ledger e. subst (λ o. IsLedgerBy o s ledger) (sym is) e) stand
 
 -- rows that stand for a state are what a stop may leave of it
 survives : (rows : Rows) (s : State) → StandForState rows s → SurvivesStop rows s
-survives rows s h = elim h [
-  | inl stand ↦ record { ledger = s.stored; known = inl refl; stand = stand; right = books_right rows s.stored stand; business = holds_books rows s.stored stand }
-  | inr pending ↦ survives_pending rows s s.pending refl pending
-]
+survives rows s h = survives_by rows s s.found refl h
 
 agree_pending : (s : State) (lists : List Handed) (ledger : Ledger) → s.pending ≡ Some ledger → OfPending s.pending (λ l. AgreeAll l lists) → AgreeAll ledger lists
 agree_pending s lists ledger is h = subst (λ p. OfPending p (λ l. AgreeAll l lists)) is h
@@ -182,13 +187,26 @@ agree_pending s lists ledger is h = subst (λ p. OfPending p (λ l. AgreeAll l l
 together_pending : (s : State) (ledger : Ledger) → s.pending ≡ Some ledger → OfPending s.pending (λ l. IsSoundTable (open_entries l)) → IsSoundTable (open_entries ledger)
 together_pending s ledger is h = subst (λ p. OfPending p (λ l. IsSoundTable (open_entries l))) is h
 
+-- by what is known of the change in flight
+agree_by : (s : State) (lists : List Handed) (ledger : Ledger) (found : Option Bool) → UnlessTaken found (AgreeAll s.stored lists) → UnlessUntaken found (OfPending s.pending (λ l. AgreeAll l lists)) → IsLedgerBy found s ledger → AgreeAll ledger lists
+agree_by s lists ledger None agree landed (inl is) = subst (λ l. AgreeAll l lists) (sym is) agree
+agree_by s lists ledger None agree landed (inr is) = agree_pending s lists ledger is landed
+agree_by s lists ledger (Some false) agree landed is = subst (λ l. AgreeAll l lists) (sym is) agree
+agree_by s lists ledger (Some true) agree landed is = agree_pending s lists ledger is landed
+
+together_by : (s : State) (ledger : Ledger) (found : Option Bool) → HasOpenUnits s → IsLedgerBy found s ledger → IsSoundTable (open_entries ledger)
+together_by s ledger None units (inl is) = subst (λ l. IsSoundTable (open_entries l)) (sym is) units.stored
+together_by s ledger None units (inr is) = together_pending s ledger is units.pending
+together_by s ledger (Some false) units is = subst (λ l. IsSoundTable (open_entries l)) (sym is) units.stored
+together_by s ledger (Some true) units is = together_pending s ledger is units.pending
+
 -- an image of the file from which a state is recovered is what a stop may leave of it
-handed_in : (image : List ℕ) (s : State) → HasOpenUnits s → RecoversFrom s.condition s.stored s.pending image → HasHanded image s
+handed_in : (image : List ℕ) (s : State) → HasOpenUnits s → RecoversFrom s.condition s.stored s.pending s.found image → HasHanded image s
 handed_in image s units h = record {
   lists = h.lists;
   stands = h.stands;
-  agree = λ ledger known. elim known [ inl is ↦ subst (λ l. AgreeAll l h.lists) (sym is) h.agree | inr is ↦ agree_pending s h.lists ledger is h.landed ];
-  together = λ ledger known. elim known [ inl is ↦ subst (λ l. IsSoundTable (open_entries l)) (sym is) units.stored | inr is ↦ together_pending s ledger is units.pending ];
+  agree = λ ledger known. agree_by s h.lists ledger s.found h.agree h.landed known;
+  together = λ ledger known. together_by s ledger s.found units known;
 }
 
 -- the next start finds a file that has the locks of the units that wait in the store
@@ -212,10 +230,10 @@ pub served_with : (land : Landscape) (t : Bool) (l : Ledger) (may_be may_leave :
     → HasLimits land → IsRaised IsSound true l → (IsTrue t → IsRaised (HasStood may_be) true l) → FitRows land.ranges l.levels → IsFirstTable land.max_locks l → (IsTrue tells → HadHanded bytes l)
     → HasRun land t l before after objects old new past why
     → (IsTrue t → (rows : Rows) → may_leave rows → StandForState rows after)
-    → (IsTrue tells → (image : List ℕ) → images image → RecoversFrom after.condition after.stored after.pending image) → HasOpenUnits after
-    → (IsTrue tells → NoneUnsound past)
+    → (IsTrue tells → (image : List ℕ) → images image → RecoversFrom after.condition after.stored after.pending after.found image) → HasOpenUnits after
+    → (IsTrue tells → NoneUnsound past) → (IsTrue t → NoneUnsoundStore past)
     → (s : IsServed land t may_be may_leave tells bytes images old new past why) × (after ≡ state_after (first_state land t s.stored) s.made)
-served_with land t l may_be may_leave tells bytes images before after objects old new past why limits good found fit table filed h left lists units trusted =
+served_with land t l may_be may_leave tells bytes images before after objects old new past why limits good found fit table filed h left lists units files stores =
     let first = first_state land t l in
     let told = told_by land t l before after objects old new past why h in
     let made : List Made = told.made in
@@ -243,7 +261,8 @@ served_with land t l may_be may_leave tells bytes images before after objects ol
             numbers_right land.max_locks land.max_marks land.ranges t l earlier table limits.marks agree good (answers_before first made earlier later answers whole);
         left = λ yes rows may. left_after yes rows may;
         handed = λ yes image may. subst (HasHanded image) told.state (handed_in image after units (lists yes image may));
-        good_file = trusted;
+        good_file = files;
+        good_store = stores;
         opens = λ yes tells image may. good_next may_leave (state_after first made) image (left_after yes) (subst (HasHanded image) told.state (handed_in image after units (lists tells image may)));
         next = λ yes. follows_on may_leave (state_after first made) (left_after yes);
       },

@@ -12,7 +12,7 @@ use Rattle.script_runner.specs.Shown.{audit_shown}
 use Rattle.script_runner.specs.Whole.{IsComplete, IsScript}
 use Rattle.script_runner.specs.World.{first_world}
 use Rattle.script_runner.specs.declared.runner.Why.{Why}
-use Rattle.script_runner.specs.declared.runner.Why.TheVariants.{Done, BadWords, BadLandscape, BadStore, NoStart}
+use Rattle.script_runner.specs.declared.runner.Why.TheVariants.{Done, BadWords, BadLandscape, NoStart}
 use Rattle.enq_cmd.specs.Main.{IsFaultless, IsRead, IsServed, IsUnopened, first_state}
 use Rattle.enq_cmd.specs.Writing.{WritesText}
 
@@ -30,11 +30,10 @@ abbrev pub ShowsCounts : Why → State → Option (List ℕ) → Option (List �
 ShowsCounts Done after old new before now why = WritesText old new before now (audit_shown 0 after) why
 ShowsCounts end after old new before now why = IsSilent end old new before now why
 
--- the ends of a run of a script over an open server that wasn't in doubt
+-- the ends of a run of a script over an open server
 abbrev pub IsRunEnd : Why → Type 0
 IsRunEnd BadWords = ⊥
 IsRunEnd (BadLandscape rule place) = ⊥
-IsRunEnd (BadStore table row) = ⊥
 IsRunEnd NoStart = ⊥
 IsRunEnd why = Unit {0}
 

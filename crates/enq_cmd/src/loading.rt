@@ -1,5 +1,6 @@
-ghost use Rattle.std.specs.Prelude.{◌≡◌, ◌≢◌, ◌⊎◌, ◌≤◌, ℕ, List, [], None, Some, Ok, IfOk, IfSome, is_some, IsTrue};
+ghost use Rattle.std.specs.Prelude.{◌≡◌, ◌≢◌, ◌⊎◌, ◌≤◌, ℕ, true, List, [], None, Some, Ok, IfOk, IfSome, is_some, IsTrue};
 ghost use Rattle.enq_base.specs.Causes.{Rose};
+ghost use Rattle.enq_base.specs.declared.condition.Bad.TheVariants as bad;
 ghost use Rattle.enq_base.specs.declared.condition.BackupBad.{BackupBad};
 ghost use Rattle.enq_cmd.specs.Loading.{HasLoaded, IsRunEnd, RunsLoad, end_of};
 ghost use Rattle.enq_cmd.specs.Main.{EndsComplete, FitAll, HasNoStart, IsBadDocument, IsBadStore, IsFirstBroken, IsGoodFile, IsLandEnd, IsUnfitEnd, status_of};
@@ -8,8 +9,8 @@ ghost use Rattle.landscape.specs.Landscape.{landscape_of};
 ghost use Rattle.landscape.specs.declared.landscape.Landscape.{Landscape};
 ghost use Rattle.load_gen.specs.Script.{script_of};
 ghost use Rattle.script_runner.specs.LineFaults.{IsToBlame};
-ghost use Rattle.script_runner.specs.Faults.{NoneUnsound};
-ghost use Rattle.script_runner.specs.Replay.{HasBadCause, HasDoubtCause, doubt_of, seen};
+ghost use Rattle.script_runner.specs.Faults.{NoneUnsound, NoneUnsoundStore};
+ghost use Rattle.script_runner.specs.Replay.{HasBadCause, HasDoubtCause, seen};
 ghost use Rattle.update_records.specs.Ledger.{IsGood};
 
 use crate::blind_sink::BlindSink;
@@ -102,7 +103,7 @@ fn load<T: Sink, K: Keeper, D: Disk, L: Link>(
     ensures run { RunsLoad objects.now source.old hall.old.state hall.new.state (K.faults hall.old.keeper) (K.faults hall.new.keeper)
         (D.faults hall.old.file.disk) (D.faults hall.new.file.disk)
         (T.written sink.old) (T.written sink.new) (T.faults sink.old) (T.faults sink.new) result }
-    ensures kind { doubt_of hall.old.state ≡ None → IsRunEnd result }
+    ensures kind { IsRunEnd result }
     ensures line_fault { IsToBlame result source.old }
     ensures source_fault { result ≢ Why.SourceFault }
     ensures sink_fault { result ≡ Why.SinkFault → Rose (T.faults sink.old) (T.faults sink.new) }
@@ -110,8 +111,10 @@ fn load<T: Sink, K: Keeper, D: Disk, L: Link>(
         → HasDoubtCause hall.old.state k (K.faults hall.old.keeper) (K.faults hall.new.keeper) }
     ensures backup_fault { (k : ℕ) → result ≡ Why.BackupFault k
         → HasDoubtCause hall.old.state k (D.faults hall.old.file.disk) (D.faults hall.new.file.disk) }
-    ensures bad_backup { (place : BackupBad) → result ≡ Why.BadBackup place → HasBadCause hall.old.state hall.new.state place }
+    ensures bad_store { (table row : ℕ) → result ≡ Why.BadStore table row → HasBadCause hall.old.state hall.new.state (bad.Store table row) }
+    ensures bad_backup { (place : BackupBad) → result ≡ Why.BadBackup place → HasBadCause hall.old.state hall.new.state (bad.Backup place) }
     ensures good_file { IsTrue D.tells → NoneUnsound hall.old.state.past → NoneUnsound hall.new.state.past }
+    ensures good_store { is_some (K.held hall.old.keeper) ≡ true → NoneUnsoundStore hall.old.state.past → NoneUnsoundStore hall.new.state.past }
     ensures told { is_some (K.held hall.new.keeper) ≡ is_some (K.held hall.old.keeper) }
 {
     match replay(alloc, source, &mut BlindSink, hall, objects) {

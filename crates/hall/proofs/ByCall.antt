@@ -1,5 +1,5 @@
 -- What holds of the verdict of each call holds of any call.
-use Rattle.std.proofs.Common.{◌≡◌, ℕ, Bool, true, false, cond, List, [], ◌∷◌, ◌++◌, length, map, refl, arith}
+use Rattle.std.proofs.Common.{◌≡◌, ℕ, Bool, true, false, cond, List, [], ◌∷◌, ◌++◌, length, map, refl, sym, ◌∙◌, subst, arith}
 use Rattle.std.specs.Prelude.{◌&&◌, ◌||◌, not, if◌then◌else◌, nat_eq, nat_le, nat_lt, Option, Some, None, Result, Ok, Err, is_some}
 use Rattle.std.proofs.lemmas.Bool.{and_parts, eqb-true}
 use Rattle.std.proofs.lemmas.List.{length-append}
@@ -25,9 +25,9 @@ use Rattle.posting.specs.Posts.{entries_of, kind_for}
 use Rattle.posting.specs.Steps.{waiting_for}
 use Rattle.update_records.specs.Marks.{status_of}
 use Rattle.hall.specs.Calls.{Call, LogsOn, OfSession, OfWorker, OfAdmin, Kills, Restarts, Cancels, Resubmits, Takes, Posts, Drops, is_of_server}
-use Rattle.hall.specs.Calls.{SessionCall, LogsOff, Asks, Frees, FreesAll, Converts, Draws, Reserves, Reads, Commits, RollsBack, call_of, wants_server}
-use Rattle.hall.specs.Devices.{DeviceOutcome, AllWell, Wanting, StoreFails, BackupFails, NotRemade, fault_told, found_by}
-use Rattle.hall.specs.History.{Served, doubted, ends_in, judged, pending_after, refused, served, stored_before_file, unfiled}
+use Rattle.hall.specs.Calls.{SessionCall, LogsOff, Asks, Frees, FreesAll, Converts, Draws, Reserves, Reads, Commits, RollsBack, call_of, restarts, wants_server}
+use Rattle.hall.specs.Devices.{DeviceOutcome, AllWell, Wanting, StoreFails, BackupFails, NotRemade, Reading, fault_told, found_by}
+use Rattle.hall.specs.History.{Served, doubted, ends_in, judged, pending_after, read_anew, refused, served, stored_before_file, unfiled, without_stock}
 use Rattle.hall.specs.Orders.{first_unclaimed, order_for, order_of, without_order}
 use Rattle.hall.specs.Sessions.{owners_of, pair_of, session_at, unit_key}
 use Rattle.hall.specs.Numbers.{drawn, next_number, other_holder, raised_to, stocked}
@@ -36,7 +36,7 @@ use Rattle.hall.specs.Stocks.{MayCall}
 use Rattle.number_ranges.specs.Intervals.{block_level, code_of, is_buffered}
 use Rattle.range_list.specs.Levels.{present, range_at}
 use Rattle.range_list.specs.declared.range.NumberRange.{NumberRange}
-use Rattle.hall.specs.Step.{Found, Verdict, Refuses, Leaves, ask_refusal, barred, called, caller_refusal, call_verdict, cancelled, commit, committed, converting, drawing, effects_in, entered, freed_all, giving, granting, is_full, killed, logged_off, logon, lowered, marked, numbered, or_else, own_verdict, passing, posted_reply, posting, reopened, reposted, reserving, restarted, rolled_back, session_call, session_refusal, taken, taking, unavailable, unless_refused, verdict, with_room, server_refusal}
+use Rattle.hall.specs.Step.{Found, Verdict, Refuses, Leaves, ask_refusal, barred, called, caller_refusal, call_verdict, cancelled, commit, committed, converting, down_refusal, drawing, effects_in, entered, freed_all, giving, granting, is_full, is_taken, killed, logged_off, logon, lowered, marked, numbered, or_else, own_verdict, passing, posted_reply, posting, reopened, reposted, reserving, restart, restarted, rolled_back, session_call, session_refusal, taken, taking, unavailable, unless_refused, verdict, with_room, server_refusal}
 use Rattle.hall.specs.declared.command.Command.{Command}
 use Rattle.hall.specs.declared.command.Reply.TheVariants as reply
 use Rattle.hall.specs.declared.command.Session.{Session}
@@ -79,7 +79,7 @@ pub record OfEach (P : Call → Verdict → Type 0) (found : Found) (s : State) 
   pub posts : (worker part : ℕ) (unit : UnitKey) → order_for part s.stored s.orders worker ≡ Some unit → P (OfWorker worker (Posts part)) (Leaves (marked part s worker unit (kind_for part (found.part part unit))) (posted_reply part unit (found.part part unit)))
   pub drops : (worker : ℕ) (unit : UnitKey) → order_of s.orders worker ≡ Some unit → P (OfWorker worker Drops) (Leaves (record s { orders = without_order s.orders worker }) (reply.Unit unit))
   pub kills : s.condition ≡ condition.Up → P (OfAdmin Kills) (Leaves (killed s) reply.Done)
-  pub restarts : s.condition ≡ condition.NoServer → P (OfAdmin Restarts) (Leaves (restarted s) reply.Done)
+  pub restarts : (s.condition ≡ condition.Up → ⊥) → P (OfAdmin Restarts) (Leaves (restarted (is_taken found.anew) s) reply.Done)
   pub cancels : (unit : UnitKey) (status : Status) → CanBeCancelled s.stored s.orders s.mark_limit unit status → P (OfAdmin (Cancels unit)) (Leaves (cancelled s unit status) (reply.Unit unit))
   pub reopens : (unit : UnitKey) (es : List Entry) → status_of s.stored.units s.stored.marks unit ≡ Some Bad → readmitted (table_in s) (owners_of unit) (entries_of s.stored.units unit) ≡ Ok es → P (OfAdmin (Resubmits unit)) (Leaves (reopened s unit es) (reply.Unit unit))
   pub reposts : (unit : UnitKey) → status_of s.stored.units s.stored.marks unit ≡ Some Bad2 → P (OfAdmin (Resubmits unit)) (Leaves (reposted s unit) (reply.Unit unit))
@@ -125,11 +125,19 @@ by_conversion Q s (Ok c) own refuse convert = convert c refl
 by_conversion Q s (Err f) own refuse convert = refuse (ask_refusal f) own
 
 -- only a lock server that is there is ended
-kills_up : (full : Bool) (k : Condition) → or_else (if full then Some refusal.LogFull else elim k [ condition.Up ↦ None | condition.NoServer ↦ None | condition.Doubt n ↦ Some (refusal.Down n) ]) (or_else None (server_refusal k (OfAdmin Kills))) ≡ None → k ≡ condition.Up
+kills_up : (full : Bool) (k : Condition)
+    → or_else (if full then Some refusal.LogFull else down_refusal k (OfAdmin Kills)) (or_else None (server_refusal k (OfAdmin Kills))) ≡ None
+    → k ≡ condition.Up
 kills_up true k e = cc
 kills_up false condition.Up e = refl
 kills_up false condition.NoServer e = cc
 kills_up false (condition.Doubt n) e = cc
+
+no_server_up : condition.NoServer ≡ condition.Up → ⊥
+no_server_up e = cc
+
+in_doubt_up : (n : ℕ) → condition.Doubt n ≡ condition.Up → ⊥
+in_doubt_up n e = cc
 
 module _ (P : Call → Verdict → Type 0) (found : Found) (s : State) (each : OfEach P found s) where
   -- without numbers there are none of a stock
@@ -215,10 +223,14 @@ module _ (P : Call → Verdict → Type 0) (found : Found) (s : State) (each : O
       one_of Q (is_some (session_at s.sessions name)) _ _ (λ e. each.refuses _ _ refl)
       (λ free. one_of Q (nat_le 1024 (length s.sessions)) _ _ (λ e. each.refuses _ _ refl) (λ e. each.enters name user free))
 
-  restart-holds : (k : Condition) → s.condition ≡ k → P (OfAdmin Restarts) (elim k [ condition.Up ↦ Refuses refusal.ServerUp | condition.NoServer ↦ Leaves (restarted s) reply.Done | condition.Doubt n ↦ Refuses (refusal.Down n) ])
+  restart-holds : (k : Condition) → s.condition ≡ k → P (OfAdmin Restarts) (elim k [
+    | condition.Up ↦ Refuses refusal.ServerUp
+    | condition.NoServer ↦ Leaves (restarted (is_taken found.anew) s) reply.Done
+    | condition.Doubt n ↦ Leaves (restarted (is_taken found.anew) s) reply.Done
+  ])
   restart-holds condition.Up up = each.refuses _ _ refl
-  restart-holds condition.NoServer none = each.restarts none
-  restart-holds (condition.Doubt n) down = each.refuses _ _ refl
+  restart-holds condition.NoServer none = each.restarts (λ up. no_server_up (sym none ∙ up))
+  restart-holds (condition.Doubt n) down = each.restarts (λ up. in_doubt_up n (sym down ∙ up))
 
   own-holds : (call : Call) → unavailable s call ≡ None → P call (own_verdict found s call)
   own-holds (LogsOn name user) free = logon-holds name user
@@ -246,10 +258,14 @@ plain_else : (o p : Option Refusal) → ArePlain o → ArePlain p → ArePlain (
 plain_else None p h k = k
 plain_else (Some r) p h k = h
 
-plain_down : (k : Condition) → ArePlain (elim k [ condition.Up ↦ None | condition.NoServer ↦ None | condition.Doubt n ↦ Some (refusal.Down n) ])
-plain_down condition.Up = tt
-plain_down condition.NoServer = tt
-plain_down (condition.Doubt n) = refl
+plain_unless : (b : Bool) (r : Refusal) → IsPlain r → ArePlain (if b then None else Some r)
+plain_unless true r p = tt
+plain_unless false r p = p
+
+plain_down : (k : Condition) (call : Call) → ArePlain (down_refusal k call)
+plain_down condition.Up call = tt
+plain_down condition.NoServer call = tt
+plain_down (condition.Doubt n) call = plain_unless (restarts call) (refusal.Down n) refl
 
 plain_server : (k : Condition) (call : Call) → ArePlain (server_refusal k call)
 plain_server condition.Up call = tt
@@ -268,7 +284,7 @@ plain_caller sessions (OfAdmin call) = tt
 
 pub plain_unavailable : (s : State) (call : Call) → ArePlain (unavailable s call)
 plain_unavailable s call =
-    plain_else (barred s) _ (plain_if _ refusal.LogFull _ refl (plain_down s.condition))
+    plain_else (barred s call) _ (plain_if _ refusal.LogFull _ refl (plain_down s.condition call))
     (plain_else (caller_refusal s.sessions call) _ (plain_caller s.sessions call) (plain_server s.condition call))
 
 unless_holds : (Q : Verdict → Type 0) (o : Option Refusal) (v : Verdict) → ArePlain o → ((r : Refusal) → IsPlain r → Q (Refuses r)) → (o ≡ None → Q v) → Q (unless_refused o v)
@@ -282,42 +298,149 @@ unfolding call_verdict
 by_call P found s each call =
     unless_holds (P call) (unavailable s call) (own_verdict found s call) (plain_unavailable s call) (each.refuses call) (own-holds P found s each call)
 
+-- a restart, and all other calls
+pub by_restart : (Q : Call → Type 0) → Q (OfAdmin Restarts) → ((call : Call) → restarts call ≡ false → Q call) → (call : Call) → Q call
+by_restart Q anew other (LogsOn name user) = other _ refl
+by_restart Q anew other (OfSession name call) = other _ refl
+by_restart Q anew other (OfWorker worker call) = other _ refl
+by_restart Q anew other (OfAdmin Kills) = other _ refl
+by_restart Q anew other (OfAdmin Restarts) = anew
+by_restart Q anew other (OfAdmin (Cancels unit)) = other _ refl
+by_restart Q anew other (OfAdmin (Resubmits unit)) = other _ refl
+
 -- the calls that end a lock server or make one anew, and all others
 pub by_server : (Q : Call → Type 0) → Q (OfAdmin Kills) → Q (OfAdmin Restarts) → ((call : Call) → is_of_server call ≡ false → Q call) → (call : Call) → Q call
-by_server Q kills restarts other (LogsOn name user) = other _ refl
-by_server Q kills restarts other (OfSession name call) = other _ refl
-by_server Q kills restarts other (OfWorker worker call) = other _ refl
-by_server Q kills restarts other (OfAdmin Kills) = kills
-by_server Q kills restarts other (OfAdmin Restarts) = restarts
-by_server Q kills restarts other (OfAdmin (Cancels unit)) = other _ refl
-by_server Q kills restarts other (OfAdmin (Resubmits unit)) = other _ refl
+by_server Q kills anew other (LogsOn name user) = other _ refl
+by_server Q kills anew other (OfSession name call) = other _ refl
+by_server Q kills anew other (OfWorker worker call) = other _ refl
+by_server Q kills anew other (OfAdmin Kills) = kills
+by_server Q kills anew other (OfAdmin Restarts) = anew
+by_server Q kills anew other (OfAdmin (Cancels unit)) = other _ refl
+by_server Q kills anew other (OfAdmin (Resubmits unit)) = other _ refl
 
 -- the same of a call that may be made
 pub by_made : (P : Call → Verdict → Type 0) (found : Found) (s : State) → OfEach (λ call v. MayCall s call → P call v) found s → (call : Call) → MayCall s call → P call (call_verdict found s call)
 by_made P found s each call may = by_call (λ c v. MayCall s c → P c v) found s each call may
 
+-- ---- a server in doubt
+
+none_first : (o later : Option Refusal) → or_else o later ≡ None → o ≡ None
+none_first None later e = refl
+none_first (Some r) later e = cc
+
+down_if : (anew : Bool) (n : ℕ) → anew ≡ false → (if anew then None else Some (refusal.Down n)) ≡ None → ⊥
+down_if true n off e = cc
+down_if false n off e = cc
+
+not_barred : (full : Bool) (o : Option Refusal) → (o ≡ None → ⊥) → (if full then Some refusal.LogFull else o) ≡ None → ⊥
+not_barred true o shut e = cc
+not_barred false o shut e = shut e
+
+-- a call but for a restart isn't served
+pub shut_in_doubt : (s : State) (n : ℕ) (call : Call) → s.condition ≡ condition.Doubt n → restarts call ≡ false → unavailable s call ≡ None → ⊥
+shut_in_doubt s n call down off e =
+    not_barred (is_full s) (down_refusal s.condition call)
+    (λ free. down_if (restarts call) n off (subst (λ k. down_refusal k call ≡ None) down free))
+    (none_first (barred s call) _ e)
+
+refuses_where : (Q : Verdict → Type 0) (o : Option Refusal) (v : Verdict) → (o ≡ None → ⊥) → ((r : Refusal) → Q (Refuses r)) → Q (unless_refused o v)
+refuses_where Q None v shut refuse = absurd (shut refl)
+refuses_where Q (Some r) v shut refuse = refuse r
+
+-- it is refused
+pub in_doubt_refused : (Q : Verdict → Type 0) (found : Found) (s : State) (n : ℕ) (call : Call) → s.condition ≡ condition.Doubt n → restarts call ≡ false
+    → ((r : Refusal) → Q (Refuses r)) → Q (call_verdict found s call)
+unfolding call_verdict
+in_doubt_refused Q found s n call down off refuse =
+    refuses_where Q (unavailable s call) (own_verdict found s call) (shut_in_doubt s n call down off) refuse
+
+anew_in : (Q : Verdict → Type 0) (found : Found) (s : State) → ((r : Refusal) → Q (Refuses r)) → Q (Leaves (restarted (is_taken found.anew) s) reply.Done)
+    → Q (restart found s)
+anew_in Q found s refuse anew =
+    elim s.condition as (λ k. Q (elim k [
+      | condition.Up ↦ Refuses refusal.ServerUp
+      | condition.NoServer ↦ Leaves (restarted (is_taken found.anew) s) reply.Done
+      | condition.Doubt n ↦ Leaves (restarted (is_taken found.anew) s) reply.Done
+    ])) [
+      | condition.Up ↦ refuse refusal.ServerUp
+      | condition.NoServer ↦ anew
+      | condition.Doubt n ↦ anew
+    ]
+
+-- a restart is refused, or makes a lock server anew
+pub by_anew : (Q : Verdict → Type 0) (found : Found) (s : State) → ((r : Refusal) → Q (Refuses r)) → Q (Leaves (restarted (is_taken found.anew) s) reply.Done)
+    → Q (call_verdict found s (OfAdmin Restarts))
+unfolding call_verdict
+by_anew Q found s refuse anew =
+    elim (unavailable s (OfAdmin Restarts)) as (λ o. Q (unless_refused o (own_verdict found s (OfAdmin Restarts)))) [
+      | None ↦ anew_in Q found s refuse anew
+      | Some r ↦ refuse r
+    ]
+
+-- what is called in doubt
+pub by_doubt : (Q : Call → Verdict → Type 0) (found : Found) (s : State) (n : ℕ) (call : Call) → s.condition ≡ condition.Doubt n
+    → ((c : Call) (r : Refusal) → Q c (Refuses r)) → Q (OfAdmin Restarts) (Leaves (restarted (is_taken found.anew) s) reply.Done)
+    → Q call (call_verdict found s call)
+by_doubt Q found s n call down refuse anew =
+    by_restart (λ c. Q c (call_verdict found s c)) (by_anew (Q (OfAdmin Restarts)) found s (refuse (OfAdmin Restarts)) anew)
+    (λ c off. in_doubt_refused (Q c) found s n c down off (refuse c)) call
+
+-- where the store fails in doubt the change in flight stays the one before
+pub pending_stays : (reading : Reading) (found : Found) (s : State) (n : ℕ) (call : Call) → s.condition ≡ condition.Doubt n
+    → pending_after reading s call (call_verdict found s call) ≡ s.pending
+pending_stays reading found s n call down = by_doubt (λ c v. pending_after reading s c v ≡ s.pending) found s n call down (λ c r. refl) refl
+
+-- a restart writes no mark
+pub filed_by_restart : (s : State) (v : Verdict) → stored_before_file s (OfAdmin Restarts) v ≡ s.stored
+filed_by_restart s (Refuses r) = refl
+filed_by_restart s (Leaves after r) = refl
+
+-- numbers of a stock aren't handed out again, and any other call leaves the ranges
+pub by_stock : (Q : Call → State → Type 0) (s : State)
+    → ((name : List ℕ) (parts : Parts) (stock : List Num) → Q (OfSession name (Commits parts stock)) (stocked stock s)) → ((call : Call) → Q call s)
+    → (call : Call) → Q call (without_stock call s)
+by_stock Q s commits other (LogsOn name user) = other _
+by_stock Q s commits other (OfSession name LogsOff) = other _
+by_stock Q s commits other (OfSession name (Asks rs)) = other _
+by_stock Q s commits other (OfSession name (Frees rs)) = other _
+by_stock Q s commits other (OfSession name FreesAll) = other _
+by_stock Q s commits other (OfSession name (Converts wanted)) = other _
+by_stock Q s commits other (OfSession name (Draws object nr)) = other _
+by_stock Q s commits other (OfSession name (Reserves object nr upto)) = other _
+by_stock Q s commits other (OfSession name (Reads table key)) = other _
+by_stock Q s commits other (OfSession name (Commits parts stock)) = commits name parts stock
+by_stock Q s commits other (OfSession name RollsBack) = other _
+by_stock Q s commits other (OfWorker worker call) = other _
+by_stock Q s commits other (OfAdmin call) = other _
+
+-- ---- any event
+
 -- What is shown of what a call comes to, of want of memory, and of a server in doubt, is shown of what is served.
-pub by_event : (Q : Served → Type 0) (o : DeviceOutcome) (s : State) (c : Command) → ((found : Found) → Q (judged s (verdict found s c))) → Q (refused s refusal.NoMemory)
-    → ((found : Found) → Q (refused (doubted s (pending_after s (call_of c) (verdict found s c))) refusal.StoreFault))
-    → ((found : Found) → Q (refused (unfiled s (stored_before_file s (call_of c) (verdict found s c))) refusal.BackupFault)) → ((r : Refusal) → Q (refused (doubted s s.pending) r)) → Q (served o s c)
+pub by_event : (Q : Served → Type 0) (o : DeviceOutcome) (s : State) (c : Command) → ((found : Found) → Q (judged s (verdict found s c)))
+    → Q (refused s refusal.NoMemory)
+    → ((reading : Reading) → Q (refused (doubted (without_stock (call_of c) s) (call_of c) None
+    (pending_after reading s (call_of c) (verdict (found_by reading s) s c))) refusal.StoreFault))
+    → ((reading : Reading) → Q (refused (unfiled s (call_of c) (read_anew reading)
+    (stored_before_file s (call_of c) (verdict (found_by reading s) s c))) refusal.BackupFault))
+    → ((read : Option Bool) (r : Refusal) → Q (refused (doubted s (call_of c) read s.pending) r)) → Q (served o s c)
 by_event Q o s c well wanting fails unfiles remakes =
     let found = found_by o.reading s in
-    elim o.event as (λ e. Q (ends_in e s (call_of c) (verdict found s c))) [
+    elim o.event as (λ e. Q (ends_in e o.reading s (call_of c) (verdict found s c))) [
       | AllWell ↦ well found
       | Wanting ↦ wanting
-      | StoreFails ↦ fails found
-      | BackupFails ↦ unfiles found
-      | NotRemade fault ↦ remakes (fault_told fault)
+      | StoreFails ↦ fails o.reading
+      | BackupFails ↦ unfiles o.reading
+      | NotRemade fault ↦ remakes (read_anew o.reading) (fault_told fault)
     ]
 
 -- What the store has where the disk of the backup file fails: what it had, or with the mark of a post or of a cancelling.
-pub by_filing : (P : Ledger → Type 0) (found : Found) (s : State) (c : Command) → P s.stored
+pub by_filing : (P : Ledger → Type 0) (found : Found) (s : State) (call : Call) → P s.stored
     → ((worker part : ℕ) (unit : UnitKey) → order_for part s.stored s.orders worker ≡ Some unit → P (marked part s worker unit (kind_for part (found.part part unit))).stored)
     → ((unit : UnitKey) (status : Status) → CanBeCancelled s.stored s.orders s.mark_limit unit status → P (cancelled s unit status).stored)
-    → P (stored_before_file s (call_of c) (verdict found s c))
-by_filing P found s c same posts cancels =
-    by_call (λ call v. P (stored_before_file s call v)) found s (record {
-      refuses = λ call r plain. same;
+    → P (stored_before_file s call (call_verdict found s call))
+by_filing P found s call same posts cancels =
+    by_call (λ c v. P (stored_before_file s c v)) found s (record {
+      refuses = λ c r plain. same;
       enters = λ name user free. same;
       logs_off = λ name x at. same;
       grants = λ name x rs locks at e. same;
@@ -335,8 +458,8 @@ by_filing P found s c same posts cancels =
       posts = λ worker part unit e. posts worker part unit e;
       drops = λ worker unit e. same;
       kills = λ up. same;
-      restarts = λ none. same;
+      restarts = λ off. same;
       cancels = λ unit status can. cancels unit status can;
       reopens = λ unit es here stand. same;
       reposts = λ unit here. same;
-    }) _
+    }) call

@@ -1,6 +1,6 @@
 -- A call comes to what its command's verdict says.
 use Rattle.std.proofs.Common.{◌≡◌, ℕ, ◌+◌, Bool, true, false, List, [], ◌∷◌, ◌++◌, length, fold, refl, sym, ap, ◌∙◌, subst}
-use Rattle.std.specs.Prelude.{nat_le, if◌then◌else◌, Option, Some, None, is_some, Result, Ok, Err, IsTrue}
+use Rattle.std.specs.Prelude.{◌||◌, nat_le, if◌then◌else◌, Option, Some, None, is_some, Result, Ok, Err, IsTrue}
 use Rattle.enq_base.specs.declared.refusal.Refusal.{Refusal}
 use Rattle.enq_base.specs.declared.refusal.Refusal.TheVariants as refusal
 use Rattle.enq_server.specs.Faults.{IsRefusal}
@@ -24,8 +24,8 @@ use Rattle.hall.specs.declared.command.Reply.TheVariants as reply
 use Rattle.hall.specs.declared.command.Session.{Session}
 use Rattle.hall.specs.Acts.{Admits, IsAct}
 use Rattle.hall.specs.Calls.{Call, OfSession, SessionCall, LogsOff, Asks, Frees, FreesAll, Converts, RollsBack, call_of, only_reads, writes_store_first}
-use Rattle.hall.specs.Devices.{BackupFails, StoreFails, Wanting, all_well, may_want, only, uses_file, uses_store}
-use Rattle.hall.specs.History.{doubted, judged, pending_after, refused, stored_before_file, unfiled}
+use Rattle.hall.specs.Devices.{AsKnown, BackupFails, StoreFails, Wanting, all_well, may_want, only, uses_file, uses_store}
+use Rattle.hall.specs.History.{doubted, is_unread, judged, pending_after, refused, stored_before_file, unfiled, without_stock}
 use Rattle.hall.specs.Leaving.{HasStoreCause}
 use Rattle.hall.specs.Sessions.{begun, session_at, without_session, with_session, with_fresh_unit, pair_of}
 use Rattle.hall.specs.State.{State}
@@ -65,24 +65,26 @@ pub is_wanting : (s : State) (c : Command) → unavailable s (call_of c) ≡ Non
 is_wanting s c free may = record { outcome = only Wanting; possible = record { reading = tt; event = (free, may) }; same = refl }
 
 -- the store failed
-pub fails : (s : State) (c : Command) (after : State) (r : Reply) → Admits s c → own_verdict (found_in s) s (call_of c) ≡ Leaves after r → IsTrue (uses_store s (call_of c)) → only_reads (call_of c) ≡ false → IsAct s c (doubted s (Some after.stored)) (reply.Refused refusal.StoreFault)
+pub fails : (s : State) (c : Command) (after : State) (r : Reply) → Admits s c → own_verdict (found_in s) s (call_of c) ≡ Leaves after r → IsTrue (uses_store s (call_of c)) → (only_reads (call_of c) || is_unread AsKnown (call_of c)) ≡ false
+    → IsAct s c (doubted (without_stock (call_of c) s) (call_of c) None (Some after.stored)) (reply.Refused refusal.StoreFault)
 fails s c after r h e uses writes =
     let v = admitted (found_in s) s c h ∙ e in
     record {
       outcome = only StoreFails;
       possible = record { reading = tt; event = (ap leaves v, uses) };
-      same = ap (λ x. refused (doubted s (pending_after s (call_of c) x)) refusal.StoreFault) v
-          ∙ ap (λ b. refused (doubted s (if b then s.pending else Some after.stored)) refusal.StoreFault) writes;
+      same = ap (λ x. refused (doubted (without_stock (call_of c) s) (call_of c) None (pending_after AsKnown s (call_of c) x)) refusal.StoreFault) v
+          ∙ ap (λ b. refused (doubted (without_stock (call_of c) s) (call_of c) None (if b then s.pending else Some after.stored)) refusal.StoreFault) writes;
     }
 
 -- the disk of the backup file failed
-pub fails_filing : (s : State) (c : Command) (after : State) (r : Reply) → Admits s c → own_verdict (found_in s) s (call_of c) ≡ Leaves after r → IsTrue (uses_file s (call_of c)) → IsAct s c (unfiled s (if writes_store_first (call_of c) then after.stored else s.stored)) (reply.Refused refusal.BackupFault)
+pub fails_filing : (s : State) (c : Command) (after : State) (r : Reply) → Admits s c → own_verdict (found_in s) s (call_of c) ≡ Leaves after r → IsTrue (uses_file s (call_of c))
+    → IsAct s c (unfiled s (call_of c) None (if writes_store_first (call_of c) then after.stored else s.stored)) (reply.Refused refusal.BackupFault)
 fails_filing s c after r h e uses =
     let v = admitted (found_in s) s c h ∙ e in
     record {
       outcome = only BackupFails;
       possible = record { reading = tt; event = (ap leaves v, uses) };
-      same = ap (λ x. refused (unfiled s (stored_before_file s (call_of c) x)) refusal.BackupFault) v;
+      same = ap (λ x. refused (unfiled s (call_of c) None (stored_before_file s (call_of c) x)) refusal.BackupFault) v;
     }
 
 pub at_state : (s : State) (c : Command) (after other : State) (r : Reply) → after ≡ other → IsAct s c after r → IsAct s c other r

@@ -31,12 +31,10 @@ use Rattle.update_records.specs.declared.stored.StoredInterval.{StoredInterval}
 use Rattle.hall.specs.declared.command.Command.TheVariants as command
 use Rattle.hall.specs.declared.command.Reply.TheVariants as reply
 use Rattle.hall.specs.declared.command.Session.{Session}
-use Rattle.hall.specs.declared.units.InFlight.TheVariants as flight
 use Rattle.hall.specs.declared.units.Written.{Written}
 use Rattle.hall.specs.declared.units.Written.TheVariants.{Answered, Failed, Unfiled}
 use Rattle.hall.specs.Acts.{IsAct, IsWritten, ranges_behind}
 use Rattle.hall.specs.Commits.{RecordsNumbers, RecordsUnit}
-use Rattle.hall.specs.Flights.{landed}
 use Rattle.hall.specs.Kept.{IsAhead, draws_in}
 use Rattle.hall.specs.Sessions.{is_called, session_at, unit_key, with_next_unit, with_session, without_draws}
 use Rattle.hall.specs.State.{State}
@@ -205,11 +203,11 @@ module _ (sessions : List Session) (name : List ℕ) (x : Session) (found : sess
 
 -- ---- the change in flight
 
-pub landed_unit : (ledger : Ledger) (unit : UnitOfWork) (rows levels : List StoredInterval) → levels ≡ rows → after_step ledger (Record unit rows) ≡ landed ledger (flight.Unit unit levels)
+pub landed_unit : (ledger : Ledger) (unit : UnitOfWork) (rows levels : List StoredInterval) → levels ≡ rows → after_step ledger (Record unit rows) ≡ after_step ledger (Record unit levels)
 landed_unit ledger unit rows levels is = ap (λ ls. with_intervals ls (with_unit ledger unit)) (sym is)
 
 pub landed_numbers : (ledger : Ledger) (key : UnitKey) (drawn nums : List Number) (rows levels : List StoredInterval) → nums ≡ drawn → levels ≡ rows
-    → after_step ledger (Draw key drawn rows) ≡ landed ledger (flight.Numbers key nums levels)
+    → after_step ledger (Draw key drawn rows) ≡ after_step ledger (Draw key nums levels)
 landed_numbers ledger key drawn nums rows levels a b = λ i. with_intervals (sym b i) (with_mark ledger key (Num (sym a i)))
 
 -- ---- how much there is to record
@@ -286,7 +284,7 @@ module _ (s : State) (sessions : List Session) (ranges : List NumberRange) (entr
       subst (λ ss. IsAct s (command.Commit name parts stock) (left_as ss left now (Answered (reply.Refused refusal.NoMemory))) (reply.Refused refusal.NoMemory)) (sym h.0)
       (subst (λ es. IsAct s (command.Commit name parts stock) (left_as sessions es now (Answered (reply.Refused refusal.NoMemory))) (reply.Refused refusal.NoMemory)) (sym h.1)
       (commits_wanting s sessions ranges entries ledger limit name x parts stock at now h.2))
-  unit_recorded effects unit levels is rows after left now (Failed (Some (flight.Unit recorded kept))) h =
+  unit_recorded effects unit levels is rows after left now (Failed (Some (Record recorded kept))) h =
       commits_in_doubt s sessions ranges entries ledger limit name x parts stock at few effects some space recorded kept (h.0 ∙ is) (h.1 ∙ rows)
   unit_recorded effects unit levels is rows after left now Unfiled h =
       commits_unfiled s sessions ranges entries ledger limit name x parts stock at few effects some space unit.key (ap (λ (u : UnitOfWork). u.key) is) h.1 now h.0
@@ -302,8 +300,8 @@ module _ (s : State) (sessions : List Session) (ranges : List NumberRange) (entr
   numbers_recorded alone key nums levels k is rows after now (Answered (reply.Refused refusal.NoMemory)) h =
       subst (λ ss. IsAct s (command.Commit name parts stock) (left_as ss entries now (Answered (reply.Refused refusal.NoMemory))) (reply.Refused refusal.NoMemory)) (sym h.0)
       (commits_wanting s sessions ranges entries ledger limit name x parts stock at now h.1)
-  numbers_recorded alone key nums levels k is rows after now (Failed (Some (flight.Numbers drawn_key drawn kept))) h =
+  numbers_recorded alone key nums levels k is rows after now (Failed (Some (Draw drawn_key drawn kept))) h =
       let key_is : drawn_key ≡ unit_key s.stored.start x = h.0 ∙ k ∙ ap (λ (l : Ledger). unit_key l.start x) (sym at.own_ledger) in
-      subst (λ l. IsWritten s (command.Commit name parts stock) (left_as after entries now (Failed (Some l))) (Failed (Some l))) (λ i. flight.Numbers (sym key_is i) (sym (h.1 ∙ is) i) kept)
+      subst (λ l. IsWritten s (command.Commit name parts stock) (left_as after entries now (Failed (Some l))) (Failed (Some l))) (λ i. Draw (sym key_is i) (sym (h.1 ∙ is) i) kept)
       (numbers_in_doubt s sessions ranges entries ledger limit name x parts stock at few alone some space kept (h.2 ∙ rows))
   numbers_recorded alone key nums levels k is rows after now _ h = absurd h

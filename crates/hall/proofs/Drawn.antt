@@ -1,12 +1,12 @@
 -- What each call leaves of the names of the sessions, and of the numbers that they have drawn.
 use Rattle.std.proofs.Common.{◌≡◌, ℕ, ◌+◌, ◌-◌, ◌*◌, ◌≤◌, ◌<◌, Bool, true, false, cond, List, [], ◌∷◌, ◌++◌, nat_eq, refl, sym, ap, ◌∙◌, subst, arith, mul_comm}
-use Rattle.std.specs.Prelude.{Contains, count_by, if◌then◌else◌, is_some, nat_le, nat_lt, not, ◌&&◌, Option, Some, None}
+use Rattle.std.specs.Prelude.{Contains, count_by, sum_by, if◌then◌else◌, is_some, nat_le, nat_lt, not, ◌&&◌, Option, Some, None}
 use Rattle.std.specs.Int.{div_ceil}
 use Rattle.std.specs.List.{AllByRecursion, filter, find}
 use Rattle.std.specs.Str.{bytes_eq}
 use Rattle.std.proofs.lemmas.Bool.Decides.{nat_tests}
 use Rattle.std.proofs.lemmas.Grind.{div_ceil_times}
-use Rattle.std.proofs.lemmas.List.{map-append}
+use Rattle.std.proofs.lemmas.List.{append-nil, map-append}
 use Rattle.enq_base.specs.Owners.{same_unit}
 use Rattle.enq_base.specs.declared.owner.UnitKey.{UnitKey}
 use Rattle.enq_base.specs.declared.unit.Num.{Num}
@@ -20,14 +20,14 @@ use Rattle.posting.specs.Posts.{kind_for}
 use Rattle.posting.specs.declared.prepared.Outcome.{Outcome}
 use Rattle.posting.specs.declared.prepared.Outcome.TheVariants as outcome
 use Rattle.range_list.proofs.Counting.{bit, count_append, count_cons, count_none}
-use Rattle.range_list.proofs.Drawing.{interval_among, range_found}
+use Rattle.range_list.proofs.Drawing.{interval_among, range_found, sum_split}
 use Rattle.range_list.proofs.Fits.{found_level, level_fits}
 use Rattle.range_list.proofs.Owners.{session_commits_stock, session_draws_buffered, session_draws_plain, session_gives_back}
 use Rattle.range_list.proofs.Recording.{raised_drawn}
-use Rattle.range_list.proofs.Sessions.{fewer_drawn, fewer_last, fewer_left}
+use Rattle.range_list.proofs.Sessions.{fewer_drawn, fewer_last, fewer_left, fewer_without}
 use Rattle.range_list.proofs.Settling.{insert_own}
-use Rattle.range_list.proofs.Stocks.{no_stock}
-use Rattle.range_list.specs.Drawn.{AreDrawnRight, drawn_of, handed_out, num_of, passed, settled_rows, stored_as}
+use Rattle.range_list.proofs.Stocks.{no_stock, stock_drawn}
+use Rattle.range_list.specs.Drawn.{AreDrawnRight, IsStock, times, drawn_of, handed_out, num_of, passed, settled_rows, stored_as}
 use Rattle.range_list.specs.Levels.{intervals_of, level_in, name_of, present}
 use Rattle.range_list.specs.declared.range.NumberRange.{NumberRange}
 use Rattle.update_records.proofs.Status.{none_of, one_unit, status_push, unit_other}
@@ -170,6 +170,26 @@ marks_marked ledger key kind h other none =
 -- there is nothing to be shown of no numbers
 pub no_stock_in : (s : State) → IsStockIn s []
 no_stock_in s = no_stock (intervals_of s.ranges) s.stored.levels (draws_in s.sessions) (numbers_of s.stored.units s.stored.marks)
+
+-- memory goes behind the numbers of a stock
+pub drawn_stocked : (s : State) (stock : List Num) → IsStockIn s stock → IsDrawn s → IsDrawn (stocked stock s)
+drawn_stocked s stock fits h =
+    let levels = s.stored.levels in
+    let draws = draws_in s.sessions in
+    let committed = numbers_of s.stored.units s.stored.marks in
+    let more : AreDrawnRight s.ranges levels (draws ++ [] ∷ []) committed =
+    fewer_drawn s.ranges levels draws (draws ++ [] ∷ []) committed (fewer_last draws) h in
+    let also : IsStock (intervals_of s.ranges) levels (draws ++ [] ∷ []) committed stock = record {
+      reserved = fits.reserved;
+      once = fits.once;
+      fresh = λ i among n some.
+          let before = fits.fresh i among n some in
+          let whole : sum_by (times i n) (draws ++ [] ∷ []) ≡ sum_by (times i n) draws + (0 + 0) = sum_split (times i n) draws [] [] in
+          omega (arith, before, whole);
+    } in
+    subst (λ ds. AreDrawnRight (passed stock s.ranges) levels ds committed) (append-nil draws)
+    (fewer_drawn (passed stock s.ranges) levels (draws ++ stock ∷ []) (draws ++ []) committed (fewer_without draws stock [])
+    (stock_drawn s.ranges levels draws [] [] committed stock also more))
 
 -- ---- a unit that is recorded with its numbers
 

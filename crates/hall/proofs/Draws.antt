@@ -27,7 +27,7 @@ use Rattle.hall.specs.declared.units.Written.TheVariants.{Answered, Failed, Unfi
 use Rattle.hall.specs.Acts.{Admits, IsAct, IsWritten}
 use Rattle.hall.specs.Calls.{OfSession, Draws, Reserves}
 use Rattle.hall.specs.Devices.{is_past_level, uses_store}
-use Rattle.hall.specs.Flights.{landed}
+use Rattle.posting.specs.Steps.{after_step}
 use Rattle.hall.specs.History.{doubted}
 use Rattle.hall.specs.Numbers.{IsNextDraw, IsNextReserve, drawn, level_for, next_number, other_holder, raised_by, raised_to}
 use Rattle.hall.specs.Sessions.{is_called, session_at, with_draw, with_session}
@@ -248,7 +248,7 @@ module _ (s : State) (sessions : List Session) (ranges : List NumberRange) (ledg
           ∙ (λ k. record s { sessions = e k; ranges = f k; stored = g k }))
           (leaves_as s draws_call (drawn s d.session i number) _ room leaves_number)
 
-      pub draws_in_doubt : is_buffered i ≡ true → nat_eq level i.level ≡ false → IsAct s draws_call (doubted s (Some (with_intervals (row_at i level ∷ []) s.stored))) (reply.Refused refusal.StoreFault)
+      pub draws_in_doubt : is_buffered i ≡ true → nat_eq level i.level ≡ false → IsAct s draws_call (doubted s (OfSession name (Draws object nr)) None (Some (with_intervals (row_at i level ∷ []) s.stored))) (reply.Refused refusal.StoreFault)
       draws_in_doubt buffered differs =
           let far : nat_le number i.level ≡ false = unreached i number buffered (ap (λ l. nat_eq l i.level) (sym d.reserved) ∙ differs) in
           let next : number ≡ d.range.next = d.next ∙ ap (λ b. if b then d.range.next else i.level + drawn_of i d.session.draws + 1) buffered in
@@ -262,7 +262,7 @@ module _ (s : State) (sessions : List Session) (ranges : List NumberRange) (ledg
           let uses : IsTrue (uses_store s (OfSession name (Draws object nr))) =
           subst (λ o. IsTrue (option_map_or (λ (r : NumberRange). is_buffered r.interval && is_past_level s r r.next) o false)) (sym (ranged (Some d.range) d.chosen))
           (ap (λ b. b && is_past_level s d.range d.range.next) same ∙ ap (λ (j : Interval). nat_lt j.level d.range.next) here ∙ ap (nat_lt i.level) (sym next) ∙ is_past number i.level far) in
-          subst (λ (l : Ledger). IsAct s draws_call (doubted s (Some l)) (reply.Refused refusal.StoreFault)) levels
+          subst (λ (l : Ledger). IsAct s draws_call (doubted s (OfSession name (Draws object nr)) None (Some l)) (reply.Refused refusal.StoreFault)) levels
           (fails s draws_call (drawn s d.session i number) _ room leaves_number uses refl)
 
       -- a level that wasn't raised
@@ -272,7 +272,7 @@ module _ (s : State) (sessions : List Session) (ranges : List NumberRange) (ledg
           (subst (λ l. IsAct s draws_call (record s { sessions = sessions; ranges = ranges; stored = l }) (reply.Refused refusal.NoMemory)) (sym kept)
           (at_state _ _ s _ _ is_same (draws_wanting d.session d.found)))
       draws_unraised buffered (Failed change) h new kept =
-          subst (λ x. IsAct s draws_call (doubted s (option_map (landed s.stored) x)) (reply.Refused refusal.StoreFault)) (sym h.0) (draws_in_doubt buffered h.1)
+          subst (λ x. IsAct s draws_call (doubted s (OfSession name (Draws object nr)) None (option_map (after_step s.stored) x)) (reply.Refused refusal.StoreFault)) (sym h.0) (draws_in_doubt buffered h.1)
       draws_unraised buffered Unfiled h new kept = absurd h
 
   -- ---- reservations
@@ -328,7 +328,7 @@ module _ (s : State) (sessions : List Session) (ranges : List NumberRange) (ledg
           (at_state _ _ (record s { stored = raised_to i upto s.stored }) _ _ (λ k. record s { stored = g k })
           (leaves_as s reserves_call (record s { stored = raised_to i upto s.stored }) _ room leaves_level))
 
-      pub reserves_in_doubt : nat_eq level i.level ≡ false → IsAct s reserves_call (doubted s (Some (with_intervals (row_at i level ∷ []) s.stored))) (reply.Refused refusal.StoreFault)
+      pub reserves_in_doubt : nat_eq level i.level ≡ false → IsAct s reserves_call (doubted s (OfSession name (Reserves object nr upto)) None (Some (with_intervals (row_at i level ∷ []) s.stored))) (reply.Refused refusal.StoreFault)
       reserves_in_doubt differs =
           let far : nat_le upto i.level ≡ false = unreached i upto d.buffered (ap (λ l. nat_eq l i.level) (sym d.reserved) ∙ differs) in
           let levels : raised_to i upto s.stored ≡ with_intervals (row_at i level ∷ []) s.stored =
@@ -336,7 +336,7 @@ module _ (s : State) (sessions : List Session) (ranges : List NumberRange) (ledg
           let uses : IsTrue (uses_store s (OfSession name (Reserves object nr upto))) =
           subst (λ o. IsTrue (option_map_or (λ r. is_past_level s r upto) o false)) (sym (ranged (Some d.range) d.chosen))
           (ap (λ (j : Interval). nat_lt j.level upto) (leveled d.range i d.interval) ∙ is_past upto i.level far) in
-          subst (λ (l : Ledger). IsAct s reserves_call (doubted s (Some l)) (reply.Refused refusal.StoreFault)) levels
+          subst (λ (l : Ledger). IsAct s reserves_call (doubted s (OfSession name (Reserves object nr upto)) None (Some l)) (reply.Refused refusal.StoreFault)) levels
           (fails s reserves_call (record s { stored = raised_to i upto s.stored }) _ room leaves_level uses refl)
 
       pub reserves_unraised : (w : Written) → IsRaiseFault i level w → (new : Ledger) → new ≡ ledger → IsWritten s reserves_call (record s { stored = new }) w
@@ -345,5 +345,5 @@ module _ (s : State) (sessions : List Session) (ranges : List NumberRange) (ledg
           (at_state _ _ s _ _ (λ k. record s { stored = (at.own_ledger ∙ sym kept) k })
           (is_wanting s reserves_call room.served refl))
       reserves_unraised (Failed change) h new kept =
-          subst (λ x. IsAct s reserves_call (doubted s (option_map (landed s.stored) x)) (reply.Refused refusal.StoreFault)) (sym h.0) (reserves_in_doubt h.1)
+          subst (λ x. IsAct s reserves_call (doubted s (OfSession name (Reserves object nr upto)) None (option_map (after_step s.stored) x)) (reply.Refused refusal.StoreFault)) (sym h.0) (reserves_in_doubt h.1)
       reserves_unraised Unfiled h new kept = absurd h

@@ -8,48 +8,44 @@ use Rattle.enq_base.specs.declared.owner.UnitKey.{UnitKey}
 use Rattle.lock_entry.specs.Table.{Table}
 use Rattle.lock_entry.specs.declared.entry.Entry.{Entry}
 use Rattle.range_list.specs.declared.range.NumberRange.{NumberRange}
-use Rattle.hall.specs.Flights.{landed}
-use Rattle.hall.specs.declared.units.InFlight.{InFlight}
 use Rattle.update_records.specs.Ledger.{Ledger}
 use Rattle.enq_base.specs.declared.condition.Condition.TheVariants as condition
 use Rattle.enq_base.specs.declared.refusal.Refusal.{Refusal}
 use Rattle.enq_base.specs.declared.refusal.Refusal.TheVariants as refusal
 use Rattle.enq_server.specs.Following.{Following, IsLater, KeepsOn}
+use Rattle.keeper_api.specs.Keeping.{IsWithin}
 use Rattle.keeper_api.specs.Rows.{Rows}
-use Rattle.hall.specs.Acts.{Admits, IsAct, IsWritten, OnFailure, OnStoreFailure, locks_posted, post_of, written_condition, written_pending, written_reply}
+use Rattle.posting.specs.Steps.{after_step}
+use Rattle.hall.specs.Acts.{Admits, IsAct, IsTelling, IsWritten, OnAnswer, OnFailure, OnStoreFailure, locks_posted, post_of, written_condition, written_failure, written_reply}
 use Rattle.hall.specs.Calls.{Call, LogsOn, OfSession, OfWorker, OfAdmin, Kills, Restarts, Cancels, Resubmits, SessionCall, LogsOff, Asks, Frees, FreesAll, Converts, Draws, Reserves, Reads, Commits, RollsBack, Takes, Posts, Drops, call_of, restarts, session_touches_file, touches_file, wants_server}
 use Rattle.hall.specs.Devices.{all_well, reaches_store, session_reaches_store, session_uses_file, session_uses_store, uses_file, uses_store}
 use Rattle.hall.specs.Filing.{DoesFile, HasFileCause, KeepsFile, MayFile}
-use Rattle.hall.specs.History.{IsGiven, Served, is_row, is_unrecorded, judged}
+use Rattle.hall.specs.History.{IsGiven, Served, doubted, is_row, is_unrecorded, judged}
 use Rattle.hall.specs.Kept.{IsKept, OutsideDoubt}
-use Rattle.hall.specs.Leaving.{HasStoreCause}
+use Rattle.hall.specs.Leaving.{HasStoreCause, KeepsStore}
 use Rattle.hall.specs.Serving.{DoesStore, Follows, IsDue, LeavesFile, MayWrite, Serves, with_calls}
-use Rattle.hall.specs.Remaking.{OnNotRemade, remade_condition, remade_state}
-use Rattle.hall.specs.State.{State, View, gone_in, locks_in, state_of}
-use Rattle.hall.specs.Step.{barred, caller_refusal, found_in, is_full, or_else, server_refusal, unavailable}
+use Rattle.hall.specs.Remaking.{flight_over}
+use Rattle.hall.specs.State.{State, View, gone_in, locks_in, unhanded}
+use Rattle.hall.specs.Step.{barred, caller_refusal, down_refusal, found_in, is_full, or_else, server_refusal, unavailable}
 use Rattle.hall.specs.declared.command.Command.{Command}
+use Rattle.hall.specs.declared.command.Command.TheVariants as command
 use Rattle.hall.specs.declared.command.PastEntry.{PastEntry}
 use Rattle.hall.specs.declared.command.Reply.{Reply}
 use Rattle.hall.specs.declared.command.Reply.TheVariants as reply
 use Rattle.hall.specs.declared.command.Session.{Session}
-use Rattle.hall.specs.declared.remaking.Remade.{Remade}
-use Rattle.hall.specs.declared.remaking.Remade.TheVariants.{Done, Refused, InDoubt}
+use Rattle.hall.specs.declared.units.Failure.{Failure}
 use Rattle.hall.specs.declared.units.Written.{Written}
 use Rattle.hall.specs.declared.units.Written.TheVariants.{Answered, Failed, Unfiled}
 use Rattle.hall.proofs.ByCall.{ArePlain, plain_unavailable}
 use Rattle.hall.proofs.Calls.{refused_verdict}
 use Rattle.hall.proofs.Plain.{IsPlain}
-use Rattle.hall.proofs.Ends.{IsPart, ends_as, none_before, posts_part, written_act, written_state}
+use Rattle.hall.proofs.Ends.{HasRanges, IsPart, caller_of, ends_as, none_before, posts_part, state_with, without_as, written_act, written_state}
 use Rattle.hall.proofs.Few.{full_or}
-use Rattle.hall.proofs.Frames.{in_doubt, shut_by_history}
-use Rattle.hall.proofs.Leaves.{plain_quiet, same_keeps, untouched_keeps}
+use Rattle.hall.proofs.Frames.{shut_by_history}
+use Rattle.hall.proofs.Leaves.{also_answered, plain_quiet, same_keeps, untouched_keeps}
 use Rattle.hall.proofs.Filing.{any_file, plain_file, same_file}
 use Rattle.hall.proofs.Replies.{fault_uses_file, fault_uses_store, unnoted_same}
 use Rattle.backup_file.specs.Backup.{BackupView}
-
--- the fields of a hall
-abbrev pub state_with : Bool → Condition → List Session → ℕ → List (Option UnitKey) → Table → ℕ → ℕ → List NumberRange → Ledger → Option InFlight → List PastEntry → State
-state_with told k sessions n orders table x m rs ledger p past = state_of told k sessions n orders table x m rs ledger (option_map (landed ledger) p) past
 
 some_is : {X : Type 0} (a b : X) → Some a ≡ Some b → a ≡ b
 some_is a b e = cc
@@ -83,18 +79,29 @@ none_later : (o later : Option Refusal) → or_else o later ≡ None → later �
 none_later None later e = e
 none_later (Some r) later e = cc
 
-pub not_barred : (s : State) (call : Call) → unavailable s call ≡ None → barred s ≡ None
-not_barred s call free = none_first (barred s) _ free
+pub not_barred : (s : State) (call : Call) → unavailable s call ≡ None → barred s call ≡ None
+not_barred s call free = none_first (barred s call) _ free
 
-serving_in : (full : Bool) (k : Condition) → (if full then Some refusal.LogFull else in_doubt k) ≡ None → IsServing k
-serving_in true k e = cc
-serving_in false condition.Up e = tt
-serving_in false condition.NoServer e = tt
-serving_in false (condition.Doubt n) e = cc
+-- a call that no doubt bars, but for a restart, finds the server not in doubt
+serving_in : (full : Bool) (k : Condition) (call : Call) → restarts call ≡ false → (if full then Some refusal.LogFull else down_refusal k call) ≡ None → IsServing k
+serving_in true k call off e = cc
+serving_in false condition.Up call off e = tt
+serving_in false condition.NoServer call off e = tt
+serving_in false (condition.Doubt n) call off e = let shut : Some (refusal.Down n) ≡ None = sym (ap (λ b. if b then None else Some (refusal.Down n)) off) ∙ e in cc
 
 -- it finds the server up, or a call that wants none without a server
-pub is_serving : (s : State) (c : Command) → Admits s c → IsServing s.condition
-is_serving s c free = serving_in (is_full s) s.condition (not_barred s (call_of c) free.served)
+pub is_serving : (s : State) (c : Command) → restarts (call_of c) ≡ false → Admits s c → IsServing s.condition
+is_serving s c off free = serving_in (is_full s) s.condition (call_of c) off (not_barred s (call_of c) free.served)
+
+-- a restart wants no server
+wants_none : (call : Call) → wants_server call ≡ true → restarts call ≡ false
+wants_none (LogsOn name user) wants = refl
+wants_none (OfSession name call) wants = refl
+wants_none (OfWorker worker call) wants = refl
+wants_none (OfAdmin Kills) wants = refl
+wants_none (OfAdmin Restarts) wants = cc
+wants_none (OfAdmin (Cancels unit)) wants = refl
+wants_none (OfAdmin (Resubmits unit)) wants = refl
 
 up_in : (k : Condition) (call : Call) → IsServing k → wants_server call ≡ true → server_refusal k call ≡ None → k ≡ Up
 up_in condition.Up call serving wants e = refl
@@ -103,8 +110,8 @@ up_in (condition.Doubt n) call serving wants e = absurd serving
 
 pub server_up : (s : State) (c : Command) → wants_server (call_of c) ≡ true → Admits s c → s.condition ≡ Up
 server_up s c wants free =
-    up_in s.condition (call_of c) (is_serving s c free) wants
-    (none_later (caller_refusal s.sessions (call_of c)) _ (none_later (barred s) _ free.served))
+    up_in s.condition (call_of c) (is_serving s c (wants_none (call_of c) wants) free) wants
+    (none_later (caller_refusal s.sessions (call_of c)) _ (none_later (barred s (call_of c)) _ free.served))
 
 -- ---- a call apart from its place in the history
 
@@ -114,47 +121,57 @@ acts_as s c after new r said act is same = subst (λ x. IsAct s c x said) (sym i
 pub due_of : (s : State) (past : List PastEntry) (c : Command) → IsKept (with_calls s past) → unavailable (with_calls s past) (call_of c) ≡ None → IsDue s past c
 due_of s past c kept free = record { kept = kept; admits = record { served = free } }
 
-pub due_serving : (s : State) (past : List PastEntry) (c : Command) → IsDue s past c → IsServing s.condition
-due_serving s past c due = is_serving (with_calls s past) c due.admits
+pub due_serving : (s : State) (past : List PastEntry) (c : Command) → restarts (call_of c) ≡ false → IsDue s past c → IsServing s.condition
+due_serving s past c off due = is_serving (with_calls s past) c off due.admits
 
 pub due_up : (s : State) (past : List PastEntry) (c : Command) → wants_server (call_of c) ≡ true → IsDue s past c → s.condition ≡ Up
 due_up s past c wants due = server_up (with_calls s past) c wants due.admits
 
-same_past : (s after : State) (w : Written) → after.past ≡ s.past → record (written_state s after w) { past = s.past } ≡ written_state s after w
-same_past s after (Answered r) h = λ i. record after { past = sym h i }
-same_past s after (Failed change) h = refl
-same_past s after Unfiled h = refl
+same_past : (s after : State) (call : Call) (w : Written) → after.past ≡ s.past → record (written_state s call after w) { past = s.past } ≡ written_state s call after w
+same_past s after call (Answered r) h = λ i. record after { past = sym h i }
+same_past s after call (Failed change) h = ap (λ (x : State). record (doubted x call None (option_map (after_step s.stored) change)) { past = s.past }) (without_as call s) ∙ ap (λ (x : State). doubted x call None (option_map (after_step s.stored) change)) (sym (without_as call s))
+same_past s after call Unfiled h = refl
 
 -- a call that uses the store, where it fails too
-pub written_call : (told told' : Bool) (k k' : Condition) (ss ss' : List Session) (n : ℕ) (os os' : List (Option UnitKey)) (t t' : Table) (x m : ℕ) (rs rs' : List NumberRange) (l l' : Ledger) (p p' : Option InFlight) (past : List PastEntry) (w : Written) (c : Command) (said : Reply)
-    → IsDue (state_with told k ss n os t x m rs l p []) past c
-    → told' ≡ told → k' ≡ written_condition k (length past) w → p' ≡ written_pending p w → said ≡ written_reply w
-    → t'.limit ≡ t.limit → gone_in k t'.entries ≡ gone_in k t.entries → OnFailure w (ss' ≡ ss) → OnFailure w (os' ≡ os) → OnStoreFailure w (l' ≡ l) → OnFailure w (rs' ≡ rs)
-    → (option_map (landed l) p ≡ None → Admits (state_with told k ss n os t x m rs l p past) c → IsWritten (state_with told k ss n os t x m rs l p past) c (rewritten (state_with told k ss n os t x m rs l p past) ss' os' t' rs' l') w)
-    → IsAct (state_with told k ss n os t x m rs l p past) c (state_with told' k' ss' n os' t' x m rs' l' p' past) said
-written_call told told' k k' ss ss' n os os' t t' x m rs rs' l l' p p' past w c said due tells condition pending reply limit gone a b d e written =
-    let s : State = state_with told k ss n os t x m rs l p past in
-    let none : option_map (landed l) p ≡ None = outside k _ (is_serving s c due.admits) due.kept.steady.settled in
-    let after : State = written_state s (rewritten s ss' os' t' rs' l') w in
+pub written_call : (told told' : Bool) (k k' : Condition) (ss ss' : List Session) (n : ℕ) (os os' : List (Option UnitKey)) (t t' : Table) (x m : ℕ) (rs rs' : List NumberRange) (l l' : Ledger) (f f' : Failure) (past : List PastEntry) (w : Written) (c : Command) (said : Reply)
+    → restarts (call_of c) ≡ false → IsDue (state_with told k ss n os t x m rs l f []) past c
+    → told' ≡ told → k' ≡ written_condition k (length past) w → f' ≡ written_failure f (caller_of (call_of c)) w → said ≡ written_reply w
+    → t'.limit ≡ t.limit → OnAnswer w (gone_in k t'.entries ≡ gone_in k t.entries) → OnFailure w (unhanded t'.entries ≡ unhanded t.entries)
+    → OnFailure w (ss' ≡ ss) → OnFailure w (os' ≡ os) → OnStoreFailure w (l' ≡ l) → HasRanges (call_of c) w rs rs'
+    → (flight_over l f ≡ None → Admits (state_with told k ss n os t x m rs l f past) c → IsWritten (state_with told k ss n os t x m rs l f past) c (rewritten (state_with told k ss n os t x m rs l f past) ss' os' t' rs' l') w)
+    → IsAct (state_with told k ss n os t x m rs l f past) c (state_with told' k' ss' n os' t' x m rs' l' f' past) said
+written_call told told' k k' ss ss' n os os' t t' x m rs rs' l l' f f' past w c said off due tells condition failure reply limit gone lost a b d e written =
+    let s : State = state_with told k ss n os t x m rs l f past in
+    let serving = is_serving s c off due.admits in
+    let none : flight_over l f ≡ None = outside k _ serving due.kept.steady.settled in
+    let unfailed : f.caller ≡ None = outside k _ serving due.kept.steady.unfailed in
+    let after : State = written_state s (call_of c) (rewritten s ss' os' t' rs' l') w in
     let act : IsAct s c after (written_reply w) = written_act s c (rewritten s ss' os' t' rs' l') w (written none due.admits) in
-    let is : state_with told' k' ss' n os' t' x m rs' l' p' past ≡ after =
-    (λ i. state_with told' (condition i) ss' n os' t' x m rs' l' (pending i) past)
-    ∙ ends_as k told told' ss ss' n os os' t t' x m rs rs' l l' p past past w tells none limit gone a b d e
-    ∙ same_past s (rewritten s ss' os' t' rs' l') w refl in
-    acts_as s c after (state_with told' k' ss' n os' t' x m rs' l' p' past) (written_reply w) said act is reply
+    let is : state_with told' k' ss' n os' t' x m rs' l' f' past ≡ after =
+    (λ i. state_with told' (condition i) ss' n os' t' x m rs' l' (failure i) past)
+    ∙ ends_as k (call_of c) told told' ss ss' n os os' t t' x m rs rs' l l' f past past w tells none unfailed limit gone lost a b d e
+    ∙ same_past s (rewritten s ss' os' t' rs' l') (call_of c) w refl in
+    acts_as s c after (state_with told' k' ss' n os' t' x m rs' l' f' past) (written_reply w) said act is reply
 
 -- the same of a call that wants a server
-pub written_up : (told told' : Bool) (k k' : Condition) (ss ss' : List Session) (n : ℕ) (os os' : List (Option UnitKey)) (t t' : Table) (x m : ℕ) (rs rs' : List NumberRange) (l l' : Ledger) (p p' : Option InFlight) (past : List PastEntry) (w : Written) (c : Command) (said : Reply)
-    → wants_server (call_of c) ≡ true → IsDue (state_with told k ss n os t x m rs l p []) past c
-    → told' ≡ told → k' ≡ written_condition k (length past) w → p' ≡ written_pending p w → said ≡ written_reply w
-    → t'.limit ≡ t.limit → OnFailure w (ss' ≡ ss) → OnFailure w (os' ≡ os) → OnStoreFailure w (l' ≡ l) → OnFailure w (rs' ≡ rs)
-    → (option_map (landed l) p ≡ None → Admits (state_with told Up ss n os t x m rs l p past) c → IsWritten (state_with told Up ss n os t x m rs l p past) c (rewritten (state_with told Up ss n os t x m rs l p past) ss' os' t' rs' l') w)
-    → IsAct (state_with told k ss n os t x m rs l p past) c (state_with told' k' ss' n os' t' x m rs' l' p' past) said
-written_up told told' k k' ss ss' n os os' t t' x m rs rs' l l' p p' past w c said wants due tells condition pending reply limit a b d e written =
-    let before : Condition → State = λ q. state_with told q ss n os t x m rs l p past in
-    let up : k ≡ Up = due_up (state_with told k ss n os t x m rs l p []) past c wants due in
-    written_call told told' k k' ss ss' n os os' t t' x m rs rs' l l' p p' past w c said due tells condition pending reply limit (subst (λ q. gone_in q t'.entries ≡ gone_in q t.entries) (sym up) refl) a b d e
+pub written_up : (told told' : Bool) (k k' : Condition) (ss ss' : List Session) (n : ℕ) (os os' : List (Option UnitKey)) (t t' : Table) (x m : ℕ) (rs rs' : List NumberRange) (l l' : Ledger) (f f' : Failure) (past : List PastEntry) (w : Written) (c : Command) (said : Reply)
+    → wants_server (call_of c) ≡ true → IsDue (state_with told k ss n os t x m rs l f []) past c
+    → told' ≡ told → k' ≡ written_condition k (length past) w → f' ≡ written_failure f (caller_of (call_of c)) w → said ≡ written_reply w
+    → t'.limit ≡ t.limit → OnFailure w (unhanded t'.entries ≡ unhanded t.entries) → OnFailure w (ss' ≡ ss) → OnFailure w (os' ≡ os) → OnStoreFailure w (l' ≡ l) → HasRanges (call_of c) w rs rs'
+    → (flight_over l f ≡ None → Admits (state_with told Up ss n os t x m rs l f past) c → IsWritten (state_with told Up ss n os t x m rs l f past) c (rewritten (state_with told Up ss n os t x m rs l f past) ss' os' t' rs' l') w)
+    → IsAct (state_with told k ss n os t x m rs l f past) c (state_with told' k' ss' n os' t' x m rs' l' f' past) said
+written_up told told' k k' ss ss' n os os' t t' x m rs rs' l l' f f' past w c said wants due tells condition failure reply limit lost a b d e written =
+    let before : Condition → State = λ q. state_with told q ss n os t x m rs l f past in
+    let up : k ≡ Up = due_up (state_with told k ss n os t x m rs l f []) past c wants due in
+    let gone : gone_in k t'.entries ≡ gone_in k t.entries = subst (λ q. gone_in q t'.entries ≡ gone_in q t.entries) (sym up) refl in
+    written_call told told' k k' ss ss' n os os' t t' x m rs rs' l l' f f' past w c said (wants_none (call_of c) wants) due tells condition failure reply limit (also_answered _ w gone) lost a b d e
     (λ none room. subst (λ q. IsWritten (before q) c (rewritten (before q) ss' os' t' rs' l') w) (sym up) (written none (subst (λ q. Admits (before q) c) up room)))
+
+-- a table that is as it was
+pub lost_none : (old new : Table) (w : Written) → OnFailure w (new ≡ old) → OnFailure w (unhanded new.entries ≡ unhanded old.entries)
+lost_none old new (Answered r) same = tt
+lost_none old new (Failed change) same = ap (λ (t : Table). unhanded t.entries) same
+lost_none old new Unfiled same = ap (λ (t : Table). unhanded t.entries) same
 
 -- the locks behind a post are those of the table, and where there is no server none
 pub posted_in : (k : Condition) (part : ℕ) (old new : List Entry) → (nat_eq part 1 ≡ true → k ≡ Up) → (nat_eq part 1 ≡ false → new ≡ old) → locks_posted part (locks_in k old) new ≡ locks_in k new
@@ -172,14 +189,6 @@ posted_gone k part old new up same = by_part (nat_eq part 1) up same
     by_part true up same = subst (λ q. gone_in q new ≡ gone_in q old) (sym (up refl)) refl
     by_part false up same = ap (gone_in k) (same refl)
 
--- the fields behind a restart
-pub remade_as : (remade : Remade) (told : Bool) (k k' : Condition) (ss ss' : List Session) (n : ℕ) (os os' : List (Option UnitKey)) (t t' : Table) (x m : ℕ) (rs : List NumberRange) (l : Ledger) (p : Option InFlight) (past : List PastEntry)
-    → k' ≡ remade_condition k (length past) remade → OnNotRemade remade (ss' ≡ ss) → OnNotRemade remade (os' ≡ os) → OnNotRemade remade (t' ≡ t)
-    → state_with told k' ss' n os' t' x m rs l p past ≡ remade_state (state_with told k ss n os t x m rs l p past) ss' os' t' remade
-remade_as Done told k k' ss ss' n os os' t t' x m rs l p past is a b c = λ i. state_with told (is i) ss' n os' t' x m rs l p past
-remade_as (Refused r) told k k' ss ss' n os os' t t' x m rs l p past is a b c = λ i. state_with told (is i) (a i) n (b i) (c i) x m rs l p past
-remade_as (InDoubt r) told k k' ss ss' n os os' t t' x m rs l p past is a b c = λ i. state_with told (is i) (a i) n (b i) (c i) x m rs l p past
-
 -- ---- a call that isn't served
 
 pub refused_call : (s : State) (c : Command) (r : Refusal) → unavailable s (call_of c) ≡ Some r → IsAct s c s (reply.Refused r)
@@ -187,6 +196,12 @@ refused_call s c r shut = record {
   outcome = all_well;
   possible = record { reading = tt; event = tt };
   same = ap (judged s) (refused_verdict (found_in s) s (call_of c) r shut);
+}
+
+pub refused_telling : (s : State) (c : Command) (r : Refusal) → unavailable s (call_of c) ≡ Some r → IsTelling s c false s (reply.Refused r)
+refused_telling s c r shut = record {
+  act = record { outcome = all_well; possible = record { reading = tt; event = tt }; same = ap (judged s) (refused_verdict (found_in s) s (call_of c) r shut) };
+  taken = refl;
 }
 
 first_refusal : (o later : Option Refusal) (r first : Refusal) → o ≡ Some first → or_else o later ≡ Some r → r ≡ first
@@ -197,7 +212,7 @@ first_refusal (Some x) later r first e h = cc
 pub refused_room : (s : State) (call : Call) (r : Refusal) → unavailable s call ≡ Some r → is_unrecorded (reply.Refused r) ≡ false → is_full s ≡ false
 refused_room s call r shut noted =
     full_or (is_full s ≡ false) (is_full s)
-    (λ full. let is : r ≡ refusal.LogFull = first_refusal (barred s) _ r refusal.LogFull (shut_by_history s full) shut in
+    (λ full. let is : r ≡ refusal.LogFull = first_refusal (barred s call) _ r refusal.LogFull (shut_by_history s call full) shut in
     absurd (true_not_false (ap (λ q. is_unrecorded (reply.Refused q)) (sym is) ∙ noted)))
     (λ e. e)
 
@@ -230,7 +245,7 @@ uses_touches s (OfWorker worker (Takes part)) uses = cc
 uses_touches s (OfWorker worker (Posts part)) uses = refl
 uses_touches s (OfWorker worker Drops) uses = cc
 uses_touches s (OfAdmin Kills) uses = cc
-uses_touches s (OfAdmin Restarts) uses = cc
+uses_touches s (OfAdmin Restarts) uses = uses
 uses_touches s (OfAdmin (Cancels unit)) uses = refl
 uses_touches s (OfAdmin (Resubmits unit)) uses = refl
 
@@ -244,24 +259,56 @@ quiet_counts s c after (reply.Refused refusal.StoreFault) f g off act e =
     absurd (untouched _ (uses_touches s (call_of c) (fault_uses_store s c after act)) off)
 quiet_counts s c after _ f g off act e = e
 
-store_by : {K : Type 0} (held : K → Option Rows) (may_leave : K → Rows → Type 0) (faults : K → ℕ) (old new : K) (s : State) (c : Command) (after : State) (r : Reply) (b : Bool) → reaches_store s (call_of c) ≡ b → IsAct s c after r → DoesStore held may_leave faults b old new r → MayWrite held may_leave faults old new r
-store_by held may_leave faults old new s c after r true e act h = h
-store_by held may_leave faults old new s c after r false e act h =
-    record {
-      told = ap (λ k. is_some (held k)) h;
-      cause = quiet_counts s c after r (faults old) (faults new) e act (ap faults h);
-      kept = same_keeps held may_leave old new r h;
-    }
+module _ {K : Type 0} (held : K → Option Rows) (may_leave : K → Rows → Type 0) (faults : K → ℕ) (old new : K) where
+  abbrev Does : Bool → Bool → Reply → Type 0
+  Does remakes reaches r = DoesStore held may_leave faults remakes reaches old new r
 
--- what any call may do to it
-pub any_store : {K : Type 0} (held : K → Option Rows) (may_leave : K → Rows → Type 0) (faults : K → ℕ) (old new : K) (s : State) (c : Command) (after : State) (r : Reply) → IsAct s c after r → DoesStore held may_leave faults (reaches_store s (call_of c)) old new r → MayWrite held may_leave faults old new r
-any_store held may_leave faults old new s c after r act h = store_by held may_leave faults old new s c after r (reaches_store s (call_of c)) refl act h
+  told_by : (remakes reaches : Bool) (r : Reply) → Does remakes reaches r → is_some (held new) ≡ is_some (held old)
+  told_by true true r h = h.told
+  told_by false true r h = h.told
+  told_by true false r h = ap (λ k. is_some (held k)) h
+  told_by false false r h = ap (λ k. is_some (held k)) h
 
-pub same_keeper : {K : Type 0} (held : K → Option Rows) (may_leave : K → Rows → Type 0) (faults : K → ℕ) (old new : K) (s : State) (c : Command) (r : Reply) → DoesStore held may_leave faults (reaches_store s (call_of c)) old new r → reaches_store s (call_of c) ≡ false → new ≡ old
-same_keeper held may_leave faults old new s c r h e = subst (λ b. DoesStore held may_leave faults b old new r) e h
+  cause_by : (remakes reaches : Bool) (r : Reply) → (reaches ≡ false → faults new ≡ faults old → HasStoreCause (faults old) (faults new) r) → Does remakes reaches r → HasStoreCause (faults old) (faults new) r
+  cause_by true true r quiet h = h.cause
+  cause_by false true r quiet h = h.cause
+  cause_by true false r quiet h = quiet refl (ap faults h)
+  cause_by false false r quiet h = quiet refl (ap faults h)
 
--- a call that touches the store in some cases
-pub does_store : {K : Type 0} (held : K → Option Rows) (may_leave : K → Rows → Type 0) (faults : K → ℕ) (b : Bool) (old new : K) (r : Reply) → MayWrite held may_leave faults old new r → (b ≡ false → new ≡ old) → DoesStore held may_leave faults b old new r
+  kept_by : (remakes reaches : Bool) (r : Reply) → remakes ≡ false → Does remakes reaches r → KeepsStore held may_leave old new r
+  kept_by true reaches r off h = absurd (cc)
+  kept_by false true r off h = h.kept
+  kept_by false false r off h = same_keeps held may_leave old new r h
+
+  within_by : (remakes reaches : Bool) (r : Reply) → remakes ≡ true → Does remakes reaches r → IsWithin (may_leave new) (may_leave old)
+  within_by true true r on h = h.within
+  within_by true false r on h = subst (λ k. IsWithin (may_leave k) (may_leave old)) (sym h) (λ rows may. may)
+  within_by false reaches r on h = absurd (cc)
+
+  -- what any call does to the store
+  module _ (s : State) (c : Command) (r : Reply) (does : Does (restarts (call_of c)) (reaches_store s (call_of c)) r) where
+    pub store_told : is_some (held new) ≡ is_some (held old)
+    store_told = told_by (restarts (call_of c)) (reaches_store s (call_of c)) r does
+
+    pub store_caused : (after : State) → IsAct s c after r → HasStoreCause (faults old) (faults new) r
+    store_caused after act =
+        cause_by (restarts (call_of c)) (reaches_store s (call_of c)) r (λ off same. quiet_counts s c after r (faults old) (faults new) off act same) does
+
+    pub store_kept : restarts (call_of c) ≡ false → KeepsStore held may_leave old new r
+    store_kept off = kept_by (restarts (call_of c)) (reaches_store s (call_of c)) r off does
+
+    pub store_within : restarts (call_of c) ≡ true → IsWithin (may_leave new) (may_leave old)
+    store_within on = within_by (restarts (call_of c)) (reaches_store s (call_of c)) r on does
+
+    pub same_keeper : reaches_store s (call_of c) ≡ false → new ≡ old
+    same_keeper off = same_by (restarts (call_of c)) (subst (λ b. Does (restarts (call_of c)) b r) off does)
+      where
+        same_by : (remakes : Bool) → Does remakes false r → new ≡ old
+        same_by true h = h
+        same_by false h = h
+
+-- a call but a restart that touches the store in some cases
+pub does_store : {K : Type 0} (held : K → Option Rows) (may_leave : K → Rows → Type 0) (faults : K → ℕ) (b : Bool) (old new : K) (r : Reply) → MayWrite held may_leave faults old new r → (b ≡ false → new ≡ old) → DoesStore held may_leave faults false b old new r
 does_store held may_leave faults true old new r may same = may
 does_store held may_leave faults false old new r may same = same refl
 
@@ -353,7 +400,8 @@ serves_apart held may_leave faults disk_faults link_faults refusals before after
     let here : IsDue (before k).state past c = subst (λ (v : View _ _ _). IsDue v.state past c) (sym is) due in
     subst (λ v. Serves held may_leave faults disk_faults link_faults refusals v (after k) past c said) is (record {
       call = subst (IsAct (with_calls (before k).state past) c (with_calls (after k).state past)) (sym same) (act here.admits);
-      store = subst (λ b. DoesStore held may_leave faults b (before k).keeper (after k).keeper said) (sym off) kept;
+      store = subst (λ b. DoesStore held may_leave faults b (reaches_store (before k).state (call_of c)) (before k).keeper (after k).keeper said) (sym on)
+          (subst (λ b. DoesStore held may_leave faults false b (before k).keeper (after k).keeper said) (sym off) kept);
       file = subst (λ b. LeavesFile disk_faults b (touches_file (call_of c)) (before k).file (after k).file said) (sym on)
           (subst (λ b. DoesFile disk_faults b (before k).file (after k).file said) (sym unfiled) file);
       follower = subst (λ b. Follows link_faults refusals b (before k).follower (after k).follower) (sym on) follows;
@@ -370,6 +418,11 @@ serves_beside held may_leave faults disk_faults link_faults refusals before afte
     serves_apart held may_leave faults disk_faults link_faults refusals before after k was past c r said is kept file follows due off unfiled on same
     (λ room. subst (λ q. IsAct (with_calls (before q).state past) c (with_calls (after q).state past) r) (sym up) (act (subst (λ q. Admits (with_calls (before q).state past) c) up room)))
 
+-- any call but a restart
+pub never_restarts : (c : Command) → (c ≡ command.Restart → ⊥) → restarts (call_of c) ≡ false
+never_restarts command.Restart other = absurd (other refl)
+never_restarts _ other = refl
+
 -- ---- its place in the history
 
 -- a call that isn't recorded changes nothing
@@ -378,11 +431,15 @@ unrecorded_same s c after r act e =
     ap (λ (x : Served). x.state) (sym act.same) ∙ unnoted_same act.outcome s c (ap (λ (x : Served). is_unrecorded x.reply) act.same ∙ e)
 
 -- an answer that is given as want of memory leaves the counts and the keeper as the text did
-pub given_store : {K : Type 0} (held : K → Option Rows) (may_leave : K → Rows → Type 0) (faults : K → ℕ) (old new : K) (made given : Reply) → IsGiven made given → MayWrite held may_leave faults old new made → MayWrite held may_leave faults old new given
-given_store held may_leave faults old new made given (inl same) h = subst (MayWrite held may_leave faults old new) (sym same) h
-given_store held may_leave faults old new (reply.Row text) given (inr (row, is)) h =
-    subst (MayWrite held may_leave faults old new) (sym is) (record { told = h.told; cause = h.cause; kept = h.kept })
-given_store held may_leave faults old new _ given (inr (row, is)) h = absurd (cc)
+pub given_cause : (before now : ℕ) (made given : Reply) → IsGiven made given → HasStoreCause before now made → HasStoreCause before now given
+given_cause before now made given (inl same) h = subst (HasStoreCause before now) (sym same) h
+given_cause before now (reply.Row text) given (inr (row, is)) h = subst (HasStoreCause before now) (sym is) h
+given_cause before now _ given (inr (row, is)) h = absurd (cc)
+
+pub given_keeps : {K : Type 0} (held : K → Option Rows) (may_leave : K → Rows → Type 0) (old new : K) (made given : Reply) → IsGiven made given → KeepsStore held may_leave old new made → KeepsStore held may_leave old new given
+given_keeps held may_leave old new made given (inl same) h = subst (KeepsStore held may_leave old new) (sym same) h
+given_keeps held may_leave old new (reply.Row text) given (inr (row, is)) h = subst (KeepsStore held may_leave old new) (sym is) h
+given_keeps held may_leave old new _ given (inr (row, is)) h = absurd (cc)
 
 pub given_file : {D : Type 0} (faults : D → ℕ) (old new : BackupView D) (made given : Reply) → IsGiven made given → MayFile faults old new made → (is_row made ≡ true → new ≡ old) → MayFile faults old new given
 given_file faults old new made given (inl same) h row = subst (MayFile faults old new) (sym same) h
@@ -395,9 +452,11 @@ given_noted made given (inl same) noted = ap is_unrecorded same ∙ noted
 given_noted made given (inr (row, is)) noted = ap is_unrecorded is
 
 -- no change is in flight where a call is due
-pub no_flight : (told : Bool) (k : Condition) (ss : List Session) (n : ℕ) (os : List (Option UnitKey)) (t : Table) (x m : ℕ) (rs : List NumberRange) (l : Ledger) (p : Option InFlight) (past : List PastEntry) (c : Command) → IsDue (state_with told k ss n os t x m rs l p []) past c → p ≡ None
-no_flight told k ss n os t x m rs l p past c due =
-    none_before p l (outside k _ (due_serving (state_with told k ss n os t x m rs l p []) past c due) due.kept.steady.settled)
+pub no_flight : (told : Bool) (k : Condition) (ss : List Session) (n : ℕ) (os : List (Option UnitKey)) (t : Table) (x m : ℕ) (rs : List NumberRange) (l : Ledger) (f : Failure) (past : List PastEntry) (c : Command) → restarts (call_of c) ≡ false → IsDue (state_with told k ss n os t x m rs l f []) past c
+    → (f.pending ≡ None) × (f.found ≡ None)
+no_flight told k ss n os t x m rs l f past c off due =
+    let serving = due_serving (state_with told k ss n os t x m rs l f []) past c off due in
+    (none_before f l (outside k _ serving due.kept.steady.settled), outside k _ serving due.kept.steady.unknown)
 
 -- a V2 part isn't one whose locks end
 pub posts_file : {D : Type 0} (faults : D → ℕ) (old new : BackupView D) (part worker : ℕ) (r : Reply) → IsPart part → MayFile faults old new r → (nat_eq part 1 ≡ false → new ≡ old)

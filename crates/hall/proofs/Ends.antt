@@ -1,55 +1,154 @@
--- The state behind a call that writes the store, answered or in doubt.
-use Rattle.std.proofs.Common.{◌≡◌, ◌⊎◌, inl, inr, ℕ, Bool, false, List, length, refl, sym, ap, ◌∙◌, subst, arith}
+-- The state behind a call that writes the store or makes a lock server anew, answered or in doubt.
+use Rattle.std.proofs.Common.{◌≡◌, ◌⊎◌, inl, inr, ℕ, ◌+◌, Bool, false, List, [], length, refl, sym, ap, ◌∙◌, subst, arith}
 use Rattle.std.specs.Prelude.{nat_eq, Option, Some, None}
 use Rattle.std.proofs.lemmas.Bool.Decides.{nat_tests}
 use Rattle.std.specs.Option.{option_map}
 use Rattle.enq_base.specs.declared.condition.Condition.{Condition}
+use Rattle.enq_base.specs.declared.condition.Condition.TheVariants as condition
 use Rattle.enq_base.specs.declared.owner.UnitKey.{UnitKey}
+use Rattle.enq_base.specs.declared.unit.Num.{Num}
+use Rattle.enq_base.specs.declared.unit.Parts.{Parts}
 use Rattle.lock_entry.specs.Table.{Table}
+use Rattle.lock_entry.specs.declared.entry.Entry.{Entry}
+use Rattle.posting.specs.Steps.{after_step}
+use Rattle.posting.specs.declared.prepared.Step.{Step}
+use Rattle.range_list.specs.Drawn.{passed}
 use Rattle.range_list.specs.declared.range.NumberRange.{NumberRange}
-use Rattle.hall.specs.Flights.{landed}
-use Rattle.hall.specs.declared.units.InFlight.{InFlight}
 use Rattle.update_records.specs.Ledger.{Ledger}
-use Rattle.hall.specs.Acts.{Admits, IsAct, IsWritten, OnFailure, OnStoreFailure, post_of, take_of, written_condition, written_pending, written_reply}
-use Rattle.hall.specs.Calls.{OfWorker, Posts, Takes, call_of}
-use Rattle.hall.proofs.Calls.{tells}
-use Rattle.hall.specs.declared.command.Reply.{Reply}
+use Rattle.hall.specs.Acts.{Admits, IsAct, IsWritten, OnAnswer, OnFailure, OnStoreFailure, post_of, ranges_behind, take_of, written_condition, written_failure, written_reply}
+use Rattle.hall.specs.Calls.{Call, LogsOn, OfSession, OfWorker, OfAdmin, Posts, Takes, call_of}
+use Rattle.hall.specs.Calls.{LogsOff, Asks, Frees, FreesAll, Converts, Draws, Reserves, Reads, Commits, RollsBack}
+use Rattle.hall.specs.History.{caller_behind, doubted, judged, unfiled, without_stock}
+use Rattle.hall.specs.Remaking.{OnNotRemade, flight_over, remade_condition, remade_failure, remade_state}
+use Rattle.hall.specs.State.{State, gone_in, locks_in, state_of, unhanded}
 use Rattle.hall.specs.Step.{found_in, own_verdict, take}
-use Rattle.hall.specs.History.{doubted, judged, unfiled}
-use Rattle.hall.specs.State.{State, gone_in, locks_in, state_of}
 use Rattle.hall.specs.declared.command.Command.{Command}
 use Rattle.hall.specs.declared.command.PastEntry.{PastEntry}
+use Rattle.hall.specs.declared.command.Reply.{Reply}
 use Rattle.hall.specs.declared.command.Session.{Session}
+use Rattle.hall.specs.declared.remaking.Remade.{Remade}
+use Rattle.hall.specs.declared.remaking.Remade.TheVariants.{Done, Refused, InDoubt}
+use Rattle.hall.specs.declared.units.Failure.{Failure}
 use Rattle.hall.specs.declared.units.Written.{Written}
 use Rattle.hall.specs.declared.units.Written.TheVariants.{Answered, Failed, Unfiled}
+use Rattle.hall.proofs.Calls.{tells}
 
-abbrev pub written_state : State → State → Written → State
-written_state s after (Answered r) = after
-written_state s after (Failed change) = doubted s (option_map (landed s.stored) change)
-written_state s after Unfiled = unfiled s after.stored
+abbrev pub written_state : State → Call → State → Written → State
+written_state s call after (Answered r) = after
+written_state s call after (Failed change) = doubted (without_stock call s) call None (option_map (after_step s.stored) change)
+written_state s call after Unfiled = unfiled s call None after.stored
 
-pub written_act : (s : State) (c : Command) (after : State) (w : Written) → IsWritten s c after w → IsAct s c (written_state s after w) (written_reply w)
+pub written_act : (s : State) (c : Command) (after : State) (w : Written) → IsWritten s c after w → IsAct s c (written_state s (call_of c) after w) (written_reply w)
 written_act s c after (Answered r) h = h
 written_act s c after (Failed change) h = h
 written_act s c after Unfiled h = h
 
-pub none_before : (p : Option InFlight) (l : Ledger) → option_map (landed l) p ≡ None → p ≡ None
-none_before None l h = refl
-none_before (Some step) l h = cc
+-- the numbers that memory hands out where the store failed
+abbrev pub ranges_without : Call → List NumberRange → List NumberRange
+ranges_without (OfSession session (Commits parts stock)) ranges = passed stock ranges
+ranges_without call ranges = ranges
 
--- what the fields are behind it
-pub ends_as : (c : Condition) (told told' : Bool) (ss ss' : List Session) (n : ℕ) (os os' : List (Option UnitKey)) (t t' : Table) (k m : ℕ) (rs rs' : List NumberRange) (l l' : Ledger) (p : Option InFlight) (past past' : List PastEntry) (w : Written)
-    → told' ≡ told → option_map (landed l) p ≡ None → t'.limit ≡ t.limit → gone_in c t'.entries ≡ gone_in c t.entries → OnFailure w (ss' ≡ ss) → OnFailure w (os' ≡ os) → OnStoreFailure w (l' ≡ l) → OnFailure w (rs' ≡ rs)
-    → state_of told' (written_condition c (length past) w) ss' n os' t' k m rs' l' (option_map (landed l') (written_pending p w)) past'
-    ≡ record (written_state (state_of told c ss n os t k m rs l (option_map (landed l) p) past) (record (state_of told c ss n os t k m rs l (option_map (landed l) p) past) { sessions = ss'; orders = os'; locks = locks_in c t'.entries; ranges = rs'; stored = l' }) w) { past = past' }
-ends_as c told told' ss ss' n os os' t t' k m rs rs' l l' p past past' (Answered r) tells none limit gone a b kept d =
-    let same : option_map (landed l') p ≡ option_map (landed l) p = ap (option_map (landed l')) (none_before p l none) ∙ sym none in
-    λ i. record (state_of (tells i) c ss' n os' t' k m rs' l' (same i) past') { limit = limit i; gone = gone i }
-ends_as c told told' ss ss' n os os' t t' k m rs rs' l l' p past past' (Failed change) tells none limit gone a b kept d =
-    λ i. record (doubted (state_of (tells i) c (a i) n (b i) t k m (d i) (kept i) None past) (option_map (landed (kept i)) change)) { limit = limit i; past = past' }
-ends_as c told told' ss ss' n os os' t t' k m rs rs' l l' p past past' Unfiled tells none limit gone a b kept d =
-    let same : option_map (landed l') p ≡ option_map (landed l) p = ap (option_map (landed l')) (none_before p l none) ∙ sym none in
-    λ i. record (unfiled (state_of (tells i) c (a i) n (b i) t k m (d i) l None past) l') { limit = limit i; pending = same i; past = past' }
+-- the ranges that a call leaves where a device fails
+abbrev pub HasRanges : Call → Written → (before now : List NumberRange) → Type 0
+HasRanges call (Answered r) before now = Unit {0}
+HasRanges call (Failed change) before now = now ≡ ranges_without call before
+HasRanges call Unfiled before now = now ≡ before
+
+pub same_ranges : (call : Call) (w : Written) (ranges : List NumberRange) → ranges_without call ranges ≡ ranges → HasRanges call w ranges ranges
+same_ranges call (Answered r) ranges is = tt
+same_ranges call (Failed change) ranges is = sym is
+same_ranges call Unfiled ranges is = refl
+
+pub kept_ranges : (call : Call) (w : Written) (before now : List NumberRange) → ranges_without call before ≡ before → OnFailure w (now ≡ before) → HasRanges call w before now
+kept_ranges call (Answered r) before now is h = tt
+kept_ranges call (Failed change) before now is h = h ∙ sym is
+kept_ranges call Unfiled before now is h = h
+
+pub commit_ranges : (session : List ℕ) (parts : Parts) (stock : List Num) (w : Written) (before now : List NumberRange) → OnFailure w (now ≡ ranges_behind stock before w)
+    → HasRanges (OfSession session (Commits parts stock)) w before now
+commit_ranges session parts stock (Answered r) before now h = tt
+commit_ranges session parts stock (Failed change) before now h = h
+commit_ranges session parts stock Unfiled before now h = h
+
+-- and its session, if one makes it
+abbrev pub caller_of : Call → Option (List ℕ)
+caller_of (OfSession session call) = Some session
+caller_of call = None
+
+pub without_as : (call : Call) (s : State) → without_stock call s ≡ record s { ranges = ranges_without call s.ranges }
+without_as (LogsOn name user) s = refl
+without_as (OfSession session (Commits parts stock)) s = refl
+without_as (OfSession session LogsOff) s = refl
+without_as (OfSession session (Asks rs)) s = refl
+without_as (OfSession session (Frees rs)) s = refl
+without_as (OfSession session FreesAll) s = refl
+without_as (OfSession session (Converts wanted)) s = refl
+without_as (OfSession session (Draws object nr)) s = refl
+without_as (OfSession session (Reserves object nr upto)) s = refl
+without_as (OfSession session (Reads table key)) s = refl
+without_as (OfSession session RollsBack) s = refl
+without_as (OfWorker worker call) s = refl
+without_as (OfAdmin call) s = refl
+
+caller_as : (before : Option (List ℕ)) (call : Call) → before ≡ None → caller_behind before call ≡ caller_of call
+caller_as before (LogsOn name user) none = none
+caller_as before (OfSession session call) none = refl
+caller_as before (OfWorker worker call) none = none
+caller_as before (OfAdmin call) none = none
+
+-- what sessions had of a table that is there no more
+abbrev behind_in : Condition → List Entry → List Entry
+behind_in c es = elim c as (λ k. List Entry) [ condition.Up ↦ unhanded (locks_in c es) | condition.NoServer ↦ gone_in c es | condition.Doubt k ↦ gone_in c es ]
+
+gone_at : (c : Condition) (es : List Entry) → behind_in c es ≡ unhanded es
+gone_at condition.Up es = refl
+gone_at condition.NoServer es = refl
+gone_at (condition.Doubt k) es = refl
+
+pub none_before : (f : Failure) (l : Ledger) → flight_over l f ≡ None → f.pending ≡ None
+none_before f l none = by_case f.pending none
+  where
+    by_case : (p : Option Step) → option_map (after_step l) p ≡ None → p ≡ None
+    by_case None h = refl
+    by_case (Some step) h = cc
+
+same_flight : (f : Failure) (l l' : Ledger) → flight_over l f ≡ None → flight_over l' f ≡ flight_over l f
+same_flight f l l' none = ap (option_map (after_step l')) (none_before f l none) ∙ sym none
+
+-- the fields of a server
+abbrev pub state_with : Bool → Condition → List Session → ℕ → List (Option UnitKey) → Table → ℕ → ℕ → List NumberRange → Ledger → Failure → List PastEntry → State
+state_with told k sessions n orders table x m rs ledger f past = state_of told k sessions n orders table x m rs ledger (flight_over ledger f) f.found f.caller past
+
+-- what the fields are behind a call that uses the store
+pub ends_as : (c : Condition) (call : Call) (told told' : Bool) (ss ss' : List Session) (n : ℕ) (os os' : List (Option UnitKey)) (t t' : Table) (k m : ℕ) (rs rs' : List NumberRange) (l l' : Ledger) (f : Failure) (past past' : List PastEntry) (w : Written)
+    → told' ≡ told → flight_over l f ≡ None → f.caller ≡ None → t'.limit ≡ t.limit → OnAnswer w (gone_in c t'.entries ≡ gone_in c t.entries) → OnFailure w (unhanded t'.entries ≡ unhanded t.entries)
+    → OnFailure w (ss' ≡ ss) → OnFailure w (os' ≡ os) → OnStoreFailure w (l' ≡ l) → HasRanges call w rs rs'
+    → state_with told' (written_condition c (length past) w) ss' n os' t' k m rs' l' (written_failure f (caller_of call) w) past'
+    ≡ record (written_state (state_with told c ss n os t k m rs l f past) call (record (state_with told c ss n os t k m rs l f past) { sessions = ss'; orders = os'; locks = locks_in c t'.entries; ranges = rs'; stored = l' }) w) { past = past' }
+ends_as c call told told' ss ss' n os os' t t' k m rs rs' l l' f past past' (Answered r) tells none unfailed limit gone lost a b kept d =
+    λ i. record (state_of (tells i) c ss' n os' t' k m rs' l' (same_flight f l l' none i) f.found f.caller past') { limit = limit i; gone = gone i }
+ends_as c call told told' ss ss' n os os' t t' k m rs rs' l l' f past past' (Failed change) tells none unfailed limit gone lost a b kept d =
+    let s = state_with told c ss n os t k m rs l f past in
+    let bereft : unhanded t'.entries ≡ behind_in c t.entries = lost ∙ sym (gone_at c t.entries) in
+    let caller : caller_of call ≡ caller_behind f.caller call = sym (caller_as f.caller call unfailed) in
+    (λ i. record (state_of (tells i) (condition.Doubt (length past + 1)) (a i) n (b i) t k m (d i) (kept i) (option_map (after_step (kept i)) change) f.found (caller i) past') { limit = limit i; gone = bereft i })
+    ∙ ap (λ (x : State). record (doubted x call None (option_map (after_step l) change)) { past = past' }) (sym (without_as call s))
+ends_as c call told told' ss ss' n os os' t t' k m rs rs' l l' f past past' Unfiled tells none unfailed limit gone lost a b kept d =
+    let bereft : unhanded t'.entries ≡ behind_in c t.entries = lost ∙ sym (gone_at c t.entries) in
+    let caller : caller_of call ≡ caller_behind f.caller call = sym (caller_as f.caller call unfailed) in
+    λ i. record (state_of (tells i) (condition.Doubt (length past + 1)) (a i) n (b i) t k m (d i) l' (same_flight f l l' none i) f.found (caller i) past') { limit = limit i; gone = bereft i }
+
+-- the fields behind a restart
+pub remade_as : (remade : Remade) (told told' : Bool) (k k' : Condition) (ss ss' : List Session) (n : ℕ) (os os' : List (Option UnitKey)) (t t' : Table) (x m : ℕ) (rs : List NumberRange) (l l' : Ledger) (f f' : Failure) (past : List PastEntry)
+    → told' ≡ told → k' ≡ remade_condition k (length past) remade → f' ≡ remade_failure f remade → OnNotRemade remade (ss' ≡ ss) → OnNotRemade remade (os' ≡ os) → OnNotRemade remade (t' ≡ t) → OnNotRemade remade (l' ≡ l)
+    → state_with told' k' ss' n os' t' x m rs l' f' past ≡ remade_state (state_with told k ss n os t x m rs l f past) ss' os' t' l' remade
+remade_as (Done taken) told told' k k' ss ss' n os os' t t' x m rs l l' f f' past tells is now a b c kept =
+    λ i. state_with (tells i) (is i) ss' n os' t' x m rs l' (now i) past
+remade_as (Refused r) told told' k k' ss ss' n os os' t t' x m rs l l' f f' past tells is now a b c kept =
+    λ i. state_with (tells i) (is i) (a i) n (b i) (c i) x m rs (kept i) (now i) past
+remade_as (InDoubt r read) told told' k k' ss ss' n os os' t t' x m rs l l' f f' past tells is now a b c kept =
+    (λ i. state_with (tells i) (is i) (a i) n (b i) (c i) x m rs (kept i) (now i) past)
+    ∙ (λ i. record (state_with told (condition.Doubt (length past + 1)) ss n os t x m rs l (remade_failure f (InDoubt r read)) past) { gone = sym (gone_at k t.entries) i })
 
 -- one of the two parts of a unit
 abbrev pub IsPart : ℕ → Type 0

@@ -1,6 +1,6 @@
 -- Each call keeps the locks sound.
 use Rattle.std.proofs.Common.{◌≡◌, ℕ, ◌<◌, ◌≤◌, ◌^◌, arith, Bool, true, false, List, [], ◌∷◌, ◌++◌, fold, length, refl}
-use Rattle.std.specs.Prelude.{if◌then◌else◌, nat_eq, nat_le}
+use Rattle.std.specs.Prelude.{if◌then◌else◌, nat_eq, nat_le, Option, None}
 use Rattle.std.specs.List.{AllByRecursion}
 use Rattle.std.proofs.lemmas.Bool.{and_from, eq-eqb}
 use Rattle.std.proofs.lemmas.Bool.Decides.{nat_tests}
@@ -8,24 +8,26 @@ use Rattle.enq_base.specs.declared.owner.Owner.TheVariants.{Upd}
 use Rattle.enq_base.specs.declared.owner.UnitKey.{UnitKey}
 use Rattle.enq_base.specs.declared.unit.Status.{Status}
 use Rattle.enq_base.specs.declared.unit.Status.TheVariants.{Open, Posted, Bad, Closed, Bad2, Cancelled}
-use Rattle.enq_server.specs.Server.{larger}
+use Rattle.enq_server.specs.Server.{larger, recovered}
 use Rattle.lock_entry.specs.declared.entry.LockName.{LockName}
 use Rattle.lock_entry.specs.Freeing.{freed, freed_owner}
 use Rattle.lock_entry.specs.Names.{halves}
 use Rattle.lock_entry.specs.Pairs.{IsPair}
+use Rattle.lock_entry.specs.Sound.{IsSound}
 use Rattle.lock_entry.specs.Table.{Table, IsTable, with_entries}
 use Rattle.lock_entry.proofs.ConversionSound.{IsTable-converted}
 use Rattle.lock_entry.proofs.Frees.{IsTable-freed, IsTable-freed_owner, IsTable-handed_over}
 use Rattle.lock_entry.proofs.GrantSound.{IsTable-asked}
 use Rattle.lock_entry.proofs.Readmits.{IsTable-readmitted}
 use Rattle.posting.specs.Posts.{entries_of}
+use Rattle.posting.specs.Views.{open_locks}
 use Rattle.hall.specs.declared.command.Command.{Command}
 use Rattle.hall.specs.declared.command.Session.{Session}
-use Rattle.hall.specs.Devices.{DeviceOutcome}
-use Rattle.hall.specs.Calls.{Call}
-use Rattle.hall.specs.History.{judged, served, step, unfiled}
-use Rattle.hall.specs.Kept.{HasGoodLocks, HasOpenUnits, HasSoundLocks, IsSteady}
-use Rattle.hall.specs.OpenUnits.{open_entries}
+use Rattle.hall.specs.Devices.{DeviceOutcome, found_by}
+use Rattle.hall.specs.Calls.{Call, call_of}
+use Rattle.hall.specs.History.{doubted, judged, read_anew, served, step, takes_flight, unfiled, without_stock}
+use Rattle.hall.specs.Kept.{HasGoodLocks, HasLanding, HasOpenUnits, HasSoundLocks, IsSteady}
+use Rattle.hall.specs.OpenUnits.{OfPending, open_entries}
 use Rattle.hall.specs.Sessions.{owners_of, pair_of, unit_key, with_draw, with_session}
 use Rattle.hall.specs.Numbers.{drawn, raised_to}
 use Rattle.range_list.specs.Drawn.{handed_out}
@@ -35,13 +37,14 @@ use Rattle.number_ranges.specs.declared.interval.Interval.{Interval}
 use Rattle.posting.specs.Intervals.{with_intervals}
 use Rattle.range_list.specs.Drawn.{num_of, stored_as}
 use Rattle.range_list.specs.Levels.{present}
-use Rattle.hall.specs.Step.{Found, call_verdict, cancelled, recovered_table, unit_of}
+use Rattle.hall.specs.Step.{Found, call_verdict, cancelled, is_taken, restarted, stored_anew, unit_of}
 use Rattle.update_records.specs.Ledger.{Ledger}
-use Rattle.hall.proofs.ByCall.{OfEach, by_call, by_event, by_filing}
+use Rattle.hall.proofs.ByCall.{OfEach, by_call, by_event, by_filing, by_stock}
 use Rattle.hall.proofs.Frames.{by_noting}
 use Rattle.hall.proofs.HandedLocks.{handed_good}
 use Rattle.hall.proofs.Owned.{may_be_readmitted}
 use Rattle.hall.proofs.Resubmissions.{table_in}
+use Rattle.hall.proofs.Restarts.{restart_lands}
 use Rattle.hall.proofs.Users.{every_append}
 
 -- the locks of a state, and those that are stored in it
@@ -103,13 +106,18 @@ larger_fits : (a b : ℕ) → a < 2 ^ 32 → b < 2 ^ 32 → larger a b < 2 ^ 32
 larger_fits a b h k = elim (nat_le a b) as (λ t. (if t then b else a) < 2 ^ 32) [ true ↦ k | false ↦ h ]
 
 -- the table of a lock server that is made anew
-remade-sound : (s : State) → s.max_locks < 2 ^ 32 → HasOpenUnits s → IsTable (recovered_table s)
-remade-sound s limited units =
-    let count = length (open_entries s.stored) in
-    record { sound = units.stored; within = larger_within s.max_locks count; limit_fits = larger_fits s.max_locks count limited units.fit }
+remade-sound : (max_locks : ℕ) (ledger : Ledger) → max_locks < 2 ^ 32 → IsSound (open_entries ledger) → length (open_entries ledger) < 2 ^ 32
+    → IsTable (recovered max_locks (open_locks ledger))
+remade-sound max_locks ledger limited together fit =
+    let count = length (open_entries ledger) in
+    record { sound = together; within = larger_within max_locks count; limit_fits = larger_fits max_locks count limited fit }
 
-sound : (found : Found) (s : State) → IsSteady s → HasOpenUnits s → HasSoundLocks s → OfEach (λ call v. HasSoundLocks (judged s v).state) found s
-sound found s steady units good = record {
+restarted-sound : (taken : Bool) (s : State) → IsSteady s → HasLanding s (stored_anew taken s.stored s.pending) → HasSoundLocks (restarted taken s)
+restarted-sound taken s steady l = over_table l.units (remade-sound s.max_locks (stored_anew taken s.stored s.pending) steady.locks_fit l.together l.fit)
+
+sound : (found : Found) (s : State) → IsSteady s → HasOpenUnits s → HasSoundLocks s → OfPending s.pending (HasLanding s)
+    → OfEach (λ call v. HasSoundLocks (judged s v).state) found s
+sound found s steady units good landing = record {
   refuses = λ call r plain. good;
   enters = λ name user free. over_table good.stored good.table;
   logs_off = λ name x at. over_table good.stored (both_freed s x good.table);
@@ -134,32 +142,46 @@ sound found s steady units good = record {
   posts = λ worker part unit e. over_table good.stored (behind-sound s unit (nat_eq part 1) good.table);
   drops = λ worker unit e. over_table good.stored good.table;
   kills = λ up. over_table good.stored (none_stands s.limit good.table.limit_fits);
-  restarts = λ none. over_table good.stored (remade-sound s steady.locks_fit units);
+  restarts = λ off. let taken = is_taken found.anew in restarted-sound taken s steady (restart_lands taken s good.stored steady units landing);
   cancels = λ unit status can. over_table good.stored (without-sound s unit status good.table);
   reopens = λ unit es here stand.
       over_table good.stored (IsTable-readmitted (table_in s) (owners_of unit) (entries_of s.stored.units unit) es good.table (owners_of-IsPair unit) (may_be_readmitted s.stored.units unit good.stored) stand);
   reposts = λ unit here. over_table good.stored good.table;
 }
 
-pub verdict-sound : (found : Found) (s : State) (call : Call) → IsSteady s → HasSoundLocks s → HasOpenUnits s → HasSoundLocks (judged s (call_verdict found s call)).state
-verdict-sound found s call steady good units = by_call (λ call v. HasSoundLocks (judged s v).state) found s (sound found s steady units good) call
+pub verdict-sound : (found : Found) (s : State) (call : Call) → IsSteady s → HasSoundLocks s → HasOpenUnits s → OfPending s.pending (HasLanding s)
+    → HasSoundLocks (judged s (call_verdict found s call)).state
+verdict-sound found s call steady good units landing =
+    by_call (λ call v. HasSoundLocks (judged s v).state) found s (sound found s steady units good landing) call
 
-abbrev StoredGood : State → Ledger → Type 0
-StoredGood s stored = HasSoundLocks (unfiled s stored)
+abbrev StoredGood : State → Call → Option Bool → Ledger → Type 0
+StoredGood s call read stored = HasSoundLocks (unfiled s call read stored)
 
-unfiled-sound : (s : State) (stored : Ledger) → HasSoundLocks s → AllByRecursion HasGoodLocks stored.units → StoredGood s stored
-unfiled-sound s stored good units = over_table units (none_stands s.limit good.table.limit_fits)
+unfiled-sound : (s : State) (call : Call) (read : Option Bool) (stored : Ledger) → HasSoundLocks s → AllByRecursion HasGoodLocks stored.units
+    → StoredGood s call read stored
+unfiled-sound s call read stored good units = over_table units (none_stands s.limit good.table.limit_fits)
 
-pub served-sound : (o : DeviceOutcome) (s : State) (c : Command) → IsSteady s → HasSoundLocks s → HasOpenUnits s → HasSoundLocks (served o s c).state
-served-sound o s c steady good units =
+failing-sound : (s : State) (call : Call) (pending : Option Ledger) → HasSoundLocks s → HasSoundLocks (doubted (without_stock call s) call None pending)
+failing-sound s call pending good =
+    by_stock (λ other t. HasSoundLocks (doubted t other None pending)) s
+    (λ name parts stock. over_table good.stored (none_stands s.limit good.table.limit_fits))
+    (λ other. over_table good.stored (none_stands s.limit good.table.limit_fits)) call
+
+pub served-sound : (o : DeviceOutcome) (s : State) (c : Command) → IsSteady s → HasSoundLocks s → HasOpenUnits s → OfPending s.pending (HasLanding s)
+    → HasSoundLocks (served o s c).state
+served-sound o s c steady good units landing =
     by_event (λ r. HasSoundLocks r.state) o s c
-    (λ found. by_call (λ call v. HasSoundLocks (judged s v).state) found s (sound found s steady units good) _) good
-    (λ found. over_table good.stored (none_stands s.limit good.table.limit_fits))
-    (λ found. by_filing (StoredGood s) found s c (unfiled-sound s s.stored good good.stored)
-    (λ worker part unit e. unfiled-sound s _ good good.stored) (λ unit status can. unfiled-sound s _ good good.stored))
-    (λ r. over_table good.stored (none_stands s.limit good.table.limit_fits))
+    (λ found. verdict-sound found s (call_of c) steady good units landing) good
+    (λ reading. failing-sound s (call_of c) _ good)
+    (λ reading.
+    let found = found_by reading s in
+    let read = read_anew reading in
+    by_filing (StoredGood s (call_of c) read) found s (call_of c) (unfiled-sound s (call_of c) read s.stored good good.stored)
+    (λ worker part unit e. unfiled-sound s (call_of c) read _ good good.stored) (λ unit status can. unfiled-sound s (call_of c) read _ good good.stored))
+    (λ read r. over_table good.stored (none_stands s.limit good.table.limit_fits))
 
-pub step-sound : (o : DeviceOutcome) (s : State) (line : ℕ) (c : Command) → IsSteady s → HasSoundLocks s → HasOpenUnits s → HasSoundLocks (step o s line c).state
-step-sound o s line c steady good units =
-    let h = served-sound o s c steady good units in
-    by_noting (λ r. HasSoundLocks r.state) line c (served o s c) h (over_table h.stored h.table)
+pub step-sound : (o : DeviceOutcome) (s : State) (line : ℕ) (c : Command) → IsSteady s → HasSoundLocks s → HasOpenUnits s → OfPending s.pending (HasLanding s)
+    → HasSoundLocks (step o s line c).state
+step-sound o s line c steady good units landing =
+    let h = served-sound o s c steady good units landing in
+    by_noting (λ r. HasSoundLocks r.state) line c (takes_flight o) (served o s c) h (over_table h.stored h.table)

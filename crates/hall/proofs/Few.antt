@@ -2,10 +2,11 @@
 use Rattle.std.proofs.Common.{◌≡◌, ℕ, ◌+◌, ◌≤◌, ◌<◌, Bool, true, false, List, [], ◌∷◌, ◌++◌, length, fold, set, refl, sym, ap, ◌∙◌, subst, arith, cond}
 use Rattle.std.specs.Prelude.{if◌then◌else◌, is_some, nat_eq, nat_le, nat_lt, not, Option, Some, None, Ok}
 use Rattle.std.specs.List.{AllByRecursion, filter, find}
-use Rattle.std.proofs.lemmas.List.{length-append, length-set}
+use Rattle.std.proofs.lemmas.List.{length-set}
 use Rattle.std.proofs.lemmas.Bool.{or_from}
 use Rattle.std.proofs.lemmas.Bool.Decides.{nat_tests}
 use Rattle.enq_base.specs.Owners.{same_unit}
+use Rattle.enq_base.specs.declared.condition.Condition.{Condition}
 use Rattle.enq_base.specs.declared.condition.Condition.TheVariants as condition
 use Rattle.enq_base.specs.declared.owner.Owner.{Owner}
 use Rattle.enq_base.specs.declared.owner.Owner.TheVariants.{Upd}
@@ -33,41 +34,38 @@ use Rattle.update_records.specs.declared.records.MarkKind.TheVariants.{Again1, A
 use Rattle.posting.specs.Steps.{waiting_for}
 use Rattle.hall.specs.declared.command.Command.{Command}
 use Rattle.hall.specs.declared.command.PastEntry.{PastEntry}
-use Rattle.hall.specs.declared.command.Reply.{Reply}
 use Rattle.hall.specs.declared.command.Session.{Session}
-use Rattle.hall.specs.Acts.{IsAct}
-use Rattle.hall.specs.Devices.{DeviceOutcome}
-use Rattle.hall.specs.History.{doubted, judged, served, stored_before_file, unfiled, with_entry}
+use Rattle.hall.specs.Devices.{DeviceOutcome, Event, AllWell, Wanting, StoreFails, BackupFails, NotRemade, IsAllowed, MayRead, found_by}
+use Rattle.hall.specs.Devices.{Reading, AsKnown, Comes, Shows, Reopens}
+use Rattle.hall.specs.History.{doubted, ends_in, judged, known_behind, pending_after, read_anew, served, stored_before_file, unfiled, without_stock}
 use Rattle.number_ranges.specs.Intervals.{block_level, is_buffered, with_level}
 use Rattle.number_ranges.specs.declared.interval.Interval.{Interval}
 use Rattle.posting.specs.Intervals.{with_levels}
 use Rattle.range_list.proofs.Drawing.{interval_among, range_found}
 use Rattle.range_list.specs.Drawn.{AreDrawnRight, handed_out, num_of, passed, settled_rows, stored_as}
-use Rattle.range_list.specs.Levels.{present}
+use Rattle.range_list.specs.Levels.{present, range_at}
 use Rattle.range_list.specs.declared.range.NumberRange.{NumberRange}
 use Rattle.hall.specs.Numbers.{drawn, next_number, raised_to, stocked}
-use Rattle.hall.specs.Kept.{draws_in, AreOrders, HasFew, HasGoodLocks, HasItsUser, HasOpenUnits, HasSoundLocks, IsAhead, IsKept, IsKnown, IsOwned, IsSteady, IsWaiting, IsYoung, MayHold, OfLock, OfStored, may_hold}
+use Rattle.hall.specs.Kept.{draws_in, AreOrders, HasFew, HasGoodLocks, HasItsUser, HasLanding, HasOpenUnits, HasSoundLocks, IsAhead, IsKept, IsKnown, IsKnownRight, IsOwned, IsSteady, IsWaiting, IsYoung, MayHold, OfLock, OfStored, OutsideDoubt, may_hold}
+use Rattle.hall.specs.OpenUnits.{OfPending}
 use Rattle.hall.specs.Orders.{first_unclaimed, is_claimed, order_for, order_of, without_order}
 use Rattle.hall.specs.Sessions.{begun, is_called, owners_of, pair_of, session_at, unit_key, with_draw, with_fresh_unit, with_next_unit, with_session, without_draws, without_session}
-use Rattle.hall.specs.Calls.{call_of}
+use Rattle.hall.specs.Calls.{Call, Commits, OfAdmin, OfSession, Restarts, call_of}
 use Rattle.hall.specs.State.{State}
-use Rattle.hall.specs.Calls.{call_of}
 use Rattle.hall.specs.Stocks.{IsStockIn, MayCall}
-use Rattle.hall.specs.Step.{Found, barred, cancelled, committed, entered, is_full, killed, locks_behind, locks_without, marked, numbered, reopened, reposted, restarted, taken, unit_of, verdict}
+use Rattle.hall.specs.Step.{Found, Verdict, barred, call_verdict, cancelled, committed, entered, is_full, is_taken, killed, locks_behind, locks_without, marked, numbered, reopened, reposted, restarted, stored_anew, taken, unit_of}
 use Rattle.hall.proofs.Alike.{AreAlike, HaveOneStatus, ahead_alike, alike_all, alike_self, alike_with, count_alike, numbered_alike, orders_alike, owned_alike, with_others, young_alike}
-use Rattle.hall.proofs.ByCall.{CanDraw, CanReserve, OfEach, by_event, by_filing, by_made}
-use Rattle.hall.proofs.OpenKept.{served-open}
+use Rattle.hall.proofs.ByCall.{CanDraw, OfEach, by_anew, by_doubt, by_filing, by_made, by_restart, by_stock, pending_stays}
 use Rattle.hall.proofs.Cancels.{CanBeCancelled, unclaimed}
 use Rattle.hall.proofs.Claims.{found_all, held_for, orders_marked, orders_posted, orders_recorded, orders_with, orders_without, outside_more}
-use Rattle.hall.proofs.Drawn.{AreRightIn, CommitsNone, drawn_back, drawn_buffered, drawn_entered, drawn_left, drawn_marked, drawn_numbered, drawn_plain, drawn_raised, drawn_recorded, marks_marked, marks_recorded, named_filter, named_push, named_with, post_commits_none}
-use Rattle.hall.proofs.Fair.{over_table, served-sound}
-use Rattle.hall.proofs.Frames.{served-past, shut_by_history}
+use Rattle.hall.proofs.Drawn.{AreRightIn, CommitsNone, drawn_back, drawn_buffered, drawn_entered, drawn_left, drawn_marked, drawn_numbered, drawn_plain, drawn_raised, drawn_recorded, drawn_stocked, marks_marked, marks_recorded, named_filter, named_push, named_with, post_commits_none}
+use Rattle.hall.proofs.Frames.{may_find, reads_none, shut_by_history}
 use Rattle.hall.proofs.Fresh.{found_name, fresh_committed, fresh_entered, fresh_left, fresh_marked, fresh_next, number_below, open_unheard}
 use Rattle.hall.proofs.Heard.{all_waiting, apart_from_waiting, numbers_leave, status_in}
 use Rattle.hall.proofs.LockLists.{allowed, Allows, asked_allows, converted_allows}
 use Rattle.hall.proofs.Owned.{owned_back, owned_beside, owned_by_none, owned_entered, owned_freed, owned_left, owned_locks, owned_next, owned_recorded}
 use Rattle.hall.proofs.Resubmissions.{readmitted_is, table_in}
-use Rattle.hall.proofs.Restarts.{killed_steady, restarted_few, restarted_steady}
+use Rattle.hall.proofs.Restarts.{killed_steady, restart_lands, restarted_few, restarted_steady}
 use Rattle.hall.proofs.Users.{every_conversion, every_freed, every_freed_owner, every_granted, every_handed, every_of, known_dialogue, known_update, one_number, only_dialogue, only_update}
 
 young_more : (n m : ℕ) (xs : List Session) → n ≤ m → AllByRecursion (IsYoung n) xs → AllByRecursion (IsYoung m) xs
@@ -120,6 +118,27 @@ few_more n s h = record { sessions = omega (arith, h.sessions); units = young_mo
 holds_more : (n : ℕ) (s : State) → Holds n s → Holds (n + 1) s
 holds_more n s h = record { few = few_more n s h.few; steady = h.steady }
 
+-- where nothing was read, nothing wrong is known
+unread_known : (found : Option Bool) (stored : Ledger) (pending : Option Ledger) → found ≡ None → IsKnownRight found stored pending
+unread_known found stored pending unread = subst (λ o. IsKnownRight o stored pending) (sym unread) tt
+
+-- outside doubt nothing is in flight
+pub record IsQuiet (s : State) : Type 0 where
+  pub pending : s.pending ≡ None
+  pub found : s.found ≡ None
+
+-- the server is in doubt, or nothing is in flight
+by_condition_is : (P : Type 0) (s : State) (k : Condition) → s.condition ≡ k → IsSteady s → (IsQuiet s → P) → ((n : ℕ) → s.condition ≡ condition.Doubt n → P)
+    → P
+by_condition_is P s condition.Up is h quiet down =
+    quiet (record { pending = subst (λ c. OutsideDoubt c (s.pending ≡ None)) is h.settled; found = subst (λ c. OutsideDoubt c (s.found ≡ None)) is h.unknown })
+by_condition_is P s condition.NoServer is h quiet down =
+    quiet (record { pending = subst (λ c. OutsideDoubt c (s.pending ≡ None)) is h.settled; found = subst (λ c. OutsideDoubt c (s.found ≡ None)) is h.unknown })
+by_condition_is P s (condition.Doubt n) is h quiet down = down n is
+
+pub by_condition : (P : Type 0) (s : State) → IsSteady s → (IsQuiet s → P) → ((n : ℕ) → s.condition ≡ condition.Doubt n → P) → P
+by_condition P s h quiet down = by_condition_is P s s.condition refl h quiet down
+
 -- whose these locks are, with the rest of the state
 abbrev AreOwned : State → List Entry → Type 0
 AreOwned s locks = IsOwned s.stored s.next_session s.sessions locks
@@ -143,6 +162,9 @@ holds_locks n s locks own h =
         drawn = steady.drawn;
         marked = steady.marked;
         settled = steady.settled;
+        unknown = steady.unknown;
+        unfailed = steady.unfailed;
+        known = steady.known;
         fresh = record { numbered = steady.fresh.numbered; ahead = steady.fresh.ahead; later = steady.fresh.later };
         places = steady.places;
         orders = steady.orders;
@@ -166,6 +188,9 @@ left-holds n s name locks own h =
         drawn = drawn_left s p steady.drawn;
         marked = steady.marked;
         settled = steady.settled;
+        unknown = steady.unknown;
+        unfailed = steady.unfailed;
+        known = steady.known;
         fresh = record { numbered = fresh.numbered; ahead = fresh.ahead; later = fresh.later };
         places = steady.places;
         orders = steady.orders;
@@ -192,9 +217,11 @@ renewed_draws name (x ∷ xs) =
 
 -- sessions that differ in what they have drawn alone, and in having lost locks, over other levels and marks by which each
 -- unit has the same status
-alike-holds : (n : ℕ) (s : State) (sessions : List Session) (ranges : List NumberRange) (levels : Levels) (marks : List Mark) → AreAlike s.sessions sessions → HaveOneStatus s.stored marks → AreDrawnRight ranges levels (draws_in sessions) (numbers_of s.stored.units marks) → Holds n s
+alike-holds : (n : ℕ) (s : State) (sessions : List Session) (ranges : List NumberRange) (levels : Levels) (marks : List Mark) → AreAlike s.sessions sessions
+    → HaveOneStatus s.stored marks → AreDrawnRight ranges levels (draws_in sessions) (numbers_of s.stored.units marks)
+    → IsKnownRight s.found (with_others s.stored levels marks) s.pending → Holds n s
     → Holds n (record s { sessions = sessions; ranges = ranges; stored = with_others s.stored levels marks })
-alike-holds n s sessions ranges levels marks alike same drawn h =
+alike-holds n s sessions ranges levels marks alike same drawn known h =
     let steady = h.steady in
     record {
       few = record { sessions = h.few.sessions; units = young_alike (n + 1) s.sessions sessions alike h.few.units };
@@ -206,6 +233,9 @@ alike-holds n s sessions ranges levels marks alike same drawn h =
         drawn = drawn;
         marked = λ key none. steady.marked key (sym (same key) ∙ none);
         settled = steady.settled;
+        unknown = steady.unknown;
+        unfailed = steady.unfailed;
+        known = known;
         fresh = record {
           numbered = numbered_alike s.next_session s.sessions sessions alike steady.fresh.numbered;
           ahead = ahead_alike s.stored levels marks same s.sessions sessions alike steady.fresh.ahead;
@@ -232,6 +262,9 @@ next-holds n s name x locks at own h =
         drawn = drawn_back s name x with_next_unit at refl steady.drawn;
         marked = steady.marked;
         settled = steady.settled;
+        unknown = steady.unknown;
+        unfailed = steady.unfailed;
+        known = steady.known;
         fresh = record { numbered = fresh.numbered; ahead = fresh.ahead; later = fresh.later };
         places = steady.places;
         orders = steady.orders;
@@ -244,11 +277,13 @@ rolled-holds n s name x locks at own h =
     let t : State = record s { sessions = with_session name with_next_unit s.sessions; locks = locks } in
     let next = next-holds n s name x locks at own h in
     alike-holds (n + 1) t (with_session name with_fresh_unit s.sessions) s.ranges s.stored.levels s.stored.marks (renewed_alike name s.sessions) (λ key. refl)
-    (subst (λ ds. AreDrawnRight s.ranges s.stored.levels ds (numbers_of s.stored.units s.stored.marks)) (sym (renewed_draws name s.sessions)) next.steady.drawn) next
+    (subst (λ ds. AreDrawnRight s.ranges s.stored.levels ds (numbers_of s.stored.units s.stored.marks)) (sym (renewed_draws name s.sessions)) next.steady.drawn)
+    next.steady.known next
 
 -- the session that commits is the one of that name
-commit-holds : (n : ℕ) (s : State) (x : Session) (parts : Parts) (stock : List Number) → session_at s.sessions x.name ≡ Some x → IsStockIn s stock → Holds n s → Holds (n + 1) (stocked stock (committed s x parts (x.draws ++ stock)))
-commit-holds n s x parts stock at fits h =
+commit-holds : (n : ℕ) (s : State) (x : Session) (parts : Parts) (stock : List Number) → session_at s.sessions x.name ≡ Some x → IsStockIn s stock
+    → s.found ≡ None → Holds n s → Holds (n + 1) (stocked stock (committed s x parts (x.draws ++ stock)))
+commit-holds n s x parts stock at fits unread h =
     let few = few_more n s h.few in
     let steady = h.steady in
     let key = unit_key s.stored.start x in
@@ -274,6 +309,9 @@ commit-holds n s x parts stock at fits h =
         drawn = drawn_recorded s x stock with_next_unit unit at refl refl unheard steady.marked fits steady.drawn;
         marked = marks_recorded s.stored unit unheard steady.marked;
         settled = steady.settled;
+        unknown = steady.unknown;
+        unfailed = steady.unfailed;
+        known = unread_known s.found _ s.pending unread;
         fresh = record { numbered = fresh.numbered; ahead = fresh.ahead; later = fresh.later };
         places = steady.places;
         orders = outside_more s.condition (λ k. orders_alike recorded_ledger levels recorded_ledger.marks (λ other. refl) s.orders (orders_recorded s.stored unit s.orders unheard k)) steady.orders;
@@ -332,6 +370,9 @@ entered-holds n s name user free h =
         drawn = drawn_entered s y refl steady.drawn;
         marked = steady.marked;
         settled = steady.settled;
+        unknown = steady.unknown;
+        unfailed = steady.unfailed;
+        known = steady.known;
         fresh = record { numbered = fresh.numbered; ahead = fresh.ahead; later = fresh.later };
         places = steady.places;
         orders = steady.orders;
@@ -369,6 +410,9 @@ taken-holds n part s worker unit e h =
       drawn = steady.drawn;
       marked = steady.marked;
       settled = steady.settled;
+      unknown = steady.unknown;
+      unfailed = steady.unfailed;
+      known = steady.known;
       fresh = record { numbered = steady.fresh.numbered; ahead = steady.fresh.ahead; later = steady.fresh.later };
       places = length-set s.orders worker (Some unit) ∙ steady.places;
       orders = outside_more s.condition (λ k. orders_with s.stored s.orders worker unit k found.0 (not_yes (is_claimed s.orders unit) found.1)) steady.orders;
@@ -386,6 +430,9 @@ dropped-holds n s worker h =
       drawn = steady.drawn;
       marked = steady.marked;
       settled = steady.settled;
+      unknown = steady.unknown;
+      unfailed = steady.unfailed;
+      known = steady.known;
       fresh = record { numbered = steady.fresh.numbered; ahead = steady.fresh.ahead; later = steady.fresh.later };
       places = length-set s.orders worker None ∙ steady.places;
       orders = outside_more s.condition (λ k. orders_without s.stored s.orders worker k) steady.orders;
@@ -400,8 +447,9 @@ behind_marked s part unit kind waits own =
       | false ↦ λ w. owned_beside s.stored s.next_session s.sessions s.locks unit kind Posted w refl own
     ] waits
 
-marked-holds : (n part : ℕ) (s : State) (worker : ℕ) (unit : UnitKey) (kind : MarkKind) → CommitsNone kind → order_for part s.stored s.orders worker ≡ Some unit → Holds n s → Holds (n + 1) (marked part s worker unit kind)
-marked-holds n part s worker unit kind none e h =
+marked-holds : (n part : ℕ) (s : State) (worker : ℕ) (unit : UnitKey) (kind : MarkKind) → CommitsNone kind
+    → order_for part s.stored s.orders worker ≡ Some unit → s.found ≡ None → Holds n s → Holds (n + 1) (marked part s worker unit kind)
+marked-holds n part s worker unit kind none e unread h =
     let held = held_for part s.stored (order_of s.orders worker) unit e in
     let few = few_more n s h.few in
     let steady = h.steady in
@@ -416,6 +464,9 @@ marked-holds n part s worker unit kind none e h =
         drawn = drawn_marked s unit kind none steady.drawn;
         marked = marks_marked s.stored unit kind steady.marked;
         settled = steady.settled;
+        unknown = steady.unknown;
+        unfailed = steady.unfailed;
+        known = unread_known s.found _ s.pending unread;
         fresh = record { numbered = fresh.numbered; ahead = fresh.ahead; later = fresh.later };
         places = length-set s.orders worker None ∙ steady.places;
         orders = outside_more s.condition (λ k. orders_posted s.stored s.orders worker unit kind k held.0) steady.orders;
@@ -433,8 +484,9 @@ without_marked s unit Closed here own = owned_beside s.stored s.next_session s.s
 without_marked s unit Bad2 here own = owned_beside s.stored s.next_session s.sessions s.locks unit Gone Bad2 here refl own
 without_marked s unit Cancelled here own = owned_beside s.stored s.next_session s.sessions s.locks unit Gone Cancelled here refl own
 
-cancelled-holds : (n : ℕ) (s : State) (unit : UnitKey) (status : Status) → CanBeCancelled s.stored s.orders s.mark_limit unit status → Holds n s → Holds (n + 1) (cancelled s unit status)
-cancelled-holds n s unit status can h =
+cancelled-holds : (n : ℕ) (s : State) (unit : UnitKey) (status : Status) → CanBeCancelled s.stored s.orders s.mark_limit unit status → s.found ≡ None
+    → Holds n s → Holds (n + 1) (cancelled s unit status)
+cancelled-holds n s unit status can unread h =
     let few = few_more n s h.few in
     let steady = h.steady in
     let fresh = fresh_marked s unit Gone status can.recorded steady.fresh in
@@ -448,6 +500,9 @@ cancelled-holds n s unit status can h =
         drawn = drawn_marked s unit Gone (λ us seq key. refl) steady.drawn;
         marked = marks_marked s.stored unit Gone steady.marked;
         settled = steady.settled;
+        unknown = steady.unknown;
+        unfailed = steady.unfailed;
+        known = unread_known s.found _ s.pending unread;
         fresh = record { numbered = fresh.numbered; ahead = fresh.ahead; later = fresh.later };
         places = steady.places;
         orders = outside_more s.condition (λ k. orders_marked s.stored unit Gone s.orders (unclaimed s.orders unit can.free) k) steady.orders;
@@ -466,8 +521,9 @@ not_claimed ledger (Some other ∷ orders) unit status here no_open no_posted h 
     (apart_from_waiting ledger unit other status here no_open no_posted h.0)
     (not_claimed ledger orders unit status here no_open no_posted h.2)
 
-reopened-holds : (n : ℕ) (s : State) (unit : UnitKey) (es : List Entry) → status_in s.stored unit ≡ Some Bad → IsOwned (with_mark s.stored unit Again1) s.next_session s.sessions es → Holds n s → Holds (n + 1) (reopened s unit es)
-reopened-holds n s unit es here own h =
+reopened-holds : (n : ℕ) (s : State) (unit : UnitKey) (es : List Entry) → status_in s.stored unit ≡ Some Bad
+    → IsOwned (with_mark s.stored unit Again1) s.next_session s.sessions es → s.found ≡ None → Holds n s → Holds (n + 1) (reopened s unit es)
+reopened-holds n s unit es here own unread h =
     let few = few_more n s h.few in
     let steady = h.steady in
     let fresh = fresh_marked s unit Again1 Bad here steady.fresh in
@@ -481,6 +537,9 @@ reopened-holds n s unit es here own h =
         drawn = drawn_marked s unit Again1 (λ us seq key. refl) steady.drawn;
         marked = marks_marked s.stored unit Again1 steady.marked;
         settled = steady.settled;
+        unknown = steady.unknown;
+        unfailed = steady.unfailed;
+        known = unread_known s.found _ s.pending unread;
         fresh = record { numbered = fresh.numbered; ahead = fresh.ahead; later = fresh.later };
         places = steady.places;
         orders = outside_more s.condition (λ k. orders_marked s.stored unit Again1 s.orders (not_claimed s.stored s.orders unit Bad here (λ e. cc) (λ e. cc) k) k) steady.orders;
@@ -488,8 +547,8 @@ reopened-holds n s unit es here own h =
       };
     }
 
-reposted-holds : (n : ℕ) (s : State) (unit : UnitKey) → status_in s.stored unit ≡ Some Bad2 → Holds n s → Holds (n + 1) (reposted s unit)
-reposted-holds n s unit here h =
+reposted-holds : (n : ℕ) (s : State) (unit : UnitKey) → status_in s.stored unit ≡ Some Bad2 → s.found ≡ None → Holds n s → Holds (n + 1) (reposted s unit)
+reposted-holds n s unit here unread h =
     let few = few_more n s h.few in
     let steady = h.steady in
     let fresh = fresh_marked s unit Again2 Bad2 here steady.fresh in
@@ -503,6 +562,9 @@ reposted-holds n s unit here h =
         drawn = drawn_marked s unit Again2 (λ us seq key. refl) steady.drawn;
         marked = marks_marked s.stored unit Again2 steady.marked;
         settled = steady.settled;
+        unknown = steady.unknown;
+        unfailed = steady.unfailed;
+        known = unread_known s.found _ s.pending unread;
         fresh = record { numbered = fresh.numbered; ahead = fresh.ahead; later = fresh.later };
         places = steady.places;
         orders = outside_more s.condition (λ k. orders_marked s.stored unit Again2 s.orders (not_claimed s.stored s.orders unit Bad2 here (λ e. cc) (λ e. cc) k) k) steady.orders;
@@ -518,25 +580,29 @@ back-owned s unit es good stand own =
 
 -- ---- numbers
 
-beside-holds : (n : ℕ) (s : State) (sessions : List Session) (ranges : List NumberRange) (levels : Levels) (marks : List Mark) → AreAlike s.sessions sessions → HaveOneStatus s.stored marks → AreDrawnRight ranges levels (draws_in sessions) (numbers_of s.stored.units marks) → Holds n s
+beside-holds : (n : ℕ) (s : State) (sessions : List Session) (ranges : List NumberRange) (levels : Levels) (marks : List Mark) → AreAlike s.sessions sessions
+    → HaveOneStatus s.stored marks → AreDrawnRight ranges levels (draws_in sessions) (numbers_of s.stored.units marks) → s.found ≡ None → Holds n s
     → Holds (n + 1) (record s { sessions = sessions; ranges = ranges; stored = with_others s.stored levels marks })
-beside-holds n s sessions ranges levels marks alike same drawn h =
-    holds_more n (record s { sessions = sessions; ranges = ranges; stored = with_others s.stored levels marks }) (alike-holds n s sessions ranges levels marks alike same drawn h)
+beside-holds n s sessions ranges levels marks alike same drawn unread h =
+    holds_more n (record s { sessions = sessions; ranges = ranges; stored = with_others s.stored levels marks })
+    (alike-holds n s sessions ranges levels marks alike same drawn (unread_known s.found (with_others s.stored levels marks) s.pending unread) h)
 
 -- the same with a level that is raised
-raised-holds : (n : ℕ) (s : State) (sessions : List Session) (ranges : List NumberRange) (i : Interval) (upto : ℕ) → AreAlike s.sessions sessions → AreRightIn ranges sessions (raised_to i upto s.stored) → Holds n s
+raised-holds : (n : ℕ) (s : State) (sessions : List Session) (ranges : List NumberRange) (i : Interval) (upto : ℕ) → AreAlike s.sessions sessions
+    → AreRightIn ranges sessions (raised_to i upto s.stored) → s.found ≡ None → Holds n s
     → Holds (n + 1) (record s { sessions = sessions; ranges = ranges; stored = raised_to i upto s.stored })
-raised-holds n s sessions ranges i upto alike drawn h =
+raised-holds n s sessions ranges i upto alike drawn unread h =
     let levels = with_levels (stored_as (with_level (block_level i upto) i) ∷ []) s.stored.levels in
     let with_ledger : Ledger → State = λ ledger. record s { sessions = sessions; ranges = ranges; stored = ledger } in
     elim (nat_le upto i.level) as (λ b. AreRightIn ranges sessions (if b then s.stored else with_others s.stored levels s.stored.marks) → Holds (n + 1) (with_ledger (if b then s.stored else with_others s.stored levels s.stored.marks))) [
-      | true ↦ λ d. beside-holds n s sessions ranges s.stored.levels s.stored.marks alike (λ key. refl) d h
-      | false ↦ λ d. beside-holds n s sessions ranges levels s.stored.marks alike (λ key. refl) d h
+      | true ↦ λ d. beside-holds n s sessions ranges s.stored.levels s.stored.marks alike (λ key. refl) d unread h
+      | false ↦ λ d. beside-holds n s sessions ranges levels s.stored.marks alike (λ key. refl) d unread h
     ] drawn
 
-draws-holds : (n : ℕ) (s : State) (x : Session) (object nr : List ℕ) (r : NumberRange) → session_at s.sessions x.name ≡ Some x → CanDraw s x object nr r → Holds n s
+draws-holds : (n : ℕ) (s : State) (x : Session) (object nr : List ℕ) (r : NumberRange) → session_at s.sessions x.name ≡ Some x → CanDraw s x object nr r
+    → s.found ≡ None → Holds n s
     → Holds (n + 1) (drawn s x (present s.stored.levels r.interval) (next_number r (present s.stored.levels r.interval) x))
-draws-holds n s x object nr r at can h =
+draws-holds n s x object nr r at can unread h =
     let i = present s.stored.levels r.interval in
     let number = next_number r i x in
     let draw = with_draw (num_of i number) in
@@ -544,21 +610,30 @@ draws-holds n s x object nr r at can h =
     let alike = alike_with draw (λ y. record { name = refl; user = refl; number = refl; luw = refl }) x.name s.sessions in
     let t : State = record s { sessions = sessions } in
     elim (is_buffered i) as (λ b. is_buffered r.interval ≡ b → Holds (n + 1) (if b then record t { ranges = handed_out i t.ranges; stored = raised_to i number t.stored } else t)) [
-      | true ↦ λ is. raised-holds n s sessions (handed_out i s.ranges) i number alike (drawn_buffered s x object nr r number at can refl is h.steady.drawn) h
-      | false ↦ λ is. beside-holds n s sessions s.ranges s.stored.levels s.stored.marks alike (λ key. refl) (drawn_plain s x object nr r number at can refl is h.steady.named h.steady.drawn) h
+      | true ↦ λ is.
+          raised-holds n s sessions (handed_out i s.ranges) i number alike (drawn_buffered s x object nr r number at can refl is h.steady.drawn) unread h
+      | false ↦ λ is.
+          beside-holds n s sessions s.ranges s.stored.levels s.stored.marks alike (λ key. refl)
+          (drawn_plain s x object nr r number at can refl is h.steady.named h.steady.drawn) unread h
     ] refl
 
-reserves-holds : (n : ℕ) (s : State) (object nr : List ℕ) (upto : ℕ) (r : NumberRange) → CanReserve s object nr upto r → Holds n s → Holds (n + 1) (record s { stored = raised_to (present s.stored.levels r.interval) upto s.stored })
-reserves-holds n s object nr upto r can h =
+-- a level alone
+pub raises-holds : (n : ℕ) (s : State) (object nr : List ℕ) (upto : ℕ) (r : NumberRange) → range_at s.ranges object nr ≡ Some r
+    → is_buffered r.interval ≡ true → nat_lt r.interval.to upto ≡ false → s.found ≡ None → Holds n s
+    → Holds (n + 1) (record s { stored = raised_to (present s.stored.levels r.interval) upto s.stored })
+raises-holds n s object nr upto r chosen buffered within unread h =
     raised-holds n s s.sessions s.ranges (present s.stored.levels r.interval) upto (alike_all s.sessions)
-    (drawn_raised s r.interval upto (interval_among s.ranges r (range_found s.ranges object nr r can.range).among) (not_no (is_buffered r.interval) can.buffered) (not_past r.interval.to upto can.within) h.steady.drawn) h
+    (drawn_raised s r.interval upto (interval_among s.ranges r (range_found s.ranges object nr r chosen).among)
+    buffered (not_past r.interval.to upto within) h.steady.drawn) unread h
 
-numbered-holds : (n : ℕ) (s : State) (x : Session) (stock : List Number) → session_at s.sessions x.name ≡ Some x → IsStockIn s stock → Holds n s → Holds (n + 1) (stocked stock (numbered s x (x.draws ++ stock)))
-numbered-holds n s x stock at fits h =
+numbered-holds : (n : ℕ) (s : State) (x : Session) (stock : List Number) → session_at s.sessions x.name ≡ Some x → IsStockIn s stock → s.found ≡ None
+    → Holds n s → Holds (n + 1) (stocked stock (numbered s x (x.draws ++ stock)))
+numbered-holds n s x stock at fits unread h =
     let key = unit_key s.stored.start x in
     let numbers = x.draws ++ stock in
     beside-holds n s (with_session x.name without_draws s.sessions) (passed stock s.ranges) (with_levels (settled_rows s.stored.levels s.ranges numbers) s.stored.levels) (with_mark s.stored key (Num numbers)).marks
-    (alike_with without_draws (λ y. record { name = refl; user = refl; number = refl; luw = refl }) x.name s.sessions) (λ other. numbers_leave s.stored key other numbers) (drawn_numbered s x stock at fits h.steady.drawn) h
+    (alike_with without_draws (λ y. record { name = refl; user = refl; number = refl; luw = refl }) x.name s.sessions)
+    (λ other. numbers_leave s.stored key other numbers) (drawn_numbered s x stock at fits h.steady.drawn) unread h
 
 -- ---- the lock server
 
@@ -567,13 +642,15 @@ killed-holds n s up h =
     let few = few_more n s h.few in
     record { few = record { sessions = few.sessions; units = few.units }; steady = killed_steady s up h.steady }
 
-restarted-holds : (n : ℕ) (s : State) → s.condition ≡ condition.NoServer → AllByRecursion HasGoodLocks s.stored.units → Holds n s → Holds (n + 1) (restarted s)
-restarted-holds n s none good h = record { few = restarted_few n s h.few; steady = restarted_steady s none good h.steady }
+restarted-holds : (n : ℕ) (taken : Bool) (s : State) → HasLanding s (stored_anew taken s.stored s.pending) → Holds n s → Holds (n + 1) (restarted taken s)
+restarted-holds n taken s landing h = record { few = restarted_few n taken s h.few; steady = restarted_steady taken s h.steady landing }
 
 -- ---- all calls
 
-each-holds : (n : ℕ) (found : Found) (s : State) → HasSoundLocks s → Holds n s → OfEach (λ call v. MayCall s call → Holds (n + 1) (judged s v).state) found s
-each-holds n found s sound h = record {
+pub each-holds : (n : ℕ) (found : Found) (s : State) → HasSoundLocks s → HasLanding s (stored_anew (is_taken found.anew) s.stored s.pending) → s.found ≡ None
+    → Holds n s
+    → OfEach (λ call v. MayCall s call → Holds (n + 1) (judged s v).state) found s
+each-holds n found s sound landing unread h = record {
   refuses = λ call r plain may. holds_more n s h;
   enters = λ name user free may. entered-holds n s name user free h;
   logs_off = λ name x at may. left-holds n s x.name _ (both-owned s x h.steady) h;
@@ -585,25 +662,39 @@ each-holds n found s sound h = record {
   converts = λ name x wanted c at e may. holds_locks n s c.entries (allowed (λ (c : Conversion). AreOwned s c.entries) _ c (converted-owned s x wanted h.steady) e) h;
   reads = λ name x table key at may. holds_more n s h;
   commits_nothing = λ name x parts stock at may. holds_more n s h;
-  draws = λ name x object nr r at can may. draws-holds n s x object nr r (own_name s name x at) can h;
-  reserves = λ name x object nr upto r at can may. reserves-holds n s object nr upto r can h;
-  commits_numbers = λ name x parts stock at may. numbered-holds n s x stock (own_name s name x at) may h;
-  commits = λ name x parts stock at may. commit-holds n s x parts stock (own_name s name x at) may h;
+  draws = λ name x object nr r at can may. draws-holds n s x object nr r (own_name s name x at) can unread h;
+  reserves = λ name x object nr upto r at can may.
+      raises-holds n s object nr upto r can.range (not_no (is_buffered r.interval) can.buffered) can.within unread h;
+  commits_numbers = λ name x parts stock at may. numbered-holds n s x stock (own_name s name x at) may unread h;
+  commits = λ name x parts stock at may. commit-holds n s x parts stock (own_name s name x at) may unread h;
   rolls_back = λ name x at may.
       let update = (pair_of s.stored.start x).update in
       rolled-holds n s x.name x _ (own_name s name x at) (owned_by s (freed_owner s.locks update) (λ Q k. every_freed_owner Q s.locks update k) h.steady) h;
   takes = λ worker part unit free e may. taken-holds n part s worker unit e h;
-  posts = λ worker part unit e may. marked-holds n part s worker unit (kind_for part (found.part part unit)) (post_commits_none part (found.part part unit)) e h;
+  posts = λ worker part unit e may.
+      marked-holds n part s worker unit (kind_for part (found.part part unit)) (post_commits_none part (found.part part unit)) e unread h;
   drops = λ worker unit e may. dropped-holds n s worker h;
   kills = λ up may. killed-holds n s up h;
-  restarts = λ none may. restarted-holds n s none sound.stored h;
-  cancels = λ unit status can may. cancelled-holds n s unit status can h;
-  reopens = λ unit es here stand may. reopened-holds n s unit es here (back-owned s unit es sound.stored stand h.steady.owned) h;
-  reposts = λ unit here may. reposted-holds n s unit here h;
+  restarts = λ off may. restarted-holds n (is_taken found.anew) s landing h;
+  cancels = λ unit status can may. cancelled-holds n s unit status can unread h;
+  reopens = λ unit es here stand may. reopened-holds n s unit es here (back-owned s unit es sound.stored stand h.steady.owned) unread h;
+  reposts = λ unit here may. reposted-holds n s unit here unread h;
 }
 
-doubted-holds : (n : ℕ) (s : State) (pending : Option Ledger) → Holds n s → Holds (n + 1) (doubted s pending)
-doubted-holds n s pending h =
+verdict-holds : (n : ℕ) (found : Found) (s : State) (call : Call) → MayCall s call → HasSoundLocks s
+    → HasLanding s (stored_anew (is_taken found.anew) s.stored s.pending) → Holds n s
+    → Holds (n + 1) (judged s (call_verdict found s call)).state
+verdict-holds n found s call may sound landing h =
+    by_condition (Holds (n + 1) (judged s (call_verdict found s call)).state) s h.steady
+    (λ quiet. by_made (λ c v. Holds (n + 1) (judged s v).state) found s (each-holds n found s sound landing quiet.found h) call may)
+    (λ k down.
+    by_doubt (λ c v. Holds (n + 1) (judged s v).state) found s k call down (λ c r. holds_more n s h) (restarted-holds n (is_taken found.anew) s landing h))
+
+-- ---- a server in doubt
+
+doubted-holds : (n : ℕ) (s : State) (call : Call) (read : Option Bool) (pending : Option Ledger) → IsKnownRight (known_behind s.found read) s.stored pending
+    → Holds n s → Holds (n + 1) (doubted s call read pending)
+doubted-holds n s call read pending known h =
     let few = few_more n s h.few in
     let steady = h.steady in
     record {
@@ -616,6 +707,9 @@ doubted-holds n s pending h =
         drawn = steady.drawn;
         marked = steady.marked;
         settled = tt;
+        unknown = tt;
+        unfailed = tt;
+        known = known;
         fresh = record { numbered = steady.fresh.numbered; ahead = steady.fresh.ahead; later = steady.fresh.later };
         places = steady.places;
         orders = tt;
@@ -623,14 +717,56 @@ doubted-holds n s pending h =
       };
     }
 
+-- memory goes behind numbers of a stock
+pub stocked-holds : (n : ℕ) (s : State) (stock : List Number) → IsStockIn s stock → Holds n s → Holds n (stocked stock s)
+stocked-holds n s stock fits h =
+    let few = h.few in
+    let steady = h.steady in
+    record {
+      few = record { sessions = few.sessions; units = few.units };
+      steady = record {
+        started = steady.started;
+        limited = steady.limited;
+        locks_fit = steady.locks_fit;
+        named = steady.named;
+        drawn = drawn_stocked s stock fits steady.drawn;
+        marked = steady.marked;
+        settled = steady.settled;
+        unknown = steady.unknown;
+        unfailed = steady.unfailed;
+        known = steady.known;
+        fresh = record { numbered = steady.fresh.numbered; ahead = steady.fresh.ahead; later = steady.fresh.later };
+        places = steady.places;
+        orders = steady.orders;
+        owned = steady.owned;
+      };
+    }
+
+-- the store fails
+failing-holds : (n : ℕ) (s : State) (call : Call) (pending : Option Ledger) → MayCall s call → IsKnownRight s.found s.stored pending → Holds n s
+    → Holds (n + 1) (doubted (without_stock call s) call None pending)
+failing-holds n s call pending may known h =
+    by_stock (λ c t. MayCall s c → Holds (n + 1) (doubted t c None pending)) s
+    (λ name parts stock fits. doubted-holds n (stocked stock s) (OfSession name (Commits parts stock)) None pending known (stocked-holds n s stock fits h))
+    (λ c free. doubted-holds n s c None pending known h) call may
+
+failing_known : (reading : Reading) (found : Found) (s : State) (call : Call) → IsSteady s
+    → IsKnownRight s.found s.stored (pending_after reading s call (call_verdict found s call))
+failing_known reading found s call steady =
+    let pending = pending_after reading s call (call_verdict found s call) in
+    by_condition (IsKnownRight s.found s.stored pending) s steady
+    (λ quiet. unread_known s.found s.stored pending quiet.found)
+    (λ k down. subst (IsKnownRight s.found s.stored) (sym (pending_stays reading found s k call down)) steady.known)
+
 -- what a state in doubt needs of what is stored, where its sessions are as they were
-abbrev StoredHolds : ℕ → State → Ledger → Type 0
-StoredHolds n s stored = Holds n (unfiled s stored)
+abbrev StoredHolds : ℕ → State → Call → Option Bool → Ledger → Type 0
+StoredHolds n s call read stored = Holds n (unfiled s call read stored)
 
 -- a mark stands already
-filed-holds : (n : ℕ) (s t : State) → t.sessions ≡ s.sessions → t.next_session ≡ s.next_session → t.ranges ≡ s.ranges → Holds n s → Holds (n + 1) t → t.mark_limit ≡ s.mark_limit → length t.orders ≡ length s.orders
-    → StoredHolds (n + 1) s t.stored
-filed-holds n s t sessions next ranges before h marks places =
+filed-holds : (n : ℕ) (s t : State) (call : Call) (read : Option Bool) → known_behind s.found read ≡ None → t.sessions ≡ s.sessions
+    → t.next_session ≡ s.next_session → t.ranges ≡ s.ranges → Holds n s → Holds (n + 1) t → t.mark_limit ≡ s.mark_limit → length t.orders ≡ length s.orders
+    → StoredHolds (n + 1) s call read t.stored
+filed-holds n s t call read unread sessions next ranges before h marks places =
     let steady = h.steady in
     let few = few_more n s before.few in
     record {
@@ -644,6 +780,9 @@ filed-holds n s t sessions next ranges before h marks places =
             (subst (λ rs. AreDrawnRight rs t.stored.levels (draws_in t.sessions) (numbers_of t.stored.units t.stored.marks)) ranges steady.drawn);
         marked = steady.marked;
         settled = tt;
+        unknown = tt;
+        unfailed = tt;
+        known = unread_known (known_behind s.found read) t.stored s.pending unread;
         fresh = record {
           numbered = before.steady.fresh.numbered;
           ahead = subst (AllByRecursion (IsAhead t.stored)) sessions steady.fresh.ahead;
@@ -656,23 +795,63 @@ filed-holds n s t sessions next ranges before h marks places =
       };
     }
 
-unfiled-holds : (n : ℕ) (found : Found) (s : State) (c : Command) → Holds n s → Holds (n + 1) (unfiled s (stored_before_file s (call_of c) (verdict found s c)))
-unfiled-holds n found s c h =
-    by_filing (StoredHolds (n + 1) s) found s c (doubted-holds n s s.pending h)
+-- the disk of the backup file fails, where nothing was in doubt
+unfiled-holds : (n : ℕ) (found : Found) (s : State) (call : Call) (read : Option Bool) → s.found ≡ None → read ≡ None → Holds n s
+    → Holds (n + 1) (unfiled s call read (stored_before_file s call (call_verdict found s call)))
+unfiled-holds n found s call read before none h =
+    let unread : known_behind s.found read ≡ None = ap (known_behind s.found) none ∙ before in
+    by_filing (StoredHolds (n + 1) s call read) found s call
+    (doubted-holds n s call read s.pending (unread_known (known_behind s.found read) s.stored s.pending unread) h)
     (λ worker part unit e.
-    filed-holds n s (marked part s worker unit (kind_for part (found.part part unit))) refl refl refl h (marked-holds n part s worker unit (kind_for part (found.part part unit)) (post_commits_none part (found.part part unit)) e h) refl
-    (length-set s.orders worker None))
-    (λ unit status can. filed-holds n s (cancelled s unit status) refl refl refl h (cancelled-holds n s unit status can h) refl refl)
+    let kind = kind_for part (found.part part unit) in
+    filed-holds n s (marked part s worker unit kind) call read unread refl refl refl h
+    (marked-holds n part s worker unit kind (post_commits_none part (found.part part unit)) e before h) refl (length-set s.orders worker None))
+    (λ unit status can. filed-holds n s (cancelled s unit status) call read unread refl refl refl h (cancelled-holds n s unit status can before h) refl refl)
 
-pub served-holds : (n : ℕ) (o : DeviceOutcome) (s : State) (c : Command) → MayCall s (call_of c) → HasSoundLocks s → Holds n s → Holds (n + 1) (served o s c).state
-served-holds n o s c may sound h =
-    by_event (λ r. Holds (n + 1) r.state) o s c
-    (λ found. by_made (λ call v. Holds (n + 1) (judged s v).state) found s (each-holds n found s sound h) (call_of c) may) (holds_more n s h)
-    (λ found. doubted-holds n s _ h)
-    (λ found. unfiled-holds n found s c h)
-    (λ r. doubted-holds n s s.pending h)
+-- what is known of the change in flight behind a call
+read_known : (reading : Reading) (s : State) (call : Call) → MayRead reading s call → IsKnownRight s.found s.stored s.pending
+    → IsKnownRight (known_behind s.found (read_anew reading)) s.stored s.pending
+read_known AsKnown s call may h = h
+read_known (Comes outcome) s call may h = h
+read_known (Shows text) s call may h = h
+read_known (Reopens taken) s call may h = (may_find taken s call may).flight
 
-below_limit : (n : ℕ) → nat_le 262144 n ≡ false → n + 1 ≤ 262144
+failed_filing-holds : (n : ℕ) (reading : Reading) (s : State) (call : Call) → MayRead reading s call → Holds n s
+    → Holds (n + 1) (unfiled s call (read_anew reading) (stored_before_file s call (call_verdict (found_by reading s) s call)))
+failed_filing-holds n reading s call may h =
+    let found = found_by reading s in
+    let read = read_anew reading in
+    let P : Call → Verdict → Type 0 = λ c v. MayRead reading s c → Holds (n + 1) (unfiled s c read (stored_before_file s c v)) in
+    let left : (c : Call) → MayRead reading s c → Holds (n + 1) (unfiled s c read s.stored) =
+    λ c m. doubted-holds n s c read s.pending (read_known reading s c m h.steady.known) h in
+    by_condition (Holds (n + 1) (unfiled s call read (stored_before_file s call (call_verdict found s call)))) s h.steady
+    (λ quiet.
+    by_restart (λ c. P c (call_verdict found s c)) (by_anew (P (OfAdmin Restarts)) found s (λ r. left (OfAdmin Restarts)) (left (OfAdmin Restarts)))
+    (λ c off m. unfiled-holds n found s c read quiet.found (reads_none reading s c off m) h) call may)
+    (λ k down. by_doubt P found s k call down (λ c r. left c) (left (OfAdmin Restarts)) may)
+
+-- ---- any event
+
+ended-holds : (n : ℕ) (e : Event) (reading : Reading) (s : State) (call : Call) → MayCall s call → MayRead reading s call → HasSoundLocks s → HasOpenUnits s
+    → OfPending s.pending (HasLanding s) → Holds n s
+    → Holds (n + 1) (ends_in e reading s call (call_verdict (found_by reading s) s call)).state
+ended-holds n AllWell reading s call may read sound units landing h =
+    let found = found_by reading s in
+    verdict-holds n found s call may sound (restart_lands (is_taken found.anew) s sound.stored h.steady units landing) h
+ended-holds n Wanting reading s call may read sound units landing h = holds_more n s h
+ended-holds n StoreFails reading s call may read sound units landing h =
+    failing-holds n s call _ may (failing_known reading (found_by reading s) s call h.steady) h
+ended-holds n BackupFails reading s call may read sound units landing h = failed_filing-holds n reading s call read h
+ended-holds n (NotRemade fault) reading s call may read sound units landing h =
+    doubted-holds n s call (read_anew reading) s.pending (read_known reading s call read h.steady.known) h
+
+pub served-holds : (n : ℕ) (o : DeviceOutcome) (s : State) (c : Command) → IsAllowed o s c → HasSoundLocks s → HasOpenUnits s
+    → OfPending s.pending (HasLanding s) → Holds n s → Holds (n + 1) (served o s c).state
+served-holds n o s c allowed sound units landing h = ended-holds n o.event o.reading s (call_of c) allowed.call allowed.possible.reading sound units landing h
+
+-- ---- the history
+
+pub below_limit : (n : ℕ) → nat_le 262144 n ≡ false → n + 1 ≤ 262144
 below_limit n h = grind (arith, nat_tests)
 
 pub full_at : (n : ℕ) → 262144 ≤ n → nat_le 262144 n ≡ true
@@ -686,11 +865,11 @@ full_or P true f g = f refl
 full_or P false f g = g refl
 
 -- a call is served only where the history has room
-pub has_room : (s : State) → barred s ≡ None → is_full s ≡ false
-has_room s room =
+pub has_room : (s : State) (call : Call) → barred s call ≡ None → is_full s ≡ false
+has_room s call room =
     full_or _ (is_full s)
     (λ full.
-    let shut : barred s ≡ Some refusal.LogFull = shut_by_history s full in
+    let shut : barred s call ≡ Some refusal.LogFull = shut_by_history s call full in
     cc)
     (λ e. e)
 
@@ -708,30 +887,14 @@ with_past n s past h =
         drawn = steady.drawn;
         marked = steady.marked;
         settled = steady.settled;
+        unknown = steady.unknown;
+        unfailed = steady.unfailed;
+        known = steady.known;
         fresh = record { numbered = steady.fresh.numbered; ahead = steady.fresh.ahead; later = steady.fresh.later };
         places = steady.places;
         orders = steady.orders;
         owned = steady.owned;
       };
-    }
-
--- a call with room for it in the history
-pub kept_call : (s : State) (line : ℕ) (c : Command) (after : State) (r : Reply) → MayCall s (call_of c) → IsKept s → is_full s ≡ false → IsAct s c after r → IsKept (with_entry line c (record { state = after; reply = r }))
-kept_call s line c after r may kept room act =
-    let before : Holds (length s.past) s = record { few = kept.few; steady = kept.steady } in
-    let holds : Holds (length s.past + 1) after = subst (λ x. Holds (length s.past + 1) x.state) act.same (served-holds (length s.past) act.outcome s c may kept.sound before) in
-    let sound : HasSoundLocks after = subst (λ x. HasSoundLocks x.state) act.same (served-sound act.outcome s c kept.steady kept.sound kept.open_units) in
-    let units : HasOpenUnits after = subst (λ x. HasOpenUnits x.state) act.same (served-open act.outcome s c kept.steady kept.sound kept.open_units) in
-    let past : after.past ≡ s.past = ap (λ x. x.state.past) (sym act.same) ∙ served-past act.outcome s c in
-    let t : State = with_entry line c (record { state = after; reply = r }) in
-    let longer : length t.past ≡ length s.past + 1 = length-append after.past _ ∙ ap (λ es. length es + 1) past in
-    let whole = with_past (length s.past + 1) after t.past holds in
-    record {
-      within = subst (λ n. n ≤ 262144) (sym longer) (below_limit (length s.past) room);
-      few = subst (λ n. HasFew n t) (sym longer) whole.few;
-      steady = whole.steady;
-      sound = over_table sound.stored sound.table;
-      open_units = record { held = units.held; stored = units.stored; fit = units.fit; pending = units.pending };
     }
 
 pub young_enough : (s : State) → IsKept s → AllByRecursion (IsYoung 262145) s.sessions

@@ -1,5 +1,5 @@
 -- How calls end that may write the backup file, and what a stop may leave of it.
-use Rattle.std.proofs.Common.{◌≡◌, ◌⊎◌, inl, inr, ℕ, ◌≤◌, Bool, true, false, List, refl, sym, ap, ◌∙◌, subst, arith}
+use Rattle.std.proofs.Common.{◌≡◌, ◌⊎◌, inl, inr, ℕ, ◌+◌, ◌≤◌, Bool, true, false, List, refl, sym, ap, ◌∙◌, subst, arith}
 use Rattle.std.specs.Prelude.{if◌then◌else◌, nat_eq, Option, Some, None, IsTrue, Ok, Err}
 use Rattle.std.specs.Option.{option_map}
 use Rattle.backup_file.proofs.Adding.{ready_same}
@@ -8,6 +8,7 @@ use Rattle.backup_file.specs.File.{Stands}
 use Rattle.backup_file.specs.Lists.{without}
 use Rattle.backup_file.specs.declared.handed.Handed.{Handed}
 use Rattle.enq_base.specs.Causes.{Rose}
+use Rattle.enq_server.specs.Recovery.{lists_among}
 use Rattle.enq_base.specs.declared.condition.Condition.{Condition}
 use Rattle.enq_base.specs.declared.condition.Condition.TheVariants as condition
 use Rattle.enq_base.specs.declared.owner.UnitKey.{UnitKey}
@@ -16,18 +17,21 @@ use Rattle.enq_base.specs.declared.refusal.Refusal.TheVariants as refusal
 use Rattle.posting.specs.declared.prepared.Outcome.{Outcome}
 use Rattle.posting.specs.declared.prepared.Outcome.TheVariants as outcome
 use Rattle.update_records.specs.Ledger.{Ledger}
-use Rattle.hall.specs.Acts.{OnAnswer, written_condition, written_pending, written_reply}
+use Rattle.hall.specs.Acts.{OnAnswer, written_condition, written_failure, written_reply}
 use Rattle.hall.specs.Filing.{AllRecover, ChangesLevels, FilesAs, FreesList, HasFileCause, HasOpenLists, IsUnrefused, KeepsFile, KeepsUnits, MayFile, RecoversFrom, StandsWritten, lists_ended}
-use Rattle.hall.specs.Flights.{landed}
+use Rattle.posting.specs.Steps.{after_step}
+use Rattle.posting.specs.Views.{open_locks}
+use Rattle.posting.specs.declared.prepared.Step.{Step}
 use Rattle.hall.specs.Kept.{OutsideDoubt}
 use Rattle.hall.specs.OpenUnits.{AgreeAll, AreOpenLists, OfPending}
-use Rattle.hall.specs.Remaking.{IsLeftReady, remade_condition}
+use Rattle.hall.specs.History.{known_behind}
+use Rattle.hall.specs.Remaking.{IsLeftReady, OnNotRemade, flight_over, remade_condition, remade_failure}
 use Rattle.hall.specs.Step.{posted_reply}
 use Rattle.hall.specs.declared.command.Reply.{Reply}
 use Rattle.hall.specs.declared.command.Reply.TheVariants as reply
 use Rattle.hall.specs.declared.remaking.Remade.{Remade}
 use Rattle.hall.specs.declared.remaking.Remade.TheVariants.{Done, Refused, InDoubt}
-use Rattle.hall.specs.declared.units.InFlight.{InFlight}
+use Rattle.hall.specs.declared.units.Failure.{Failure}
 use Rattle.hall.specs.declared.units.Written.{Written}
 use Rattle.hall.specs.declared.units.Written.TheVariants.{Answered, Failed, Unfiled}
 use Rattle.hall.proofs.Leaves.{outside_any}
@@ -107,11 +111,11 @@ module _ {D : Type 0} (tells : Bool) (reads : D → List ℕ) (may_leave : D →
       quiet r (inr is) n m h = subst (λ x. HasFileCause n m (reply.Refused x)) (sym is) h
 
   -- the store failed, and with these lists the open units agree, with the change in flight and without it
-  abbrev pub AgreesBoth : Ledger → Option InFlight → BackupView D → Type 0
+  abbrev pub AgreesBoth : Ledger → Option Step → BackupView D → Type 0
   AgreesBoth ledger change file =
-      IsTrue tells → (lists : List Handed) × IsReady reads may_leave file lists × AgreeAll ledger lists × OfPending (option_map (landed ledger) change) (λ l. AgreeAll l lists)
+      IsTrue tells → (lists : List Handed) × IsReady reads may_leave file lists × AgreeAll ledger lists × OfPending (option_map (after_step ledger) change) (λ l. AgreeAll l lists)
 
-  pub failed_files : (ledger : Ledger) (old new : BackupView D) (change : Option InFlight) → AgreesBoth ledger change new → faults new.disk ≡ faults old.disk → Ends ledger old new (Failed change)
+  pub failed_files : (ledger : Ledger) (old new : BackupView D) (change : Option Step) → AgreesBoth ledger change new → faults new.disk ≡ faults old.disk → Ends ledger old new (Failed change)
   failed_files ledger old new change h same = record {
     lists = tt;
     images = λ t image may. let k = h t in (k.0, ready_stands new k.0 image k.1 may, (k.2, k.3));
@@ -119,8 +123,8 @@ module _ {D : Type 0} (tells : Bool) (reads : D → List ℕ) (may_leave : D →
   }
 
   -- the store failed before anything was written into the file
-  pub failed_before : (ledger now : Ledger) (file : BackupView D) (change : Option InFlight) → Has ledger file → now ≡ ledger
-      → ((lists : List Handed) → AreOpenLists ledger lists → OfPending (option_map (landed ledger) change) (λ l. AgreeAll l lists)) → Ends now file file (Failed change)
+  pub failed_before : (ledger now : Ledger) (file : BackupView D) (change : Option Step) → Has ledger file → now ≡ ledger
+      → ((lists : List Handed) → AreOpenLists ledger lists → OfPending (option_map (after_step ledger) change) (λ l. AgreeAll l lists)) → Ends now file file (Failed change)
   failed_before ledger now file change has is lands =
       subst (λ l. Ends l file file (Failed change)) (sym is)
       (failed_files ledger file file change (λ t. let h = has.ready t in (h.lists, h.ready, h.just.agree, lands h.lists h.just)) refl)
@@ -232,62 +236,78 @@ module _ {D : Type 0} (tells : Bool) (reads : D → List ℕ) (may_leave : D →
   beside_images ledger now file (Answered r) same has = λ t image may. let h = has.ready t in (h.lists, ready_stands file h.lists image h.ready may, just_beside ledger now h.lists same h.just)
   beside_images ledger now file (Failed change) same has = λ t image may.
       let h = has.ready t in
-      (h.lists, ready_stands file h.lists image h.ready may, (agree_beside ledger now h.lists same.0 h.just.agree, flight_beside ledger (option_map (landed now) change) h.lists same.1 h.just.agree))
+      (h.lists, ready_stands file h.lists image h.ready may, (agree_beside ledger now h.lists same.0 h.just.agree, flight_beside ledger (option_map (after_step now) change) h.lists same.1 h.just.agree))
   beside_images ledger now file Unfiled same has = absurd same
 
   -- ---- the server behind a call
 
-  abbrev pub Recover : Condition → Ledger → Option Ledger → BackupView D → Type 0
-  Recover k ledger pending file = AllRecover tells may_leave k ledger pending file
+  abbrev pub Recover : Condition → Ledger → Option Ledger → Option Bool → BackupView D → Type 0
+  Recover k ledger pending found file = AllRecover tells may_leave k ledger pending found file
 
-  no_change : (l : Ledger) (p : Option InFlight) (lists : List Handed) → p ≡ None → OfPending (option_map (landed l) p) (λ x. AgreeAll x lists)
-  no_change l p lists none = subst (λ q. OfPending (option_map (landed l) q) (λ x. AgreeAll x lists)) (sym none) tt
+  no_change : (l : Ledger) (f : Failure) (lists : List Handed) → f.pending ≡ None → OfPending (flight_over l f) (λ x. AgreeAll x lists)
+  no_change l f lists none = subst (λ q. OfPending (option_map (after_step l) q) (λ x. AgreeAll x lists)) (sym none) tt
 
-  stands_after : (ledger : Ledger) (p : Option InFlight) (before : Condition) (n : ℕ) (w : Written) (image : List ℕ) → p ≡ None → StandsWritten ledger w image → RecoversFrom (written_condition before n w) ledger (option_map (landed ledger) (written_pending p w)) image
-  stands_after ledger p before n (Answered r) image none h = record { lists = h.0; stands = h.1; agree = h.2.agree; landed = no_change ledger p h.0 none; only = outside_any before _ h.2.only }
-  stands_after ledger p before n (Failed change) image none h = record { lists = h.0; stands = h.1; agree = h.2.0; landed = h.2.1; only = tt }
-  stands_after ledger p before n Unfiled image none h = record { lists = h.0; stands = h.1; agree = h.2; landed = no_change ledger p h.0 none; only = tt }
+  -- lists that agree with all that the store may have
+  recovers : (k : Condition) (ledger : Ledger) (pending : Option Ledger) (found : Option Bool) (image : List ℕ) (lists : List Handed) → found ≡ None → Stands image lists → AgreeAll ledger lists
+      → OfPending pending (λ x. AgreeAll x lists) → OutsideDoubt k (lists ≡ lists_among (open_locks ledger) lists) → RecoversFrom k ledger pending found image
+  recovers k ledger pending found image lists none stands agree landed only =
+      subst (λ q. RecoversFrom k ledger pending q image) (sym none) (record { lists = lists; stands = stands; agree = agree; landed = landed; only = only })
+
+  stands_after : (ledger : Ledger) (f : Failure) (caller : Option (List ℕ)) (before : Condition) (n : ℕ) (w : Written) (image : List ℕ) → (f.pending ≡ None) × (f.found ≡ None) → StandsWritten ledger w image
+      → RecoversFrom (written_condition before n w) ledger (flight_over ledger (written_failure f caller w)) (written_failure f caller w).found image
+  stands_after ledger f caller before n (Answered r) image none h =
+      recovers before ledger (flight_over ledger f) f.found image h.0 none.1 h.1 h.2.agree (no_change ledger f h.0 none.0) (outside_any before _ h.2.only)
+  stands_after ledger f caller before n (Failed change) image none h =
+      recovers (condition.Doubt (n + 1)) ledger (option_map (after_step ledger) change) f.found image h.0 none.1 h.1 h.2.0 h.2.1 tt
+  stands_after ledger f caller before n Unfiled image none h =
+      recovers (condition.Doubt (n + 1)) ledger (flight_over ledger f) f.found image h.0 none.1 h.1 h.2 (no_change ledger f h.0 none.0) tt
 
   -- whatever is left of the file behind a call, lists stand in it with which the open units agree
-  pub recovers_after : (ledger : Ledger) (file : BackupView D) (p pending : Option InFlight) (before now : Condition) (n : ℕ) (w : Written) → p ≡ None → pending ≡ written_pending p w → now ≡ written_condition before n w
-      → (IsTrue tells → (image : List ℕ) → may_leave file.disk image → StandsWritten ledger w image) → Recover now ledger (option_map (landed ledger) pending) file
-  recovers_after ledger file p pending before now n w none is doubt h =
-      subst (λ q. Recover now ledger (option_map (landed ledger) q) file) (sym is)
-      (subst (λ k. Recover k ledger (option_map (landed ledger) (written_pending p w)) file) (sym doubt)
-      (λ t image may. stands_after ledger p before n w image none (h t image may)))
+  pub recovers_after : (ledger : Ledger) (file : BackupView D) (f failure : Failure) (caller : Option (List ℕ)) (before now : Condition) (n : ℕ) (w : Written) → (f.pending ≡ None) × (f.found ≡ None) → failure ≡ written_failure f caller w → now ≡ written_condition before n w
+      → (IsTrue tells → (image : List ℕ) → may_leave file.disk image → StandsWritten ledger w image) → Recover now ledger (flight_over ledger failure) failure.found file
+  recovers_after ledger file f failure caller before now n w none is doubt h =
+      subst (λ (q : Failure). Recover now ledger (flight_over ledger q) q.found file) (sym is)
+      (subst (λ k. Recover k ledger (flight_over ledger (written_failure f caller w)) (written_failure f caller w).found file) (sym doubt)
+      (λ t image may. stands_after ledger f caller before n w image none (h t image may)))
 
   -- the file is as it was
   pub same_filed : (k : Condition) (ledger : Ledger) (pending : Option Ledger) (old new : BackupView D) → new ≡ old → OutsideDoubt k (Has ledger old) → OutsideDoubt k (Has ledger new)
   same_filed k ledger pending old new is h = subst (λ f. OutsideDoubt k (Has ledger f)) (sym is) h
 
-  pub same_recovers : (k : Condition) (ledger : Ledger) (pending : Option Ledger) (old new : BackupView D) → new ≡ old → Recover k ledger pending old → Recover k ledger pending new
-  same_recovers k ledger pending old new is h = subst (λ f. Recover k ledger pending f) (sym is) h
+  pub same_recovers : (k : Condition) (ledger : Ledger) (pending : Option Ledger) (found : Option Bool) (old new : BackupView D) → new ≡ old → Recover k ledger pending found old → Recover k ledger pending found new
+  same_recovers k ledger pending found old new is h = subst (λ f. Recover k ledger pending found f) (sym is) h
 
   -- a file that is ready with the lists of the open units
-  pub ready_recovers : (k : Condition) (ledger : Ledger) (file : BackupView D) → Has ledger file → Recover k ledger None file
+  pub ready_recovers : (k : Condition) (ledger : Ledger) (file : BackupView D) → Has ledger file → Recover k ledger None None file
   ready_recovers k ledger file has = λ t image may.
       let h = has.ready t in record { lists = h.lists; stands = ready_stands file h.lists image h.ready may; agree = h.just.agree; landed = tt; only = outside_any k _ h.just.only }
 
   -- a server that is up before any call
-  pub first_recovers : (ledger : Ledger) (file : BackupView D) → Has ledger file → Recover condition.Up ledger None file
+  pub first_recovers : (ledger : Ledger) (file : BackupView D) → Has ledger file → Recover condition.Up ledger None None file
   first_recovers ledger file has = ready_recovers condition.Up ledger file has
 
   -- ---- a lock server that is made anew, or isn't
 
-  pub remade_filed : (remade : Remade) (k : Condition) (calls : ℕ) (ledger : Ledger) (old new : BackupView D) → IsLeftReady tells reads may_leave ledger old new remade → Has ledger old
-      → OutsideDoubt (remade_condition k calls remade) (Has ledger new)
-  remade_filed Done k calls ledger old new h before = h
-  remade_filed (Refused r) k calls ledger old new h before = outside_any k _ (subst (Has ledger) (sym h) before)
-  remade_filed (InDoubt r) k calls ledger old new h before = tt
+  -- the file may be written outside doubt
+  pub remade_filed : (remade : Remade) (k : Condition) (calls : ℕ) (before now : Ledger) (f : Failure) (old new : BackupView D) → IsLeftReady tells reads may_leave before now f old new remade
+      → OnNotRemade remade (now ≡ before) → OutsideDoubt k (Has before old) → OutsideDoubt (remade_condition k calls remade) (Has now new)
+  remade_filed (Done taken) k calls before now f old new h kept has = h
+  remade_filed (Refused r) k calls before now f old new h kept has =
+      subst (λ x. OutsideDoubt k (Has now x)) (sym h) (subst (λ l. OutsideDoubt k (Has l old)) (sym kept) has)
+  remade_filed (InDoubt r read) k calls before now f old new h kept has = tt
 
-  remade_none : (remade : Remade) (k : Condition) (calls : ℕ) (ledger : Ledger) (old new : BackupView D) → IsLeftReady tells reads may_leave ledger old new remade → Has ledger old
-      → Recover (remade_condition k calls remade) ledger None new
-  remade_none Done k calls ledger old new h before = first_recovers ledger new h
-  remade_none (Refused r) k calls ledger old new h before = ready_recovers k ledger new (subst (Has ledger) (sym h) before)
-  remade_none (InDoubt r) k calls ledger old new h before = h calls
+  remade_any : (remade : Remade) (k : Condition) (calls : ℕ) (before now : Ledger) (f : Failure) (old new : BackupView D) → IsLeftReady tells reads may_leave before now f old new remade
+      → OnNotRemade remade (now ≡ before) → Recover k before (flight_over before f) f.found old
+      → Recover (remade_condition k calls remade) now (flight_over now (remade_failure f remade)) (remade_failure f remade).found new
+  remade_any (Done taken) k calls before now f old new h kept all = first_recovers now new h
+  remade_any (Refused r) k calls before now f old new h kept all =
+      subst (λ l. Recover k l (flight_over l f) f.found new) (sym kept) (same_recovers k before (flight_over before f) f.found old new h all)
+  remade_any (InDoubt r read) k calls before now f old new h kept all =
+      subst (λ l. Recover (condition.Doubt (calls + 1)) l (flight_over l f) (known_behind f.found read) new) (sym kept) (h calls)
 
-  pub remade_recovers : (remade : Remade) (k now : Condition) (calls : ℕ) (ledger : Ledger) (p : Option InFlight) (old new : BackupView D) → now ≡ remade_condition k calls remade → p ≡ None
-      → IsLeftReady tells reads may_leave ledger old new remade → Has ledger old → Recover now ledger (option_map (landed ledger) p) new
-  remade_recovers remade k now calls ledger p old new is none h before =
-      subst (λ q. Recover q ledger (option_map (landed ledger) p) new) (sym is)
-      (subst (λ q. Recover (remade_condition k calls remade) ledger (option_map (landed ledger) q) new) (sym none) (remade_none remade k calls ledger old new h before))
+  pub remade_recovers : (remade : Remade) (k after : Condition) (calls : ℕ) (before now : Ledger) (f failure : Failure) (old new : BackupView D) → after ≡ remade_condition k calls remade → failure ≡ remade_failure f remade
+      → IsLeftReady tells reads may_leave before now f old new remade → OnNotRemade remade (now ≡ before) → Recover k before (flight_over before f) f.found old → Recover after now (flight_over now failure) failure.found new
+  remade_recovers remade k after calls before now f failure old new is left h kept all =
+      subst (λ q. Recover q now (flight_over now failure) failure.found new) (sym is)
+      (subst (λ (q : Failure). Recover (remade_condition k calls remade) now (flight_over now q) q.found new) (sym left)
+      (remade_any remade k calls before now f old new h kept all))

@@ -48,6 +48,9 @@ first_steady limit mark_limit intervals told ledger limited good agree first = r
   drawn = nothing_drawn ledger intervals agree first;
   marked = first_marks ledger first;
   settled = refl;
+  unknown = refl;
+  unfailed = refl;
+  known = tt;
   fresh = record { numbered = tt; ahead = tt; later = λ session luw from. first_unheard ledger first session luw };
   places = idle 256;
   orders = no_orders ledger 256;
@@ -73,10 +76,12 @@ first_here told max_locks mark_limit intervals ledger limited agree first good =
       steady = first_steady max_locks mark_limit intervals told ledger limited good agree first;
       sound = first_sound max_locks mark_limit intervals told ledger good first;
       open_units = first_open max_locks mark_limit intervals told ledger good first;
+      landing = tt;
     }
 
 pub first_kept : (told : Bool) (table : Table) (max_locks mark_limit : ℕ) (intervals : List Interval) (ledger : Ledger) (sessions : List Session) (orders : List (Option UnitKey)) (past : List PastEntry) → mark_limit ≤ 1048576 → AgreeWith intervals ledger → IsFirst ledger → IsTable table → table ≡ recovered max_locks (open_locks ledger) → sessions ≡ [] → orders ≡ replicate 256 None → past ≡ []
-    → IsKept (state_of told condition.Up sessions 1 orders table max_locks mark_limit (first_ranges ledger.levels intervals) ledger None past)
+    → IsKept (state_of told condition.Up sessions 1 orders table max_locks mark_limit (first_ranges ledger.levels intervals) ledger None None None past)
 first_kept told table max_locks mark_limit intervals ledger sessions orders past limited agree first good free none unclaimed new =
-    subst IsKept (λ i. state_of told condition.Up (sym none i) 1 (sym unclaimed i) (sym free i) max_locks mark_limit (first_ranges ledger.levels intervals) ledger None (sym new i))
+    let ranges = first_ranges ledger.levels intervals in
+    subst IsKept (λ i. state_of told condition.Up (sym none i) 1 (sym unclaimed i) (sym free i) max_locks mark_limit ranges ledger None None None (sym new i))
     (first_here told max_locks mark_limit intervals ledger limited agree first (subst IsTable free good))

@@ -1,16 +1,16 @@
 -- What no call changes, and a call with its place in the history.
-use Rattle.std.proofs.Common.{◌≡◌, ◌⊎◌, inl, inr, ℕ, ◌+◌, Bool, true, false, [], ◌∷◌, ◌++◌, length, refl, sym, ap, ◌∙◌}
+use Rattle.std.proofs.Common.{◌≡◌, ◌⊎◌, inl, inr, ℕ, ◌+◌, Bool, true, false, [], ◌∷◌, ◌++◌, length, refl, sym, ap, ◌∙◌, subst}
 use Rattle.std.proofs.lemmas.Bool.{false≢true}
 use Rattle.std.proofs.lemmas.List.{append-nil}
 use Rattle.std.specs.Prelude.{if◌then◌else◌, IsTrue, Option, Some, None}
 use Rattle.enq_base.specs.declared.condition.Condition.{Condition}
 use Rattle.enq_base.specs.declared.condition.Condition.TheVariants as condition
-use Rattle.enq_base.specs.declared.refusal.Refusal.{Refusal}
 use Rattle.enq_base.specs.declared.refusal.Refusal.TheVariants as refusal
-use Rattle.hall.specs.Acts.{IsAct}
-use Rattle.hall.specs.Calls.{Call, call_of, is_of_server}
-use Rattle.hall.specs.Devices.{DeviceOutcome, Event, AllWell, Wanting, StoreFails, BackupFails, NotRemade}
-use Rattle.hall.specs.History.{IsStep, Served, is_unrecorded, judged, noted, past_entry, served, step, with_entry}
+use Rattle.hall.specs.Acts.{IsAct, IsTelling}
+use Rattle.hall.specs.Calls.{Kills, Restarts, Cancels, Resubmits, Call, LogsOn, OfSession, OfWorker, OfAdmin, call_of, is_of_server, restarts}
+use Rattle.hall.specs.Devices.{DeviceOutcome, Event, AllWell, Wanting, StoreFails, BackupFails, NotRemade, MayFind, MayRead, found_by}
+use Rattle.hall.specs.Devices.{Reading, AsKnown, Comes, Shows, Reopens}
+use Rattle.hall.specs.History.{IsStep, Served, doubted, finds_flight, is_unrecorded, judged, noted, past_entry, pending_after, read_anew, served, step, takes_flight, with_entry, without_stock}
 use Rattle.hall.specs.Recall.{HasBegun}
 use Rattle.hall.specs.Numbers.{drawn, raised_to}
 use Rattle.range_list.specs.Drawn.{handed_out}
@@ -22,10 +22,11 @@ use Rattle.number_ranges.specs.Intervals.{is_buffered}
 use Rattle.number_ranges.specs.declared.interval.Interval.{Interval}
 use Rattle.range_list.specs.Drawn.{num_of}
 use Rattle.range_list.specs.Levels.{present}
-use Rattle.hall.specs.Step.{Found, Verdict, barred, call_verdict, is_full, verdict}
+use Rattle.update_records.specs.Ledger.{Ledger}
+use Rattle.hall.specs.Step.{Found, Verdict, barred, call_verdict, down_refusal, is_full, verdict}
 use Rattle.hall.specs.declared.command.Command.{Command}
 use Rattle.hall.specs.declared.command.Reply.{Reply}
-use Rattle.hall.proofs.ByCall.{OfEach, by_call, by_event}
+use Rattle.hall.proofs.ByCall.{OfEach, by_call, by_event, by_restart, by_stock}
 
 -- ---- what is kept
 
@@ -33,47 +34,85 @@ use Rattle.hall.proofs.ByCall.{OfEach, by_call, by_event}
 pub record IsFramed (s t : State) : Type 0 where
   pub mark_limit : t.mark_limit ≡ s.mark_limit
   pub past : t.past ≡ s.past
-  pub pending : t.pending ≡ s.pending
 
 stays : (s : State) → IsFramed s s
-stays s = record { mark_limit = refl; past = refl; pending = refl }
+stays s = record { mark_limit = refl; past = refl }
 
 drawn_frame : (s : State) (x : Session) (i : Interval) (number : ℕ) → IsFramed s (drawn s x i number)
 drawn_frame s x i number =
     let t : State = record s { sessions = with_session x.name (with_draw (num_of i number)) s.sessions } in
     elim (is_buffered i) as (λ b. IsFramed s (if b then record t { ranges = handed_out i t.ranges; stored = raised_to i number t.stored } else t)) [
-      | true ↦ record { mark_limit = refl; past = refl; pending = refl }
-      | false ↦ record { mark_limit = refl; past = refl; pending = refl }
+      | true ↦ record { mark_limit = refl; past = refl }
+      | false ↦ record { mark_limit = refl; past = refl }
     ]
 
 framed : (found : Found) (s : State) → OfEach (λ call v. IsFramed s (judged s v).state) found s
 framed found s = record {
   refuses = λ call r plain. stays s;
-  enters = λ name user free. record { mark_limit = refl; past = refl; pending = refl };
-  logs_off = λ name x at. record { mark_limit = refl; past = refl; pending = refl };
-  grants = λ name x rs locks at e. record { mark_limit = refl; past = refl; pending = refl };
-  lowers = λ name x rs at. record { mark_limit = refl; past = refl; pending = refl };
-  frees = λ name x at. record { mark_limit = refl; past = refl; pending = refl };
-  converts = λ name x wanted c at e. record { mark_limit = refl; past = refl; pending = refl };
+  enters = λ name user free. record { mark_limit = refl; past = refl };
+  logs_off = λ name x at. record { mark_limit = refl; past = refl };
+  grants = λ name x rs locks at e. record { mark_limit = refl; past = refl };
+  lowers = λ name x rs at. record { mark_limit = refl; past = refl };
+  frees = λ name x at. record { mark_limit = refl; past = refl };
+  converts = λ name x wanted c at e. record { mark_limit = refl; past = refl };
   draws = λ name x object nr r at can. drawn_frame s x (present s.stored.levels r.interval) _;
-  reserves = λ name x object nr upto r at can. record { mark_limit = refl; past = refl; pending = refl };
+  reserves = λ name x object nr upto r at can. record { mark_limit = refl; past = refl };
   reads = λ name x table key at. stays s;
   commits_nothing = λ name x parts stock at. stays s;
-  commits_numbers = λ name x parts stock at. record { mark_limit = refl; past = refl; pending = refl };
-  commits = λ name x parts stock at. record { mark_limit = refl; past = refl; pending = refl };
-  rolls_back = λ name x at. record { mark_limit = refl; past = refl; pending = refl };
-  takes = λ worker part unit free e. record { mark_limit = refl; past = refl; pending = refl };
-  posts = λ worker part unit e. record { mark_limit = refl; past = refl; pending = refl };
-  drops = λ worker unit e. record { mark_limit = refl; past = refl; pending = refl };
-  kills = λ up. record { mark_limit = refl; past = refl; pending = refl };
-  restarts = λ none. record { mark_limit = refl; past = refl; pending = refl };
-  cancels = λ unit status can. record { mark_limit = refl; past = refl; pending = refl };
-  reopens = λ unit es here stand. record { mark_limit = refl; past = refl; pending = refl };
-  reposts = λ unit here. record { mark_limit = refl; past = refl; pending = refl };
+  commits_numbers = λ name x parts stock at. record { mark_limit = refl; past = refl };
+  commits = λ name x parts stock at. record { mark_limit = refl; past = refl };
+  rolls_back = λ name x at. record { mark_limit = refl; past = refl };
+  takes = λ worker part unit free e. record { mark_limit = refl; past = refl };
+  posts = λ worker part unit e. record { mark_limit = refl; past = refl };
+  drops = λ worker unit e. record { mark_limit = refl; past = refl };
+  kills = λ up. record { mark_limit = refl; past = refl };
+  restarts = λ off. record { mark_limit = refl; past = refl };
+  cancels = λ unit status can. record { mark_limit = refl; past = refl };
+  reopens = λ unit es here stand. record { mark_limit = refl; past = refl };
+  reposts = λ unit here. record { mark_limit = refl; past = refl };
 }
 
 pub verdict_framed : (found : Found) (s : State) (c : Command) → IsFramed s (judged s (verdict found s c)).state
 verdict_framed found s c = by_call (λ call v. IsFramed s (judged s v).state) found s (framed found s) _
+
+-- ---- the change in flight
+
+drawn_pending : (s : State) (x : Session) (i : Interval) (number : ℕ) → (drawn s x i number).pending ≡ s.pending
+drawn_pending s x i number =
+    let t : State = record s { sessions = with_session x.name (with_draw (num_of i number)) s.sessions } in
+    let behind : Bool → State = λ b. if b then record t { ranges = handed_out i t.ranges; stored = raised_to i number t.stored } else t in
+    elim (is_buffered i) as (λ b. (behind b).pending ≡ s.pending) [ true ↦ refl | false ↦ refl ]
+
+flights : (Q : Option Ledger → Type 0) (found : Found) (s : State) → Q s.pending → Q None → OfEach (λ call v. Q (judged s v).state.pending) found s
+flights Q found s h none = record {
+  refuses = λ call r plain. h;
+  enters = λ name user free. h;
+  logs_off = λ name x at. h;
+  grants = λ name x rs locks at e. h;
+  lowers = λ name x rs at. h;
+  frees = λ name x at. h;
+  converts = λ name x wanted c at e. h;
+  draws = λ name x object nr r at can. subst Q (sym (drawn_pending s x (present s.stored.levels r.interval) _)) h;
+  reserves = λ name x object nr upto r at can. h;
+  reads = λ name x table key at. h;
+  commits_nothing = λ name x parts stock at. h;
+  commits_numbers = λ name x parts stock at. h;
+  commits = λ name x parts stock at. h;
+  rolls_back = λ name x at. h;
+  takes = λ worker part unit free e. h;
+  posts = λ worker part unit e. h;
+  drops = λ worker unit e. h;
+  kills = λ up. h;
+  restarts = λ off. none;
+  cancels = λ unit status can. h;
+  reopens = λ unit es here stand. h;
+  reposts = λ unit here. h;
+}
+
+-- a call leaves it, or makes it known
+pub verdict_pending : (Q : Option Ledger → Type 0) (found : Found) (s : State) (call : Call) → Q s.pending → Q None
+    → Q (judged s (call_verdict found s call)).state.pending
+verdict_pending Q found s call h none = by_call (λ call v. Q (judged s v).state.pending) found s (flights Q found s h none) call
 
 -- a call that neither ends a lock server nor makes one anew leaves the condition
 abbrev KeepsCondition : State → Call → Verdict → Type 0
@@ -107,7 +146,7 @@ conditions found s = record {
   posts = λ worker part unit e off. refl;
   drops = λ worker unit e off. refl;
   kills = λ up off. of_server off;
-  restarts = λ none off. of_server off;
+  restarts = λ was off. of_server off;
   cancels = λ unit status can off. refl;
   reopens = λ unit es here stand off. refl;
   reposts = λ unit here off. refl;
@@ -116,41 +155,42 @@ conditions found s = record {
 pub verdict_condition : (found : Found) (s : State) (call : Call) → is_of_server call ≡ false → (judged s (call_verdict found s call)).state.condition ≡ s.condition
 verdict_condition found s call off = by_call (KeepsCondition s) found s (conditions found s) call off
 
--- no call ends a doubt
-abbrev KeepsDoubt : State → Call → Verdict → Type 0
-KeepsDoubt s call v = doubt_in (judged s v).state.condition ≡ doubt_in s.condition
+-- a call leaves the doubt, or makes a lock server anew
+abbrev EndsDoubt : State → Call → Verdict → Type 0
+EndsDoubt s call v = (doubt_in (judged s v).state.condition ≡ doubt_in s.condition) ⊎ ((judged s v).state.condition ≡ condition.Up)
 
-doubts : (found : Found) (s : State) → OfEach (KeepsDoubt s) found s
+doubts : (found : Found) (s : State) → OfEach (EndsDoubt s) found s
 doubts found s = record {
-  refuses = λ call r plain. refl;
-  enters = λ name user free. refl;
-  logs_off = λ name x at. refl;
-  grants = λ name x rs locks at e. refl;
-  lowers = λ name x rs at. refl;
-  frees = λ name x at. refl;
-  converts = λ name x wanted c at e. refl;
-  draws = λ name x object nr r at can. ap doubt_in (drawn_condition s x (present s.stored.levels r.interval) _);
-  reserves = λ name x object nr upto r at can. refl;
-  reads = λ name x table key at. refl;
-  commits_nothing = λ name x parts stock at. refl;
-  commits_numbers = λ name x parts stock at. refl;
-  commits = λ name x parts stock at. refl;
-  rolls_back = λ name x at. refl;
-  takes = λ worker part unit free e. refl;
-  posts = λ worker part unit e. refl;
-  drops = λ worker unit e. refl;
-  kills = λ up. sym (ap doubt_in up);
-  restarts = λ none. sym (ap doubt_in none);
-  cancels = λ unit status can. refl;
-  reopens = λ unit es here stand. refl;
-  reposts = λ unit here. refl;
+  refuses = λ call r plain. inl refl;
+  enters = λ name user free. inl refl;
+  logs_off = λ name x at. inl refl;
+  grants = λ name x rs locks at e. inl refl;
+  lowers = λ name x rs at. inl refl;
+  frees = λ name x at. inl refl;
+  converts = λ name x wanted c at e. inl refl;
+  draws = λ name x object nr r at can. inl (ap doubt_in (drawn_condition s x (present s.stored.levels r.interval) _));
+  reserves = λ name x object nr upto r at can. inl refl;
+  reads = λ name x table key at. inl refl;
+  commits_nothing = λ name x parts stock at. inl refl;
+  commits_numbers = λ name x parts stock at. inl refl;
+  commits = λ name x parts stock at. inl refl;
+  rolls_back = λ name x at. inl refl;
+  takes = λ worker part unit free e. inl refl;
+  posts = λ worker part unit e. inl refl;
+  drops = λ worker unit e. inl refl;
+  kills = λ up. inl (sym (ap doubt_in up));
+  restarts = λ off. inr refl;
+  cancels = λ unit status can. inl refl;
+  reopens = λ unit es here stand. inl refl;
+  reposts = λ unit here. inl refl;
 }
 
-pub verdict_doubt : (found : Found) (s : State) (call : Call) → doubt_in (judged s (call_verdict found s call)).state.condition ≡ doubt_in s.condition
-verdict_doubt found s call = by_call (KeepsDoubt s) found s (doubts found s) call
+pub verdict_doubt : (found : Found) (s : State) (call : Call) → EndsDoubt s call (call_verdict found s call)
+verdict_doubt found s call = by_call (EndsDoubt s) found s (doubts found s) call
 
 pub served-past : (o : DeviceOutcome) (s : State) (c : Command) → (served o s c).state.past ≡ s.past
-served-past o s c = by_event (λ r. r.state.past ≡ s.past) o s c (λ found. (verdict_framed found s c).past) refl (λ found. refl) (λ found. refl) (λ r. refl)
+served-past o s c = by_event (λ r. r.state.past ≡ s.past) o s c (λ found. (verdict_framed found s c).past) refl
+    (λ reading. by_stock (λ call t. t.past ≡ s.past) s (λ name parts stock. refl) (λ call. refl) (call_of c)) (λ reading. refl) (λ read r. refl)
 
 -- what leaves the server in doubt
 abbrev pub leaves_doubt : Event → Bool
@@ -160,57 +200,124 @@ leaves_doubt StoreFails = true
 leaves_doubt BackupFails = true
 leaves_doubt (NotRemade fault) = true
 
--- the doubt stays as it was, unless a device fails, or no lock server could be made anew
+-- the doubt stays as it was, or a restart ends it, or a device fails, or no lock server could be made anew
 abbrev pub Becomes : Bool → Condition → Condition → Type 0
-Becomes fails c d = (doubt_in d ≡ doubt_in c) ⊎ (IsTrue fails × ((k : ℕ) × (d ≡ condition.Doubt (k + 1))))
+Becomes fails c d = (doubt_in d ≡ doubt_in c) ⊎ ((d ≡ condition.Up) ⊎ (IsTrue fails × ((k : ℕ) × (d ≡ condition.Doubt (k + 1)))))
+
+stays_or_ends : (fails : Bool) (c d : Condition) → (doubt_in d ≡ doubt_in c) ⊎ (d ≡ condition.Up) → Becomes fails c d
+stays_or_ends fails c d (inl same) = inl same
+stays_or_ends fails c d (inr up) = inr (inl up)
+
+failing_past : (s : State) (call : Call) (pending : Option Ledger)
+    → (doubted (without_stock call s) call None pending).condition ≡ condition.Doubt (length s.past + 1)
+failing_past s call pending =
+    by_stock (λ other t. (doubted t call None pending).condition ≡ condition.Doubt (length s.past + 1)) s (λ name parts stock. refl) (λ other. refl) call
 
 served_becomes : (o : DeviceOutcome) (s : State) (c : Command) → Becomes (leaves_doubt o.event) s.condition (served o s c).state.condition
 served_becomes o s c =
     elim o.event as (λ e. Becomes (leaves_doubt e) s.condition (served (record { event = e; reading = o.reading }) s c).state.condition) [
-      | AllWell ↦ inl (verdict_doubt _ s (call_of c))
+      | AllWell ↦ stays_or_ends false _ _ (verdict_doubt _ s (call_of c))
       | Wanting ↦ inl refl
-      | StoreFails ↦ inr (refl, (length s.past, refl))
-      | BackupFails ↦ inr (refl, (length s.past, refl))
-      | NotRemade fault ↦ inr (refl, (length s.past, refl))
+      | StoreFails ↦ inr (inr (refl, (length s.past, failing_past s (call_of c) (pending_after o.reading s (call_of c) (verdict (found_by o.reading s) s c)))))
+      | BackupFails ↦ inr (inr (refl, (length s.past, refl)))
+      | NotRemade fault ↦ inr (inr (refl, (length s.past, refl)))
     ]
 
 -- ---- noted or not
 
 -- what holds of a call and of its entry in the history holds of the step
-pub by_noting : (Q : Served → Type 0) (line : ℕ) (c : Command) (r : Served) → Q r → Q (record r { state = with_entry line c r }) → Q (noted line c r)
-by_noting Q line c r off on = elim (is_unrecorded r.reply) as (λ b. Q (if b then r else record r { state = with_entry line c r })) [ true ↦ off | false ↦ on ]
+pub by_noting : (Q : Served → Type 0) (line : ℕ) (c : Command) (taken : Bool) (r : Served) → Q r → Q (record r { state = with_entry line c taken r })
+    → Q (noted line c taken r)
+by_noting Q line c taken r off on =
+    elim (is_unrecorded r.reply) as (λ b. Q (if b then r else record r { state = with_entry line c taken r })) [ true ↦ off | false ↦ on ]
 
 pub step_becomes : (o : DeviceOutcome) (s : State) (n : ℕ) (c : Command) → Becomes (leaves_doubt o.event) s.condition (step o s n c).state.condition
 step_becomes o s n c =
     let r = served o s c in
-    by_noting (λ x. Becomes (leaves_doubt o.event) s.condition x.state.condition) n c r (served_becomes o s c) (served_becomes o s c)
+    by_noting (λ x. Becomes (leaves_doubt o.event) s.condition x.state.condition) n c (takes_flight o) r (served_becomes o s c) (served_becomes o s c)
 
 -- a full history
-abbrev pub in_doubt : Condition → Option Refusal
-in_doubt c = elim c [ condition.Up ↦ None | condition.NoServer ↦ None | condition.Doubt k ↦ Some (refusal.Down k) ]
+pub shut_by_history : (s : State) (call : Call) → is_full s ≡ true → barred s call ≡ Some refusal.LogFull
+shut_by_history s call full = ap (λ b. if b then Some refusal.LogFull else down_refusal s.condition call) full
 
-pub shut_by_history : (s : State) → is_full s ≡ true → barred s ≡ Some refusal.LogFull
-shut_by_history s full = ap (λ b. if b then Some refusal.LogFull else in_doubt s.condition) full
+-- ---- what a restart finds
+
+-- only a restart reads the store anew
+reads_anew : (taken : Bool) (s : State) (call : Call) → restarts call ≡ false → MayRead (Reopens taken) s call → ⊥
+reads_anew taken s (LogsOn name user) off may = may
+reads_anew taken s (OfSession name call) off may = may
+reads_anew taken s (OfWorker worker call) off may = may
+reads_anew taken s (OfAdmin Kills) off may = may
+reads_anew taken s (OfAdmin Restarts) off may = of_server off
+reads_anew taken s (OfAdmin (Cancels unit)) off may = may
+reads_anew taken s (OfAdmin (Resubmits unit)) off may = may
+
+-- what it finds it may find
+pub may_find : (taken : Bool) (s : State) (call : Call) → MayRead (Reopens taken) s call → MayFind s taken
+may_find taken s call = by_restart (λ c. MayRead (Reopens taken) s c → MayFind s taken) (λ may. may) (λ c off may. absurd (reads_anew taken s c off may)) call
+
+-- any other call reads nothing of the change in flight
+pub reads_none : (reading : Reading) (s : State) (call : Call) → restarts call ≡ false → MayRead reading s call → read_anew reading ≡ None
+reads_none AsKnown s call off may = refl
+reads_none (Comes outcome) s call off may = refl
+reads_none (Shows text) s call off may = refl
+reads_none (Reopens taken) s call off may = absurd (reads_anew taken s call off may)
+
+pub finds_none : (reading : Reading) (s : State) (call : Call) → restarts call ≡ false → MayRead reading s call → finds_flight reading ≡ false
+finds_none AsKnown s call off may = refl
+finds_none (Comes outcome) s call off may = refl
+finds_none (Shows text) s call off may = refl
+finds_none (Reopens taken) s call off may = absurd (reads_anew taken s call off may)
+
+-- no other call takes the change in flight
+pub never_takes : (s : State) (c : Command) (after : State) (r : Reply) (act : IsAct s c after r) → restarts (call_of c) ≡ false
+    → takes_flight act.outcome ≡ false
+never_takes s c after r act off =
+    let o = act.outcome in
+    elim o.event as (λ e. takes_flight (record { event = e; reading = o.reading }) ≡ false) [
+      | AllWell ↦ finds_none o.reading s (call_of c) off act.possible.reading
+      | Wanting ↦ refl
+      | StoreFails ↦ refl
+      | BackupFails ↦ refl
+      | NotRemade fault ↦ refl
+    ]
+
+pub tells_none : (s : State) (c : Command) (after : State) (r : Reply) → IsAct s c after r → restarts (call_of c) ≡ false → IsTelling s c false after r
+tells_none s c after r act off = record { act = act; taken = never_takes s c after r act off }
+
+-- ---- steps
 
 -- a call that is put into the history
-pub noted_step : (s : State) (line : ℕ) (c : Command) (after : State) (r : Reply) → MayCall s (call_of c) → IsAct s c after r → is_unrecorded r ≡ false → IsStep s (with_entry line c (record { state = after; reply = r })) line c r
-noted_step s line c after r may h on =
+pub noted_step : (s : State) (line : ℕ) (c : Command) (taken : Bool) (after : State) (r : Reply) → MayCall s (call_of c) → IsTelling s c taken after r
+    → is_unrecorded r ≡ false → IsStep s (with_entry line c taken (record { state = after; reply = r })) line c r
+noted_step s line c taken after r may h on =
     let whole : Served = record { state = after; reply = r } in
-    let entry : Served = record { state = with_entry line c whole; reply = r } in
-    record { outcome = h.outcome; allowed = record { call = may; possible = h.possible }; same = sym (ap (noted line c) h.same ∙ ap (λ b. if b then whole else entry) on) }
+    let entry : Served = record { state = with_entry line c taken whole; reply = r } in
+    let act = h.act in
+    record {
+      outcome = act.outcome;
+      allowed = record { call = may; possible = act.possible };
+      same = sym ((λ i. noted line c (h.taken i) (act.same i)) ∙ ap (λ b. if b then whole else entry) on);
+    }
 
 -- and one that isn't
 pub unnoted_step : (s : State) (line : ℕ) (c : Command) (after : State) (r : Reply) → MayCall s (call_of c) → IsAct s c after r → is_unrecorded r ≡ true → IsStep s after line c r
 unnoted_step s line c after r may h off =
+    let taken = takes_flight h.outcome in
     let whole : Served = record { state = after; reply = r } in
-    let entry : Served = record { state = with_entry line c whole; reply = r } in
-    record { outcome = h.outcome; allowed = record { call = may; possible = h.possible }; same = sym (ap (noted line c) h.same ∙ ap (λ b. if b then whole else entry) off) }
+    let entry : Served = record { state = with_entry line c taken whole; reply = r } in
+    record {
+      outcome = h.outcome;
+      allowed = record { call = may; possible = h.possible };
+      same = sym (ap (noted line c taken) h.same ∙ ap (λ b. if b then whole else entry) off);
+    }
 
 -- the history goes on
 pub step_begins : (o : DeviceOutcome) (s : State) (line : ℕ) (c : Command) → HasBegun s.past (step o s line c).state.past
 step_begins o s line c =
     let r = served o s c in
+    let taken = takes_flight o in
     let same = served-past o s c in
-    by_noting (λ x. HasBegun s.past x.state.past) line c r
+    by_noting (λ x. HasBegun s.past x.state.past) line c taken r
     ([], same ∙ sym (append-nil s.past))
-    (past_entry line c r ∷ [], ap (λ es. es ++ past_entry line c r ∷ []) same)
+    (past_entry line c taken r ∷ [], ap (λ es. es ++ past_entry line c taken r ∷ []) same)

@@ -1,5 +1,5 @@
--- Where the disk tells its bytes no restart finds a backup file that isn't good.
-use Rattle.std.proofs.Common.{◌≡◌, inl, inr, ℕ, true, false, List, [], ◌∷◌, ◌++◌, Some, IsTrue, refl, sym, ap, ◌∙◌, subst}
+-- Where the devices tell what they have, no restart finds one that isn't good.
+use Rattle.std.proofs.Common.{◌≡◌, inl, inr, ℕ, Bool, true, false, List, [], ◌∷◌, ◌++◌, Some, IsTrue, refl, sym, ap, ◌∙◌, subst}
 use Rattle.std.specs.List.{All, AllByRecursion, slice_get}
 use Rattle.std.proofs.lemmas.List.Elements.{recursion_from_All}
 use Rattle.enq_base.specs.declared.condition.BackupBad.{BackupBad}
@@ -9,7 +9,6 @@ use Rattle.enq_base.specs.declared.refusal.Refusal.{Refusal}
 use Rattle.enq_base.specs.declared.refusal.Refusal.TheVariants as refusal
 use Rattle.gate_log.proofs.Logs.{stands_once, stands_unbroken}
 use Rattle.backup_file.proofs.Records.{record_reader}
-use Rattle.backup_file.specs.Backup.{BackupView}
 use Rattle.backup_file.specs.File.{Stands, grammar}
 use Rattle.backup_file.specs.Reading.{record_at}
 use Rattle.backup_file.specs.declared.handed.Handed.{Handed}
@@ -20,18 +19,14 @@ use Rattle.enq_server.specs.declared.fault.OpenFault.TheVariants as opening
 use Rattle.lock_entry.specs.Sound.{IsSound}
 use Rattle.lock_entry.specs.declared.entry.Entry.{Entry}
 use Rattle.lock_entry.specs.declared.entry.UnitLocks.{UnitLocks}
-use Rattle.posting.specs.Views.{open_locks}
-use Rattle.update_records.specs.Ledger.{Ledger}
 use Rattle.hall.specs.Acts.{IsAct}
-use Rattle.hall.specs.Calls.{Call, LogsOn, OfSession, OfWorker, OfAdmin, Kills, Restarts, Cancels, Resubmits, call_of, restarts}
+use Rattle.hall.specs.Calls.{Call, call_of, restarts}
 use Rattle.hall.specs.Devices.{AllWell, BackupFails, MayHappen, NotRemade, StoreFails, Wanting, found_by}
-use Rattle.hall.specs.Filing.{HasOpenLists}
 use Rattle.hall.specs.History.{IsGiven, Served, judged, served}
-use Rattle.hall.specs.OpenUnits.{open_entries}
 use Rattle.hall.specs.Remaking.{remake_refusal}
 use Rattle.hall.specs.State.{State}
 use Rattle.hall.specs.Step.{Found, call_verdict, found_in, own_verdict, unavailable, unless_refused}
-use Rattle.hall.specs.Unsound.{OnRestart, is_unsound}
+use Rattle.hall.specs.Unsound.{is_unsound_file, is_unsound_store}
 use Rattle.hall.specs.declared.command.Command.{Command}
 use Rattle.hall.specs.declared.command.Reply.{Reply}
 use Rattle.hall.specs.declared.command.Reply.TheVariants as reply
@@ -59,38 +54,36 @@ no_bad_place bytes units lists (backup.Missing unit at) stands agree sound bad =
     let one : bad.0 ≡ lists = stands_once grammar record_at record_reader bytes bad.0 lists bad.1 stands in
     none_missing lists units unit at (recursion_from_All (Agrees lists) units agree) (subst (λ l. IsMissing l units unit at) one bad.2)
 
--- a file that is ready for the open units isn't bad
-no_bad_file : {D : Type 0} (tells : _) (reads : D → List ℕ) (may_leave : D → List ℕ → Type 0) (ledger : Ledger) (file : BackupView D) (units : List UnitLocks) (place : BackupBad)
-    → IsTrue tells → units ≡ open_locks ledger → HasOpenLists tells reads may_leave ledger file → IsSound (open_entries ledger) → IsOpenFault (reads file.disk) units (opening.Bad place) → ⊥
-no_bad_file tells reads may_leave ledger file units place is_told all filed sound bad =
-    let ready = filed.ready is_told in
-    no_bad_place (reads file.disk) (open_locks ledger) ready.lists place ready.ready.stands ready.just.agree sound (subst (λ us. IsOpenFault (reads file.disk) us (opening.Bad place)) all bad)
-
--- why no lock server is made anew, where the file was ready
-pub ready_sound : {D : Type 0} (tells : _) (reads : D → List ℕ) (may_leave : D → List ℕ → Type 0) (ledger : Ledger) (file : BackupView D) (units : List UnitLocks) (fault : OpenFault) (r : Refusal)
-    → r ≡ remake_refusal fault → IsTrue tells → units ≡ open_locks ledger → HasOpenLists tells reads may_leave ledger file → IsSound (open_entries ledger) → IsOpenFault (reads file.disk) units fault → is_unsound (reply.Refused r) ≡ false
-ready_sound tells reads may_leave ledger file units opening.Failed r is is_told all filed sound bad = ap (λ x. is_unsound (reply.Refused x)) is
-ready_sound tells reads may_leave ledger file units opening.NoMemory r is is_told all filed sound bad = ap (λ x. is_unsound (reply.Refused x)) is
-ready_sound tells reads may_leave ledger file units (opening.Bad place) r is is_told all filed sound bad = absurd (no_bad_file tells reads may_leave ledger file units place is_told all filed sound bad)
+-- why no lock server is made anew, where what is read of the file stands for lists with which the units agree
+pub ready_sound : (bytes : List ℕ) (units : List UnitLocks) (lists : List Handed) (fault : OpenFault) (r : Refusal)
+    → r ≡ remake_refusal fault → Stands bytes lists → All (Agrees lists) units → IsSound (joined units) → IsOpenFault bytes units fault
+    → is_unsound_file (reply.Refused r) ≡ false
+ready_sound bytes units lists opening.Failed r is stands agree sound why = ap (λ x. is_unsound_file (reply.Refused x)) is
+ready_sound bytes units lists opening.NoMemory r is stands agree sound why = ap (λ x. is_unsound_file (reply.Refused x)) is
+ready_sound bytes units lists (opening.Bad place) r is stands agree sound why = absurd (no_bad_place bytes units lists place stands agree sound why)
 
 -- ---- other calls
+
+-- a device was read and isn't good
+abbrev pub is_unsound : Reply → Bool
+is_unsound (reply.Refused (refusal.Unsound found)) = true
+is_unsound r = false
+
+pub file_sound : (r : Reply) → is_unsound r ≡ false → is_unsound_file r ≡ false
+file_sound (reply.Refused (refusal.Unsound found)) own = absurd (cc)
+file_sound _ own = refl
+
+pub store_sound : (r : Reply) → is_unsound r ≡ false → is_unsound_store r ≡ false
+store_sound (reply.Refused (refusal.Unsound found)) own = absurd (cc)
+store_sound _ own = refl
 
 plain_sound : (r : Reply) → is_fault_reply r ≡ false → is_unsound r ≡ false
 plain_sound (reply.Refused (refusal.Unsound found)) own = absurd (cc)
 plain_sound _ own = refl
 
-of_restart : (call : Call) (P : Type 0) → restarts call ≡ true → OnRestart call P → P
-of_restart (OfAdmin Restarts) P is h = h
-of_restart (OfAdmin Kills) P is h = absurd (cc)
-of_restart (OfAdmin (Cancels unit)) P is h = absurd (cc)
-of_restart (OfAdmin (Resubmits unit)) P is h = absurd (cc)
-of_restart (LogsOn session user) P is h = absurd (cc)
-of_restart (OfSession session call) P is h = absurd (cc)
-of_restart (OfWorker worker call) P is h = absurd (cc)
-
 -- only a restart may find a device that isn't good
-pub act_sound : (s : State) (c : Command) (after : State) (r : Reply) → IsAct s c after r → OnRestart (call_of c) (is_unsound r ≡ false) → is_unsound r ≡ false
-act_sound s c after r act restarted =
+pub others_sound : (s : State) (c : Command) (after : State) (r : Reply) → IsAct s c after r → restarts (call_of c) ≡ false → is_unsound r ≡ false
+others_sound s c after r act off =
     let o = act.outcome in
     let told : (served o s c).reply ≡ r = ap (λ (x : Served). x.reply) act.same in
     elim o.event as (λ e. MayHappen e s (call_of c) (call_verdict (found_by o.reading s) s (call_of c)) → (served (record { event = e; reading = o.reading }) s c).reply ≡ r → is_unsound r ≡ false) [
@@ -98,7 +91,7 @@ act_sound s c after r act restarted =
       | Wanting ↦ λ may is. sym (ap is_unsound is)
       | StoreFails ↦ λ may is. sym (ap is_unsound is)
       | BackupFails ↦ λ may is. sym (ap is_unsound is)
-      | NotRemade fault ↦ λ may is. of_restart (call_of c) (is_unsound r ≡ false) may.1 restarted
+      | NotRemade fault ↦ λ may is. let odd : false ≡ true = sym off ∙ may.1 in absurd (cc)
     ] act.possible.event told
 
 barred_sound : (found : Found) (s : State) (call : Call) (r : Refusal) → unavailable s call ≡ Some r → is_fault_reply (judged s (call_verdict found s call)).reply ≡ false → is_unsound (reply.Refused r) ≡ false
@@ -111,19 +104,6 @@ pub refused_sound : (s : State) (call : Call) (r : Refusal) → unavailable s ca
 refused_sound s call r is = barred_sound (found_in s) s call r is (verdict_answered (found_in s) s call).own
 
 -- a text that can't be told twice tells of none either
-pub given_sound : (made given : Reply) → IsGiven made given → is_unsound made ≡ false → is_unsound given ≡ false
-given_sound made given (inl same) sound = ap is_unsound same ∙ sound
-given_sound made given (inr h) sound = ap is_unsound h.1
-
-on_restart : (call : Call) (tells : Type 0) (P : Type 0) → tells → OnRestart call (tells → P) → OnRestart call P
-on_restart (OfAdmin Restarts) tells P is_told h = h is_told
-on_restart (OfAdmin Kills) tells P is_told h = tt
-on_restart (OfAdmin (Cancels unit)) tells P is_told h = tt
-on_restart (OfAdmin (Resubmits unit)) tells P is_told h = tt
-on_restart (LogsOn session user) tells P is_told h = tt
-on_restart (OfSession session call) tells P is_told h = tt
-on_restart (OfWorker worker call) tells P is_told h = tt
-
--- a call that is served
-pub served_sound : (tells : Type 0) (s : State) (c : Command) (after : State) (r : Reply) → IsAct s c after r → OnRestart (call_of c) (tells → is_unsound r ≡ false) → tells → is_unsound r ≡ false
-served_sound tells s c after r act h is_told = act_sound s c after r act (on_restart (call_of c) tells (is_unsound r ≡ false) is_told h)
+pub given_sound : (tells : Reply → Bool) (made given : Reply) → tells (reply.Refused refusal.NoMemory) ≡ false → IsGiven made given → tells made ≡ false → tells given ≡ false
+given_sound tells made given plain (inl same) sound = ap tells same ∙ sound
+given_sound tells made given plain (inr h) sound = ap tells h.1 ∙ plain

@@ -1,5 +1,5 @@
 -- What a stop may leave behind a call.
-use Rattle.std.proofs.Common.{◌≡◌, ◌⊎◌, inl, ℕ, true, false, refl, sym, subst}
+use Rattle.std.proofs.Common.{◌≡◌, ◌⊎◌, inl, ℕ, List, true, false, refl, sym, subst}
 use Rattle.std.specs.Prelude.{nat_eq, Option, Some, None, IfSome, is_some, if◌then◌else◌}
 use Rattle.std.specs.Option.{option_map}
 use Rattle.enq_base.specs.declared.condition.Condition.{Condition}
@@ -12,15 +12,18 @@ use Rattle.keeper_api.specs.Rows.{Rows}
 use Rattle.posting.specs.Shelf.{Shelf, IsUsable, StandForEither}
 use Rattle.posting.specs.Steps.{after_step}
 use Rattle.posting.specs.declared.prepared.Step.{Step}
-use Rattle.hall.specs.Flights.{landed}
 use Rattle.posting.specs.declared.prepared.Outcome.{Outcome}
 use Rattle.posting.specs.declared.prepared.Outcome.TheVariants as outcome
-use Rattle.hall.specs.declared.units.InFlight.{InFlight}
 use Rattle.update_records.specs.Ledger.{Ledger, StandFor}
-use Rattle.hall.specs.Acts.{OnAnswer, OnFailure, OnStoreFailure, written_condition, written_pending}
+use Rattle.hall.specs.Acts.{OnAnswer, OnFailure, OnStoreFailure, written_condition, written_failure}
 use Rattle.hall.specs.Kept.{OutsideDoubt}
-use Rattle.hall.specs.Leaving.{HasStoreCause, KeepsStore, LeavesWritten, StandForLanded, StandForPending, StandForWritten}
+use Rattle.hall.specs.Leaving.{HasStoreCause, KeepsStore, LeavesWritten, StandForKnown, StandForLanded, StandForWritten}
+use Rattle.hall.specs.History.{known_behind}
+use Rattle.hall.specs.Remaking.{LeavesKnown, LeavesRemade, OnNotRemade, OnRefusedFirst, OnRemade, flight_over, remade_condition, remade_failure}
+use Rattle.hall.specs.declared.remaking.Remade.{Remade}
+use Rattle.hall.specs.declared.remaking.Remade.TheVariants.{Done, Refused, InDoubt}
 use Rattle.hall.specs.Step.{posted_reply}
+use Rattle.hall.specs.declared.units.Failure.{Failure}
 use Rattle.hall.specs.declared.command.Reply.{Reply}
 use Rattle.hall.specs.declared.command.Reply.TheVariants as reply
 use Rattle.hall.proofs.Plain.{IsPlain}
@@ -44,7 +47,7 @@ told_too None before P e h = tt
 told_too (Some rows) None P e h = cc
 told_too (Some rows) (Some other) P e h = h
 
-lands : (before : Option Rows) (may_leave : Rows → Type 0) (old : Ledger) (said : Step) (change : InFlight) → IfSome before (λ _. after_step old said ≡ landed old change)
+lands : (before : Option Rows) (may_leave : Rows → Type 0) (old : Ledger) (said : Step) (change : Step) → IfSome before (λ _. after_step old said ≡ after_step old change)
     → IfSome before (λ _. (left : Rows) → may_leave left → StandForEither left old said)
     → IfSome before (λ _. (left : Rows) → may_leave left → StandForLanded left old (Some change))
 lands None may_leave old said change is h = tt
@@ -55,14 +58,14 @@ where_told None P h = tt
 where_told (Some rows) P h = h
 
 -- a write that failed
-pub failed_leaves : (held before : Option Rows) (may_leave : Rows → Type 0) (ledger old : Ledger) (said : Step) (change : InFlight) → is_some held ≡ is_some before → ledger ≡ old → IfSome before (λ _. after_step old said ≡ landed old change)
+pub failed_leaves : (held before : Option Rows) (may_leave : Rows → Type 0) (ledger old : Ledger) (said : Step) (change : Step) → is_some held ≡ is_some before → ledger ≡ old → IfSome before (λ _. after_step old said ≡ after_step old change)
     → IfSome before (λ _. (left : Rows) → may_leave left → StandForEither left old said)
     → IfSome held (λ _. (left : Rows) → may_leave left → StandForLanded left ledger (Some change))
 failed_leaves held before may_leave ledger old said change told kept is h =
     told_too held before ((left : Rows) → may_leave left → StandForLanded left ledger (Some change)) told
     (subst (λ l. IfSome before (λ _. (left : Rows) → may_leave left → StandForLanded left l (Some change))) (sym kept) (lands before may_leave old said change is h))
 
-before_change : (before : Option Rows) (may_leave was : Rows → Type 0) (ledger old : Ledger) (change : Option InFlight) → ledger ≡ old → IsWithin may_leave was
+before_change : (before : Option Rows) (may_leave was : Rows → Type 0) (ledger old : Ledger) (change : Option Step) → ledger ≡ old → IsWithin may_leave was
     → IfSome before (λ _. (left : Rows) → was left → StandFor left old)
     → IfSome before (λ _. (left : Rows) → may_leave left → StandForLanded left ledger change)
 before_change None may_leave was ledger old change kept within h = tt
@@ -70,7 +73,7 @@ before_change (Some rows) may_leave was ledger old change kept within h =
     λ left may. inl (subst (StandFor left) (sym kept) (h left (within left may)))
 
 -- a read that failed, before the write or without one
-pub unread_leaves : (held before : Option Rows) (may_leave was : Rows → Type 0) (ledger old : Ledger) (change : Option InFlight) → is_some held ≡ is_some before → ledger ≡ old → IsWithin may_leave was
+pub unread_leaves : (held before : Option Rows) (may_leave was : Rows → Type 0) (ledger old : Ledger) (change : Option Step) → is_some held ≡ is_some before → ledger ≡ old → IsWithin may_leave was
     → IfSome before (λ _. (left : Rows) → was left → StandFor left old)
     → IfSome held (λ _. (left : Rows) → may_leave left → StandForLanded left ledger change)
 unread_leaves held before may_leave was ledger old change told kept within h =
@@ -110,21 +113,28 @@ posted_keeps held may_leave old new part unit (outcome.Refused index reason) =
 
 -- ---- the hall behind it
 
-stands_after : (left : Rows) (ledger : Ledger) (p : Option InFlight) (w : Written) → StandForWritten left ledger w → StandFor left ledger ⊎ StandForPending left (option_map (landed ledger) (written_pending p w))
-stands_after left ledger p (Answered r) h = inl h
-stands_after left ledger p (Failed step) h = h
-stands_after left ledger p Unfiled h = inl h
+stands_after : (left : Rows) (ledger : Ledger) (f : Failure) (caller : Option (List ℕ)) (w : Written) → f.pending ≡ None → f.found ≡ None → StandForWritten left ledger w
+    → StandForKnown (written_failure f caller w).found left ledger (flight_over ledger (written_failure f caller w))
+stands_after left ledger f caller (Answered r) none unknown h =
+    subst (λ k. StandForKnown k left ledger (flight_over ledger f)) (sym unknown) (inl h)
+stands_after left ledger f caller (Failed step) none unknown h =
+    subst (λ k. StandForKnown k left ledger (option_map (after_step ledger) step)) (sym unknown) h
+stands_after left ledger f caller Unfiled none unknown h =
+    subst (λ k. StandForKnown k left ledger (flight_over ledger f)) (sym unknown) (inl h)
 
-leaves_for : (held : Option Rows) (may_leave : Rows → Type 0) (ledger : Ledger) (p : Option InFlight) (w : Written) → IfSome held (λ _. (left : Rows) → may_leave left → StandForWritten left ledger w)
-    → IfSome held (λ _. (left : Rows) → may_leave left → StandFor left ledger ⊎ StandForPending left (option_map (landed ledger) (written_pending p w)))
-leaves_for None may_leave ledger p w h = tt
-leaves_for (Some rows) may_leave ledger p w h = λ left may. stands_after left ledger p w (h left may)
+leaves_for : (held : Option Rows) (may_leave : Rows → Type 0) (ledger : Ledger) (f : Failure) (caller : Option (List ℕ)) (w : Written) → f.pending ≡ None → f.found ≡ None
+    → IfSome held (λ _. (left : Rows) → may_leave left → StandForWritten left ledger w)
+    → IfSome held (λ _. (left : Rows) → may_leave left → StandForKnown (written_failure f caller w).found left ledger (flight_over ledger (written_failure f caller w)))
+leaves_for None may_leave ledger f caller w none unknown h = tt
+leaves_for (Some rows) may_leave ledger f caller w none unknown h = λ left may. stands_after left ledger f caller w none unknown (h left may)
 
-pub leaves_after : {K : Type 0} (held : K → Option Rows) (may_leave : K → Rows → Type 0) (shelf : Shelf K) (p pending : Option InFlight) (w : Written) → pending ≡ written_pending p w → LeavesWritten held may_leave shelf w
-    → IfSome (held shelf.keeper) (λ _. (left : Rows) → may_leave shelf.keeper left → StandFor left shelf.ledger ⊎ StandForPending left (option_map (landed shelf.ledger) pending))
-leaves_after held may_leave shelf p pending w is h =
-    subst (λ q. IfSome (held shelf.keeper) (λ _. (left : Rows) → may_leave shelf.keeper left → StandFor left shelf.ledger ⊎ StandForPending left (option_map (landed shelf.ledger) q))) (sym is)
-    (leaves_for (held shelf.keeper) (may_leave shelf.keeper) shelf.ledger p w h)
+-- behind a call of a server that wasn't in doubt
+pub leaves_after : {K : Type 0} (held : K → Option Rows) (may_leave : K → Rows → Type 0) (shelf : Shelf K) (f now : Failure) (caller : Option (List ℕ)) (w : Written)
+    → now ≡ written_failure f caller w → f.pending ≡ None → f.found ≡ None → LeavesWritten held may_leave shelf w
+    → LeavesKnown held may_leave shelf.keeper now.found shelf.ledger (flight_over shelf.ledger now)
+leaves_after held may_leave shelf f now caller w is none unknown h =
+    subst (λ (q : Failure). LeavesKnown held may_leave shelf.keeper q.found shelf.ledger (flight_over shelf.ledger q)) (sym is)
+    (leaves_for (held shelf.keeper) (may_leave shelf.keeper) shelf.ledger f caller w none unknown h)
 
 pub outside_any : (k : Condition) (P : Type 0) → P → OutsideDoubt k P
 outside_any condition.Up P h = h
@@ -153,3 +163,26 @@ pub also_answered : (P : Type 0) (w : Written) → P → OnAnswer w P
 also_answered P (Answered r) h = h
 also_answered P (Failed step) h = tt
 also_answered P Unfiled h = tt
+
+-- ---- a lock server that is made anew, or isn't
+
+pub remade_usable : {K : Type 0} (held : K → Option Rows) (is_open : K → Type 0) (remade : Remade) (k after : Condition) (calls : ℕ) (old new : Shelf K) → after ≡ remade_condition k calls remade
+    → OnRemade remade (IsUsable held is_open new) → OnRefusedFirst remade (new ≡ old) → OutsideDoubt k (IsUsable held is_open old) → OutsideDoubt after (IsUsable held is_open new)
+remade_usable held is_open remade k after calls old new is made kept was =
+    subst (λ q. OutsideDoubt q (IsUsable held is_open new)) (sym is) (by_case remade made kept)
+  where
+    by_case : (r : Remade) → OnRemade r (IsUsable held is_open new) → OnRefusedFirst r (new ≡ old) → OutsideDoubt (remade_condition k calls r) (IsUsable held is_open new)
+    by_case (Done taken) h same = h
+    by_case (Refused r) h same = subst (λ b. OutsideDoubt k (IsUsable held is_open b)) (sym same) was
+    by_case (InDoubt r read) h same = tt
+
+pub remade_leaves : {K : Type 0} (held : K → Option Rows) (may_leave : K → Rows → Type 0) (remade : Remade) (before now : Ledger) (f failure : Failure) (keeper : K) → failure ≡ remade_failure f remade
+    → OnNotRemade remade (now ≡ before) → LeavesRemade held may_leave keeper before now f remade → LeavesKnown held may_leave keeper failure.found now (flight_over now failure)
+remade_leaves held may_leave remade before now f failure keeper is kept left =
+    subst (λ (q : Failure). LeavesKnown held may_leave keeper q.found now (flight_over now q)) (sym is) (by_case remade kept left)
+  where
+    by_case : (r : Remade) → OnNotRemade r (now ≡ before) → LeavesRemade held may_leave keeper before now f r
+        → LeavesKnown held may_leave keeper (remade_failure f r).found now (flight_over now (remade_failure f r))
+    by_case (Done taken) same h = h
+    by_case (Refused r) same h = subst (λ l. LeavesKnown held may_leave keeper f.found l (flight_over l f)) (sym same) h
+    by_case (InDoubt r read) same h = subst (λ l. LeavesKnown held may_leave keeper (known_behind f.found read) l (flight_over l f)) (sym same) h

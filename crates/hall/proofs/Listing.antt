@@ -27,7 +27,7 @@ use Rattle.hall.specs.OpenUnits.{AgreeAll, AreOpenLists}
 use Rattle.hall.specs.Step.{locks_without, may_cancel}
 use Rattle.hall.specs.declared.command.Reply.TheVariants as reply
 use Rattle.hall.specs.declared.command.Session.{Session}
-use Rattle.hall.specs.declared.units.InFlight.TheVariants as flight
+use Rattle.posting.specs.declared.prepared.Step.TheVariants.{Record, Draw}
 use Rattle.hall.specs.declared.units.Written.{Written}
 use Rattle.hall.specs.declared.units.Written.TheVariants.{Answered, Failed}
 use Rattle.hall.proofs.Ends.{IsPart}
@@ -124,8 +124,8 @@ module _ {D : Type 0} (tells : Bool) (reads : D → List ℕ) (may_leave : D →
       }) (record { cause = refl; kept = tt })
   numbers_files old new ledger now name unit numbers levels file (Answered (reply.Refused refusal.NoMemory)) has kept h =
       answered_files tells reads may_leave faults now file file (reply.Refused refusal.NoMemory) (subst (λ l. HasOpenLists tells reads may_leave l file) (sym h.1) has) (record { cause = refl; kept = same_file file })
-  numbers_files old new ledger now name unit numbers levels file (Failed (Some (flight.Numbers key drawn rows))) has kept h =
-      failed_before tells reads may_leave faults ledger now file (Some (flight.Numbers key drawn rows)) has kept
+  numbers_files old new ledger now name unit numbers levels file (Failed (Some (Draw key drawn rows))) has kept h =
+      failed_before tells reads may_leave faults ledger now file (Some (Draw key drawn rows)) has kept
       (λ lists just. same_agree ledger (with_intervals rows (with_mark ledger key (Num drawn))) lists (numbers_same ledger key drawn rows) just.agree)
   numbers_files old new ledger now name unit numbers levels file _ has kept h = absurd h
 
@@ -149,9 +149,9 @@ module _ {D : Type 0} (tells : Bool) (reads : D → List ℕ) (may_leave : D →
 
   -- it is in flight
   pub saved_agrees : (ledger now : Ledger) (unit : UnitOfWork) (levels rows : List StoredInterval) (file : BackupView D) → IsSaved tells reads may_leave ledger (with_intervals levels (with_unit ledger unit)) file → now ≡ ledger → rows ≡ levels
-      → AgreesBoth tells reads may_leave (λ d. 0) now (Some (flight.Unit unit rows)) file
+      → AgreesBoth tells reads may_leave (λ d. 0) now (Some (Record unit rows)) file
   saved_agrees ledger now unit levels rows file saved is same =
-      subst (λ l. AgreesBoth tells reads may_leave (λ d. 0) l (Some (flight.Unit unit rows)) file) (sym is)
+      subst (λ l. AgreesBoth tells reads may_leave (λ d. 0) l (Some (Record unit rows)) file) (sym is)
       (λ t. let h = saved.ready t in (h.0, h.1, h.2, subst (λ ls. AgreeAll (with_intervals ls (with_unit ledger unit)) h.0) (sym same) h.3.agree))
 
   -- its list was written, where it has locks

@@ -1,10 +1,10 @@
 -- Who is logged on: a call leaves the sessions logged on, but for the one that it logs off.
 use Rattle.std.proofs.Common.{◌≡◌, inl, inr, ℕ, Bool, true, false, true≢false, cond, List, [], ◌∷◌, ◌++◌, map, refl, sym, ap, ◌∙◌, subst}
-use Rattle.std.specs.Prelude.{IsTrue, Some, if◌then◌else◌, is_some}
+use Rattle.std.specs.Prelude.{IsTrue, Option, Some, if◌then◌else◌, is_some}
 use Rattle.std.specs.Cmp.Lexicographic.{bytes_decides}
 use Rattle.std.specs.Str.{bytes_eq}
 use Rattle.std.proofs.lemmas.Bool.{cases_Bool}
-use Rattle.hall.proofs.ByCall.{OfEach, by_call, by_event}
+use Rattle.hall.proofs.ByCall.{OfEach, by_call, by_event, by_stock}
 use Rattle.hall.proofs.Frames.{by_noting}
 use Rattle.hall.proofs.Fresh.{found_name}
 use Rattle.lock_entry.specs.declared.entry.Entry.{Entry}
@@ -15,8 +15,8 @@ use Rattle.hall.specs.declared.command.Reply.TheVariants as reply
 use Rattle.hall.specs.declared.command.Session.{Session}
 use Rattle.hall.specs.Calls.{Call, LogsOn, OfSession, OfWorker, OfAdmin, LogsOff, call_of}
 use Rattle.hall.specs.Devices.{DeviceOutcome}
-use Rattle.hall.specs.History.{IsStep, Served, judged, served, step}
-use Rattle.hall.specs.Sessions.{begun, bereft, bereft_if, has_one_of, is_called, session_at, with_draw, with_fresh_unit, with_next_unit, with_session, without_draws, without_session}
+use Rattle.hall.specs.History.{IsStep, Served, judged, served, step, takes_flight, without_stock}
+use Rattle.hall.specs.Sessions.{begun, bereft, bereft_if, is_called, loses, session_at, with_draw, with_fresh_unit, with_next_unit, with_session, without_draws, without_session}
 use Rattle.hall.specs.Numbers.{drawn, raised_to}
 use Rattle.range_list.specs.Drawn.{handed_out}
 use Rattle.hall.specs.State.{State}
@@ -98,8 +98,10 @@ logged_map change own (x ∷ xs) n h =
       | false ↦ λ k. logged_map change own xs n k
     ] h)
 
-bereft_called : (start : ℕ) (locks : List Entry) (m : List ℕ) (x : Session) → is_called m (bereft_if start locks x) ≡ is_called m x
-bereft_called start locks m x = elim (has_one_of start locks x) as (λ b. is_called m (if b then bereft x else x) ≡ is_called m x) [ true ↦ refl | false ↦ refl ]
+bereft_called : (start : ℕ) (locks : List Entry) (caller : Option (List ℕ)) (m : List ℕ) (x : Session)
+    → is_called m (bereft_if start locks caller x) ≡ is_called m x
+bereft_called start locks caller m x =
+    elim (loses start locks caller x) as (λ b. is_called m (if b then bereft x else x) ≡ is_called m x) [ true ↦ refl | false ↦ refl ]
 
 -- ---- a call
 
@@ -144,16 +146,24 @@ keeps found s = record {
   posts = λ worker part unit e n off h. h;
   drops = λ worker unit e n off h. h;
   kills = λ up n off h. h;
-  restarts = λ none n off h. logged_map (bereft_if s.stored.start s.gone) (bereft_called s.stored.start s.gone) s.sessions n h;
+  restarts = λ was n off h.
+      let start = s.stored.start in
+      logged_map (bereft_if start s.gone s.failed_caller) (bereft_called start s.gone s.failed_caller) s.sessions n h;
   cancels = λ unit status can n off h. h;
   reopens = λ unit es here stand n off h. h;
   reposts = λ unit here n off h. h;
 }
 
+-- where the store fails all stay logged on
+failing_keeps : (s : State) (call : Call) (n : List ℕ) → IsLoggedOn s.sessions n → IsLoggedOn (without_stock call s).sessions n
+failing_keeps s call n h = by_stock (λ c t. IsLoggedOn t.sessions n) s (λ name parts stock. h) (λ c. h) call
+
 pub step_keeps : (o : DeviceOutcome) (s : State) (line : ℕ) (c : Command) → KeepsSessions s (call_of c) (step o s line c)
 step_keeps o s line c =
-    let h = by_event (KeepsSessions s (call_of c)) o s c (λ found. by_call (λ call v. KeepsSessions s call (judged s v)) found s (keeps found s) _) (λ n off k. k) (λ found n off k. k) (λ found n off k. k) (λ r n off k. k) in
-    by_noting (KeepsSessions s (call_of c)) line c (served o s c) h h
+    let h =
+    by_event (KeepsSessions s (call_of c)) o s c (λ found. by_call (λ call v. KeepsSessions s call (judged s v)) found s (keeps found s) _) (λ n off k. k)
+    (λ reading n off k. failing_keeps s (call_of c) n k) (λ reading n off k. k) (λ read r n off k. k) in
+    by_noting (KeepsSessions s (call_of c)) line c (takes_flight o) (served o s c) h h
 
 -- ---- a logon
 
@@ -199,7 +209,7 @@ enters found s = record {
   posts = λ worker part unit e. tt;
   drops = λ worker unit e. tt;
   kills = λ up. tt;
-  restarts = λ none. tt;
+  restarts = λ off. tt;
   cancels = λ unit status can. tt;
   reopens = λ unit es here stand. tt;
   reposts = λ unit here. tt;
@@ -208,8 +218,10 @@ enters found s = record {
 pub step_enters : (o : DeviceOutcome) (s : State) (line : ℕ) (name user : List ℕ) → MayEnter s (LogsOn name user) (step o s line (command.Logon name user))
 step_enters o s line name user =
     let c = command.Logon name user in
-    let k = by_event (MayEnter s (call_of c)) o s c (λ found. by_call (λ call v. MayEnter s call (judged s v)) found s (enters found s) (call_of c)) tt (λ found. tt) (λ found. tt) (λ r. tt) in
-    by_noting (MayEnter s (call_of c)) line c (served o s c) k k
+    let k =
+    by_event (MayEnter s (call_of c)) o s c (λ found. by_call (λ call v. MayEnter s call (judged s v)) found s (enters found s) (call_of c)) tt
+    (λ reading. tt) (λ reading. tt) (λ read r. tt) in
+    by_noting (MayEnter s (call_of c)) line c (takes_flight o) (served o s c) k k
 
 pub logon_enters : (old new : State) (line : ℕ) (name user : List ℕ) → IsStep old new line (command.Logon name user) reply.Done → Enters name old.sessions new.sessions
 logon_enters old new line name user h =

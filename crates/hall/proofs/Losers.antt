@@ -8,7 +8,7 @@ use Rattle.hall.specs.declared.command.Reply.TheVariants as reply
 use Rattle.hall.specs.declared.command.Session.{Session}
 use Rattle.hall.specs.Calls.{OfSession, SessionCall, call_of, ends_unit}
 use Rattle.hall.specs.Devices.{AllWell, BackupFails, DeviceOutcome, MayHappen, NotRemade, StoreFails, Wanting, found_by}
-use Rattle.hall.specs.History.{judged, served}
+use Rattle.hall.specs.History.{judged, served, takes_flight}
 use Rattle.hall.specs.Losing.{LosersAreTold}
 use Rattle.hall.specs.Recall.{AreModelAnswers, Made, state_after}
 use Rattle.hall.specs.Sessions.{session_at}
@@ -25,7 +25,8 @@ leaves_none : (v : Verdict) (r : Refusal) → v ≡ Refuses r → IsTrue (leaves
 leaves_none v r is h = let wrong : false ≡ true = sym (ap leaves is) ∙ h in cc
 
 -- nothing is served to it
-barred_loser : (s : State) (name : List ℕ) (asked : SessionCall) (x : Session) → barred s ≡ None → session_at s.sessions name ≡ Some x → x.lost ≡ true → ends_unit asked ≡ false
+barred_loser : (s : State) (name : List ℕ) (asked : SessionCall) (x : Session) → barred s (OfSession name asked) ≡ None → session_at s.sessions name ≡ Some x
+    → x.lost ≡ true → ends_unit asked ≡ false
     → unavailable s (OfSession name asked) ≡ Some refusal.LocksLost
 barred_loser s name asked x free stands lost goes =
     let later = server_refusal s.condition (OfSession name asked) in
@@ -52,7 +53,8 @@ losers_told first made answers earlier later m whole free loser =
     let s = state_after first earlier in
     let answer = answers earlier later m whole in
     let c = m.call.command in
+    let unbarred : barred s (OfSession loser.name loser.asked) ≡ None = sym (ap (barred s) loser.made) ∙ free in
     let shut : unavailable s (call_of c) ≡ Some refusal.LocksLost =
-    ap (unavailable s) loser.made ∙ barred_loser s loser.name loser.asked loser.session free loser.stands loser.lost loser.goes_on in
+    ap (unavailable s) loser.made ∙ barred_loser s loser.name loser.asked loser.session unbarred loser.stands loser.lost loser.goes_on in
     let told = refused_so m.outcome s c refusal.LocksLost shut answer.allowed.possible.event in
-    sym answer.reply ∙ by_noting (λ x. x.reply ≡ reply.Refused refusal.LocksLost) m.call.line c (served m.outcome s c) told told
+    sym answer.reply ∙ by_noting (λ x. x.reply ≡ reply.Refused refusal.LocksLost) m.call.line c (takes_flight m.outcome) (served m.outcome s c) told told

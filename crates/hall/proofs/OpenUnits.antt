@@ -48,13 +48,13 @@ use Rattle.update_records.specs.declared.records.Unit.{Unit as UnitOfWork}
 use Rattle.hall.specs.declared.command.Session.{Session}
 use Rattle.hall.specs.Calls.{Call}
 use Rattle.hall.specs.History.{judged}
-use Rattle.hall.specs.Kept.{HasGoodLocks, HasSoundLocks, IsSteady, is_firm}
+use Rattle.hall.specs.Kept.{HasGoodLocks, HasLanding, HasSoundLocks, IsSteady, is_firm}
 use Rattle.hall.specs.Numbers.{drawn, next_number, raised_to}
 use Rattle.hall.specs.OpenUnits.{HasItsLocks, HoldsOpenUnits, IsOpenIfHanded, IsOpenOwner}
 use Rattle.hall.specs.Orders.{order_of}
 use Rattle.hall.specs.Sessions.{owners_of, pair_of, unit_key, with_draw, with_session}
 use Rattle.hall.specs.State.{State}
-use Rattle.hall.specs.Step.{Found, Verdict, committed, freed_all, handed_locks, locks_behind, locks_without, lowered as names_lowered, numbered, unit_of}
+use Rattle.hall.specs.Step.{Found, Verdict, committed, freed_all, handed_locks, is_taken, locks_behind, locks_without, lowered as names_lowered, numbered, stored_anew, unit_of}
 use Rattle.hall.proofs.Alike.{HaveOneStatus, with_others}
 use Rattle.hall.proofs.ByCall.{OfEach}
 use Rattle.hall.proofs.Claims.{held_for}
@@ -432,8 +432,9 @@ reopens-held s unit es is good h = subst (λ xs. HoldsOpenUnits xs (with_mark s.
 abbrev pub HoldsAfter : State → Call → Verdict → Type 0
 HoldsAfter s call v = (judged s v).state.condition ≡ Up → HoldsOpenUnits (judged s v).state.locks (judged s v).state.stored
 
-pub held_call : (found : Found) (s : State) → IsSteady s → HasSoundLocks s → (s.condition ≡ Up → HoldsOpenUnits s.locks s.stored) → OfEach (HoldsAfter s) found s
-held_call found s steady sound h = record {
+pub held_call : (found : Found) (s : State) → IsSteady s → HasSoundLocks s → HasLanding s (stored_anew (is_taken found.anew) s.stored s.pending)
+    → (s.condition ≡ Up → HoldsOpenUnits s.locks s.stored) → OfEach (HoldsAfter s) found s
+held_call found s steady sound landing h = record {
   refuses = λ call r plain up. h up;
   enters = λ name user free up. h up;
   logs_off = λ name x at up. freed-held s x (open_unheard s name x at steady.fresh) (h up);
@@ -456,7 +457,7 @@ held_call found s steady sound h = record {
   posts = λ worker part unit e up. posted-held part s.stored unit (found.part part unit) s.locks (held_for part s.stored (order_of s.orders worker) unit e).1 (h up);
   drops = λ worker unit e up. h up;
   kills = λ was up. absurd (cc);
-  restarts = λ none up. first_held s.stored sound.stored;
+  restarts = λ off up. first_held (stored_anew (is_taken found.anew) s.stored s.pending) landing.units;
   cancels = λ unit status can up. cancelled-held s.stored unit status s.locks can.recorded (h up);
   reopens = λ unit es here stand up.
       reopens-held s unit es (readmitted_is (table_in s) (owners_of unit) (entries_of s.stored.units unit) es stand) sound.stored (h up);

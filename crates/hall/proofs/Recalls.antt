@@ -5,7 +5,7 @@ use Rattle.std.proofs.lemmas.List.{append-nil, map-append}
 use Rattle.std.proofs.lemmas.List.Sums.{fold-append}
 use Rattle.hall.specs.declared.command.Command.{Command}
 use Rattle.hall.specs.Devices.{DeviceOutcome, IsAllowed}
-use Rattle.hall.specs.History.{Served, after_of, is_unrecorded, past_entry, served, step, with_entry}
+use Rattle.hall.specs.History.{Served, after_of, is_unrecorded, past_entry, served, step, takes_flight, with_entry}
 use Rattle.hall.specs.Recall.{AreModelAnswers, IsModelAnswer, Made, calls_of, recalled, state_after}
 use Rattle.hall.specs.State.{State}
 use Rattle.hall.proofs.Frames.{served-past}
@@ -37,10 +37,16 @@ told_first first none = record { made = []; calls = none; answers = tt; state = 
 told_noted : (first s : State) (o : DeviceOutcome) (line : ℕ) (c : Command) → IsTold first s → IsAllowed o s c → is_unrecorded (served o s c).reply ≡ false → IsTold first (step o s line c).state
 told_noted first s o line c h allowed on =
     let r : Served = served o s c in
-    let m : Made = record { call = past_entry line c r; outcome = o } in
-    let entered : Served = record r { state = with_entry line c r } in
+    let taken = takes_flight o in
+    let m : Made = record { call = past_entry line c taken r; outcome = o } in
+    let entered : Served = record r { state = with_entry line c taken r } in
     let stepped : step o s line c ≡ entered = ap (λ b. if b then r else entered) on in
-    let answer : IsModelAnswer s m = record { who = refl; reply = ap (λ (x : Served). x.reply) stepped; after = sym (ap (λ (x : Served). after_of x.state) stepped); allowed = allowed } in
+    let answer : IsModelAnswer s m = record {
+      who = refl;
+      reply = ap (λ (x : Served). x.reply) stepped;
+      after = sym (ap (λ (x : Served). after_of taken x.state) stepped);
+      allowed = allowed;
+    } in
     let leads : state_after first (h.made ++ m ∷ []) ≡ (step o s line c).state = fold-append recalled first h.made (m ∷ []) ∙ ap (λ x. recalled x m) (sym h.state) in
     let past : entered.state.past ≡ calls_of (h.made ++ m ∷ []) =
     ap (λ es. es ++ m.call ∷ []) (served-past o s c ∙ h.calls) ∙ sym (map-append (λ (x : Made). x.call) h.made (m ∷ [])) in
@@ -54,7 +60,7 @@ told_noted first s o line c h allowed on =
 told_unnoted : (first s : State) (o : DeviceOutcome) (line : ℕ) (c : Command) → IsTold first s → is_unrecorded (served o s c).reply ≡ true → IsTold first (step o s line c).state
 told_unnoted first s o line c h off =
     let r : Served = served o s c in
-    let stepped : step o s line c ≡ r = ap (λ b. if b then r else record r { state = with_entry line c r }) off in
+    let stepped : step o s line c ≡ r = ap (λ b. if b then r else record r { state = with_entry line c (takes_flight o) r }) off in
     subst (λ x. IsTold first x) (sym (ap (λ x. x.state) stepped ∙ unnoted_same o s c off)) h
 
 either : (P : Type 0) (b : Bool) → (b ≡ true → P) → (b ≡ false → P) → P

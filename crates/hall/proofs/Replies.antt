@@ -5,11 +5,11 @@ use Rattle.enq_base.specs.declared.owner.UnitKey.{UnitKey}
 use Rattle.enq_base.specs.declared.refusal.Refusal.TheVariants as refusal
 use Rattle.posting.specs.declared.prepared.Outcome.{Outcome}
 use Rattle.posting.specs.declared.prepared.Outcome.TheVariants as outcome
-use Rattle.hall.specs.Acts.{IsAct}
-use Rattle.hall.specs.Calls.{Call, call_of}
-use Rattle.hall.specs.Devices.{DeviceOutcome, AllWell, Wanting, StoreFails, BackupFails, NotRemade, RemakeFault, MeetsWant, FindsBad, MayHappen, fault_told, found_by, is_file_failure, is_store_failure, may_want, uses_file, uses_store}
+use Rattle.hall.specs.Acts.{IsAct, IsTelling}
+use Rattle.hall.specs.Calls.{Call, call_of, restarts}
+use Rattle.hall.specs.Devices.{DeviceOutcome, Event, AllWell, Wanting, StoreFails, BackupFails, NotRemade, RemakeFault, MeetsWant, FindsBad, FindsBadStore, MayHappen, fault_told, found_by, is_file_failure, is_store_failure, may_want, uses_file, uses_store}
 use Rattle.hall.specs.Filing.{HasFileCause}
-use Rattle.hall.specs.History.{IsGiven, Served, is_row, is_unrecorded, judged, served, step}
+use Rattle.hall.specs.History.{IsGiven, Served, is_row, is_unrecorded, judged, served, step, takes_flight}
 use Rattle.hall.specs.Leaving.{HasCounted, HasStoreCause}
 use Rattle.hall.specs.State.{State}
 use Rattle.hall.specs.Step.{Found, Verdict, Leaves, call_verdict, own_verdict, posted_reply, unavailable, unless_refused, verdict}
@@ -17,7 +17,7 @@ use Rattle.hall.specs.declared.command.Command.{Command}
 use Rattle.hall.specs.declared.command.Reply.{Reply}
 use Rattle.hall.specs.declared.command.Reply.TheVariants as reply
 use Rattle.hall.proofs.ByCall.{OfEach, by_call}
-use Rattle.hall.proofs.Frames.{by_noting}
+use Rattle.hall.proofs.Frames.{by_noting, finds_none}
 use Rattle.hall.proofs.Plain.{is_fault}
 
 abbrev pub is_fault_reply : Reply → Bool
@@ -35,7 +35,7 @@ record IsPlainReply (r : Reply) : Type 0 where
 pub record IsAnswered (s : State) (call : Call) (v : Verdict) : Type 0 where
   pub own : is_fault_reply (judged s v).reply ≡ false
   pub quiet : is_unrecorded (judged s v).reply ≡ true → (judged s v).state ≡ s
-  pub row : is_row (judged s v).reply ≡ true → ((judged s v).state ≡ s) × IsTrue (may_want s v call)
+  pub row : is_row (judged s v).reply ≡ true → ((judged s v).state ≡ s) × IsTrue (may_want s v call) × (restarts call ≡ false)
 
 never : (b : Bool) → b ≡ false → b ≡ true → ⊥
 never true e f = cc
@@ -73,7 +73,7 @@ answered found s = record {
   converts = λ name x wanted c at e. plainly s _ _ _ done;
   draws = λ name x object nr r at can. plainly s _ _ _ (record { own = refl; noted = refl; no_row = refl });
   reserves = λ name x object nr upto r at can. plainly s _ _ _ (record { own = refl; noted = refl; no_row = refl });
-  reads = λ name x table key at. record { own = refl; quiet = λ e. refl; row = λ e. (refl, refl) };
+  reads = λ name x table key at. record { own = refl; quiet = λ e. refl; row = λ e. (refl, refl, refl) };
   commits_nothing = λ name x parts stock at. plainly s _ _ _ done;
   commits_numbers = λ name x parts stock at. plainly s _ _ _ done;
   commits = λ name x parts stock at. plainly s _ _ _ (of_unit _);
@@ -82,7 +82,7 @@ answered found s = record {
   posts = λ worker part unit e. plainly s _ _ _ (posted part unit (found.part part unit));
   drops = λ worker unit e. plainly s _ _ _ (of_unit unit);
   kills = λ up. plainly s _ _ _ done;
-  restarts = λ none. plainly s _ _ _ done;
+  restarts = λ off. plainly s _ _ _ done;
   cancels = λ unit status can. plainly s _ _ _ (of_unit unit);
   reopens = λ unit es here stand. plainly s _ _ _ (of_unit unit);
   reposts = λ unit here. plainly s _ _ _ (of_unit unit);
@@ -97,6 +97,7 @@ verdict_answered found s call = by_call (IsAnswered s) found s (answered found s
 told_noted : (fault : RemakeFault) → is_unrecorded (reply.Refused (fault_told fault)) ≡ false
 told_noted MeetsWant = refl
 told_noted (FindsBad place) = refl
+told_noted (FindsBadStore table row) = refl
 
 -- a call that isn't noted changes nothing
 pub unnoted_same : (o : DeviceOutcome) (s : State) (c : Command) → is_unrecorded (served o s c).reply ≡ true → (served o s c).state ≡ s
@@ -124,6 +125,7 @@ not_filing e = cc
 not_told : (fault : RemakeFault) → IsStoreFault (reply.Refused (fault_told fault)) → ⊥
 not_told MeetsWant e = cc
 not_told (FindsBad place) e = cc
+not_told (FindsBadStore table row) e = cc
 
 -- that the store failed is answered only in a call that uses it
 pub fault_uses_store : (s : State) (c : Command) (after : State) → IsAct s c after (reply.Refused refusal.StoreFault) → IsTrue (uses_store s (call_of c))
@@ -146,6 +148,7 @@ plain_counts _ f g own h = h
 told_counts : (fault : RemakeFault) (f g : ℕ) → HasStoreCause f g (reply.Refused (fault_told fault)) → g ≡ f
 told_counts MeetsWant f g h = h
 told_counts (FindsBad place) f g h = h
+told_counts (FindsBadStore table row) f g h = h
 
 served_counts : (o : DeviceOutcome) (s : State) (c : Command) (f g : ℕ) → HasStoreCause f g (served o s c).reply → HasCounted (is_store_failure o.event) f g
 served_counts o s c f g =
@@ -160,7 +163,8 @@ served_counts o s c f g =
 -- it rises just in a call in which the store fails
 pub step_counts : (o : DeviceOutcome) (s : State) (line : ℕ) (c : Command) (f g : ℕ) → HasStoreCause f g (step o s line c).reply → HasCounted (is_store_failure o.event) f g
 step_counts o s line c f g =
-    by_noting (λ x. HasStoreCause f g x.reply → HasCounted (is_store_failure o.event) f g) line c (served o s c) (served_counts o s c f g) (served_counts o s c f g)
+    by_noting (λ x. HasStoreCause f g x.reply → HasCounted (is_store_failure o.event) f g) line c (takes_flight o) (served o s c)
+    (served_counts o s c f g) (served_counts o s c f g)
 
 -- ---- the disk's count of faults
 
@@ -171,6 +175,7 @@ plain_file_counts _ f g own h = h
 told_file_counts : (fault : RemakeFault) (f g : ℕ) → HasFileCause f g (reply.Refused (fault_told fault)) → g ≡ f
 told_file_counts MeetsWant f g h = h
 told_file_counts (FindsBad place) f g h = h
+told_file_counts (FindsBadStore table row) f g h = h
 
 served_file_counts : (o : DeviceOutcome) (s : State) (c : Command) (f g : ℕ) → HasFileCause f g (served o s c).reply → HasCounted (is_file_failure o.event) f g
 served_file_counts o s c f g =
@@ -185,7 +190,8 @@ served_file_counts o s c f g =
 -- it rises just in a call in which the disk fails
 pub step_file_counts : (o : DeviceOutcome) (s : State) (line : ℕ) (c : Command) (f g : ℕ) → HasFileCause f g (step o s line c).reply → HasCounted (is_file_failure o.event) f g
 step_file_counts o s line c f g =
-    by_noting (λ x. HasFileCause f g x.reply → HasCounted (is_file_failure o.event) f g) line c (served o s c) (served_file_counts o s c f g) (served_file_counts o s c f g)
+    by_noting (λ x. HasFileCause f g x.reply → HasCounted (is_file_failure o.event) f g) line c (takes_flight o) (served o s c)
+    (served_file_counts o s c f g) (served_file_counts o s c f g)
 
 abbrev IsFileFault : Reply → Type 0
 IsFileFault r = r ≡ reply.Refused refusal.BackupFault
@@ -202,6 +208,7 @@ file_not_storing e = cc
 file_not_told : (fault : RemakeFault) → IsFileFault (reply.Refused (fault_told fault)) → ⊥
 file_not_told MeetsWant e = cc
 file_not_told (FindsBad place) e = cc
+file_not_told (FindsBadStore table row) e = cc
 
 -- that the disk failed is answered only in a call that uses the file
 pub fault_uses_file : (s : State) (c : Command) (after : State) → IsAct s c after (reply.Refused refusal.BackupFault) → IsTrue (uses_file s (call_of c))
@@ -229,28 +236,39 @@ available s call found =
 row_of : (a b : Served) → a ≡ b → is_row b.reply ≡ true → is_row a.reply ≡ true
 row_of a b e h = ap (λ (x : Served). is_row x.reply) e ∙ h
 
--- what was answered by a text may be answered that memory is wanting
-row_wanting : (s : State) (c : Command) (after : State) (r : Reply) → is_row r ≡ true → IsAct s c after r → IsAct s c after (reply.Refused refusal.NoMemory)
-row_wanting s c after r row act =
+-- what was answered by a text may be answered that memory is wanting; it was no restart
+row_wanting : (s : State) (c : Command) (taken : Bool) (after : State) (r : Reply) → is_row r ≡ true → IsTelling s c taken after r
+    → IsTelling s c taken after (reply.Refused refusal.NoMemory)
+row_wanting s c taken after r row h =
+    let act = h.act in
     let o = act.outcome in
-    elim o.event as (λ e. served (record { event = e; reading = o.reading }) s c ≡ record { state = after; reply = r } → IsAct s c after (reply.Refused refusal.NoMemory)) [
-      | AllWell ↦ λ same.
+    let wanting = reply.Refused refusal.NoMemory in
+    let by : Event → DeviceOutcome = λ e. record { event = e; reading = o.reading } in
+    elim o.event as (λ e. takes_flight (by e) ≡ taken → served (by e) s c ≡ record { state = after; reply = r } → IsTelling s c taken after wanting) [
+      | AllWell ↦ λ takes same.
           let found = found_by o.reading s in
           let is : is_row (judged s (verdict found s c)).reply ≡ true = row_of _ _ same row in
           let told = (verdict_answered found s (call_of c)).row is in
           let stays : s ≡ after = sym told.0 ∙ ap (λ (x : Served). x.state) same in
-          subst (λ t. IsAct s c t (reply.Refused refusal.NoMemory)) stays (record {
-            outcome = record { event = Wanting; reading = o.reading };
-            possible = record { reading = act.possible.reading; event = (available s (call_of c) found is, told.1) };
-            same = refl;
+          subst (λ t. IsTelling s c taken t wanting) stays (record {
+            act = record {
+              outcome = record { event = Wanting; reading = o.reading };
+              possible = record { reading = act.possible.reading; event = (available s (call_of c) found is, told.1) };
+              same = refl;
+            };
+            taken = sym (finds_none o.reading s (call_of c) told.2 act.possible.reading) ∙ takes;
           })
-      | Wanting ↦ λ same. absurd (never false refl (row_of _ _ same row))
-      | StoreFails ↦ λ same. absurd (never false refl (row_of _ _ same row))
-      | BackupFails ↦ λ same. absurd (never false refl (row_of _ _ same row))
-      | NotRemade fault ↦ λ same. absurd (never false refl (row_of _ _ same row))
-    ] act.same
+      | Wanting ↦ λ takes same. absurd (never false refl (row_of _ _ same row))
+      | StoreFails ↦ λ takes same. absurd (never false refl (row_of _ _ same row))
+      | BackupFails ↦ λ takes same. absurd (never false refl (row_of _ _ same row))
+      | NotRemade fault ↦ λ takes same. absurd (never false refl (row_of _ _ same row))
+    ] h.taken act.same
 
 -- the answer as it is given
+pub given_telling : (s : State) (c : Command) (taken : Bool) (after : State) (made given : Reply) → IsGiven made given → IsTelling s c taken after made
+    → IsTelling s c taken after given
+given_telling s c taken after made given (inl same) h = subst (IsTelling s c taken after) (sym same) h
+given_telling s c taken after made given (inr (row, is)) h = subst (IsTelling s c taken after) (sym is) (row_wanting s c taken after made row h)
+
 pub given_act : (s : State) (c : Command) (after : State) (made given : Reply) → IsGiven made given → IsAct s c after made → IsAct s c after given
-given_act s c after made given (inl same) act = subst (IsAct s c after) (sym same) act
-given_act s c after made given (inr (row, is)) act = subst (IsAct s c after) (sym is) (row_wanting s c after made row act)
+given_act s c after made given how act = (given_telling s c (takes_flight act.outcome) after made given how (record { act = act; taken = refl })).act

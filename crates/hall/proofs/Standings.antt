@@ -41,8 +41,8 @@ use Rattle.hall.specs.declared.command.Session.{Session}
 use Rattle.hall.specs.Calls.{Call, LogsOn, OfSession, OfWorker, OfAdmin, Kills, Restarts, Cancels, Resubmits, call_of, is_of_server, restarts, wants_server}
 use Rattle.hall.specs.Calls.{LogsOff, Asks, Frees, FreesAll, Converts, Draws, Reserves, Reads, Commits, RollsBack}
 use Rattle.hall.specs.Devices.{AllWell, Wanting, StoreFails, BackupFails, NotRemade, MayHappen, found_by}
-use Rattle.hall.specs.History.{Served, ends_in, judged, served}
-use Rattle.hall.specs.Kept.{HasOpenUnits, HasSoundLocks, IsSteady}
+use Rattle.hall.specs.History.{Served, ends_in, judged, served, takes_flight, without_stock}
+use Rattle.hall.specs.Kept.{IsSteady, OutsideDoubt}
 use Rattle.hall.specs.Numbers.{from_memory, next_number, raised_to, stocked}
 use Rattle.hall.specs.OpenUnits.{HoldsOpenUnits}
 use Rattle.hall.specs.Orders.{order_of}
@@ -51,23 +51,21 @@ use Rattle.hall.specs.Sessions.{unit_key, with_draw, with_session}
 use Rattle.hall.specs.Standing.{FirmAreHanded, IsCommitOf, IsFirm, LocksReturn, LocksStand, ReturnsLocked, StillWaits, WaitsLocked}
 use Rattle.hall.specs.Standing.{NoneEndsWait, NoneOfServer, ends_wait, is_commit, with_handed}
 use Rattle.hall.specs.State.{State, opened}
-use Rattle.hall.specs.Step.{Found, call_verdict, caller_refusal, is_full, or_else, own_verdict, server_refusal, unless_refused}
-use Rattle.hall.specs.Step.{committed, numbered, posted_reply, unit_of}
+use Rattle.hall.specs.Step.{Found, call_verdict, committed, is_taken, numbered, posted_reply, stored_anew, unit_of}
 use Rattle.hall.proofs.Beginning.{AgreeWith, IsFirst}
-use Rattle.hall.proofs.ByCall.{OfEach, by_call, by_event}
+use Rattle.hall.proofs.ByCall.{OfEach, by_call, by_event, by_stock, in_doubt_refused}
 use Rattle.hall.proofs.Claims.{held_for}
-use Rattle.hall.proofs.Fair.{step-sound}
-use Rattle.hall.proofs.Few.{Holds, served-holds, with_past}
 use Rattle.hall.proofs.FirstState.{IsFirstTable, first_few, first_open, first_sound, first_steady}
-use Rattle.hall.proofs.Frames.{by_noting, in_doubt, verdict_condition}
+use Rattle.hall.proofs.Frames.{by_noting, verdict_condition, verdict_pending}
 use Rattle.hall.proofs.Fresh.{open_unheard}
 use Rattle.hall.proofs.Heard.{apart_by, apart_by_status, marked_other, numbers_leave, recorded_open, status_in}
+use Rattle.hall.proofs.Landings.{HoldsAll, step_all}
 use Rattle.hall.proofs.LockLists.{Among, among_from, contains_from, filter_source, hands_over, kept_filter}
-use Rattle.hall.proofs.OpenKept.{holds_up, served-open, while_up}
+use Rattle.hall.proofs.OpenKept.{holds_up, while_up}
 use Rattle.hall.proofs.OpenMarks.{entries_beside}
 use Rattle.hall.proofs.Owned.{recorded_here}
 use Rattle.hall.proofs.Recalls.{AnswersFrom, answers_before, answers_behind}
-use Rattle.hall.proofs.WithoutServer.{unserved}
+use Rattle.hall.proofs.WithoutServer.{anew_as_before, unserved}
 
 -- What a call leaves of the units that wait, by its answer: a unit whose wait it doesn't end waits with the same stored locks.
 record Stands (c : Call) (before : Ledger) (r : Reply) (after : Ledger) : Type 0 where
@@ -153,8 +151,12 @@ posted-stands {c} part ledger unit (outcome.Refused index reason) waits =
 abbrev StandsIn : State → Call → Served → Type 0
 StandsIn s call r = Stands call s.stored r.reply r.state.stored
 
-each-stands : (found : Found) (s : State) → IsSteady s → OfEach (λ call v. StandsIn s call (judged s v)) found s
-each-stands found s steady = record {
+-- a restart finds what was stored before, as nothing is in flight
+anew-stands : {c : Call} (taken : Bool) (s : State) (r : Reply) → s.pending ≡ None → Stands c s.stored r (stored_anew taken s.stored s.pending)
+anew-stands {c} taken s r nothing = subst (Stands c s.stored r) (sym (anew_as_before taken s nothing)) (stands_still s.stored r)
+
+each-stands : (found : Found) (s : State) → IsSteady s → s.pending ≡ None → OfEach (λ call v. StandsIn s call (judged s v)) found s
+each-stands found s steady nothing = record {
   refuses = λ call r plain. stands_still s.stored _;
   enters = λ name user free. stands_still s.stored _;
   logs_off = λ name x at. stands_still s.stored _;
@@ -176,7 +178,7 @@ each-stands found s steady = record {
   posts = λ worker part unit e. posted-stands part s.stored unit (found.part part unit) (held_for part s.stored (order_of s.orders worker) unit e).1;
   drops = λ worker unit e. stands_still s.stored _;
   kills = λ up. stands_still s.stored _;
-  restarts = λ none. stands_still s.stored _;
+  restarts = λ off. anew-stands (is_taken found.anew) s _ nothing;
   cancels = λ unit status can. marked-stands s.stored unit mark.Gone _ (λ u. refl);
   reopens = λ unit es here stand. beside-stands s.stored unit mark.Again1 Bad _ here (λ e. cc);
   reposts = λ unit here. beside-stands s.stored unit mark.Again2 BadSecond _ here (λ e. cc);
@@ -189,37 +191,44 @@ ended e = cc
 unfiled-stands : {c : Call} (before after : Ledger) → Stands c before (reply.Refused refusal.BackupFault) after
 unfiled-stands before after = record { waits = λ unit on w. absurd (ended on); same = λ unit on w. absurd (ended on) }
 
-stepped-stands : (s : State) (m : Made) → IsSteady s → StandsIn s (call_of m.call.command) (again s m)
-stepped-stands s m steady =
+-- and where the store fails
+failing-stands : (s : State) (call : Call) → Stands call s.stored (reply.Refused refusal.StoreFault) (without_stock call s).stored
+failing-stands s call =
+    by_stock (λ c t. Stands c s.stored (reply.Refused refusal.StoreFault) t.stored) s
+    (λ name parts stock. stands_still s.stored _) (λ c. stands_still s.stored _) call
+
+stepped-stands : (s : State) (m : Made) → IsSteady s → s.pending ≡ None → StandsIn s (call_of m.call.command) (again s m)
+stepped-stands s m steady nothing =
     let c = m.call.command in
     let Q : Served → Type 0 = StandsIn s (call_of c) in
     let h =
-    by_event Q m.outcome s c (λ found. by_call (λ call v. StandsIn s call (judged s v)) found s (each-stands found s steady) _) (stands_still s.stored _)
-    (λ found. stands_still s.stored _) (λ found. unfiled-stands s.stored _) (λ r. stands_still s.stored _) in
-    by_noting Q m.call.line c (served m.outcome s c) h h
+    by_event Q m.outcome s c (λ found. by_call (λ call v. StandsIn s call (judged s v)) found s (each-stands found s steady nothing) _)
+    (stands_still s.stored _) (λ reading. failing-stands s (call_of c)) (λ reading. unfiled-stands s.stored _) (λ read r. stands_still s.stored _) in
+    by_noting Q m.call.line c (takes_flight m.outcome) (served m.outcome s c) h h
+
+-- ---- nothing is in flight
+
+abbrev QuietUnless : UnitKey → Call → Served → Type 0
+QuietUnless unit call r = ends_wait unit call r.reply ≡ false → r.state.pending ≡ None
+
+-- as long as the store doesn't fail
+stepped-quiet : (unit : UnitKey) (s : State) (m : Made) → s.pending ≡ None → QuietUnless unit (call_of m.call.command) (again s m)
+stepped-quiet unit s m nothing =
+    let c = m.call.command in
+    let Q : Served → Type 0 = QuietUnless unit (call_of c) in
+    let h =
+    by_event Q m.outcome s c (λ found on. verdict_pending (λ o. o ≡ None) found s (call_of c) nothing refl) (λ on. nothing)
+    (λ reading on. absurd (ended on)) (λ reading on. nothing) (λ read r on. nothing) in
+    by_noting Q m.call.line c (takes_flight m.outcome) (served m.outcome s c) h h
 
 -- ---- states that calls lead to
 
 record IsReached (s : State) : Type 0 where
   calls : ℕ
-  holds : Holds calls s
-  sound : HasSoundLocks s
-  open_units : HasOpenUnits s
+  all : HoldsAll calls s
 
 reached_next : (s : State) (m : Made) → IsModelAnswer s m → IsReached s → IsReached (recalled s m)
-reached_next s m answer h =
-    let c = m.call.command in
-    let r = served m.outcome s c in
-    let steady = h.holds.steady in
-    let holds = served-holds h.calls m.outcome s c answer.allowed.call h.sound h.holds in
-    let units = served-open m.outcome s c steady h.sound h.open_units in
-    record {
-      calls = h.calls + 1;
-      holds = by_noting (λ x. Holds (h.calls + 1) x.state) m.call.line c r holds (with_past (h.calls + 1) r.state _ holds);
-      sound = step-sound m.outcome s m.call.line c steady h.sound h.open_units;
-      open_units = by_noting (λ x. HasOpenUnits x.state) m.call.line c r units
-          (record { held = units.held; stored = units.stored; fit = units.fit; pending = units.pending });
-    }
+reached_next s m answer h = record { calls = h.calls + 1; all = step_all h.calls m.outcome s m.call.line m.call.command answer.allowed h.all }
 
 reached_after : (s : State) (ms : List Made) → AnswersFrom s ms → IsReached s → IsReached (state_after s ms)
 reached_after s [] answers h = h
@@ -274,21 +283,11 @@ each-hands unit found s up = record {
   posts = λ worker part other e is told. absurd (no_commit is);
   drops = λ worker other e is told. absurd (no_commit is);
   kills = λ was is told. absurd (no_commit is);
-  restarts = λ none is told. absurd (no_commit is);
+  restarts = λ off is told. absurd (no_commit is);
   cancels = λ other status can is told. absurd (no_commit is);
   reopens = λ other es here stand is told. absurd (no_commit is);
   reposts = λ other here is told. absurd (no_commit is);
 }
-
-refuses-hands : (unit : UnitKey) (found : Found) (s : State) (k : ℕ) (call : Call) → s.condition ≡ condition.Doubt k → HandsIf unit s call (judged s (call_verdict found s call))
-unfolding call_verdict
-refuses-hands unit found s k call down =
-    elim (is_full s) as (λ b. HandsIf unit s call (judged s (unless_refused (or_else (if b then Some refusal.LogFull else in_doubt s.condition) (or_else (caller_refusal s.sessions call) (server_refusal s.condition call))) (own_verdict found s call)))) [
-      | true ↦ λ is told. absurd (no_unit unit _ told)
-      | false ↦
-          subst (λ c. HandsIf unit s call (judged s (unless_refused (or_else (in_doubt c) (or_else (caller_refusal s.sessions call) (server_refusal s.condition call))) (own_verdict found s call)))) (sym down)
-          (λ is told. absurd (no_unit unit _ told))
-    ]
 
 commit_wants : (call : Call) → is_commit call ≡ true → wants_server call ≡ true
 commit_wants (LogsOn name user) is = absurd (no_commit is)
@@ -305,6 +304,19 @@ commit_wants (OfSession name RollsBack) is = absurd (no_commit is)
 commit_wants (OfWorker worker call) is = absurd (no_commit is)
 commit_wants (OfAdmin call) is = absurd (no_commit is)
 
+commit_apart : (call : Call) → is_commit call ≡ true → restarts call ≡ false
+commit_apart (LogsOn name user) is = refl
+commit_apart (OfSession name call) is = refl
+commit_apart (OfWorker worker call) is = refl
+commit_apart (OfAdmin call) is = absurd (no_commit is)
+
+-- in doubt a commit is refused
+doubt-hands : (unit : UnitKey) (found : Found) (s : State) (n : ℕ) (call : Call) → s.condition ≡ condition.Doubt n
+    → HandsIf unit s call (judged s (call_verdict found s call))
+doubt-hands unit found s n call down is =
+    in_doubt_refused (λ v. (judged s v).reply ≡ reply.Unit unit → Hands unit s (judged s v).state) found s n call down
+    (commit_apart call is) (λ r told. absurd (no_unit unit r told))
+
 -- without a server a commit is refused
 alone-hands : (unit : UnitKey) (found : Found) (s : State) (call : Call) → s.condition ≡ condition.NoServer → HandsIf unit s call (judged s (call_verdict found s call))
 alone-hands unit found s call none is =
@@ -313,7 +325,7 @@ alone-hands unit found s call none is =
 hands_in : (k : Condition) (unit : UnitKey) (found : Found) (s : State) (call : Call) → s.condition ≡ k → HandsIf unit s call (judged s (call_verdict found s call))
 hands_in condition.Up unit found s call up = by_call (λ call v. HandsIf unit s call (judged s v)) found s (each-hands unit found s up) call
 hands_in condition.NoServer unit found s call none = alone-hands unit found s call none
-hands_in (condition.Doubt k) unit found s call down = refuses-hands unit found s k call down
+hands_in (condition.Doubt k) unit found s call down = doubt-hands unit found s k call down
 
 verdict-hands : (unit : UnitKey) (found : Found) (s : State) (call : Call) → HandsIf unit s call (judged s (call_verdict found s call))
 verdict-hands unit found s call = hands_in s.condition unit found s call refl
@@ -324,8 +336,8 @@ recalled-hands unit s m answer is =
     let Q : Served → Type 0 = HandsIf unit s (call_of c) in
     let h =
     by_event Q m.outcome s c (λ found. verdict-hands unit found s (call_of c)) (λ is told. absurd (no_unit unit _ told))
-    (λ found is told. absurd (no_unit unit _ told)) (λ found is told. absurd (no_unit unit _ told)) (λ r is told. absurd (no_unit unit _ told)) in
-    by_noting Q m.call.line c (served m.outcome s c) h
+    (λ reading is told. absurd (no_unit unit _ told)) (λ reading is told. absurd (no_unit unit _ told)) (λ read r is told. absurd (no_unit unit _ told)) in
+    by_noting Q m.call.line c (takes_flight m.outcome) (served m.outcome s c) h
     (λ is told. let k = h is told in record { locks = k.locks; waits = record { up = k.waits.up; waits = k.waits.waits } })
     is.commits (answer.reply ∙ is.answered)
 
@@ -357,14 +369,17 @@ record StaysStored (unit : UnitKey) (before after : Ledger) : Type 0 where
   waits : IsOpenUnit after unit
   same : entries_of after.units unit ≡ entries_of before.units unit
 
-stays_stored : (unit : UnitKey) (t : State) (ms : List Made) → IsReached t → AnswersFrom t ms → NoneEndsWait unit ms → IsOpenUnit t.stored unit
+stays_stored : (unit : UnitKey) (t : State) (ms : List Made) → IsReached t → AnswersFrom t ms → NoneEndsWait unit ms → t.pending ≡ None
+    → IsOpenUnit t.stored unit
     → StaysStored unit t.stored (state_after t ms).stored
-stays_stored unit t [] reached answers on waits = record { waits = waits; same = refl }
-stays_stored unit t (m ∷ ms) reached answers on waits =
+stays_stored unit t [] reached answers on nothing waits = record { waits = waits; same = refl }
+stays_stored unit t (m ∷ ms) reached answers on nothing waits =
     let ons = or_parts (ends_wait unit (call_of m.call.command) m.call.reply) _ on in
     let off = ap (ends_wait unit (call_of m.call.command)) answers.0.reply ∙ ons.0 in
-    let stands = stepped-stands t m reached.holds.steady in
-    let rest = stays_stored unit (recalled t m) ms (reached_next t m answers.0 reached) answers.1 ons.1 (stands.waits unit off waits) in
+    let stands = stepped-stands t m reached.all.holds.steady nothing in
+    let rest =
+    stays_stored unit (recalled t m) ms (reached_next t m answers.0 reached) answers.1 ons.1 (stepped-quiet unit t m nothing off)
+    (stands.waits unit off waits) in
     record { waits = rest.waits; same = rest.same ∙ stands.same unit off waits }
 
 restart_of_server : (call : Call) → is_of_server call ≡ false → restarts call ≡ true → ⊥
@@ -385,14 +400,14 @@ recalled-up unit s m answer on off up =
     let v = call_verdict (found_by m.outcome.reading s) s call in
     let Q : Served → Type 0 = λ r. ends_wait unit call r.reply ≡ false → r.state.condition ≡ condition.Up in
     let h : Q (served m.outcome s c) =
-    elim m.outcome.event as (λ e. MayHappen e s call v → Q (ends_in e s call v)) [
+    elim m.outcome.event as (λ e. MayHappen e s call v → Q (ends_in e m.outcome.reading s call v)) [
       | AllWell ↦ λ may told. verdict_condition _ s call off ∙ up
       | Wanting ↦ λ may told. up
       | StoreFails ↦ λ may told. absurd (ended told)
       | BackupFails ↦ λ may told. absurd (ended told)
       | NotRemade r ↦ λ may told. absurd (restart_of_server call off may.1)
     ] answer.allowed.possible.event in
-    by_noting Q m.call.line c (served m.outcome s c) h h (ap (ends_wait unit call) answer.reply ∙ on)
+    by_noting Q m.call.line c (takes_flight m.outcome) (served m.outcome s c) h h (ap (ends_wait unit call) answer.reply ∙ on)
 
 stays_up : (unit : UnitKey) (t : State) (ms : List Made) → AnswersFrom t ms → NoneEndsWait unit ms → NoneOfServer ms
     → t.condition ≡ condition.Up → (state_after t ms).condition ≡ condition.Up
@@ -402,37 +417,45 @@ stays_up unit t (m ∷ ms) answers on off up =
     let offs = or_parts (is_of_server (call_of m.call.command)) _ off in
     stays_up unit (recalled t m) ms answers.1 ons.1 offs.1 (recalled-up unit t m answers.0 ons.0 offs.0 up)
 
+-- while the server is up nothing is in flight
+quiet_up : (t : State) → IsReached t → t.condition ≡ condition.Up → t.pending ≡ None
+quiet_up t reached up = subst (λ c. OutsideDoubt c (t.pending ≡ None)) up reached.all.holds.steady.settled
+
 -- the locks that were stored with it stand where there is a lock server
-stays_locked : (unit : UnitKey) (t : State) (ms : List Made) → IsReached t → AnswersFrom t ms → NoneEndsWait unit ms → IsOpenUnit t.stored unit
+stays_locked : (unit : UnitKey) (t : State) (ms : List Made) → IsReached t → AnswersFrom t ms → NoneEndsWait unit ms → t.pending ≡ None
+    → IsOpenUnit t.stored unit
     → (state_after t ms).condition ≡ condition.Up → (e : Entry) → Among (entries_of t.stored.units unit) e → Contains (state_after t ms).locks e
-stays_locked unit t ms reached answers on waits up e k =
+stays_locked unit t ms reached answers on nothing waits up e k =
     let now = state_after t ms in
-    let stays = stays_stored unit t ms reached answers on waits in
-    let held = holds_up now (reached_after t ms answers reached).open_units up in
+    let stays = stays_stored unit t ms reached answers on nothing waits in
+    let held = holds_up now (reached_after t ms answers reached).all.open_units up in
     contains_from now.locks e (in_table unit now e held stays.waits (subst (λ es. Among es e) (sym stays.same) k))
 
 waits_locked : (unit : UnitKey) (s t : State) (ms : List Made) → Hands unit s t → IsReached t → AnswersFrom t ms → NoneEndsWait unit ms
     → WaitsLocked unit ms s (state_after t ms)
 waits_locked unit s t ms hands reached answers on =
     let waits = hands.waits.waits in
-    let held = holds_up t reached.open_units hands.waits.up in
+    let nothing = quiet_up t reached hands.waits.up in
+    let held = holds_up t reached.all.open_units hands.waits.up in
     record {
-      waits = (stays_stored unit t ms reached answers on waits).waits;
+      waits = (stays_stored unit t ms reached answers on nothing waits).waits;
       up = λ off. stays_up unit t ms answers on off hands.waits.up;
       locks = while_up (state_after t ms).condition (FirmAreHanded unit s (state_after t ms))
           (λ up e firm k.
-          stays_locked unit t ms reached answers on waits up (with_handed e)
+          stays_locked unit t ms reached answers on nothing waits up (with_handed e)
           (in_store unit t (with_handed e) held waits firm.owner (handed-among unit s t e hands.locks firm (among_from s.locks e k))));
     }
 
 returns_locked : (unit : UnitKey) (t : State) (ms : List Made) → StillWaits unit t → IsReached t → AnswersFrom t ms → NoneEndsWait unit ms
     → ReturnsLocked unit ms t (state_after t ms)
-returns_locked unit t ms waits reached answers on = record {
-  waits = (stays_stored unit t ms reached answers on waits.waits).waits;
-  up = λ off. stays_up unit t ms answers on off waits.up;
-  locks = while_up (state_after t ms).condition ((e : Entry) → Contains (entries_of t.stored.units unit) e → Contains (state_after t ms).locks e)
-      (λ up e k. stays_locked unit t ms reached answers on waits.waits up e (among_from (entries_of t.stored.units unit) e k));
-}
+returns_locked unit t ms waits reached answers on =
+    let nothing = quiet_up t reached waits.up in
+    record {
+      waits = (stays_stored unit t ms reached answers on nothing waits.waits).waits;
+      up = λ off. stays_up unit t ms answers on off waits.up;
+      locks = while_up (state_after t ms).condition ((e : Entry) → Contains (entries_of t.stored.units unit) e → Contains (state_after t ms).locks e)
+          (λ up e k. stays_locked unit t ms reached answers on nothing waits.waits up e (among_from (entries_of t.stored.units unit) e k));
+    }
 
 -- ---- whole histories
 
@@ -446,12 +469,15 @@ module _ (limit mark_limit : ℕ) (intervals : List Interval) (told : Bool) (led
   reached_first : IsReached first
   reached_first = record {
     calls = 0;
-    holds = record {
-      few = first_few limit mark_limit intervals told ledger;
-      steady = first_steady limit mark_limit intervals told ledger limited fits agree begun;
+    all = record {
+      holds = record {
+        few = first_few limit mark_limit intervals told ledger;
+        steady = first_steady limit mark_limit intervals told ledger limited fits agree begun;
+      };
+      sound = first_sound limit mark_limit intervals told ledger fits begun;
+      open_units = first_open limit mark_limit intervals told ledger fits begun;
+      landing = tt;
     };
-    sound = first_sound limit mark_limit intervals told ledger fits begun;
-    open_units = first_open limit mark_limit intervals told ledger fits begun;
   }
 
   reached : (earlier later : List Made) → made ≡ earlier ++ later → IsReached (state_after first earlier)
@@ -459,7 +485,7 @@ module _ (limit mark_limit : ℕ) (intervals : List Interval) (told : Bool) (led
 
   -- in each state no two locks of unrelated owners meet and clash
   pub stays_sound : StaysSound (opened limit mark_limit intervals told ledger) made
-  stays_sound earlier later whole = (reached earlier later whole).sound.table.sound
+  stays_sound earlier later whole = (reached earlier later whole).all.sound.table.sound
 
   -- each committed unit waits with its locks until a call ends that
   pub locks_stand : LocksStand (opened limit mark_limit intervals told ledger) made

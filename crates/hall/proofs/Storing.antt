@@ -11,12 +11,10 @@ use Rattle.posting.specs.Shelf.{IsUnmoved, IsUsable, Shelf, StandForEither}
 use Rattle.posting.specs.Steps.{after_step}
 use Rattle.posting.specs.declared.prepared.Step.{Step}
 use Rattle.update_records.specs.Ledger.{Ledger, StandFor}
-use Rattle.hall.specs.Flights.{landed}
 use Rattle.hall.specs.Leaving.{HasStoreCause, KeepsStore}
 use Rattle.hall.specs.Storing.{EndsAs, StaysAsItWas, TriesStep}
 use Rattle.hall.specs.declared.command.Reply.{Reply}
 use Rattle.hall.specs.declared.command.Reply.TheVariants as reply
-use Rattle.hall.specs.declared.units.InFlight.{InFlight}
 use Rattle.hall.specs.Acts.{OnStoreFailure, written_reply}
 use Rattle.hall.specs.declared.units.Written.{Written}
 use Rattle.hall.specs.declared.units.Written.TheVariants.{Answered, Failed, Unfiled}
@@ -80,8 +78,8 @@ module _ {K : Type 0} (held : K → Option Rows) (is_open : K → Type 0) (may_l
   }
 
   -- the store failed, with a change in flight that is the step
-  pub failed_ends : (old new : Shelf K) (step : Step) (change : InFlight) → TriesStep held is_open may_leave faults old new step (Err fault.Failed)
-      → after_step old.ledger step ≡ landed old.ledger change → EndsAs held is_open may_leave faults old new (Failed (Some change))
+  pub failed_ends : (old new : Shelf K) (step : Step) (change : Step) → TriesStep held is_open may_leave faults old new step (Err fault.Failed)
+      → after_step old.ledger step ≡ after_step old.ledger change → EndsAs held is_open may_leave faults old new (Failed (Some change))
   failed_ends old new step change tried is = record {
     ledger = tried.kept;
     usable = tt;

@@ -34,7 +34,7 @@ use Rattle.hall.specs.Sessions.{owners_of}
 use Rattle.hall.specs.State.{State}
 use Rattle.hall.specs.Step.{ask_refusal, to_resubmit}
 use Rattle.hall.specs.declared.command.Command.TheVariants as command
-use Rattle.hall.specs.declared.units.InFlight.TheVariants as flight
+use Rattle.posting.specs.declared.prepared.Step.TheVariants.{Note}
 use Rattle.hall.proofs.Calls.{of_table}
 use Rattle.hall.proofs.Filing.{AgreesBoth, half_written_files, refused_files}
 use Rattle.hall.proofs.Leaves.{refused_keeps}
@@ -108,9 +108,9 @@ module _ {D : Type 0} (tells : Bool) (reads : D → List ℕ) (may_leave : D →
 
   -- the store failed, and the file has the unit's list
   pub again_agrees : (ledger now : Ledger) (unit : UnitKey) (es : List Entry) (old new : BackupView D) → HasOpenLists tells reads may_leave ledger old → now ≡ ledger → may_follow (status_of ledger.units ledger.marks unit) Again1 ≡ true → AllByRecursion HasGoodLocks ledger.units → es ≡ entries_of ledger.units unit
-      → (IsTrue tells → (lists : List Handed) → IsReady reads may_leave old lists → IsReady reads may_leave new (with_list unit es lists)) → AgreesBoth tells reads may_leave faults now (Some (flight.Again unit 1)) new
+      → (IsTrue tells → (lists : List Handed) → IsReady reads may_leave old lists → IsReady reads may_leave new (with_list unit es lists)) → AgreesBoth tells reads may_leave faults now (Some (Note unit Again1)) new
   again_agrees ledger now unit es old new has is may good same listed =
-      subst (λ l. AgreesBoth tells reads may_leave faults l (Some (flight.Again unit 1)) new) (sym is)
+      subst (λ l. AgreesBoth tells reads may_leave faults l (Some (Note unit Again1)) new) (sym is)
       (λ t.
       let h = has.ready t in (
         with_list unit es h.lists,

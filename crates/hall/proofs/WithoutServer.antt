@@ -1,5 +1,5 @@
 -- Calls that want no lock server, and those that are refused where there is none.
-use Rattle.std.proofs.Common.{◌≡◌, ◌≤◌, ℕ, length, List, [], ◌∷◌, true, false, refl, sym, ap, ◌∙◌, subst}
+use Rattle.std.proofs.Common.{◌≡◌, ◌≤◌, ℕ, length, Bool, List, [], ◌∷◌, true, false, refl, sym, ap, ◌∙◌, subst}
 use Rattle.std.specs.Prelude.{if◌then◌else◌, nat_eq, nat_le, Option, Some, None}
 use Rattle.std.specs.List.{AllByRecursion}
 use Rattle.std.proofs.lemmas.Bool.{false≢true}
@@ -30,7 +30,7 @@ use Rattle.hall.specs.OpenUnits.{HoldsOpenUnits, IsOpenIfHanded, IsOpenOwner, op
 use Rattle.hall.specs.Orders.{order_of}
 use Rattle.hall.specs.Sessions.{with_draw, with_session}
 use Rattle.hall.specs.State.{State}
-use Rattle.hall.specs.Step.{Found, Verdict, Refuses, barred, call_verdict, caller_refusal, or_else, own_verdict, server_refusal, unavailable, unless_refused}
+use Rattle.hall.specs.Step.{Found, Verdict, Refuses, barred, call_verdict, caller_refusal, is_taken, or_else, own_verdict, server_refusal, stored_anew, unavailable, unless_refused}
 use Rattle.enq_base.specs.declared.owner.Owner.{Owner}
 use Rattle.enq_base.specs.declared.owner.Owner.TheVariants.{Dlg, Upd}
 use Rattle.posting.specs.Posts.{entries_of}
@@ -63,7 +63,7 @@ pub unserved : (Q : Verdict → Type 0) (found : Found) (s : State) (call : Call
 unfolding call_verdict
 unserved Q found s call none wants refuse =
     some_refusal Q (unavailable s call) (own_verdict found s call)
-    (λ e. not_alone s.condition call none wants (none_later (caller_refusal s.sessions call) _ (none_later (barred s) _ e))) refuse
+    (λ e. not_alone s.condition call none wants (none_later (caller_refusal s.sessions call) _ (none_later (barred s call) _ e))) refuse
 
 -- ---- the open units behind a call that wants none
 
@@ -95,9 +95,15 @@ posted_same : (part : ℕ) (ledger : Ledger) (unit : UnitKey) (o : Outcome) → 
 posted_same part ledger unit o e waits =
     subst (λ kind. SameOpen ledger (with_mark ledger unit kind)) (second_kind part o e) (second_same ledger unit o (second_waits part ledger unit e waits))
 
+-- where nothing is in flight a restart finds what was stored before
+pub anew_as_before : (taken : Bool) (s : State) → s.pending ≡ None → stored_anew taken s.stored s.pending ≡ s.stored
+anew_as_before true s none = ap (stored_anew true s.stored) none
+anew_as_before false s none = refl
+
 -- the units that wait for their V1 part are the same behind it
-pub leaves_open : (found : Found) (s : State) → OfEach (λ call v. wants_server call ≡ false → SameOpen s.stored (judged s v).state.stored) found s
-leaves_open found s = record {
+pub leaves_open : (found : Found) (s : State) → s.pending ≡ None
+    → OfEach (λ call v. wants_server call ≡ false → SameOpen s.stored (judged s v).state.stored) found s
+leaves_open found s nothing = record {
   refuses = λ call r plain e. same_self s.stored;
   enters = λ name user free e. same_self s.stored;
   logs_off = λ name x at e. no_wish e;
@@ -119,7 +125,7 @@ leaves_open found s = record {
   posts = λ worker part unit is e. posted_same part s.stored unit (found.part part unit) e (held_for part s.stored (order_of s.orders worker) unit is).1;
   drops = λ worker unit is e. same_self s.stored;
   kills = λ up e. no_wish e;
-  restarts = λ none e. same_self s.stored;
+  restarts = λ off e. subst (SameOpen s.stored) (sym (anew_as_before (is_taken found.anew) s nothing)) (same_self s.stored);
   cancels = λ unit status can e. no_wish e;
   reopens = λ unit es here stand e. no_wish e;
   reposts = λ unit here e. no_wish e;

@@ -46,10 +46,9 @@ use Rattle.hall.specs.declared.command.Command.TheVariants as command
 use Rattle.hall.specs.declared.command.Reply.{Reply}
 use Rattle.hall.specs.declared.command.Reply.TheVariants as reply
 use Rattle.hall.specs.declared.command.Session.{Session}
-use Rattle.hall.specs.declared.units.InFlight.TheVariants as flight
 use Rattle.hall.specs.Acts.{Admits, IsAct, locks_posted, post_of}
-use Rattle.hall.specs.Calls.{OfSession, OfWorker, Commits, Posts, Reads, call_of, only_reads, writes_store_first}
-use Rattle.hall.specs.Devices.{AllWell, BackupFails, Comes, IsTold, MayRead, Shows, StoreFails, found_by, may_want, only, uses_file, uses_store}
+use Rattle.hall.specs.Calls.{OfAdmin, OfSession, OfWorker, Cancels, Commits, Posts, Reads, Resubmits, call_of, only_reads, writes_store_first}
+use Rattle.hall.specs.Devices.{AllWell, AsKnown, BackupFails, Comes, IsTold, MayRead, Shows, StoreFails, found_by, may_want, only, uses_file, uses_store}
 use Rattle.hall.specs.Filing.{is_open}
 use Rattle.enq_server.specs.Server.{lasting}
 use Rattle.enq_base.specs.declared.unit.Status.TheVariants as status
@@ -58,8 +57,7 @@ use Rattle.hall.proofs.Cancels.{can_be}
 use Rattle.hall.proofs.Resubmissions.{can_be_tried}
 use Rattle.std.proofs.lemmas.Bool.{and_from}
 use Rattle.hall.specs.Coming.{MayComeTo, outcome_in, outcome_of}
-use Rattle.hall.specs.Flights.{landed}
-use Rattle.hall.specs.History.{Served, doubted, judged, pending_after, refused, stored_before_file, unfiled}
+use Rattle.hall.specs.History.{Served, doubted, is_unread, judged, pending_after, refused, stored_before_file, unfiled, without_stock}
 use Rattle.hall.specs.Kept.{HasItsUser, IsAhead, OfLock}
 use Rattle.hall.specs.Orders.{first_unclaimed, is_claimed, order_for, order_of}
 use Rattle.hall.specs.Sessions.{is_called, owners_of, session_at, unit_key, with_next_unit, with_session, without_draws}
@@ -275,26 +273,50 @@ applied_told (x ∷ effects) index tables e =
       | Err reason ↦ λ h. refused_told index reason h
     ] e
 
--- the change in flight that a prepared post is
-landed_post : (part : ℕ) (ledger old : Ledger) (said : Step) (unit : UnitKey) (o : Outcome) → ledger ≡ old → said ≡ Note unit (kind_for part o) → o ≡ outcome_in old part unit → after_step ledger said ≡ landed ledger (flight.Post unit part)
-landed_post part ledger old said unit o same is h =
-    ap (after_step ledger) is ∙ ap (λ x. with_mark ledger unit (kind_for part x)) (h ∙ ap (λ l. outcome_in l part unit) (sym same))
+-- the store fails behind what a part came to
+failed_post : (part : ℕ) (c : Command) (s : State) (worker : ℕ) (unit : UnitKey) (o : Outcome) → call_of c ≡ OfWorker worker (Posts part) → Admits s c → order_for part s.stored s.orders worker ≡ Some unit → is_store_full s ≡ false → MayComeTo s.told s.stored part unit o
+    → IsAct s c (doubted (without_stock (call_of c) s) (call_of c) None (Some (with_mark s.stored unit (kind_for part o)))) (reply.Refused refusal.StoreFault)
+failed_post part c s worker unit o posts room at space may =
+    let found = found_by (Comes o) s in
+    let v = admitted found s c room ∙ own_post part c found s worker (Some unit) posts at ∙ fits s _ space in
+    let call = call_of c in
+    record {
+      outcome = record { event = StoreFails; reading = Comes o };
+      possible = record {
+        reading = subst (MayRead (Comes o) s) (sym posts) (subst (λ x. IfSome x (λ u. MayComeTo s.told s.stored part u o)) (sym at) may);
+        event = (ap leaves v, ap (uses_store s) posts);
+      };
+      same = ap (λ w. refused (doubted (without_stock call s) call None (pending_after (Comes o) s call w)) refusal.StoreFault) v
+          ∙ ap (λ b. refused (doubted (without_stock call s) call None (if b then s.pending else Some (with_mark s.stored unit (kind_for part o)))) refusal.StoreFault)
+          (λ i. only_reads (posts i) || is_unread (Comes o) (posts i));
+    }
 
-pub landed_where_told : (part : ℕ) (told : Option Rows) (ledger old : Ledger) (said : Step) (unit : UnitKey) (o : Outcome) → ledger ≡ old → said ≡ Note unit (kind_for part o) → IfSome told (λ _. IsOutcome (applied (effects_of part old.units unit) (tables_of old.units old.marks)) o) → IfSome told (λ _. after_step ledger said ≡ landed ledger (flight.Post unit part))
-landed_where_told part None ledger old said unit o same is h = tt
-landed_where_told part (Some rows) ledger old said unit o same is h = landed_post part ledger old said unit o same is (outcome_is _ o h)
+pub posts_in_doubt : (part : ℕ) (s : State) (told : Bool) (orders : List (Option UnitKey)) (ledger : Ledger) (limit worker : ℕ) (unit : UnitKey) (o : Outcome) → IsPart part → s.told ≡ told → s.orders ≡ orders → s.stored ≡ ledger → s.mark_limit ≡ limit → Admits s (post_of part worker) → order_for part ledger orders worker ≡ Some unit → nat_le limit (length ledger.marks) ≡ false → MayComeTo told ledger part unit o
+    → IsAct s (post_of part worker) (doubted (without_stock (call_of (post_of part worker)) s) (call_of (post_of part worker)) None (Some (with_mark s.stored unit (kind_for part o)))) (reply.Refused refusal.StoreFault)
+posts_in_doubt part s told orders ledger limit worker unit o is t e g m room found space may =
+    let may' : MayComeTo s.told s.stored part unit o = subst (λ x. MayComeTo x s.stored part unit o) (sym t) (subst (λ l. MayComeTo told l part unit o) (sym g) may) in
+    failed_post part (post_of part worker) s worker unit o (posts_part part worker is) room (held part s ledger orders worker (Some unit) g e found) (full_as s limit ledger false m g space) may'
 
-pub posts_in_doubt : (part : ℕ) (s : State) (orders : List (Option UnitKey)) (ledger : Ledger) (limit worker : ℕ) (unit : UnitKey) → IsPart part → s.orders ≡ orders → s.stored ≡ ledger → s.mark_limit ≡ limit → Admits s (post_of part worker) → order_for part ledger orders worker ≡ Some unit → nat_le limit (length ledger.marks) ≡ false → IsAct s (post_of part worker) (doubted s (Some (landed s.stored (flight.Post unit part)))) (reply.Refused refusal.StoreFault)
-posts_in_doubt part s orders ledger limit worker unit is e g m room found space =
+-- the rows weren't read by which it is posted: nothing is in flight then
+pub posts_unread : (part : ℕ) (s : State) (orders : List (Option UnitKey)) (ledger : Ledger) (limit worker : ℕ) (unit : UnitKey) → IsPart part → s.orders ≡ orders → s.stored ≡ ledger → s.mark_limit ≡ limit → s.pending ≡ None → Admits s (post_of part worker) → order_for part ledger orders worker ≡ Some unit → nat_le limit (length ledger.marks) ≡ false
+    → IsAct s (post_of part worker) (doubted (without_stock (call_of (post_of part worker)) s) (call_of (post_of part worker)) None None) (reply.Refused refusal.StoreFault)
+posts_unread part s orders ledger limit worker unit is e g m none room found space =
     let c = post_of part worker in
+    let call = call_of c in
     let o = outcome_in s.stored part unit in
     let by = posts_part part worker is in
-    fails s c (marked part s worker unit (kind_for part o)) (posted_reply part unit o) room
-    (own_post part c (found_in s) s worker (Some unit) by (held part s ledger orders worker (Some unit) g e found) ∙ fits s _ (full_as s limit ledger false m g space))
-    (ap (uses_store s) by) (ap only_reads by)
+    let v = admitted (found_in s) s c room ∙ own_post part c (found_in s) s worker (Some unit) by (held part s ledger orders worker (Some unit) g e found) ∙ fits s _ (full_as s limit ledger false m g space) in
+    record {
+      outcome = only StoreFails;
+      possible = record { reading = tt; event = (ap leaves v, ap (uses_store s) by) };
+      same = ap (λ w. refused (doubted (without_stock call s) call None (pending_after AsKnown s call w)) refusal.StoreFault) v
+          ∙ ap (λ b. refused (doubted (without_stock call s) call None (if b then s.pending else Some (with_mark s.stored unit (kind_for part o)))) refusal.StoreFault)
+          (λ i. only_reads (by i) || is_unread AsKnown (by i))
+          ∙ ap (λ q. refused (doubted (without_stock call s) call None q) refusal.StoreFault) none;
+    }
 
 -- the disk fails behind the mark of a V1 part that comes to this
-unfiled_post : (part : ℕ) (c : Command) (s : State) (worker : ℕ) (unit : UnitKey) (o : Outcome) → call_of c ≡ OfWorker worker (Posts part) → nat_eq part 1 ≡ true → Admits s c → order_for part s.stored s.orders worker ≡ Some unit → is_store_full s ≡ false → MayComeTo s.told s.stored part unit o → IsAct s c (unfiled s (with_mark s.stored unit (kind_for part o))) (reply.Refused refusal.BackupFault)
+unfiled_post : (part : ℕ) (c : Command) (s : State) (worker : ℕ) (unit : UnitKey) (o : Outcome) → call_of c ≡ OfWorker worker (Posts part) → nat_eq part 1 ≡ true → Admits s c → order_for part s.stored s.orders worker ≡ Some unit → is_store_full s ≡ false → MayComeTo s.told s.stored part unit o → IsAct s c (unfiled s (call_of c) None (with_mark s.stored unit (kind_for part o))) (reply.Refused refusal.BackupFault)
 unfiled_post part c s worker unit o posts first room at space may =
     let found = found_by (Comes o) s in
     let v = admitted found s c room ∙ own_post part c found s worker (Some unit) posts at ∙ fits s _ space in
@@ -304,15 +326,15 @@ unfiled_post part c s worker unit o posts first room at space may =
         reading = subst (MayRead (Comes o) s) (sym posts) (subst (λ x. IfSome x (λ u. MayComeTo s.told s.stored part u o)) (sym at) may);
         event = (ap leaves v, ap (uses_file s) posts ∙ first);
       };
-      same = ap (λ w. refused (unfiled s (stored_before_file s (call_of c) w)) refusal.BackupFault) v
-          ∙ ap (λ b. refused (unfiled s (if b then with_mark s.stored unit (kind_for part o) else s.stored)) refusal.BackupFault) (ap writes_store_first posts);
+      same = ap (λ w. refused (unfiled s (call_of c) None (stored_before_file s (call_of c) w)) refusal.BackupFault) v
+          ∙ ap (λ b. refused (unfiled s (call_of c) None (if b then with_mark s.stored unit (kind_for part o) else s.stored)) refusal.BackupFault) (ap writes_store_first posts);
     }
 
-pub posts_unfiled : (part : ℕ) (s : State) (told : Bool) (orders : List (Option UnitKey)) (ledger new : Ledger) (limit worker : ℕ) (unit : UnitKey) (o : Outcome) → IsPart part → nat_eq part 1 ≡ true → s.told ≡ told → s.orders ≡ orders → s.stored ≡ ledger → s.mark_limit ≡ limit → Admits s (post_of part worker) → order_for part ledger orders worker ≡ Some unit → nat_le limit (length ledger.marks) ≡ false → MayComeTo told ledger part unit o → new ≡ with_mark ledger unit (kind_for part o) → IsAct s (post_of part worker) (unfiled s new) (reply.Refused refusal.BackupFault)
+pub posts_unfiled : (part : ℕ) (s : State) (told : Bool) (orders : List (Option UnitKey)) (ledger new : Ledger) (limit worker : ℕ) (unit : UnitKey) (o : Outcome) → IsPart part → nat_eq part 1 ≡ true → s.told ≡ told → s.orders ≡ orders → s.stored ≡ ledger → s.mark_limit ≡ limit → Admits s (post_of part worker) → order_for part ledger orders worker ≡ Some unit → nat_le limit (length ledger.marks) ≡ false → MayComeTo told ledger part unit o → new ≡ with_mark ledger unit (kind_for part o) → IsAct s (post_of part worker) (unfiled s (call_of (post_of part worker)) None new) (reply.Refused refusal.BackupFault)
 posts_unfiled part s told orders ledger new limit worker unit o is first t e g m room found space may c =
     let g' : with_mark s.stored unit (kind_for part o) ≡ new = ap (λ l. with_mark l unit (kind_for part o)) g ∙ sym c in
     let may' : MayComeTo s.told s.stored part unit o = subst (λ x. MayComeTo x s.stored part unit o) (sym t) (subst (λ l. MayComeTo told l part unit o) (sym g) may) in
-    subst (λ l. IsAct s (post_of part worker) (unfiled s l) (reply.Refused refusal.BackupFault)) g'
+    subst (λ l. IsAct s (post_of part worker) (unfiled s (call_of (post_of part worker)) None l) (reply.Refused refusal.BackupFault)) g'
     (unfiled_post part (post_of part worker) s worker unit o (posts_part part worker is) first room (held part s ledger orders worker (Some unit) g e found) (full_as s limit ledger false m g space) may')
 
 pub posts_wanting : (part : ℕ) (s : State) (orders : List (Option UnitKey)) (entries : List Entry) (ledger new : Ledger) (worker : ℕ) (unit : UnitKey) → IsPart part → s.orders ≡ orders → (nat_eq part 1 ≡ true → s.locks ≡ entries) → s.stored ≡ ledger → new ≡ ledger → Admits s (post_of part worker) → order_for part ledger orders worker ≡ Some unit → IsAct s (post_of part worker) (record s { orders = orders; locks = locks_posted part s.locks entries; stored = new }) (reply.Refused refusal.NoMemory)
@@ -347,7 +369,7 @@ cancels s orders entries left ledger new limit unit status e f g m room h a b =
     at_state _ _ (cancelled s unit status) _ _ (λ i. record s { locks = f' i; stored = g' i })
     (leaves_as s (command.Cancel unit) (cancelled s unit status) (reply.Unit unit) room (own_cancel s orders ledger limit unit (Ok status) e g m h))
 
-pub cancels_in_doubt : (s : State) (orders : List (Option UnitKey)) (ledger : Ledger) (limit : ℕ) (unit : UnitKey) (status : Status) → s.orders ≡ orders → s.stored ≡ ledger → s.mark_limit ≡ limit → Admits s (command.Cancel unit) → to_cancel ledger orders limit unit ≡ Ok status → IsAct s (command.Cancel unit) (doubted s (Some (landed s.stored (flight.Cancel unit)))) (reply.Refused refusal.StoreFault)
+pub cancels_in_doubt : (s : State) (orders : List (Option UnitKey)) (ledger : Ledger) (limit : ℕ) (unit : UnitKey) (status : Status) → s.orders ≡ orders → s.stored ≡ ledger → s.mark_limit ≡ limit → Admits s (command.Cancel unit) → to_cancel ledger orders limit unit ≡ Ok status → IsAct s (command.Cancel unit) (doubted s (OfAdmin (Cancels unit)) None (Some (with_mark s.stored unit Gone))) (reply.Refused refusal.StoreFault)
 cancels_in_doubt s orders ledger limit unit status e g m room h =
     fails s (command.Cancel unit) (cancelled s unit status) (reply.Unit unit) room (own_cancel s orders ledger limit unit (Ok status) e g m h) refl refl
 
@@ -359,9 +381,9 @@ open_status status.Closed h = cc
 open_status status.Bad2 h = cc
 open_status status.Cancelled h = cc
 
-pub cancels_unfiled : (s : State) (orders : List (Option UnitKey)) (ledger new : Ledger) (limit : ℕ) (unit : UnitKey) (found : Status) → s.orders ≡ orders → s.stored ≡ ledger → s.mark_limit ≡ limit → Admits s (command.Cancel unit) → to_cancel ledger orders limit unit ≡ Ok found → is_open found ≡ true → new ≡ with_mark ledger unit Gone → IsAct s (command.Cancel unit) (unfiled s new) (reply.Refused refusal.BackupFault)
+pub cancels_unfiled : (s : State) (orders : List (Option UnitKey)) (ledger new : Ledger) (limit : ℕ) (unit : UnitKey) (found : Status) → s.orders ≡ orders → s.stored ≡ ledger → s.mark_limit ≡ limit → Admits s (command.Cancel unit) → to_cancel ledger orders limit unit ≡ Ok found → is_open found ≡ true → new ≡ with_mark ledger unit Gone → IsAct s (command.Cancel unit) (unfiled s (call_of (command.Cancel unit)) None new) (reply.Refused refusal.BackupFault)
 cancels_unfiled s orders ledger new limit unit found e g m room h waits b =
-    subst (λ l. IsAct s (command.Cancel unit) (unfiled s l) (reply.Refused refusal.BackupFault)) (ap (λ l. with_mark l unit Gone) g ∙ sym b)
+    subst (λ l. IsAct s (command.Cancel unit) (unfiled s (call_of (command.Cancel unit)) None l) (reply.Refused refusal.BackupFault)) (ap (λ l. with_mark l unit Gone) g ∙ sym b)
     (fails_filing s (command.Cancel unit) (cancelled s unit found) (reply.Unit unit) room (own_cancel s orders ledger limit unit (Ok found) e g m h)
     (ap (λ (l : Ledger). has_status status.Open (status_of l.units l.marks unit)) g ∙ ap (has_status status.Open) (can_be ledger orders limit unit found h).recorded ∙ open_status found waits))
 
@@ -387,7 +409,7 @@ reposts s entries ledger new limit unit f g m room h b =
     at_state _ _ (reposted s unit) _ _ (λ i. record s { locks = f i; stored = g' i })
     (leaves_as s (command.Resubmit unit) (reposted s unit) (reply.Unit unit) room (own_resubmit s ledger limit unit (Ok Bad2) g m h))
 
-pub reposts_in_doubt : (s : State) (ledger : Ledger) (limit : ℕ) (unit : UnitKey) → s.stored ≡ ledger → s.mark_limit ≡ limit → Admits s (command.Resubmit unit) → to_resubmit ledger limit unit ≡ Ok Bad2 → IsAct s (command.Resubmit unit) (doubted s (Some (landed s.stored (flight.Again unit 2)))) (reply.Refused refusal.StoreFault)
+pub reposts_in_doubt : (s : State) (ledger : Ledger) (limit : ℕ) (unit : UnitKey) → s.stored ≡ ledger → s.mark_limit ≡ limit → Admits s (command.Resubmit unit) → to_resubmit ledger limit unit ≡ Ok Bad2 → IsAct s (command.Resubmit unit) (doubted s (OfAdmin (Resubmits unit)) None (Some (with_mark s.stored unit Again2))) (reply.Refused refusal.StoreFault)
 reposts_in_doubt s ledger limit unit g m room h =
     fails s (command.Resubmit unit) (reposted s unit) (reply.Unit unit) room (own_resubmit s ledger limit unit (Ok Bad2) g m h) refl refl
 
@@ -403,16 +425,16 @@ reopens s t ledger new limit unit left f l g m room h stand b =
     at_state _ _ (reopened s unit left) _ _ (λ i. record s { locks = left; stored = g' i })
     (leaves_as s (command.Resubmit unit) (reopened s unit left) (reply.Unit unit) room (own_reopen s t ledger limit unit (Ok left) f l g m h stand))
 
-pub reopens_in_doubt : (s : State) (t : Table) (ledger : Ledger) (limit : ℕ) (unit : UnitKey) (left : List Entry) → s.locks ≡ t.entries → s.limit ≡ t.limit → s.stored ≡ ledger → s.mark_limit ≡ limit → Admits s (command.Resubmit unit) → to_resubmit ledger limit unit ≡ Ok Bad → readmitted t (owners_of unit) (entries_of ledger.units unit) ≡ Ok left → IsAct s (command.Resubmit unit) (doubted s (Some (landed s.stored (flight.Again unit 1)))) (reply.Refused refusal.StoreFault)
+pub reopens_in_doubt : (s : State) (t : Table) (ledger : Ledger) (limit : ℕ) (unit : UnitKey) (left : List Entry) → s.locks ≡ t.entries → s.limit ≡ t.limit → s.stored ≡ ledger → s.mark_limit ≡ limit → Admits s (command.Resubmit unit) → to_resubmit ledger limit unit ≡ Ok Bad → readmitted t (owners_of unit) (entries_of ledger.units unit) ≡ Ok left → IsAct s (command.Resubmit unit) (doubted s (OfAdmin (Resubmits unit)) None (Some (with_mark s.stored unit Again1))) (reply.Refused refusal.StoreFault)
 reopens_in_doubt s t ledger limit unit left f l g m room h stand =
     fails s (command.Resubmit unit) (reopened s unit left) (reply.Unit unit) room (own_reopen s t ledger limit unit (Ok left) f l g m h stand) refl refl
 
 some_written : (n : ℕ) → 1 ≤ n → nat_lt 0 n ≡ true
 some_written n h = grind (arith, nat_tests)
 
-pub reopens_unfiled : (s : State) (t : Table) (ledger new : Ledger) (limit : ℕ) (unit : UnitKey) (left : List Entry) → s.locks ≡ t.entries → s.limit ≡ t.limit → s.stored ≡ ledger → s.mark_limit ≡ limit → Admits s (command.Resubmit unit) → to_resubmit ledger limit unit ≡ Ok Bad → readmitted t (owners_of unit) (entries_of ledger.units unit) ≡ Ok left → 1 ≤ length (entries_of ledger.units unit) → new ≡ ledger → IsAct s (command.Resubmit unit) (unfiled s new) (reply.Refused refusal.BackupFault)
+pub reopens_unfiled : (s : State) (t : Table) (ledger new : Ledger) (limit : ℕ) (unit : UnitKey) (left : List Entry) → s.locks ≡ t.entries → s.limit ≡ t.limit → s.stored ≡ ledger → s.mark_limit ≡ limit → Admits s (command.Resubmit unit) → to_resubmit ledger limit unit ≡ Ok Bad → readmitted t (owners_of unit) (entries_of ledger.units unit) ≡ Ok left → 1 ≤ length (entries_of ledger.units unit) → new ≡ ledger → IsAct s (command.Resubmit unit) (unfiled s (call_of (command.Resubmit unit)) None new) (reply.Refused refusal.BackupFault)
 reopens_unfiled s t ledger new limit unit left f l g m room h stand some b =
-    subst (λ x. IsAct s (command.Resubmit unit) (unfiled s x) (reply.Refused refusal.BackupFault)) (g ∙ sym b)
+    subst (λ x. IsAct s (command.Resubmit unit) (unfiled s (call_of (command.Resubmit unit)) None x) (reply.Refused refusal.BackupFault)) (g ∙ sym b)
     (fails_filing s (command.Resubmit unit) (reopened s unit left) (reply.Unit unit) room (own_reopen s t ledger limit unit (Ok left) f l g m h stand)
     ((λ i. let x : Ledger = g i in nat_lt 0 (length (if has_status status.Bad (status_of x.units x.marks unit) then entries_of x.units unit else [])))
     ∙ ap (λ o. nat_lt 0 (length (if has_status status.Bad o then entries_of ledger.units unit else []))) (can_be_tried ledger limit unit Bad h).recorded
@@ -473,13 +495,14 @@ reads_wanting s sessions ledger new name table key x e g room at kept =
     (is_wanting s (command.Read name table key) room.served refl)
 
 -- a read that failed leaves no change in flight
-pub reads_in_doubt : (s : State) (sessions : List Session) (name table key : List ℕ) (x : Session) → s.sessions ≡ sessions → s.pending ≡ None → Admits s (command.Read name table key) → session_at sessions name ≡ Some x → IsAct s (command.Read name table key) (doubted s None) (reply.Refused refusal.StoreFault)
+pub reads_in_doubt : (s : State) (sessions : List Session) (name table key : List ℕ) (x : Session) → s.sessions ≡ sessions → s.pending ≡ None → Admits s (command.Read name table key) → session_at sessions name ≡ Some x → IsAct s (command.Read name table key) (doubted s (OfSession name (Reads table key)) None None) (reply.Refused refusal.StoreFault)
 reads_in_doubt s sessions name table key x e none room at =
     let v = admitted (found_in s) s (command.Read name table key) room ∙ own_read (found_in s) s sessions name table key x e at in
     record {
       outcome = only StoreFails;
       possible = record { reading = tt; event = (ap leaves v, refl) };
-      same = ap (λ w. refused (doubted s (pending_after s (OfSession name (Reads table key)) w)) refusal.StoreFault) v ∙ ap (λ p. refused (doubted s p) refusal.StoreFault) none;
+      same = ap (λ w. refused (doubted s (OfSession name (Reads table key)) None (pending_after AsKnown s (OfSession name (Reads table key)) w)) refusal.StoreFault) v
+          ∙ ap (λ p. refused (doubted s (OfSession name (Reads table key)) None p) refusal.StoreFault) none;
     }
 
 -- ---- commits
@@ -611,11 +634,11 @@ module _ (s : State) (sessions : List Session) (ranges : List NumberRange) (entr
 
   pub commits_in_doubt : is_too_much numbers parts ≡ false → nat_eq (effects_in parts) 0 ≡ false → is_nothing numbers parts ≡ false → nat_le limit (length ledger.marks) ≡ false
       → (unit : UnitOfWork) (levels : List StoredInterval) → unit ≡ the_unit → levels ≡ the_levels
-      → IsAct s (command.Commit name parts stock) (doubted s (Some (with_intervals levels (with_unit s.stored unit)))) (reply.Refused refusal.StoreFault)
+      → IsAct s (command.Commit name parts stock) (doubted (stocked stock s) (OfSession name (Commits parts stock)) None (Some (with_intervals levels (with_unit s.stored unit)))) (reply.Refused refusal.StoreFault)
   commits_in_doubt few effects some space unit levels is rows =
       let same : unit_of s.stored.start s.locks x parts numbers ≡ unit = (λ i. let l : Ledger = at.own_ledger i in unit_of l.start (at.own_locks i) x parts numbers) ∙ sym is in
       let same_rows : settled_rows s.stored.levels s.ranges numbers ≡ levels = (λ i. let l : Ledger = at.own_ledger i in settled_rows l.levels (at.own_ranges i) numbers) ∙ sym rows in
-      subst (λ (w : Ledger). IsAct s (command.Commit name parts stock) (doubted s (Some w)) (reply.Refused refusal.StoreFault)) (λ i. with_intervals (same_rows i) (with_unit s.stored (same i)))
+      subst (λ (w : Ledger). IsAct s (command.Commit name parts stock) (doubted (stocked stock s) (OfSession name (Commits parts stock)) None (Some w)) (reply.Refused refusal.StoreFault)) (λ i. with_intervals (same_rows i) (with_unit s.stored (same i)))
       (fails s (command.Commit name parts stock) (stocked stock (committed s x parts numbers)) _ at.admits (leaves_unit few effects some space) (uses_to_commit some) refl)
 
   not_none : (n : ℕ) → nat_eq n 0 ≡ false → 1 ≤ n
@@ -631,9 +654,9 @@ module _ (s : State) (sessions : List Session) (ranges : List NumberRange) (entr
 
   pub commits_unfiled : is_too_much numbers parts ≡ false → nat_eq (effects_in parts) 0 ≡ false → is_nothing numbers parts ≡ false → nat_le limit (length ledger.marks) ≡ false
       → (key : UnitKey) → key ≡ unit_key ledger.start x → 1 ≤ length (lasting key entries) → (new : Ledger) → new ≡ ledger
-      → IsAct s (command.Commit name parts stock) (unfiled s new) (reply.Refused refusal.BackupFault)
+      → IsAct s (command.Commit name parts stock) (unfiled s (call_of (command.Commit name parts stock)) None new) (reply.Refused refusal.BackupFault)
   commits_unfiled few effects some space key k lasts new b =
-      subst (λ l. IsAct s (command.Commit name parts stock) (unfiled s l) (reply.Refused refusal.BackupFault)) (at.own_ledger ∙ sym b)
+      subst (λ l. IsAct s (command.Commit name parts stock) (unfiled s (call_of (command.Commit name parts stock)) None l) (reply.Refused refusal.BackupFault)) (at.own_ledger ∙ sym b)
       (fails_filing s (command.Commit name parts stock) (stocked stock (committed s x parts numbers)) _ at.admits (leaves_unit few effects some space)
       (uses_to_hand effects (subst (λ u. 1 ≤ length (lasting u entries)) k lasts)))
 
@@ -655,10 +678,10 @@ module _ (s : State) (sessions : List Session) (ranges : List NumberRange) (entr
 
   pub numbers_in_doubt : is_too_much numbers parts ≡ false → nat_eq (effects_in parts) 0 ≡ true → is_nothing numbers parts ≡ false → nat_le limit (length ledger.marks) ≡ false
       → (levels : List StoredInterval) → levels ≡ the_levels
-      → IsAct s (command.Commit name parts stock) (doubted s (Some (with_intervals levels (with_mark s.stored (unit_key s.stored.start x) (Num numbers))))) (reply.Refused refusal.StoreFault)
+      → IsAct s (command.Commit name parts stock) (doubted (stocked stock s) (OfSession name (Commits parts stock)) None (Some (with_intervals levels (with_mark s.stored (unit_key s.stored.start x) (Num numbers))))) (reply.Refused refusal.StoreFault)
   numbers_in_doubt few alone some space levels rows =
       let same_rows : settled_rows s.stored.levels s.ranges numbers ≡ levels = (λ i. let l : Ledger = at.own_ledger i in settled_rows l.levels (at.own_ranges i) numbers) ∙ sym rows in
-      subst (λ (ls : List StoredInterval). IsAct s (command.Commit name parts stock) (doubted s (Some (with_intervals ls (with_mark s.stored (unit_key s.stored.start x) (Num numbers))))) (reply.Refused refusal.StoreFault)) same_rows
+      subst (λ (ls : List StoredInterval). IsAct s (command.Commit name parts stock) (doubted (stocked stock s) (OfSession name (Commits parts stock)) None (Some (with_intervals ls (with_mark s.stored (unit_key s.stored.start x) (Num numbers))))) (reply.Refused refusal.StoreFault)) same_rows
       (fails s (command.Commit name parts stock) (stocked stock (numbered s x numbers)) _ at.admits (leaves_numbers few alone some space) (uses_to_commit some) refl)
 
 -- the unit of a session that is logged on may be recorded

@@ -1,12 +1,19 @@
 -- A call apart from its place in the history.
-use Rattle.std.specs.Prelude.{◌≡◌, ℕ, ◌+◌, nat_eq, List, Option, None, if◌then◌else◌}
+use Rattle.std.specs.Prelude.{◌≡◌, ℕ, ◌+◌, Bool, nat_eq, List, Option, Some, None, Ok, if◌then◌else◌}
 use Rattle.std.specs.Option.{option_map}
 use Rattle.enq_base.specs.declared.condition.Condition.{Condition}
 use Rattle.enq_base.specs.declared.condition.Condition.TheVariants as condition
-use Rattle.hall.specs.declared.units.InFlight.{InFlight}
+use Rattle.hall.specs.declared.units.Failure.{Failure}
 use Rattle.enq_base.specs.declared.refusal.Refusal.TheVariants as refusal
 use Rattle.enq_base.specs.declared.unit.Num.{Num}
+use Rattle.enq_base.specs.declared.owner.UnitKey.{UnitKey}
+use Rattle.enq_base.specs.declared.unit.Status.TheVariants.{Bad}
+use Rattle.lock_entry.specs.Granting.{readmitted}
+use Rattle.lock_entry.specs.Table.{Table}
 use Rattle.lock_entry.specs.declared.entry.Entry.{Entry}
+use Rattle.posting.specs.Posts.{entries_of}
+use Rattle.update_records.specs.Ledger.{Ledger}
+use Rattle.update_records.specs.Marks.{status_of}
 use Rattle.range_list.specs.Drawn.{passed}
 use Rattle.range_list.specs.declared.range.NumberRange.{NumberRange}
 use Rattle.hall.specs.declared.command.Command.{Command}
@@ -17,8 +24,9 @@ use Rattle.hall.specs.declared.units.Written.{Written}
 use Rattle.hall.specs.declared.units.Written.TheVariants.{Answered, Failed, Unfiled}
 use Rattle.hall.specs.Calls.{call_of}
 use Rattle.hall.specs.Devices.{DeviceOutcome, IsPossible}
-use Rattle.hall.specs.Flights.{landed}
-use Rattle.hall.specs.History.{doubted, served, unfiled}
+use Rattle.posting.specs.Steps.{after_step}
+use Rattle.hall.specs.History.{doubted, served, takes_flight, unfiled, without_stock}
+use Rattle.hall.specs.Sessions.{owners_of}
 use Rattle.hall.specs.State.{State}
 use Rattle.hall.specs.Step.{unavailable}
 
@@ -27,6 +35,11 @@ pub record IsAct (s : State) (c : Command) (after : State) (r : Reply) : Type 0 
   pub outcome : DeviceOutcome
   pub possible : IsPossible outcome s c
   pub same : served outcome s c ≡ record { state = after; reply = r }
+
+-- and as a restart that was done it has found the change in flight in the store, or not
+pub record IsTelling (s : State) (c : Command) (found : Bool) (after : State) (r : Reply) : Type 0 where
+  pub act : IsAct s c after r
+  pub taken : takes_flight act.outcome ≡ found
 
 -- nothing bars the call
 pub record Admits (s : State) (c : Command) : Type 0 where
@@ -48,8 +61,8 @@ locks_posted part before now = if nat_eq part 1 then now else before
 abbrev pub IsWritten : State → Command → State → Written → Type 0
 IsWritten s c after (Answered r) = IsAct s c after r
 IsWritten s c after (Failed change) =
-    IsAct s c (doubted s (option_map (landed s.stored) change)) (reply.Refused refusal.StoreFault)
-IsWritten s c after Unfiled = IsAct s c (unfiled s after.stored) (reply.Refused refusal.BackupFault)
+    IsAct s c (doubted (without_stock (call_of c) s) (call_of c) None (option_map (after_step s.stored) change)) (reply.Refused refusal.StoreFault)
+IsWritten s c after Unfiled = IsAct s c (unfiled s (call_of c) None after.stored) (reply.Refused refusal.BackupFault)
 
 -- where the store fails, or the disk of the backup file
 abbrev pub OnFailure : Written → Type 0 → Type 0
@@ -63,11 +76,11 @@ OnStoreFailure (Answered r) P = Unit {0}
 OnStoreFailure (Failed change) P = P
 OnStoreFailure Unfiled P = Unit {0}
 
--- memory goes behind the numbers of a stock that were recorded
+-- memory goes behind the numbers of a stock that were recorded, or that the store may have where it failed
 abbrev pub ranges_behind : List Num → List NumberRange → Written → List NumberRange
 ranges_behind stock ranges (Answered (reply.Refused r)) = ranges
 ranges_behind stock ranges (Answered r) = passed stock ranges
-ranges_behind stock ranges (Failed change) = ranges
+ranges_behind stock ranges (Failed change) = passed stock ranges
 ranges_behind stock ranges Unfiled = ranges
 
 abbrev pub OnAnswer : Written → Type 0 → Type 0
@@ -86,7 +99,13 @@ written_condition before calls (Answered r) = before
 written_condition before calls (Failed change) = condition.Doubt (calls + 1)
 written_condition before calls Unfiled = condition.Doubt (calls + 1)
 
-abbrev pub written_pending : Option InFlight → Written → Option InFlight
-written_pending before (Answered r) = before
-written_pending before (Failed change) = change
-written_pending before Unfiled = before
+-- the change in flight, and the session in whose call the device failed, if a session made it
+abbrev pub written_failure : Failure → Option (List ℕ) → Written → Failure
+written_failure before caller (Answered r) = before
+written_failure before caller (Failed change) = record before { pending = change; caller = caller }
+written_failure before caller Unfiled = record before { caller = caller }
+
+-- the locks that are stored with a unit whose V1 part was refused stand again
+pub record IsRegained (ledger : Ledger) (unit : UnitKey) (before : Table) (now : List Entry) : Type 0 where
+  pub refused : status_of ledger.units ledger.marks unit ≡ Some Bad
+  pub regained : readmitted before (owners_of unit) (entries_of ledger.units unit) ≡ Ok now

@@ -125,6 +125,7 @@ ends_unit call = false
 -- a call that only reads leaves no change in flight where the store fails
 abbrev pub only_reads : Call → Bool
 only_reads (OfSession session (Reads table key)) = true
+only_reads (OfAdmin Restarts) = true
 only_reads call = false
 
 -- ---- what calls do to the store
@@ -142,10 +143,9 @@ worker_touches_store call = false
 
 abbrev pub admin_touches_store : AdminCall → Bool
 admin_touches_store Kills = false
-admin_touches_store Restarts = false
 admin_touches_store call = true
 
--- the calls that read rows of the store, or write some where they aren't refused
+-- the calls that read rows of the store, or write some where they aren't refused; of these a restart only in doubt
 abbrev pub touches_store : Call → Bool
 touches_store (LogsOn session user) = false
 touches_store (OfSession session call) = session_touches_store call

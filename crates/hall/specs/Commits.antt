@@ -17,7 +17,7 @@ use Rattle.update_records.specs.declared.records.Unit.{Unit as UnitOfWork}
 use Rattle.update_records.specs.declared.stored.StoredInterval.{StoredInterval}
 use Rattle.hall.specs.declared.command.Reply.TheVariants as reply
 use Rattle.hall.specs.declared.command.Session.{Session}
-use Rattle.hall.specs.declared.units.InFlight.TheVariants as flight
+use Rattle.posting.specs.declared.prepared.Step.TheVariants as step
 use Rattle.hall.specs.declared.units.Written.{Written}
 use Rattle.hall.specs.declared.units.Written.TheVariants.{Answered, Failed, Unfiled}
 use Rattle.hall.specs.Sessions.{with_next_unit, with_session, without_draws}
@@ -37,7 +37,7 @@ RecordsUnit old new entries left ledger now name unit levels (Answered (reply.Un
     × (now ≡ with_intervals levels (with_unit ledger unit))
 RecordsUnit old new entries left ledger now name unit levels (Answered (reply.Refused refusal.NoMemory)) =
     (new ≡ old) × (left ≡ entries) × (now ≡ ledger)
-RecordsUnit old new entries left ledger now name unit levels (Failed (Some (flight.Unit recorded rows))) =
+RecordsUnit old new entries left ledger now name unit levels (Failed (Some (step.Record recorded rows))) =
     (recorded ≡ unit) × (rows ≡ levels)
 RecordsUnit old new entries left ledger now name unit levels Unfiled =
     (now ≡ ledger) × (1 ≤ length (lasting unit.key entries))
@@ -49,6 +49,6 @@ RecordsNumbers old new ledger now name unit numbers levels (Answered reply.Done)
     (new ≡ with_session name without_draws old) × (now ≡ with_intervals levels (with_mark ledger unit (Num numbers)))
 RecordsNumbers old new ledger now name unit numbers levels (Answered (reply.Refused refusal.NoMemory)) =
     (new ≡ old) × (now ≡ ledger)
-RecordsNumbers old new ledger now name unit numbers levels (Failed (Some (flight.Numbers key drawn rows))) =
+RecordsNumbers old new ledger now name unit numbers levels (Failed (Some (step.Draw key drawn rows))) =
     (key ≡ unit) × (drawn ≡ numbers) × (rows ≡ levels)
 RecordsNumbers old new ledger now name unit numbers levels _ = ⊥

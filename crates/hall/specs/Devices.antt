@@ -1,6 +1,8 @@
 -- What the devices do in a call, and which of it may be.
-use Rattle.std.specs.Prelude.{◌≡◌, ℕ, Bool, true, false, ◌&&◌, ◌||◌, ◌++◌, nat_eq, nat_lt, length, List, [], if◌then◌else◌, Option, None, IfSome, IsTrue, is_ok, is_some}
+use Rattle.std.specs.Prelude.{◌≡◌, ℕ, Bool, true, false, ◌&&◌, ◌||◌, ◌++◌, nat_eq, nat_lt, length, List, [], if◌then◌else◌, Option, Some, None, IfSome, IsTrue, is_ok, is_some}
 use Rattle.enq_base.specs.declared.condition.BackupBad.{BackupBad}
+use Rattle.enq_base.specs.declared.condition.Condition.{Condition}
+use Rattle.enq_base.specs.declared.condition.Condition.TheVariants as condition
 use Rattle.enq_base.specs.declared.condition.Bad.TheVariants as bad
 use Rattle.enq_base.specs.declared.owner.UnitKey.{UnitKey}
 use Rattle.enq_base.specs.declared.refusal.Refusal.{Refusal}
@@ -23,6 +25,7 @@ use Rattle.range_list.specs.Levels.{present, range_at}
 use Rattle.range_list.specs.declared.range.NumberRange.{NumberRange}
 use Rattle.std.specs.Option.{option_map_or}
 use Rattle.hall.specs.Coming.{MayComeTo}
+use Rattle.hall.specs.Kept.{IsInFlight}
 use Rattle.hall.specs.Orders.{order_for}
 use Rattle.hall.specs.State.{State}
 use Rattle.hall.specs.Stocks.{MayCall}
@@ -36,17 +39,22 @@ pub data Reading : Type 0 where
   Comes : Outcome → Reading
   -- a row has this text, or isn't there
   Shows : Option (List ℕ) → Reading
+  -- a restart read the store anew, and has found the change in flight, or not
+  Reopens : Bool → Reading
 
 -- why no lock server could be made anew, but for a failure of the disk
 pub data RemakeFault : Type 0 where
-  -- memory was wanting behind the first call of the disk
+  -- memory was wanting behind the first call of a device
   MeetsWant : RemakeFault
   -- the backup file isn't good
   FindsBad : BackupBad → RemakeFault
+  -- The store isn't good, at this row of this table; or it has neither what it had nor the change in flight, and then both are 0.
+  FindsBadStore : (table row : ℕ) → RemakeFault
 
 abbrev pub fault_told : RemakeFault → Refusal
 fault_told MeetsWant = refusal.NoMemory
 fault_told (FindsBad place) = refusal.Unsound (bad.Backup place)
+fault_told (FindsBadStore table row) = refusal.Unsound (bad.Store table row)
 
 -- what went wrong
 pub data Event : Type 0 where
@@ -89,6 +97,7 @@ abbrev pub found_by : Reading → State → Found
 found_by AsKnown s = found_in s
 found_by (Comes outcome) s = record (found_in s) { part = λ part unit. outcome }
 found_by (Shows text) s = record (found_in s) { row = λ table key. text }
+found_by (Reopens taken) s = record (found_in s) { anew = Some taken }
 
 -- ---- what may have been read
 
@@ -102,10 +111,20 @@ abbrev pub MayPost : ℕ → Outcome → State → ℕ → Type 0
 MayPost part outcome s worker =
     IfSome (order_for part s.stored s.orders worker) (λ unit. MayComeTo s.told s.stored part unit outcome)
 
+-- it is as it was known before, if it was
+abbrev pub IsAsBefore : Option Bool → Bool → Type 0
+IsAsBefore found taken = IfSome found (λ known. taken ≡ known)
+
+-- a store that is read anew has the change in flight, or not
+pub record MayFind (s : State) (taken : Bool) : Type 0 where
+  pub flight : IsTrue taken → IsInFlight s.stored s.pending
+  pub known : IsAsBefore s.found taken
+
 abbrev pub MayRead : Reading → State → Call → Type 0
 MayRead AsKnown s call = Unit {0}
 MayRead (Comes outcome) s (OfWorker worker (Posts part)) = MayPost part outcome s worker
 MayRead (Shows text) s (OfSession session (Reads table key)) = IsTold s.told (text ≡ row_in s.stored table key)
+MayRead (Reopens taken) s (OfAdmin Restarts) = MayFind s taken
 MayRead reading s call = ⊥
 
 -- ---- what may have gone wrong
@@ -127,8 +146,18 @@ session_reaches_store s (Draws object nr) = raises_level s (Draws object nr)
 session_reaches_store s (Reserves object nr upto) = raises_level s (Reserves object nr upto)
 session_reaches_store s call = session_touches_store call
 
+abbrev pub is_doubt : Condition → Bool
+is_doubt (condition.Doubt k) = true
+is_doubt k = false
+
+-- a restart reads the store in doubt alone
+abbrev pub admin_reaches_store : State → AdminCall → Bool
+admin_reaches_store s Restarts = is_doubt s.condition
+admin_reaches_store s call = admin_touches_store call
+
 abbrev pub reaches_store : State → Call → Bool
 reaches_store s (OfSession session call) = session_reaches_store s call
+reaches_store s (OfAdmin call) = admin_reaches_store s call
 reaches_store s call = touches_store call
 
 -- there are numbers to record
@@ -146,12 +175,12 @@ worker_uses_store (Posts part) = true
 worker_uses_store call = false
 
 -- the calls that write the store or read it: a block of numbers, a row, a unit with effects, numbers that are recorded, a
--- part of a unit, and all that is done to one
+-- part of a unit, and all that is done to one; and a restart in doubt
 abbrev pub uses_store : State → Call → Bool
 uses_store s (LogsOn session user) = false
 uses_store s (OfSession session call) = session_uses_store s session call
 uses_store s (OfWorker worker call) = worker_uses_store call
-uses_store s (OfAdmin call) = admin_touches_store call
+uses_store s (OfAdmin call) = admin_reaches_store s call
 
 -- the session's open unit has locks to hand over, and something to record
 abbrev pub hands_over : State → List ℕ → Parts → Bool

@@ -1,5 +1,5 @@
 -- What the backup file has, and what a stop may leave of it.
-use Rattle.std.specs.Prelude.{ℕ, ◌≡◌, ◌≤◌, ◌⊎◌, Bool, true, false, if◌then◌else◌, List, Option, Result, IsTrue, OnErr, OnOk}
+use Rattle.std.specs.Prelude.{ℕ, ◌≡◌, ◌≤◌, ◌⊎◌, Bool, true, false, if◌then◌else◌, List, Option, Some, None, Result, IsTrue, OnErr, OnOk}
 use Rattle.enq_base.specs.declared.condition.Condition.{Condition}
 use Rattle.std.specs.Option.{option_map}
 use Rattle.backup_file.specs.Backup.{BackupView, IsReady, IsSame}
@@ -20,7 +20,7 @@ use Rattle.lock_entry.specs.declared.entry.Entry.{Entry}
 use Rattle.posting.specs.Views.{open_locks}
 use Rattle.update_records.specs.Ledger.{Ledger}
 use Rattle.hall.specs.Acts.{OnAnswer, written_reply}
-use Rattle.hall.specs.Flights.{landed}
+use Rattle.posting.specs.Steps.{after_step}
 use Rattle.hall.specs.Kept.{OutsideDoubt}
 use Rattle.hall.specs.OpenUnits.{AgreeAll, AreOpenLists, OfPending}
 use Rattle.hall.specs.State.{View}
@@ -41,22 +41,36 @@ pub record HasOpenLists {D : Type 0} (tells : Bool) (reads : D → List ℕ) (ma
   pub usable : file.failed ≡ false
   pub ready : IsTrue tells → IsReadyFor reads may_leave ledger file
 
--- An image stands for lists with which the open units agree, those of what the store has and those of the change in flight.
--- Outside doubt there are no others.
-pub record RecoversFrom (condition : Condition) (stored : Ledger) (pending : Option Ledger) (image : List ℕ) : Type 0 where
+-- what holds unless the change in flight is known to be in the store
+abbrev pub UnlessTaken : Option Bool → Type 0 → Type 0
+UnlessTaken None P = P
+UnlessTaken (Some false) P = P
+UnlessTaken (Some true) P = Unit {0}
+
+-- or is known not to be there
+abbrev pub UnlessUntaken : Option Bool → Type 0 → Type 0
+UnlessUntaken None P = P
+UnlessUntaken (Some false) P = Unit {0}
+UnlessUntaken (Some true) P = P
+
+-- An image stands for lists with which the open units agree, those of what the store has and those of the change in flight,
+-- but for what it is known not to have. Outside doubt there are no others.
+pub record RecoversFrom (condition : Condition) (stored : Ledger) (pending : Option Ledger) (found : Option Bool) (image : List ℕ) : Type 0 where
   pub lists : List Handed
   pub stands : Stands image lists
-  pub agree : AgreeAll stored lists
-  pub landed : OfPending pending (λ ledger. AgreeAll ledger lists)
+  pub agree : UnlessTaken found (AgreeAll stored lists)
+  pub landed : UnlessUntaken found (OfPending pending (λ ledger. AgreeAll ledger lists))
   pub only : OutsideDoubt condition (lists ≡ lists_among (open_locks stored) lists)
 
 -- where the disk tells its bytes, so does each image that a stop may leave
-abbrev pub AllRecover : {D : Type 0} → (tells : Bool) → (D → List ℕ → Type 0) → Condition → Ledger → Option Ledger → BackupView D → Type 0
-AllRecover tells may_leave condition stored pending file =
-    IsTrue tells → (image : List ℕ) → may_leave file.disk image → RecoversFrom condition stored pending image
+abbrev pub AllRecover :
+    {D : Type 0} → (tells : Bool) → (D → List ℕ → Type 0) → Condition → Ledger → Option Ledger → Option Bool → BackupView D → Type 0
+AllRecover tells may_leave condition stored pending found file =
+    IsTrue tells → (image : List ℕ) → may_leave file.disk image → RecoversFrom condition stored pending found image
 
 abbrev pub LeavesLists : {K D L : Type 0} → (tells : Bool) → (D → List ℕ → Type 0) → View K D L → Type 0
-LeavesLists tells may_leave view = AllRecover tells may_leave view.state.condition view.state.stored view.state.pending view.file
+LeavesLists tells may_leave view =
+    AllRecover tells may_leave view.state.condition view.state.stored view.state.pending view.state.found view.file
 
 -- ---- what a call does to it
 
@@ -88,7 +102,7 @@ DoesFile faults false old new r = new ≡ old
 abbrev pub AgreeWritten : Ledger → List Handed → Written → Type 0
 AgreeWritten ledger lists (written.Answered r) = AreOpenLists ledger lists
 AgreeWritten ledger lists (written.Failed change) =
-    AgreeAll ledger lists × OfPending (option_map (landed ledger) change) (λ l. AgreeAll l lists)
+    AgreeAll ledger lists × OfPending (option_map (after_step ledger) change) (λ l. AgreeAll l lists)
 AgreeWritten ledger lists written.Unfiled = AgreeAll ledger lists
 
 -- the image stands for such lists
@@ -149,7 +163,7 @@ pub record KeepsUnits (ledger now : Ledger) : Type 0 where
 -- a call that writes a level at most
 abbrev pub ChangesLevels : (ledger now : Ledger) → Written → Type 0
 ChangesLevels ledger now (written.Answered r) = KeepsUnits ledger now
-ChangesLevels ledger now (written.Failed change) = KeepsUnits ledger now × OfPending (option_map (landed now) change) (KeepsUnits ledger)
+ChangesLevels ledger now (written.Failed change) = KeepsUnits ledger now × OfPending (option_map (after_step now) change) (KeepsUnits ledger)
 ChangesLevels ledger now written.Unfiled = ⊥
 
 -- ---- its end

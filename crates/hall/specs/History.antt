@@ -1,16 +1,19 @@
 -- A call with what the devices did in it, and the history that calls make.
-use Rattle.std.specs.Prelude.{◌≡◌, ◌⊎◌, ℕ, ◌+◌, Bool, true, false, if◌then◌else◌, [], ◌∷◌, ◌++◌, length, Option, Some, None, IsTrue}
+use Rattle.std.specs.Prelude.{◌≡◌, ◌⊎◌, ℕ, ◌+◌, ◌||◌, Bool, true, false, if◌then◌else◌, List, [], ◌∷◌, ◌++◌, length, Option, Some, None, IsTrue}
 use Rattle.enq_base.specs.declared.condition.Condition.TheVariants as condition
 use Rattle.enq_base.specs.declared.refusal.Refusal.{Refusal}
 use Rattle.enq_base.specs.declared.refusal.Refusal.TheVariants as refusal
+use Rattle.lock_entry.specs.declared.entry.Entry.{Entry}
 use Rattle.hall.specs.declared.command.After.{After}
 use Rattle.hall.specs.declared.command.Command.{Command}
 use Rattle.hall.specs.declared.command.PastEntry.{PastEntry}
 use Rattle.hall.specs.declared.command.Reply.{Reply}
 use Rattle.hall.specs.declared.command.Reply.TheVariants as reply
-use Rattle.hall.specs.Calls.{Call, call_of, only_reads, who_of, writes_store_first}
+use Rattle.hall.specs.Calls.{Call, OfSession, OfWorker, Commits, Posts, call_of, only_reads, who_of, writes_store_first}
 use Rattle.hall.specs.Devices.{DeviceOutcome, Event, AllWell, Wanting, StoreFails, BackupFails, NotRemade, IsAllowed, fault_told, found_by}
-use Rattle.hall.specs.State.{State}
+use Rattle.hall.specs.Devices.{Reading, AsKnown, Comes, Shows, Reopens}
+use Rattle.hall.specs.Numbers.{stocked}
+use Rattle.hall.specs.State.{State, unhanded}
 use Rattle.hall.specs.Step.{Verdict, Refuses, Leaves, call_verdict}
 use Rattle.update_records.specs.Ledger.{Ledger}
 
@@ -27,41 +30,76 @@ abbrev pub judged : State → Verdict → Served
 judged s (Refuses r) = refused s r
 judged s (Leaves after r) = record { state = after; reply = r }
 
+-- what the sessions had of the table, or where there was none any more of the one before
+abbrev pub gone_behind : State → List Entry
+gone_behind s =
+    elim s.condition [ condition.Up ↦ unhanded s.locks | condition.NoServer ↦ s.gone | condition.Doubt k ↦ s.gone ]
+
+-- the session that makes this call; any other call leaves the one before
+abbrev pub caller_behind : Option (List ℕ) → Call → Option (List ℕ)
+caller_behind before (OfSession session call) = Some session
+caller_behind before call = before
+
+-- what was read, or else what was known before
+abbrev pub known_behind : Option Bool → Option Bool → Option Bool
+known_behind before None = before
+known_behind before (Some taken) = Some taken
+
 -- In doubt since this call, whose place in the history it has. The table and the replica are gone, and the store may have
--- what is pending.
-abbrev pub doubted : State → Option Ledger → State
-doubted s pending =
+-- what is pending, unless the call has read which it is.
+abbrev pub doubted : State → Call → Option Bool → Option Ledger → State
+doubted s call read pending =
     record s {
       condition = condition.Doubt (length s.past + 1);
       locks = [];
       copy = None;
-      gone = [];
+      gone = gone_behind s;
+      failed_caller = caller_behind s.failed_caller call;
       pending = pending;
+      found = known_behind s.found read;
     }
 
--- what the store may have where it fails: the change that the call makes, or where it makes none what was pending before
-abbrev pub pending_after : State → Call → Verdict → Option Ledger
-pending_after s call (Refuses r) = s.pending
-pending_after s call (Leaves after r) = if only_reads call then s.pending else Some after.stored
+-- numbers of a stock that were about to be recorded aren't handed out again
+abbrev pub without_stock : Call → State → State
+without_stock (OfSession session (Commits parts stock)) s = stocked stock s
+without_stock call s = s
+
+-- the rows weren't read by which a part of a unit is posted
+abbrev pub is_unread : Reading → Call → Bool
+is_unread AsKnown (OfWorker worker (Posts part)) = true
+is_unread reading call = false
+
+-- What the store may have where it fails: the change that the call makes, or where it makes none what was pending before. A
+-- post makes none before it has read.
+abbrev pub pending_after : Reading → State → Call → Verdict → Option Ledger
+pending_after reading s call (Refuses r) = s.pending
+pending_after reading s call (Leaves after r) =
+    if only_reads call || is_unread reading call then s.pending else Some after.stored
 
 -- the disk failed: the mark of a post or of a cancelling stands already, and of any other call there is none
-abbrev pub unfiled : State → Ledger → State
-unfiled s stored = record (doubted s s.pending) { stored = stored }
+abbrev pub unfiled : State → Call → Option Bool → Ledger → State
+unfiled s call read stored = record (doubted s call read s.pending) { stored = stored }
 
 abbrev pub stored_before_file : State → Call → Verdict → Ledger
 stored_before_file s call (Refuses r) = s.stored
 stored_before_file s call (Leaves after r) = if writes_store_first call then after.stored else s.stored
 
--- a call's end, by what went wrong, and by what the call comes to
-abbrev pub ends_in : Event → State → Call → Verdict → Served
-ends_in AllWell s call v = judged s v
-ends_in Wanting s call v = refused s refusal.NoMemory
-ends_in StoreFails s call v = refused (doubted s (pending_after s call v)) refusal.StoreFault
-ends_in BackupFails s call v = refused (unfiled s (stored_before_file s call v)) refusal.BackupFault
-ends_in (NotRemade fault) s call v = refused (doubted s s.pending) (fault_told fault)
+-- what a restart has read of the change in flight
+abbrev pub read_anew : Reading → Option Bool
+read_anew (Reopens taken) = Some taken
+read_anew reading = None
+
+-- a call's end, by what went wrong, what was read, and what the call comes to
+abbrev pub ends_in : Event → Reading → State → Call → Verdict → Served
+ends_in AllWell reading s call v = judged s v
+ends_in Wanting reading s call v = refused s refusal.NoMemory
+ends_in StoreFails reading s call v =
+    refused (doubted (without_stock call s) call None (pending_after reading s call v)) refusal.StoreFault
+ends_in BackupFails reading s call v = refused (unfiled s call (read_anew reading) (stored_before_file s call v)) refusal.BackupFault
+ends_in (NotRemade fault) reading s call v = refused (doubted s call (read_anew reading) s.pending) (fault_told fault)
 
 abbrev pub served : DeviceOutcome → State → Command → Served
-served o s c = ends_in o.event s (call_of c) (call_verdict (found_by o.reading s) s (call_of c))
+served o s c = ends_in o.event o.reading s (call_of c) (call_verdict (found_by o.reading s) s (call_of c))
 
 -- a call that finds the history full is not in it, nor is one that finds no unit to take
 abbrev pub is_unrecorded : Reply → Bool
@@ -78,27 +116,44 @@ is_row _ = false
 abbrev pub IsGiven : Reply → Reply → Type 0
 IsGiven made given = (given ≡ made) ⊎ (IsTrue (is_row made) × (given ≡ reply.Refused refusal.NoMemory))
 
--- what stands after a call; there is no replica yet, and a restart finds no change in flight
-abbrev pub after_of : State → After
-after_of s = record { condition = s.condition; attached = false; taken = false }
+-- a restart has found the change in flight in the store
+abbrev pub finds_flight : Reading → Bool
+finds_flight AsKnown = false
+finds_flight (Comes outcome) = false
+finds_flight (Shows text) = false
+finds_flight (Reopens taken) = taken
+
+-- and was done
+abbrev pub takes_flight : DeviceOutcome → Bool
+takes_flight o = elim o.event [
+  | AllWell ↦ finds_flight o.reading
+  | Wanting ↦ false
+  | StoreFails ↦ false
+  | BackupFails ↦ false
+  | NotRemade fault ↦ false
+]
+
+-- what stands after a call; there is no replica yet
+abbrev pub after_of : Bool → State → After
+after_of taken s = record { condition = s.condition; attached = false; taken = taken }
 
 -- what the history keeps of a call
 abbrev pub entry_of : ℕ → Command → Reply → After → PastEntry
 entry_of line c r after = record { who = who_of c; line = line; command = c; reply = r; after = after }
 
-abbrev pub past_entry : ℕ → Command → Served → PastEntry
-past_entry line c r = entry_of line c r.reply (after_of r.state)
+abbrev pub past_entry : ℕ → Command → Bool → Served → PastEntry
+past_entry line c taken r = entry_of line c r.reply (after_of taken r.state)
 
 -- the call goes last into the history
-abbrev pub with_entry : ℕ → Command → Served → State
-with_entry line c r = record r.state { past = r.state.past ++ past_entry line c r ∷ [] }
+abbrev pub with_entry : ℕ → Command → Bool → Served → State
+with_entry line c taken r = record r.state { past = r.state.past ++ past_entry line c taken r ∷ [] }
 
-abbrev pub noted : ℕ → Command → Served → Served
-noted line c r = if is_unrecorded r.reply then r else record r { state = with_entry line c r }
+abbrev pub noted : ℕ → Command → Bool → Served → Served
+noted line c taken r = if is_unrecorded r.reply then r else record r { state = with_entry line c taken r }
 
 -- one call, of this line of the script
 abbrev pub step : DeviceOutcome → State → ℕ → Command → Served
-step o s line c = noted line c (served o s c)
+step o s line c = noted line c (takes_flight o) (served o s c)
 
 -- the state and the answer after a call are those of a step, with some outcome that may be
 pub record IsStep (old new : State) (line : ℕ) (c : Command) (r : Reply) : Type 0 where

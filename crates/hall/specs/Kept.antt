@@ -1,6 +1,6 @@
 -- What a state that calls lead to keeps.
-use Rattle.std.specs.Prelude.{◌≡◌, ◌⊎◌, ℕ, ◌+◌, ◌^◌, ◌≤◌, ◌<◌, Bool, true, false, not, ◌&&◌, nat_eq}
-use Rattle.std.specs.Prelude.{List, [], ◌∷◌, length, map, count_by, Option, Some, None}
+use Rattle.std.specs.Prelude.{◌≡◌, ◌≢◌, ◌⊎◌, ℕ, ◌+◌, ◌^◌, ◌≤◌, ◌<◌, Bool, true, false, not, ◌&&◌, nat_eq}
+use Rattle.std.specs.Prelude.{List, [], ◌∷◌, length, map, count_by, Option, Some, None, IfSome, IsSomeAnd, IsTrue}
 use Rattle.std.specs.List.{AllByRecursion, list_all}
 use Rattle.enq_base.specs.declared.condition.Condition.{Condition}
 use Rattle.enq_base.specs.declared.condition.Condition.TheVariants as condition
@@ -24,7 +24,7 @@ use Rattle.update_records.specs.declared.records.Unit.{Unit as UnitOfWork}
 use Rattle.hall.specs.declared.command.Session.{Session}
 use Rattle.hall.specs.OpenUnits.{HoldsOpenUnits, OfPending, open_entries}
 use Rattle.hall.specs.Orders.{is_claimed}
-use Rattle.hall.specs.Sessions.{is_called, owners_of}
+use Rattle.hall.specs.Sessions.{is_called, is_caller, owners_of}
 use Rattle.hall.specs.State.{State}
 
 -- the session's open unit has at most this number
@@ -155,6 +155,13 @@ OutsideDoubt condition.Up P = P
 OutsideDoubt condition.NoServer P = P
 OutsideDoubt (condition.Doubt k) P = Unit {0}
 
+-- a change is in flight that makes a difference
+abbrev pub IsInFlight : Ledger → Option Ledger → Type 0
+IsInFlight stored pending = IsSomeAnd pending (λ changed. changed ≢ stored)
+
+abbrev pub IsKnownRight : Option Bool → Ledger → Option Ledger → Type 0
+IsKnownRight found stored pending = IfSome found (λ taken. IsTrue taken → IsInFlight stored pending)
+
 pub record IsSteady (s : State) : Type 0 where
   pub started : 1 ≤ s.stored.start
   pub limited : s.mark_limit ≤ 1048576
@@ -162,8 +169,12 @@ pub record IsSteady (s : State) : Type 0 where
   pub named : HaveOwnNames s.sessions
   pub drawn : IsDrawn s
   pub marked : HaveMarks s.stored
-  -- a change is in flight in doubt alone
+  -- in doubt alone a change is in flight, or known to be in the store or not, and has a session a call that failed
   pub settled : OutsideDoubt s.condition (s.pending ≡ None)
+  pub unknown : OutsideDoubt s.condition (s.found ≡ None)
+  pub unfailed : OutsideDoubt s.condition (s.failed_caller ≡ None)
+  -- a change that is known to be there is in flight
+  pub known : IsKnownRight s.found s.stored s.pending
   pub fresh : HasFreshKeys s
   pub places : length s.orders ≡ 256
   -- in doubt an order may stand whose unit waits no more
@@ -179,9 +190,45 @@ pub record HasOpenUnits (s : State) : Type 0 where
   pub fit : length (open_entries s.stored) < 2 ^ 32
   pub pending : OfPending s.pending (λ ledger. IsSound (open_entries ledger))
 
+-- ---- a change in flight
+
+-- the same session, maybe at its next unit
+pub record IsMovedOn (x y : Session) : Type 0 where
+  pub name : y.name ≡ x.name
+  pub user : y.user ≡ x.user
+  pub number : y.number ≡ x.number
+  pub low : x.luw ≤ y.luw
+  pub high : y.luw ≤ x.luw + 1
+
+-- where it hasn't moved on it is as it was
+abbrev pub MayHaveMoved : Bool → Session → Session → Type 0
+MayHaveMoved true x y = IsMovedOn x y
+MayHaveMoved false x y = y ≡ x
+
+-- only the caller has moved on
+abbrev pub AreSameButCaller : Option (List ℕ) → List Session → List Session → Type 0
+AreSameButCaller caller [] [] = Unit {0}
+AreSameButCaller caller (x ∷ xs) (y ∷ ys) = MayHaveMoved (is_caller caller x) x y × AreSameButCaller caller xs ys
+AreSameButCaller caller xs ys = ⊥
+
+-- With the change there is a state in order, over the same ranges and with the same sessions, but for the one whose call it is.
+-- The locks of its open units may stand together, as a table of 32 bits holds them.
+pub record HasLanding (s : State) (changed : Ledger) : Type 0 where
+  pub state : State
+  pub stored : state.stored ≡ changed
+  pub start : changed.start ≡ s.stored.start
+  pub ranges : state.ranges ≡ s.ranges
+  pub next : state.next_session ≡ s.next_session
+  pub sessions : AreSameButCaller s.failed_caller s.sessions state.sessions
+  pub steady : IsSteady state
+  pub units : AllByRecursion HasGoodLocks changed.units
+  pub together : IsSound (open_entries changed)
+  pub fit : length (open_entries changed) < 2 ^ 32
+
 pub record IsKept (s : State) : Type 0 where
   pub within : length s.past ≤ 262144
   pub few : HasFew (length s.past) s
   pub steady : IsSteady s
   pub sound : HasSoundLocks s
   pub open_units : HasOpenUnits s
+  pub landing : OfPending s.pending (HasLanding s)

@@ -11,8 +11,8 @@ use Rattle.hall.specs.declared.command.Reply.{Reply}
 use Rattle.hall.specs.declared.command.Reply.TheVariants as reply
 use Rattle.hall.specs.declared.units.Written.{Written}
 use Rattle.hall.specs.declared.units.Written.TheVariants.{Answered, Failed, Unfiled}
-use Rattle.hall.specs.declared.units.InFlight.{InFlight}
-use Rattle.hall.specs.Flights.{landed}
+use Rattle.posting.specs.declared.prepared.Step.{Step}
+use Rattle.posting.specs.Steps.{after_step}
 use Rattle.hall.specs.State.{State, View}
 
 -- rows stand for the change in flight, if there is one
@@ -20,9 +20,14 @@ abbrev pub StandForPending : Rows → Option Ledger → Type 0
 StandForPending rows None = ⊥
 StandForPending rows (Some pending) = StandFor rows pending
 
--- rows stand for what is recorded, with or without the change in flight
+-- rows stand for what is recorded, with or without the change in flight, by what is known of it
+abbrev pub StandForKnown : Option Bool → Rows → Ledger → Option Ledger → Type 0
+StandForKnown None rows stored pending = StandFor rows stored ⊎ StandForPending rows pending
+StandForKnown (Some false) rows stored pending = StandFor rows stored
+StandForKnown (Some true) rows stored pending = StandForPending rows pending
+
 abbrev pub StandForState : Rows → State → Type 0
-StandForState rows s = StandFor rows s.stored ⊎ StandForPending rows s.pending
+StandForState rows s = StandForKnown s.found rows s.stored s.pending
 
 -- where the keeper tells its rows, each map that a stop may leave stands for the state
 abbrev pub LeavesState : {K D L : Type 0} → (K → Option Rows) → (K → Rows → Type 0) → View K D L → Type 0
@@ -30,8 +35,8 @@ LeavesState held may_leave view =
     IfSome (held view.keeper) (λ _. (left : Rows) → may_leave view.keeper left → StandForState left view.state)
 
 -- rows stand for the ledger, without the change in flight or with it
-abbrev pub StandForLanded : Rows → Ledger → Option InFlight → Type 0
-StandForLanded rows ledger change = StandFor rows ledger ⊎ StandForPending rows (option_map (landed ledger) change)
+abbrev pub StandForLanded : Rows → Ledger → Option Step → Type 0
+StandForLanded rows ledger change = StandFor rows ledger ⊎ StandForPending rows (option_map (after_step ledger) change)
 
 -- rows stand for the ledger, or where the store failed for the ledger without the change in flight or with it
 abbrev pub StandForWritten : Rows → Ledger → Written → Type 0

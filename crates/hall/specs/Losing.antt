@@ -24,4 +24,5 @@ pub record IsOfLoser (s : State) (call : PastEntry) : Type 0 where
 abbrev pub LosersAreTold : State → List Made → Type 0
 LosersAreTold first made =
     (earlier later : List Made) (m : Made) → made ≡ earlier ++ m ∷ later
-    → barred (state_after first earlier) ≡ None → IsOfLoser (state_after first earlier) m.call → m.call.reply ≡ reply.Refused refusal.LocksLost
+    → barred (state_after first earlier) (call_of m.call.command) ≡ None → IsOfLoser (state_after first earlier) m.call
+    → m.call.reply ≡ reply.Refused refusal.LocksLost

@@ -4,7 +4,7 @@ use Rattle.lock_entry.specs.Sound.{IsSound}
 use Rattle.hall.specs.declared.command.PastEntry.{PastEntry}
 use Rattle.hall.specs.Calls.{who_of}
 use Rattle.hall.specs.Devices.{DeviceOutcome, IsAllowed}
-use Rattle.hall.specs.History.{Served, after_of, step}
+use Rattle.hall.specs.History.{Served, after_of, step, takes_flight}
 use Rattle.hall.specs.State.{State}
 
 -- the one history begins the other
@@ -35,7 +35,7 @@ state_after s made = fold recalled s made
 pub record IsModelAnswer (s : State) (m : Made) : Type 0 where
   pub who : m.call.who ≡ who_of m.call.command
   pub reply : (again s m).reply ≡ m.call.reply
-  pub after : m.call.after ≡ after_of (recalled s m)
+  pub after : m.call.after ≡ after_of (takes_flight m.outcome) (recalled s m)
   pub allowed : IsAllowed m.outcome s m.call.command
 
 -- each call is answered as the model answers it, in the state to which the calls before it lead

@@ -2,6 +2,7 @@
 use Rattle.std.specs.Prelude.{◌≡◌, ℕ, Bool, true, false, List, Option, is_some}
 use Rattle.backup_file.specs.Backup.{BackupView}
 use Rattle.enq_server.specs.Following.{Following, IsLater, KeepsOn}
+use Rattle.keeper_api.specs.Keeping.{IsWithin}
 use Rattle.keeper_api.specs.Rows.{Rows}
 use Rattle.hall.specs.declared.command.Command.{Command}
 use Rattle.hall.specs.declared.command.PastEntry.{PastEntry}
@@ -29,10 +30,17 @@ pub record MayWrite {K : Type 0} (held : K → Option Rows) (may_leave : K → R
   pub cause : HasStoreCause (faults old) (faults new) r
   pub kept : KeepsStore held may_leave old new r
 
+-- what a restart may do to the store, which it reads anew: nothing new may be left of it
+pub record MayReread {K : Type 0} (held : K → Option Rows) (may_leave : K → Rows → Type 0) (faults : K → ℕ) (old new : K) (r : Reply) : Type 0 where
+  pub told : is_some (held new) ≡ is_some (held old)
+  pub cause : HasStoreCause (faults old) (faults new) r
+  pub within : IsWithin (may_leave new) (may_leave old)
+
 -- a call that doesn't touch it leaves the keeper as it is
-abbrev pub DoesStore : {K : Type 0} → (K → Option Rows) → (K → Rows → Type 0) → (K → ℕ) → Bool → K → K → Reply → Type 0
-DoesStore held may_leave faults true old new r = MayWrite held may_leave faults old new r
-DoesStore held may_leave faults false old new r = new ≡ old
+abbrev pub DoesStore : {K : Type 0} → (K → Option Rows) → (K → Rows → Type 0) → (K → ℕ) → (remakes reaches : Bool) → K → K → Reply → Type 0
+DoesStore held may_leave faults true true old new r = MayReread held may_leave faults old new r
+DoesStore held may_leave faults false true old new r = MayWrite held may_leave faults old new r
+DoesStore held may_leave faults remakes false old new r = new ≡ old
 
 -- a restart makes the backup file anew, and any other call does what calls do to it
 abbrev pub LeavesFile : {D : Type 0} → (D → ℕ) → (remakes touches : Bool) → BackupView D → BackupView D → Reply → Type 0
@@ -47,6 +55,6 @@ Follows faults refusals false old new = KeepsOn faults refusals old new
 -- what a call does to the state, to the store, to the backup file and to what follows the table
 pub record Serves {K D L : Type 0} (held : K → Option Rows) (may_leave : K → Rows → Type 0) (faults : K → ℕ) (disk_faults : D → ℕ) (link_faults refusals : L → ℕ) (old new : View K D L) (past : List PastEntry) (c : Command) (r : Reply) : Type 0 where
   pub call : IsAct (with_calls old.state past) c (with_calls new.state past) r
-  pub store : DoesStore held may_leave faults (reaches_store old.state (call_of c)) old.keeper new.keeper r
+  pub store : DoesStore held may_leave faults (restarts (call_of c)) (reaches_store old.state (call_of c)) old.keeper new.keeper r
   pub file : LeavesFile disk_faults (restarts (call_of c)) (touches_file (call_of c)) old.file new.file r
   pub follower : Follows link_faults refusals (restarts (call_of c)) old.follower new.follower

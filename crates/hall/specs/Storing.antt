@@ -13,7 +13,7 @@ use Rattle.range_list.specs.Drawn.{stored_as}
 use Rattle.hall.specs.Acts.{OnAnswer, OnStoreFailure, written_reply}
 use Rattle.hall.specs.Leaving.{HasStoreCause, KeepsStore, LeavesWritten}
 use Rattle.hall.specs.declared.command.Reply.TheVariants as reply
-use Rattle.hall.specs.declared.units.InFlight.TheVariants as flight
+use Rattle.posting.specs.declared.prepared.Step.TheVariants as step
 use Rattle.hall.specs.declared.units.Written.{Written}
 use Rattle.hall.specs.declared.units.Written.TheVariants.{Answered, Failed, Unfiled}
 
@@ -46,5 +46,5 @@ pub record EndsAs {K : Type 0} (held : K → Option Rows) (is_open : K → Type 
 abbrev pub IsRaiseFault : Interval → ℕ → Written → Type 0
 IsRaiseFault i level (Answered r) = r ≡ reply.Refused refusal.NoMemory
 IsRaiseFault i level (Failed change) =
-    (change ≡ Some (flight.Level (stored_as (with_level level i)))) × (nat_eq level i.level ≡ false)
+    (change ≡ Some (step.Level (stored_as (with_level level i)))) × (nat_eq level i.level ≡ false)
 IsRaiseFault i level Unfiled = ⊥

@@ -2,7 +2,7 @@ ghost use Rattle.std.specs.Prelude.{◌≡◌};
 ghost use Rattle.hall.specs.Calls as calls;
 ghost use Rattle.hall.specs.Calls.{SessionCall, call_of, wants_server};
 ghost use Rattle.hall.specs.Sessions.{session_at};
-ghost use Rattle.hall.specs.Step.{caller_refusal, server_refusal, session_refusal};
+ghost use Rattle.hall.specs.Step.{caller_refusal, down_refusal, server_refusal, session_refusal};
 
 use crate::command::Command;
 use crate::sessions::Sessions;
@@ -45,6 +45,16 @@ fn session_refusal(sessions: &Sessions, name: &Name, ends_unit: bool) -> Option<
         None => Some(Refusal::UnknownSession),
         Some(session) if session.lost && !ends_unit => Some(Refusal::LocksLost),
         Some(_) => None,
+    }
+}
+
+/// Why a call isn't served in doubt, where a restart is served alone.
+pub(crate) fn down_refusal(condition: Condition, command: &Command) -> Option<Refusal>
+    ensures { result ≡ down_refusal condition (call_of command.now) }
+{
+    match (condition, command) {
+        (Condition::Up | Condition::NoServer, _) | (Condition::Doubt(_), Command::Restart) => None,
+        (Condition::Doubt(call), _) => Some(Refusal::Down(call)),
     }
 }
 

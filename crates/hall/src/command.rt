@@ -1,4 +1,4 @@
-ghost use Rattle.std.specs.Prelude.{◌≡◌, true, IfOk, OnErr};
+ghost use Rattle.std.specs.Prelude.{false, ◌≡◌, true, IfOk, OnErr};
 ghost use Rattle.hall.specs.Calls.{who_of};
 ghost use Rattle.hall.specs.History.{is_row};
 ghost use Rattle.hall.specs.Step.{answer_of};
@@ -180,7 +180,7 @@ pub struct After {
     pub condition: Condition,
     /// Whether a replica follows the lock table. There is none yet.
     pub attached: bool,
-    /// Whether a restart found the change that was in doubt. None does yet.
+    /// Whether this was a restart that was done and has found the change in doubt in the store.
     pub taken: bool,
 }
 
@@ -193,6 +193,26 @@ pub struct PastEntry {
     pub command: Command,
     pub reply: Reply,
     pub after: After,
+}
+
+/// What a call is answered.
+#[derive(Drop)]
+pub(crate) struct Answer {
+    pub(crate) reply: Reply,
+    /// Whether it was a restart that was done and has found the change in doubt in the store.
+    pub(crate) taken: bool,
+}
+
+impl Answer {
+    /// That of any other call.
+    pub(crate) fn of(reply: Reply) -> Answer
+        ensures { result ≡ record { reply = reply; taken = false } }
+    {
+        Answer {
+            reply,
+            taken: false,
+        }
+    }
 }
 
 impl Reply {

@@ -21,12 +21,12 @@ ghost use Rattle.update_records.specs.Business.{numbers_of};
 
 use crate::command::{Reply, Session};
 use crate::sessions::{Sessions, session_of};
-use crate::units::{InFlight, Written};
+use crate::units::Written;
 use crate::writing::write_level;
 use enq_base::{Name, NoMemory, Num, Refusal};
 use keeper_api::{KeepFault, Keeper};
 use number_ranges::{Interval, code, next_block};
-use posting::Books;
+use posting::{Books, Step};
 use range_list::{NumberRange, Ranges};
 use std::alloc::Global;
 use update_records::StoredInterval;
@@ -140,7 +140,7 @@ fn raise<K: Keeper>(
     match write_level(alloc, books, &raised) {
         Ok(()) => Ok(()),
         Err(KeepFault::NoMemory) => Err(Written::Answered(Reply::Refused(Refusal::NoMemory))),
-        Err(KeepFault::Failed) => Err(Written::Failed(Some(InFlight::Level(raised)))),
+        Err(KeepFault::Failed) => Err(Written::Failed(Some(Step::Level(raised)))),
     }
 }
 

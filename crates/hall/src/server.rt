@@ -1,27 +1,28 @@
-ghost use Rattle.std.specs.Prelude.{◌≡◌, ◌⊎◌, [], false, length, replicate, None, IfOk, is_some, IsTrue};
+ghost use Rattle.std.specs.Prelude.{◌≡◌, ◌⊎◌, [], true, false, length, replicate, None, IfOk, is_some, IsTrue};
 ghost use Rattle.enq_server.specs.Following.{IsLater, KeepsOn};
 ghost use Rattle.enq_server.specs.Server.{recovered};
 ghost use Rattle.posting.specs.Views.{open_locks};
 ghost use Rattle.hall.specs.declared.command.Command.TheVariants as command;
-ghost use Rattle.hall.specs.Acts.{IsAct, post_of, take_of, written_condition, written_pending, written_reply};
+ghost use Rattle.hall.specs.Acts.{IsTelling, post_of, take_of, written_condition, written_failure, written_reply};
 ghost use Rattle.hall.specs.Kept.{IsDrawn, IsKept};
 ghost use Rattle.range_list.specs.Levels.{first_ranges, intervals_of};
 ghost use Rattle.std.specs.List.{AllByRecursion};
 ghost use Rattle.hall.specs.Filing.{HasFileCause, HasOpenLists, KeepsFile, LeavesLists};
-ghost use Rattle.hall.specs.Leaving.{LeavesState};
+ghost use Rattle.hall.specs.Leaving.{HasStoreCause, KeepsStore, LeavesState};
+ghost use Rattle.keeper_api.specs.Keeping.{IsWithin};
 ghost use Rattle.hall.specs.Calls.{call_of, restarts, touches_file};
 ghost use Rattle.hall.specs.Devices.{reaches_store};
-ghost use Rattle.hall.specs.Serving.{IsDue, MayWrite, Serves, with_calls};
+ghost use Rattle.hall.specs.Serving.{IsDue, Serves, with_calls};
 ghost use Rattle.hall.specs.State.{opened};
-ghost use Rattle.hall.specs.Unsound.{OnRestart, is_unsound};
+ghost use Rattle.hall.specs.Unsound.{is_unsound_file, is_unsound_store};
 ghost use Rattle.hall.specs.Stocks.{IsStockIn, MayCall};
 ghost use Rattle.hall.specs.History.{after_of, is_unrecorded};
 ghost use Rattle.hall.specs.Step.{barred, is_full, unavailable};
 ghost use Rattle.hall.specs.Views.{marks_shown, numbers_shown, ranges_shown, units_shown};
 ghost use Rattle.posting.specs.Shelf.{IsUsable};
 
-use crate::barring::{caller_refusal, server_refusal};
-use crate::command::{After, Command, PastEntry, Reply};
+use crate::barring::{caller_refusal, down_refusal, server_refusal};
+use crate::command::{After, Answer, Command, PastEntry, Reply};
 use crate::locks::{ask, convert, free, free_all, log_off, roll_back};
 use crate::numbers::{draw, reserve};
 use crate::opening::HISTORY_LIMIT;
@@ -29,7 +30,7 @@ use crate::orders::{drop_order, take};
 use crate::remaking::{remake, settled};
 use crate::sessions::{Sessions, log_on};
 use crate::shown::shown_ranges;
-use crate::units::{InFlight, Written, cancel, commit, post, read, resubmit};
+use crate::units::{Failure, Written, cancel, commit, post, read, resubmit};
 use bk_disk::Disk;
 use enq_base::{Condition, Items, Key, Name, NoMemory, Num, Parts, Refusal, UnitKey};
 use enq_server::EnqServer;
@@ -55,7 +56,7 @@ pub(crate) struct Server<T: LockStore, K: Keeper, D: Disk, L: Link> {
     pub(crate) max_marks: u32,
     pub(crate) ranges: Ranges,
     pub(crate) books: Books<K>,
-    pub(crate) pending: Option<InFlight>,
+    pub(crate) failure: Failure,
 }
 
 impl<T: LockStore, K: Keeper, D: Disk, L: Link> Model for Server<T, K, D, L> {
@@ -69,16 +70,15 @@ impl<T: LockStore, K: Keeper, D: Disk, L: Link> Model for Server<T, K, D, L> {
     ghost coded = { Prim.hlevel (codes, levels_code, K.code, D.code, L.code) };
 
     ghost use Rattle.std.specs.Prelude.{[], is_some};
-    ghost use Rattle.std.specs.Option.{option_map};
     ghost use Rattle.hall.specs.Kept.{OutsideDoubt};
     ghost use Rattle.hall.specs.Leaving.{LeavesState};
     ghost use Rattle.posting.specs.Shelf.{IsUsable};
     ghost use Rattle.hall.specs.Filing.{HasOpenLists, LeavesLists};
-    ghost use Rattle.hall.specs.Flights.{landed};
+    ghost use Rattle.hall.specs.Remaking.{flight_over};
 
     ghost view = { λ h. record {
       state = state_of (is_some (K.held h.books.keeper)) h.condition h.sessions h.next_session h.orders.items h.locks.table h.max_locks h.max_marks h.ranges h.books.ledger
-          (option_map (landed h.books.ledger) h.pending) [];
+          (flight_over h.books.ledger h.failure) h.failure.found h.failure.caller [];
       keeper = h.books.keeper;
       file = h.locks.file;
       follower = h.locks.copy;
@@ -86,7 +86,7 @@ impl<T: LockStore, K: Keeper, D: Disk, L: Link> Model for Server<T, K, D, L> {
 
     ghost invariant = { λ h.
         let s = state_of (is_some (K.held h.books.keeper)) h.condition h.sessions h.next_session h.orders.items h.locks.table h.max_locks h.max_marks h.ranges h.books.ledger
-        (option_map (landed h.books.ledger) h.pending) [] in
+        (flight_over h.books.ledger h.failure) h.failure.found h.failure.caller [] in
         let v : View K D L = record { state = s; keeper = h.books.keeper; file = h.locks.file; follower = h.locks.copy } in
         OutsideDoubt h.condition (IsUsable K.held K.is_open h.books)
         × LeavesState K.held K.may_leave v
@@ -127,7 +127,7 @@ impl<T: LockStore, K: Keeper, D: Disk, L: Link> Server<T, K, D, L> {
             max_marks,
             ranges,
             books,
-            pending: None,
+            failure: Failure::none(),
         }
     }
 
@@ -138,14 +138,15 @@ impl<T: LockStore, K: Keeper, D: Disk, L: Link> Server<T, K, D, L> {
         self.condition
     }
 
-    /// What stands now, as the history keeps it of the last call.
-    pub(crate) fn after(&self) -> After
-        ensures { result ≡ after_of self.now.state }
+    /// What stands now, as the history keeps it of the last call, which as a restart that was done has found the change in
+    /// flight in the store, or hasn't.
+    pub(crate) fn after(&self, taken: bool) -> After
+        ensures { result ≡ after_of taken self.now.state }
     {
         After {
             condition: self.condition,
             attached: false,
-            taken: false,
+            taken,
         }
     }
 
@@ -223,25 +224,21 @@ impl<T: LockStore, K: Keeper, D: Disk, L: Link> Server<T, K, D, L> {
         let _ = &self.condition;
     }
 
-    /// Why no call is served now.
-    fn barred(&self, past: &Vec<PastEntry>) -> Option<Refusal>
-        ensures { result ≡ barred (with_calls self.now.state past.now.items) }
+    /// Why the call isn't served now.
+    fn barred(&self, past: &Vec<PastEntry>, command: &Command) -> Option<Refusal>
+        ensures { result ≡ barred (with_calls self.now.state past.now.items) (call_of command.now) }
     {
         if past.len() >= HISTORY_LIMIT {
             return Some(Refusal::LogFull);
         }
-        match self.condition {
-            Condition::Up => None,
-            Condition::NoServer => None,
-            Condition::Doubt(call) => Some(Refusal::Down(call)),
-        }
+        down_refusal(self.condition, command)
     }
 
     /// Why a call isn't served, whatever it asks for.
     fn unavailable(&self, past: &Vec<PastEntry>, command: &Command) -> Option<Refusal>
         ensures { result ≡ unavailable (with_calls self.now.state past.now.items) (call_of command.now) }
     {
-        if let Some(refusal) = self.barred(past) {
+        if let Some(refusal) = self.barred(past, command) {
             return Some(refusal);
         }
         if let Some(refusal) = caller_refusal(&self.sessions, command) {
@@ -251,32 +248,44 @@ impl<T: LockStore, K: Keeper, D: Disk, L: Link> Server<T, K, D, L> {
     }
 
     /// Serves a call behind those of the past. It isn't put into the history.
-    pub(crate) fn serve(&mut self, alloc: Global, past: &Vec<PastEntry>, command: &Command) -> Reply
+    pub(crate) fn serve(
+        &mut self,
+        alloc: Global,
+        past: &Vec<PastEntry>,
+        command: &Command,
+    ) -> Answer
         requires kept { IsKept (with_calls self.old.state past.now.items) }
         requires call { MayCall self.old.state (call_of command.now) }
-        ensures call { IsAct (with_calls self.old.state past.now.items) command.now (with_calls self.new.state past.now.items) result }
-        ensures store { MayWrite K.held K.may_leave K.faults self.old.keeper self.new.keeper result }
+        ensures call { IsTelling (with_calls self.old.state past.now.items) command.now result.taken (with_calls self.new.state past.now.items) result.reply }
+        ensures told { is_some (K.held self.new.keeper) ≡ is_some (K.held self.old.keeper) }
+        ensures store_cause { HasStoreCause (K.faults self.old.keeper) (K.faults self.new.keeper) result.reply }
+        ensures store { restarts (call_of command.now) ≡ false → KeepsStore K.held K.may_leave self.old.keeper self.new.keeper result.reply }
+        ensures reread { restarts (call_of command.now) ≡ true → IsWithin (K.may_leave self.new.keeper) (K.may_leave self.old.keeper) }
         ensures keeper { reaches_store self.old.state (call_of command.now) ≡ false → self.new.keeper ≡ self.old.keeper }
-        ensures file_cause { HasFileCause (D.faults self.old.file.disk) (D.faults self.new.file.disk) result }
-        ensures file { restarts (call_of command.now) ≡ false → KeepsFile self.old.file self.new.file result }
+        ensures file_cause { HasFileCause (D.faults self.old.file.disk) (D.faults self.new.file.disk) result.reply }
+        ensures file { restarts (call_of command.now) ≡ false → KeepsFile self.old.file self.new.file result.reply }
         ensures unfiled { touches_file (call_of command.now) ≡ false → self.new.file ≡ self.old.file }
         ensures link { IsLater L.faults L.refusals self.old.follower self.new.follower }
         ensures follower { restarts (call_of command.now) ≡ false → KeepsOn L.faults L.refusals self.old.follower self.new.follower }
-        ensures room { is_unrecorded result ≡ false → is_full (with_calls self.old.state past.now.items) ≡ false }
-        ensures good_file { IsTrue D.tells → is_unsound result ≡ false }
+        ensures room { is_unrecorded result.reply ≡ false → is_full (with_calls self.old.state past.now.items) ≡ false }
+        ensures good_file { IsTrue D.tells → is_unsound_file result.reply ≡ false }
+        ensures good_store { is_some (K.held self.old.keeper) ≡ true → is_unsound_store result.reply ≡ false }
     {
         match self.unavailable(past, command) {
-            Some(refusal) => Reply::Refused(refusal),
-            None => self.act(alloc, past, command),
+            Some(refusal) => Answer::of(Reply::Refused(refusal)),
+            None => match command {
+                Command::Restart => self.restart(alloc, past),
+                command => Answer::of(self.act(alloc, past, command)),
+            },
         }
     }
 
-    /// Does a call that nothing bars.
+    /// Does a call that nothing bars, but for a restart.
     fn act(&mut self, alloc: Global, past: &Vec<PastEntry>, command: &Command) -> Reply
         requires due { IsDue self.old.state past.now.items command.now }
         requires call { MayCall self.old.state (call_of command.now) }
-        ensures serves { Serves K.held K.may_leave K.faults D.faults L.faults L.refusals self.old self.new past.now.items command.now result }
-        ensures good_file { OnRestart (call_of command.now) (IsTrue D.tells → is_unsound result ≡ false) }
+        requires others { restarts (call_of command.now) ≡ false }
+        ensures { Serves K.held K.may_leave K.faults D.faults L.faults L.refusals self.old self.new past.now.items command.now result }
     {
         match command {
             Command::Logon { session, user } => self.log_on(alloc, past, *session, *user),
@@ -313,7 +322,7 @@ impl<T: LockStore, K: Keeper, D: Disk, L: Link> Server<T, K, D, L> {
             Command::Do2 { worker } => self.post(alloc, past, *worker, 2),
             Command::DropOrder { worker } => self.drop_order(past, *worker),
             Command::Kill => self.kill(past),
-            Command::Restart => self.restart(alloc, past),
+            Command::Restart => unreachable!(),
             Command::Cancel { unit } => self.cancel(alloc, past, *unit),
             Command::Resubmit { unit } => self.resubmit(alloc, past, *unit),
         }
@@ -419,7 +428,13 @@ impl<T: LockStore, K: Keeper, D: Disk, L: Link> Server<T, K, D, L> {
         ensures { Serves K.held K.may_leave K.faults D.faults L.faults L.refusals self.old self.new past.now.items (command.Read session.now table.now key.now) result }
     {
         let written = read(alloc, &self.sessions, &mut self.books, session, table, key);
-        ended(&mut self.condition, &mut self.pending, past, written)
+        ended(
+            &mut self.condition,
+            &mut self.failure,
+            past,
+            Some(*session),
+            written,
+        )
     }
 
     /// Draws a number of an interval.
@@ -443,7 +458,13 @@ impl<T: LockStore, K: Keeper, D: Disk, L: Link> Server<T, K, D, L> {
             object,
             nr,
         );
-        ended(&mut self.condition, &mut self.pending, past, written)
+        ended(
+            &mut self.condition,
+            &mut self.failure,
+            past,
+            Some(*session),
+            written,
+        )
     }
 
     /// Reserves numbers of a buffered interval.
@@ -469,7 +490,13 @@ impl<T: LockStore, K: Keeper, D: Disk, L: Link> Server<T, K, D, L> {
             nr,
             upto,
         );
-        ended(&mut self.condition, &mut self.pending, past, written)
+        ended(
+            &mut self.condition,
+            &mut self.failure,
+            past,
+            Some(*session),
+            written,
+        )
     }
 
     fn commit(
@@ -495,7 +522,13 @@ impl<T: LockStore, K: Keeper, D: Disk, L: Link> Server<T, K, D, L> {
             stock,
             self.max_marks,
         );
-        ended(&mut self.condition, &mut self.pending, past, written)
+        ended(
+            &mut self.condition,
+            &mut self.failure,
+            past,
+            Some(*session),
+            written,
+        )
     }
 
     /// Gives a worker an order for a part, 1 for V1 and 2 for V2.
@@ -522,7 +555,7 @@ impl<T: LockStore, K: Keeper, D: Disk, L: Link> Server<T, K, D, L> {
             part,
             self.max_marks,
         );
-        ended(&mut self.condition, &mut self.pending, past, written)
+        ended(&mut self.condition, &mut self.failure, past, None, written)
     }
 
     fn drop_order(&mut self, past: &Vec<PastEntry>, worker: u8) -> Reply
@@ -542,10 +575,12 @@ impl<T: LockStore, K: Keeper, D: Disk, L: Link> Server<T, K, D, L> {
     }
 
     /// Makes a lock server anew.
-    fn restart(&mut self, alloc: Global, past: &Vec<PastEntry>) -> Reply
+    fn restart(&mut self, alloc: Global, past: &Vec<PastEntry>) -> Answer
         requires { IsDue self.old.state past.now.items command.Restart }
-        ensures serves { Serves K.held K.may_leave K.faults D.faults L.faults L.refusals self.old self.new past.now.items command.Restart result }
-        ensures good_file { IsTrue D.tells → is_unsound result ≡ false }
+        ensures serves { Serves K.held K.may_leave K.faults D.faults L.faults L.refusals self.old self.new past.now.items command.Restart result.reply }
+        ensures taken { IsTelling (with_calls self.old.state past.now.items) command.Restart result.taken (with_calls self.new.state past.now.items) result.reply }
+        ensures good_file { IsTrue D.tells → is_unsound_file result.reply ≡ false }
+        ensures good_store { is_some (K.held self.old.keeper) ≡ true → is_unsound_store result.reply ≡ false }
     {
         let remade = remake(
             alloc,
@@ -553,10 +588,11 @@ impl<T: LockStore, K: Keeper, D: Disk, L: Link> Server<T, K, D, L> {
             &mut self.sessions,
             &mut self.orders,
             &mut self.locks,
-            &self.books,
+            &mut self.books,
+            &self.failure,
             self.max_locks,
         );
-        settled(&mut self.condition, past, remade)
+        settled(&mut self.condition, &mut self.failure, past, remade)
     }
 
     fn cancel(&mut self, alloc: Global, past: &Vec<PastEntry>, unit: UnitKey) -> Reply
@@ -571,7 +607,7 @@ impl<T: LockStore, K: Keeper, D: Disk, L: Link> Server<T, K, D, L> {
             unit,
             self.max_marks,
         );
-        ended(&mut self.condition, &mut self.pending, past, written)
+        ended(&mut self.condition, &mut self.failure, past, None, written)
     }
 
     fn resubmit(&mut self, alloc: Global, past: &Vec<PastEntry>, unit: UnitKey) -> Reply
@@ -585,30 +621,34 @@ impl<T: LockStore, K: Keeper, D: Disk, L: Link> Server<T, K, D, L> {
             unit,
             self.max_marks,
         );
-        ended(&mut self.condition, &mut self.pending, past, written)
+        ended(&mut self.condition, &mut self.failure, past, None, written)
     }
 }
 
-/// What a call that uses store and backup file is answered. Where one of them fails the server is in doubt since this call.
+/// What a call that uses store and backup file is answered. Where one of them fails the server is in doubt since this call, of
+/// this session if a session made it.
 fn ended(
     condition: &mut Condition,
-    pending: &mut Option<InFlight>,
+    failure: &mut Failure,
     past: &Vec<PastEntry>,
+    caller: Option<Name>,
     written: Written,
 ) -> Reply
     ensures reply { result ≡ written_reply written }
     ensures condition { condition.new ≡ written_condition condition.old (length past.now.items) written }
-    ensures pending { pending.new ≡ written_pending pending.old written }
+    ensures failure { failure.new ≡ written_failure failure.old caller written }
 {
     match written {
         Written::Answered(reply) => reply,
         Written::Failed(change) => {
             *condition = Condition::Doubt(past.len() as u64 + 1);
-            *pending = change;
+            failure.pending = change;
+            failure.caller = caller;
             Reply::Refused(Refusal::StoreFault)
         }
         Written::Unfiled => {
             *condition = Condition::Doubt(past.len() as u64 + 1);
+            failure.caller = caller;
             Reply::Refused(Refusal::BackupFault)
         }
     }

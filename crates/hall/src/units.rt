@@ -1,9 +1,9 @@
-ghost use Rattle.std.specs.Prelude.{◌≡◌, ◌⊎◌, ◌≤◌, ◌<◌, ◌+◌, ◌^◌, ◌++◌, None, Ok, IfOk, IfSome, OnOk, false, true, is_some, length, nat_eq, nat_le};
+ghost use Rattle.std.specs.Prelude.{◌≡◌, ◌⊎◌, ◌≤◌, ◌<◌, ◌+◌, ◌^◌, ◌++◌, None, Ok, Some, IfOk, IfSome, OnErr, OnOk, false, true, is_some, length, nat_eq, nat_le};
 ghost use Rattle.std.specs.List.{AllByRecursion};
 ghost use Rattle.enq_server.specs.Following.{KeepsOn};
 ghost use Rattle.hall.specs.declared.command.Command.TheVariants as command;
 ghost use Rattle.enq_base.specs.declared.unit.Num.{Num as Number};
-ghost use Rattle.hall.specs.Acts.{Admits, IsWritten, OnAnswer, OnFailure, OnStoreFailure, locks_posted, post_of, ranges_behind, written_reply};
+ghost use Rattle.hall.specs.Acts.{Admits, IsWritten, OnAnswer, IsRegained, OnFailure, OnStoreFailure, locks_posted, post_of, ranges_behind, written_reply};
 ghost use Rattle.hall.specs.Commits.{IsOfCommit, RecordsNumbers, RecordsUnit};
 ghost use Rattle.hall.specs.Kept.{HasGoodLocks, HasItsUser, HaveMarks, IsAhead, IsYoung, OfLock, draws_in};
 ghost use Rattle.hall.specs.Leaving.{HasStoreCause, KeepsStore, LeavesWritten};
@@ -18,6 +18,8 @@ ghost use Rattle.lock_entry.specs.Table.{IsTable, with_entries};
 ghost use Rattle.posting.specs.Intervals.{with_intervals};
 ghost use Rattle.posting.specs.declared.prepared.Step.TheVariants.{Record};
 ghost use Rattle.update_records.specs.Growing.{with_unit};
+ghost use Rattle.posting.specs.Posts as posts;
+ghost use Rattle.hall.specs.Remaking.{no_failure};
 ghost use Rattle.posting.specs.Posts.{MayCome, WaitsFor, effects_of, kind_for};
 ghost use Rattle.posting.specs.Shelf.{IsReady, IsUnmoved, IsUsable};
 ghost use Rattle.posting.specs.Intervals.{MayStore};
@@ -40,7 +42,7 @@ use enq_base::{Failed, Items, Key, Name, NoMemory, Num, Owner, Parts, Refusal, S
 use enq_server::{EnqServer, ServerFault};
 use keeper_api::{KeepFault, Keeper};
 use lock_entry::{Asker, Entry, LockStore, hand_over};
-use posting::{Books, Outcome, Prepared};
+use posting::{Books, Outcome, Prepared, Step};
 use range_list::Ranges;
 use replica_link::Link;
 use std::alloc::Global;
@@ -52,40 +54,34 @@ const EFFECTS_LIMIT: usize = 200;
 #[derive(Drop)]
 pub(crate) enum Written {
     Answered(Reply),
-    /// The store failed with this change in flight, if there is one, which it may have taken or not.
-    Failed(Option<InFlight>),
+    /// The store failed with this step in flight, if there is one, which it may have taken or not.
+    Failed(Option<Step>),
     /// The disk of the backup file failed. What the store took before stands.
     Unfiled,
 }
 
-/// A change of the store.
+/// What a restart goes by where the server is in doubt.
 #[derive(Drop)]
-pub(crate) enum InFlight {
-    /// One more unit, with the levels of the intervals that its numbers are of.
-    Unit {
-        unit: Unit,
-        levels: Items<StoredInterval>,
-    },
-    /// Numbers of a unit alone, with the levels of their intervals.
-    Numbers {
-        unit: UnitKey,
-        numbers: Items<Num>,
-        levels: Items<StoredInterval>,
-    },
-    /// The level of an interval.
-    Level(StoredInterval),
-    /// A part of a unit, 1 for V1 and 2 for V2, or the mark of its refusal.
-    Post {
-        unit: UnitKey,
-        part: u8,
-    },
-    /// The mark by which a unit is cancelled.
-    Cancel(UnitKey),
-    /// The mark by which a part of a unit is tried again, 1 for V1 and 2 for V2.
-    Again {
-        unit: UnitKey,
-        part: u8,
-    },
+pub(crate) struct Failure {
+    /// The change that the store may have taken or not, if there is one.
+    pub(crate) pending: Option<Step>,
+    /// Whether it has, where a restart that failed later has read it.
+    pub(crate) found: Option<bool>,
+    /// The session in whose call a device failed.
+    pub(crate) caller: Option<Name>,
+}
+
+impl Failure {
+    /// That of a server that isn't in doubt.
+    pub(crate) fn none() -> Failure
+        ensures { result ≡ no_failure }
+    {
+        Failure {
+            pending: None,
+            found: None,
+            caller: None,
+        }
+    }
 }
 
 /// Posts a part of the unit that a worker has an order for, or records where it is refused. With the V1 part the unit's
@@ -106,7 +102,7 @@ pub(crate) fn post<T: LockStore, K: Keeper, D: Disk, L: Link>(
     requires filed { HasOpenLists D.tells D.reads D.may_leave books.old.ledger locks.old.file }
     ensures act { (s : State) → s.told ≡ is_some (K.held books.old.keeper) → s.orders ≡ orders.old.items
         → (nat_eq part 1 ≡ true → s.locks ≡ locks.old.table.entries)
-        → s.stored ≡ books.old.ledger → s.mark_limit ≡ max_marks → Admits s (post_of part worker)
+        → s.stored ≡ books.old.ledger → s.mark_limit ≡ max_marks → s.pending ≡ None → Admits s (post_of part worker)
         → IsWritten s (post_of part worker)
         (record s { orders = orders.new.items; locks = locks_posted part s.locks locks.new.table.entries; stored = books.new.ledger })
         result }
@@ -114,6 +110,7 @@ pub(crate) fn post<T: LockStore, K: Keeper, D: Disk, L: Link>(
     ensures file { FilesAs D.tells D.reads D.may_leave D.faults books.new.ledger locks.old.file locks.new.file result }
     ensures unfiled { nat_eq part 1 ≡ false → locks.new.file ≡ locks.old.file }
     ensures second { nat_eq part 1 ≡ false → locks.new.table.entries ≡ locks.old.table.entries }
+    ensures table { OnFailure result (locks.new.table ≡ locks.old.table) }
     ensures follower { KeepsOn L.faults L.refusals locks.old.copy locks.new.copy }
     ensures orders { OnFailure result (orders.new.items ≡ orders.old.items) }
     ensures ledger { OnStoreFailure result (books.new.ledger ≡ books.old.ledger) }
@@ -132,7 +129,7 @@ pub(crate) fn post<T: LockStore, K: Keeper, D: Disk, L: Link>(
     let (prepared, outcome) = match prepare(alloc, books, &unit, part) {
         Ok(ready) => ready,
         Err(KeepFault::NoMemory) => return Written::Answered(Reply::Refused(Refusal::NoMemory)),
-        Err(KeepFault::Failed) => return Written::Failed(Some(InFlight::Post { unit, part })),
+        Err(KeepFault::Failed) => return Written::Failed(None),
     };
     match books.write(prepared) {
         Ok(()) => match end_locks(locks, &unit, part == 1) {
@@ -142,7 +139,10 @@ pub(crate) fn post<T: LockStore, K: Keeper, D: Disk, L: Link>(
             }
             Err(Failed) => Written::Unfiled,
         },
-        Err(_) => Written::Failed(Some(InFlight::Post { unit, part })),
+        Err(_) => {
+            let kind = kind_for(part, outcome);
+            Written::Failed(Some(Step::Note { unit, kind }))
+        }
     }
 }
 
@@ -156,6 +156,7 @@ fn end_locks<T: LockStore, D: Disk, L: Link>(
     requires usable { locks.old.file.failed ≡ false }
     ensures table { OnOk result (locks.new.table ≡ with_entries locks.old.table (locks_ended ends locks.old.table.entries unit.now)) }
     ensures apart { ends ≡ false → locks.new.table ≡ locks.old.table }
+    ensures kept { OnErr result (locks.new.table ≡ locks.old.table) }
     ensures limit { locks.new.table.limit ≡ locks.old.table.limit }
     ensures file { FreesList D.tells D.reads D.may_leave D.faults ends unit.now locks.old.file locks.new.file result }
     ensures follower { KeepsOn L.faults L.refusals locks.old.copy locks.new.copy }
@@ -191,6 +192,18 @@ fn prepare<K: Keeper>(
         books.prepare_post1(alloc, unit)
     } else {
         books.prepare_post2(alloc, unit)
+    }
+}
+
+/// The mark of a part that is posted or refused.
+fn kind_for(part: u8, outcome: Outcome) -> MarkKind
+    ensures { result ≡ posts.kind_for part outcome }
+{
+    match outcome {
+        Outcome::Done if part == 1 => MarkKind::V1,
+        Outcome::Done => MarkKind::V2,
+        Outcome::Refused { index, reason } if part == 1 => MarkKind::Bad1 { index, reason },
+        Outcome::Refused { index, reason } => MarkKind::Bad2 { index, reason },
     }
 }
 
@@ -245,8 +258,9 @@ pub(crate) fn commit<T: LockStore, K: Keeper, D: Disk, L: Link>(
     ensures limit { locks.new.table.limit ≡ locks.old.table.limit }
     ensures file { FilesAs D.tells D.reads D.may_leave D.faults books.new.ledger locks.old.file locks.new.file result }
     ensures follower { KeepsOn L.faults L.refusals locks.old.copy locks.new.copy }
+    ensures table { OnFailure result (locks.new.table ≡ locks.old.table) }
     ensures sessions { OnFailure result (sessions.new ≡ sessions.old) }
-    ensures ranges { OnFailure result (ranges.new ≡ ranges.old) }
+    ensures ranges { OnFailure result (ranges.new ≡ ranges_behind stock.now ranges.old result) }
     ensures store { EndsAs K.held K.is_open K.may_leave K.faults books.old books.new result }
 {
     let written = record_commit(
@@ -256,14 +270,14 @@ pub(crate) fn commit<T: LockStore, K: Keeper, D: Disk, L: Link>(
     written
 }
 
-/// Memory hands out what is behind the numbers of a stock, where they were recorded.
+/// Memory hands out what is behind the numbers of a stock, where they were recorded or the store may have them.
 fn pass_recorded(ranges: &mut Ranges, stock: &[Num], written: &Written)
     requires { AllByRecursion (λ (num : Number). num.number + 1 < 2 ^ 64) stock.now }
     ensures { ranges.new ≡ ranges_behind stock.now ranges.old written.now }
 {
     match written {
-        Written::Answered(Reply::Refused(_)) | Written::Failed(_) | Written::Unfiled => {}
-        Written::Answered(_) => ranges.pass(stock),
+        Written::Answered(Reply::Refused(_)) | Written::Unfiled => {}
+        Written::Answered(_) | Written::Failed(_) => ranges.pass(stock),
     }
 }
 
@@ -297,6 +311,7 @@ fn record_commit<T: LockStore, K: Keeper, D: Disk, L: Link>(
     ensures limit { locks.new.table.limit ≡ locks.old.table.limit }
     ensures file { FilesAs D.tells D.reads D.may_leave D.faults books.new.ledger locks.old.file locks.new.file result }
     ensures follower { KeepsOn L.faults L.refusals locks.old.copy locks.new.copy }
+    ensures table { OnFailure result (locks.new.table ≡ locks.old.table) }
     ensures sessions { OnFailure result (sessions.new ≡ sessions.old) }
     ensures store { EndsAs K.held K.is_open K.may_leave K.faults books.old books.new result }
 {
@@ -362,6 +377,7 @@ fn record_unit<T: LockStore, K: Keeper, D: Disk, L: Link>(
     ensures limit { locks.new.table.limit ≡ locks.old.table.limit }
     ensures file { FilesAs D.tells D.reads D.may_leave D.faults books.new.ledger locks.old.file locks.new.file result }
     ensures follower { KeepsOn L.faults L.refusals locks.old.copy locks.new.copy }
+    ensures table { OnFailure result (locks.new.table ≡ locks.old.table) }
     ensures sessions { OnFailure result (sessions.new ≡ sessions.old) }
     ensures store { EndsAs K.held K.is_open K.may_leave K.faults books.old books.new result }
 {
@@ -397,6 +413,7 @@ fn record_saved<T: LockStore, K: Keeper, D: Disk, L: Link>(
     ensures file { FilesAs D.tells D.reads D.may_leave D.faults books.new.ledger locks.old.file locks.new.file result }
     ensures answered { IsUnrefused result }
     ensures follower { KeepsOn L.faults L.refusals locks.old.copy locks.new.copy }
+    ensures table { OnFailure result (locks.new.table ≡ locks.old.table) }
     ensures sessions { OnFailure result (sessions.new ≡ sessions.old) }
     ensures store { EndsAs K.held K.is_open K.may_leave K.faults books.old books.new result }
 {
@@ -408,7 +425,7 @@ fn record_saved<T: LockStore, K: Keeper, D: Disk, L: Link>(
         }
         Err(_) => {
             let levels = Items::from_vec(levels);
-            Written::Failed(Some(InFlight::Unit { unit, levels }))
+            Written::Failed(Some(Step::Record { unit, levels }))
         }
     }
 }
@@ -437,7 +454,7 @@ fn record_numbers<K: Keeper>(
             Written::Answered(Reply::Done)
         }
         Err(KeepFault::NoMemory) => Written::Answered(Reply::Refused(Refusal::NoMemory)),
-        Err(KeepFault::Failed) => Written::Failed(Some(InFlight::Numbers {
+        Err(KeepFault::Failed) => Written::Failed(Some(Step::Draw {
             unit,
             numbers: Items::from_vec(numbers),
             levels: Items::from_vec(levels),
@@ -498,6 +515,7 @@ pub(crate) fn cancel<T: LockStore, K: Keeper, D: Disk, L: Link>(
     ensures limit { locks.new.table.limit ≡ locks.old.table.limit }
     ensures file { FilesAs D.tells D.reads D.may_leave D.faults books.new.ledger locks.old.file locks.new.file result }
     ensures follower { KeepsOn L.faults L.refusals locks.old.copy locks.new.copy }
+    ensures table { OnFailure result (locks.new.table ≡ locks.old.table) }
     ensures ledger { OnStoreFailure result (books.new.ledger ≡ books.old.ledger) }
     ensures usable { OnAnswer result (IsUsable K.held K.is_open books.new) }
     ensures told { is_some (K.held books.new.keeper) ≡ is_some (K.held books.old.keeper) }
@@ -517,7 +535,10 @@ pub(crate) fn cancel<T: LockStore, K: Keeper, D: Disk, L: Link>(
             Ok(()) => Written::Answered(Reply::Unit(unit)),
             Err(Failed) => Written::Unfiled,
         },
-        Err(_) => Written::Failed(Some(InFlight::Cancel(unit))),
+        Err(_) => Written::Failed(Some(Step::Note {
+            unit,
+            kind: MarkKind::Gone,
+        })),
     }
 }
 
@@ -582,6 +603,7 @@ pub(crate) fn resubmit<T: LockStore, K: Keeper, D: Disk, L: Link>(
     ensures limit { locks.new.table.limit ≡ locks.old.table.limit }
     ensures file { FilesAs D.tells D.reads D.may_leave D.faults books.new.ledger locks.old.file locks.new.file result }
     ensures follower { KeepsOn L.faults L.refusals locks.old.copy locks.new.copy }
+    ensures table { OnFailure result ((locks.new.table ≡ locks.old.table) ⊎ IsRegained books.old.ledger unit locks.old.table locks.new.table.entries) }
     ensures ledger { OnStoreFailure result (books.new.ledger ≡ books.old.ledger) }
     ensures usable { OnAnswer result (IsUsable K.held K.is_open books.new) }
     ensures told { is_some (K.held books.new.keeper) ≡ is_some (K.held books.old.keeper) }
@@ -617,6 +639,7 @@ fn reopen<T: LockStore, K: Keeper, D: Disk, L: Link>(
     ensures limit { locks.new.table.limit ≡ locks.old.table.limit }
     ensures file { FilesAs D.tells D.reads D.may_leave D.faults books.new.ledger locks.old.file locks.new.file result }
     ensures follower { KeepsOn L.faults L.refusals locks.old.copy locks.new.copy }
+    ensures table { OnFailure result ((locks.new.table ≡ locks.old.table) ⊎ IsRegained books.old.ledger unit locks.old.table locks.new.table.entries) }
     ensures ledger { OnStoreFailure result (books.new.ledger ≡ books.old.ledger) }
     ensures usable { OnAnswer result (IsUsable K.held K.is_open books.new) }
     ensures told { is_some (K.held books.new.keeper) ≡ is_some (K.held books.old.keeper) }
@@ -636,7 +659,10 @@ fn reopen<T: LockStore, K: Keeper, D: Disk, L: Link>(
     }
     match books.write(prepared) {
         Ok(()) => Written::Answered(Reply::Unit(unit)),
-        Err(_) => Written::Failed(Some(InFlight::Again { unit, part: 1 })),
+        Err(_) => Written::Failed(Some(Step::Note {
+            unit,
+            kind: MarkKind::Again1,
+        })),
     }
 }
 
@@ -680,7 +706,10 @@ fn repost<T: LockStore, K: Keeper, D: Disk, L: Link>(
     };
     match books.write(prepared) {
         Ok(()) => Written::Answered(Reply::Unit(unit)),
-        Err(_) => Written::Failed(Some(InFlight::Again { unit, part: 2 })),
+        Err(_) => Written::Failed(Some(Step::Note {
+            unit,
+            kind: MarkKind::Again2,
+        })),
     }
 }
 

@@ -20,8 +20,8 @@ use Rattle.lock_entry.specs.Names.{is_of}
 use Rattle.lock_entry.specs.Freeing.{flagged}
 use Rattle.lock_entry.proofs.Lists.{count_by-none}
 use Rattle.lock_index.specs.declared.key.Key.{Key}
-use Rattle.lock_index.specs.declared.key.Key.TheVariants.{Optimistic, Spot, Stretch, Lengths}
-use Rattle.lock_index.specs.Keys.{literal, has_key, same_key, owner_key, optimistic_key}
+use Rattle.lock_index.specs.declared.key.Key.TheVariants.{Optimistic}
+use Rattle.lock_index.specs.Keys.{literal, has_key, same_key, owner_key, optimistic_key, spot_key, stretch_key, lengths_key}
 use Rattle.lock_index.specs.Slots.{slot_at, live, on_some, handed, flag_slot, is_lengths, IsShown}
 use Rattle.lock_index.specs.Members.{has}
 use Rattle.indexmap.specs.IndexMap.{IndexMap}
@@ -50,7 +50,7 @@ never false = refl
 -- the entries under the key of an owner are the owner's
 module _ (e : Entry) where
   abbrev keyed : Owner → Mode → Key → Bool
-  keyed o m k = same_key (owner_key o) k || (same_key (Spot e.table (take (literal e.pattern) e.pattern)) k || (same_key (Stretch e.table (literal e.pattern)) k || (same_key (optimistic_key o m) k || false)))
+  keyed o m k = same_key (owner_key o) k || (same_key (spot_key e.table e.pattern) k || (same_key (stretch_key e.table e.pattern) k || (same_key (optimistic_key o m) k || false)))
 
   owned : (a b : Owner) (m : Mode) → keyed b m (owner_key a) ≡ same_owner b a
   owned (Dlg s n) (Dlg t k) m = twice (nat_eq t s && nat_eq k n)
@@ -178,13 +178,13 @@ shown-flagged k ss m shown = record {
   lengths = λ j f h. known j f (slot_at ss j) refl (sym (slot-flagged k ss j) ∙ h);
 }
   where
-    known : (j : ℕ) (f : Entry) (o : Option Entry) → slot_at ss j ≡ o → flag_slot k (slot_at ss j) ≡ Some f → has m (Lengths f.table) (literal f.pattern) ≡ true
+    known : (j : ℕ) (f : Entry) (o : Option Entry) → slot_at ss j ≡ o → flag_slot k (slot_at ss j) ≡ Some f → has m (lengths_key f.table) (literal f.pattern) ≡ true
     known j f None at h = absurd (let g = rw at at h in cc)
     known j f (Some e) at h = go (has_key k e) (sym (ap (flag_slot k) at) ∙ h)
       where
-        go : (b : Bool) → Some (cond b (handed e) e) ≡ Some f → has m (Lengths f.table) (literal f.pattern) ≡ true
-        go true g = let is : handed e ≡ f = cc in subst (λ x. has m (Lengths x.table) (literal x.pattern) ≡ true) is (shown.lengths j e at)
-        go false g = let is : e ≡ f = cc in subst (λ x. has m (Lengths x.table) (literal x.pattern) ≡ true) is (shown.lengths j e at)
+        go : (b : Bool) → Some (cond b (handed e) e) ≡ Some f → has m (lengths_key f.table) (literal f.pattern) ≡ true
+        go true g = let is : handed e ≡ f = cc in subst (λ x. has m (lengths_key x.table) (literal x.pattern) ≡ true) is (shown.lengths j e at)
+        go false g = let is : e ≡ f = cc in subst (λ x. has m (lengths_key x.table) (literal x.pattern) ≡ true) is (shown.lengths j e at)
 
 pub length-flagged : (k : Key) (ss : List (Option Entry)) → length (live (map (flag_slot k) ss)) ≡ length (live ss)
 length-flagged k [] = refl
@@ -224,7 +224,7 @@ slot-none ss i at j =
       | inr t ↦ sym (ap (λ b. cond b (option_map handed (slot_at ss j)) (slot_at ss j)) t)
     ]
 
-pub get_or-same : (xs : List ℕ) (i a b : ℕ) → i < length xs → get_or xs i a ≡ get_or xs i b
+pub get_or-same : {X : Type 0} (xs : List X) (i : ℕ) (a b : X) → i < length xs → get_or xs i a ≡ get_or xs i b
 get_or-same [] i a b h = absurd (omega arith)
 get_or-same (x ∷ xs) zero a b h = refl
 get_or-same (x ∷ xs) (suc i) a b h = get_or-same xs i a b (omega arith)

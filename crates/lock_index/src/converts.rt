@@ -1,4 +1,4 @@
-ghost use Rattle.std.specs.Prelude.{◌≡◌, ◌+◌, ◌||◌, ℕ, false, nat_eq, nat_lt, not, IsTrue, IfOk, IfErr, OnOk, OnErr, Ok, Err};
+ghost use Rattle.std.specs.Prelude.{◌≡◌, ◌+◌, ◌||◌, ℕ, false, nat_eq, nat_lt, not, option_copied, IsTrue, IfOk, IfErr, OnOk, OnErr, Ok, Err};
 ghost use Rattle.std.specs.List.{find, list_any};
 ghost use Rattle.mode_rules.specs.declared.Mode.TheVariants.{O};
 ghost use Rattle.indexmap.specs.IndexSet.{contains};
@@ -28,7 +28,7 @@ pub fn test(shelf: &Shelf, asker: &Asker, asked: &[Asked]) -> Result<(), AskFaul
         return Err(AskFault::Lost);
     }
     match first_withstanding(shelf, asker, asked) {
-        Some(entry) => return Err(AskFault::Foreign(entry)),
+        Some(entry) => return Err(AskFault::Foreign(*entry)),
         None => {}
     }
     if sum_exceeds(shelf, asker, asked) {
@@ -68,10 +68,7 @@ fn giving_way(
 {
     let mut places = IndexSet::new(alloc);
     for a in asked {
-        let search = Search::GivesWay {
-            asker: *asker,
-            asked: *a,
-        };
+        let search = Search::GivesWay { asker, asked: a };
         shelf.add_found(&search, &mut places)?;
     }
     Ok(places)
@@ -114,28 +111,22 @@ fn has_either(shelf: &Shelf, asker: &Asker, asked: &Asked) -> bool
 }
 
 /// The oldest S, E or X entry of others that meets the first argument that such an entry meets.
-fn first_withstanding(shelf: &Shelf, asker: &Asker, asked: &[Asked]) -> Option<Entry>
-    ensures { result ≡ converting.first_withstanding (live shelf.now) asker.now asked.now }
+fn first_withstanding<'a>(shelf: &'a Shelf, asker: &Asker, asked: &[Asked]) -> Option<&'a Entry>
+    ensures { option_copied result ≡ converting.first_withstanding (live shelf.now) asker.now asked.now }
 {
     for a in asked {
-        let foreign = oldest_withstanding(shelf, asker, a);
-        if foreign.is_some() {
-            return foreign;
+        match oldest_withstanding(shelf, asker, a) {
+            Some(entry) => return Some(entry),
+            None => {}
         }
     }
     None
 }
 
-fn oldest_withstanding(shelf: &Shelf, asker: &Asker, asked: &Asked) -> Option<Entry>
-    ensures { result ≡ find (converting.withstands asker.now asked.now) (live shelf.now) }
+fn oldest_withstanding<'a>(shelf: &'a Shelf, asker: &Asker, asked: &Asked) -> Option<&'a Entry>
+    ensures { option_copied result ≡ find (converting.withstands asker.now asked.now) (live shelf.now) }
 {
-    oldest_entry(
-        shelf,
-        &Search::Withstands {
-            asker: *asker,
-            asked: *asked,
-        },
-    )
+    oldest_entry(shelf, &Search::Withstands { asker, asked })
 }
 
 /// Whether a count would exceed 9,999 where an O entry goes into an E entry.

@@ -1,4 +1,4 @@
-ghost use Rattle.std.specs.Prelude.{◌≡◌};
+ghost use Rattle.std.specs.Prelude.{◌≡◌, option_copied};
 ghost use Rattle.std.specs.List.{find};
 ghost use Rattle.lock_entry.specs.Names as names;
 ghost use Rattle.lock_entry.specs.Barring.{bars};
@@ -12,21 +12,21 @@ use enq_base::Owner;
 use lock_entry::{Asked, Asker, Entry, LockName, Mode};
 
 /// The oldest entry that is looked for.
-pub fn oldest_entry(shelf: &Shelf, search: &Search) -> Option<Entry>
-    ensures { result ≡ find (searches.finds search.now) (live shelf.now) }
+pub fn oldest_entry<'a>(shelf: &'a Shelf, search: &Search) -> Option<&'a Entry>
+    ensures { option_copied result ≡ find (searches.finds search.now) (live shelf.now) }
 {
     match shelf.oldest(search) {
-        Some(place) => shelf.entry(place),
+        Some(place) => shelf.standing(place),
         None => None,
     }
 }
 
 /// The entry of this name.
-pub fn find_entry(shelf: &Shelf, name: &LockName) -> Option<Entry>
-    ensures { result ≡ find (names.has_name name.now) (live shelf.now) }
+pub fn find_entry<'a>(shelf: &'a Shelf, name: &LockName) -> Option<&'a Entry>
+    ensures { option_copied result ≡ find (names.has_name name.now) (live shelf.now) }
 {
     match shelf.place_of(name) {
-        Some(place) => shelf.entry(place),
+        Some(place) => shelf.standing(place),
         None => None,
     }
 }
@@ -49,16 +49,10 @@ pub fn count_at(shelf: &Shelf, name: &LockName) -> u16
 }
 
 /// The oldest entry that bars what is asked for.
-pub fn bar(shelf: &Shelf, asker: &Asker, asked: &Asked) -> Option<Entry>
-    ensures { result ≡ find (bars asker.now asked.now) (live shelf.now) }
+pub fn bar<'a>(shelf: &'a Shelf, asker: &Asker, asked: &Asked) -> Option<&'a Entry>
+    ensures { option_copied result ≡ find (bars asker.now asked.now) (live shelf.now) }
 {
-    oldest_entry(
-        shelf,
-        &Search::Bars {
-            asker: *asker,
-            asked: *asked,
-        },
-    )
+    oldest_entry(shelf, &Search::Bars { asker, asked })
 }
 
 /// The name of the owner's entry at the table and the argument in this mode.

@@ -1,6 +1,6 @@
 ghost use Rattle.std.specs.Prelude.{◌≡◌};
 
-use crate::changes::{append, free_one, raise_all, replace};
+use crate::changes::{free_one, replace};
 use crate::finding::find_entry;
 use crate::shelf::Shelf;
 use crate::{asks, converts, lists, loads, owners, readmits};
@@ -55,10 +55,11 @@ impl LockStore for IndexTable {
         user: &Name,
         requests: &[Request],
     ) -> Result<(), AskFault> {
-        let plan = asks::plan_grant(alloc, self.limit, &self.shelf, asker, user, requests)?;
-        append(alloc, &mut self.shelf, plan.added.as_slice())?;
-        raise_all(&mut self.shelf, plan.names.as_slice());
-        Ok(())
+        match asks::first_bar(&self.shelf, asker, requests) {
+            Some(entry) => return Err(AskFault::Foreign(*entry)),
+            None => {}
+        }
+        asks::grant(alloc, self.limit, &mut self.shelf, asker, user, requests)
     }
 
     /// For each entry look-ups as those of `ask`, and as long as the owner's entries are many that go.
@@ -108,7 +109,7 @@ impl LockStore for IndexTable {
             owner: *owner,
             asked: *asked,
         };
-        find_entry(&self.shelf, &name)
+        find_entry(&self.shelf, &name).copied()
     }
 
     /// It goes over all places.

@@ -1,4 +1,4 @@
-ghost use Rattle.std.specs.Prelude.{◌≡◌, ◌||◌, ◌&&◌, ℕ, [], Some, None, OnOk, IfSome, IfNone, true, false, cond, nat_eq, length};
+ghost use Rattle.std.specs.Prelude.{◌≡◌, ◌||◌, ◌&&◌, ℕ, [], Some, None, OnOk, IfSome, IfNone, true, false, cond, nat_eq, length, option_copied};
 ghost use Rattle.std.specs.List.{list_any, position};
 ghost use Rattle.std.specs.Option.{option_map};
 ghost use Rattle.lock_entry.specs.Names as names;
@@ -8,12 +8,12 @@ ghost use Rattle.lock_index.specs.Keys.{has_key};
 ghost use Rattle.lock_index.specs.Members.{is_under};
 ghost use Rattle.indexmap.specs.IndexSet.{contains};
 
-use crate::key::{Key, literal, spot_key};
+use crate::key::{Key, lengths_key, literal, spot_key, stretch_key};
 use crate::members::members;
 use crate::search::Search;
 use enq_base::NoMemory;
 use indexmap::{IndexMap, IndexSet};
-use lock_entry::{Asked, Entry, LockName};
+use lock_entry::{Entry, LockName};
 
 /// The entry at the place.
 pub fn slot(slots: &[Option<Entry>], place: usize) -> Option<Entry>
@@ -22,6 +22,16 @@ pub fn slot(slots: &[Option<Entry>], place: usize) -> Option<Entry>
     match slots.get(place) {
         Some(slot) => *slot,
         None => None,
+    }
+}
+
+/// The entry at the place, where it stands.
+pub fn standing(slots: &[Option<Entry>], place: usize) -> Option<&Entry>
+    ensures { option_copied result ≡ slot_at slots.now place }
+{
+    match slots.get(place) {
+        Some(Some(entry)) => Some(entry),
+        _ => None,
     }
 }
 
@@ -34,9 +44,8 @@ pub fn oldest(
 ) -> Option<usize>
     ensures { IsShown slots.now map.now → result ≡ position (on_some (searches.finds search.now)) slots.now }
 {
-    let asked = search.place();
-    let lengths = members(map, &Key::Lengths { table: asked.table });
-    oldest_over(slots, map, search, &asked, lengths)
+    let lengths = members(map, &lengths_key(search.table()));
+    oldest_over(slots, map, search, lengths)
 }
 
 /// The place of the entry of this name. It goes over the entries of the table with the same literal bytes.
@@ -49,27 +58,20 @@ pub fn place_of(
 {
     let pattern = &name.asked.pattern;
     let key = spot_key(&name.asked.table, pattern, literal(pattern));
-    oldest_of(
-        slots,
-        members(map, &key),
-        &Search::Named { name: *name },
-        None,
-    )
+    oldest_of(slots, members(map, &key), &Search::Named { name }, None)
 }
 
 fn oldest_over(
     slots: &[Option<Entry>],
     map: &IndexMap<Key, IndexSet<usize>>,
     search: &Search,
-    asked: &Asked,
     lengths: &[usize],
 ) -> Option<usize>
-    requires { asked.now ≡ searches.place_of search.now }
     ensures { result ≡ searches.oldest_over slots.now map.now search.now None lengths.now }
 {
     let mut best = None;
     for length in lengths {
-        best = oldest_under(slots, map, search, asked, *length, best);
+        best = oldest_under(slots, map, search, *length, best);
     }
     best
 }
@@ -78,32 +80,29 @@ fn oldest_under(
     slots: &[Option<Entry>],
     map: &IndexMap<Key, IndexSet<usize>>,
     search: &Search,
-    asked: &Asked,
     count: usize,
     best: Option<usize>,
 ) -> Option<usize>
-    ensures { result ≡ searches.oldest_under slots.now map.now search.now best (searches.candidates asked.now count) }
+    ensures { result ≡ searches.oldest_under slots.now map.now search.now best (searches.candidates (searches.place_of search.now) count) }
 {
-    match candidates(asked, count) {
+    match candidates(search, count) {
         Some(key) => oldest_of(slots, members(map, &key), search, best),
         None => best,
     }
 }
 
 /// The key of the entries with so many literal bytes that may meet what is asked for.
-fn candidates(asked: &Asked, count: usize) -> Option<Key>
-    ensures { result ≡ searches.candidates asked.now count }
+fn candidates(search: &Search, count: usize) -> Option<Key>
+    ensures { result ≡ searches.candidates (searches.place_of search.now) count }
 {
-    if count > asked.pattern.bytes().len() {
+    let pattern = search.pattern();
+    if count > pattern.bytes().len() {
         return None;
     }
-    if count <= literal(&asked.pattern) {
-        return Some(spot_key(&asked.table, &asked.pattern, count));
+    if count <= literal(pattern) {
+        return Some(spot_key(search.table(), pattern, count));
     }
-    Some(Key::Stretch {
-        table: asked.table,
-        length: count,
-    })
+    Some(stretch_key(search.table(), count))
 }
 
 fn oldest_of(
@@ -151,23 +150,21 @@ pub fn add_found(
 ) -> Result<(), NoMemory>
     ensures { OnOk result (IsShown slots.now map.now → (i : ℕ) → contains nat_eq found.new i ≡ (contains nat_eq found.old i || on_some (searches.finds search.now) (slot_at slots.now i))) }
 {
-    let asked = search.place();
-    let lengths = members(map, &Key::Lengths { table: asked.table });
-    add_found_over(slots, map, search, &asked, lengths, found)
+    let lengths = members(map, &lengths_key(search.table()));
+    add_found_over(slots, map, search, lengths, found)
 }
 
 fn add_found_over(
     slots: &[Option<Entry>],
     map: &IndexMap<Key, IndexSet<usize>>,
     search: &Search,
-    asked: &Asked,
     lengths: &[usize],
     found: &mut IndexSet<usize>,
 ) -> Result<(), NoMemory>
-    ensures { OnOk result ((i : ℕ) → contains nat_eq found.new i ≡ (contains nat_eq found.old i || (list_any (λ n. is_under map.now (searches.candidates asked.now n) i) lengths.now && on_some (searches.finds search.now) (slot_at slots.now i)))) }
+    ensures { OnOk result ((i : ℕ) → contains nat_eq found.new i ≡ (contains nat_eq found.old i || (list_any (λ n. is_under map.now (searches.candidates (searches.place_of search.now) n) i) lengths.now && on_some (searches.finds search.now) (slot_at slots.now i)))) }
 {
     for length in lengths {
-        add_found_under(slots, map, search, asked, *length, found)?;
+        add_found_under(slots, map, search, *length, found)?;
     }
     Ok(())
 }
@@ -176,13 +173,12 @@ fn add_found_under(
     slots: &[Option<Entry>],
     map: &IndexMap<Key, IndexSet<usize>>,
     search: &Search,
-    asked: &Asked,
     count: usize,
     found: &mut IndexSet<usize>,
 ) -> Result<(), NoMemory>
-    ensures { OnOk result ((i : ℕ) → contains nat_eq found.new i ≡ (contains nat_eq found.old i || (is_under map.now (searches.candidates asked.now count) i && on_some (searches.finds search.now) (slot_at slots.now i)))) }
+    ensures { OnOk result ((i : ℕ) → contains nat_eq found.new i ≡ (contains nat_eq found.old i || (is_under map.now (searches.candidates (searches.place_of search.now) count) i && on_some (searches.finds search.now) (slot_at slots.now i)))) }
 {
-    match candidates(asked, count) {
+    match candidates(search, count) {
         Some(key) => add_found_of(slots, members(map, &key), search, found),
         None => Ok(()),
     }

@@ -3,7 +3,7 @@ ghost use Rattle.mode_rules.specs.declared.Mode.TheVariants.{E, O};
 ghost use Rattle.lock_entry.specs.declared.entry.Entry.{Entry};
 ghost use Rattle.lock_index.specs.Slots.{slot_at, IsShown};
 
-use crate::key::{Key, keys_of, literal, optimistic_key_of};
+use crate::key::{Key, keys_of, lengths_key, literal, optimistic_key_of};
 use crate::members::{add, add_all, take, take_all};
 use enq_base::{NoMemory, Owner};
 use indexmap::{IndexMap, IndexSet};
@@ -21,7 +21,7 @@ pub fn note(
     ensures unchanged { OnErr result ((slots : List (Option Entry)) → IsShown slots map.old → length slots ≡ place → IsShown slots map.new) }
 {
     let keys = keys_of(entry);
-    let lengths = Key::Lengths { table: entry.table };
+    let lengths = lengths_key(&entry.table);
     add(alloc, map, &lengths, literal(&entry.pattern))?;
     match add_all(alloc, map, &keys, place) {
         Ok(()) => Ok(()),

@@ -1,4 +1,4 @@
-ghost use Rattle.std.specs.Prelude.{◌≡◌, ◌≤◌, ◌++◌, length, map, not, count_by, IfErr, OnOk, Ok, Err};
+ghost use Rattle.std.specs.Prelude.{◌≡◌, ◌≤◌, ◌++◌, length, map, not, count_by, option_copied, IfErr, OnOk, Ok, Err};
 ghost use Rattle.lock_entry.specs.Names.{asked_of};
 ghost use Rattle.lock_entry.specs.Names as names;
 ghost use Rattle.lock_entry.specs.Granting.{first_bar, newcomers, readmitted};
@@ -17,7 +17,7 @@ pub fn test(limit: u32, shelf: &Shelf, asker: &Asker, given: &[Entry]) -> Result
     ensures refused { IfErr result (λ f. readmitted (record { entries = live shelf.now; limit = limit }) asker.now given.now ≡ Err f) }
 {
     match first_given_bar(shelf, asker, given) {
-        Some(entry) => return Err(AskFault::Foreign(entry)),
+        Some(entry) => return Err(AskFault::Foreign(*entry)),
         None => {}
     }
     if is_full(limit, shelf.len(), count_new(shelf, given)) {
@@ -30,13 +30,13 @@ pub fn test(limit: u32, shelf: &Shelf, asker: &Asker, given: &[Entry]) -> Result
 }
 
 /// The oldest entry that bars the first given entry that is barred.
-fn first_given_bar(shelf: &Shelf, asker: &Asker, given: &[Entry]) -> Option<Entry>
-    ensures { result ≡ first_bar (live shelf.now) asker.now (map asked_of given.now) }
+fn first_given_bar<'a>(shelf: &'a Shelf, asker: &Asker, given: &[Entry]) -> Option<&'a Entry>
+    ensures { option_copied result ≡ first_bar (live shelf.now) asker.now (map asked_of given.now) }
 {
     for e in given {
-        let foreign = bar(shelf, asker, &e.asked());
-        if foreign.is_some() {
-            return foreign;
+        match bar(shelf, asker, &e.asked()) {
+            Some(entry) => return Some(entry),
+            None => {}
         }
     }
     None

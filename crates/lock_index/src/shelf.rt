@@ -1,4 +1,4 @@
-ghost use Rattle.std.specs.Prelude.{◌≡◌, ◌||◌, nat_eq, ◌++◌, ◌∷◌, [], None, Some, ℕ, true, false, IfOk, IfSome, IfNone, OnOk, OnErr, count_by, length, map, slice_set};
+ghost use Rattle.std.specs.Prelude.{◌≡◌, ◌||◌, nat_eq, ◌++◌, ◌∷◌, [], None, Some, ℕ, true, false, IfOk, IfSome, IfNone, OnOk, OnErr, count_by, length, map, option_copied, slice_set};
 ghost use Rattle.std.specs.List.{filter, list_any, position};
 ghost use Rattle.mode_rules.specs.declared.Mode.TheVariants.{E, O};
 ghost use Rattle.lock_entry.specs.Names as names;
@@ -71,6 +71,13 @@ impl Shelf {
         ensures { result ≡ slot_at self.now place }
     {
         looking::slot(self.slots.as_slice(), place)
+    }
+
+    /// The entry at the place, where it stands.
+    pub fn standing(&self, place: usize) -> Option<&Entry>
+        ensures { option_copied result ≡ slot_at self.now place }
+    {
+        looking::standing(self.slots.as_slice(), place)
     }
 
     /// The place of the oldest entry that is looked for.

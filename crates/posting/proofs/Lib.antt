@@ -14,5 +14,6 @@ pub mod Held
 pub mod Restored
 pub mod Cases
 pub mod Reopened
+pub mod Settled
 pub mod Raised
 pub mod Applies

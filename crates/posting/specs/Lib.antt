@@ -8,5 +8,6 @@ pub mod Shelf
 pub mod Restoring
 pub mod Opening
 pub mod Reopening
+pub mod Settling
 pub mod Views
 pub mod Numbers

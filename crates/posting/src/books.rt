@@ -1,6 +1,6 @@
 ghost use Rattle.std.specs.Prelude.{◌≡◌, ◌≤◌, ◌⊎◌, List, [], length, nat_eq, true, false, if◌then◌else◌, Option, Some, None, IfSome, IfOk, IfErr, OnOk, OnErr, IsTrue, is_some, ◌∷◌};
 ghost use Rattle.std.specs.FinMap.{get};
-ghost use Rattle.std.specs.Option.{option_map};
+ghost use Rattle.std.specs.Option.{option_copied, option_map};
 ghost use Rattle.update_records.specs.Business.{numbers_of};
 ghost use Rattle.update_records.specs.RecordRows.{Level as StoredLevel};
 ghost use Rattle.posting.specs.Intervals.{in_row_order, MayStore};
@@ -20,6 +20,7 @@ ghost use Rattle.posting.specs.Posts.{HasDistinctRows, HoldsTables, IsNote, IsPo
 ghost use Rattle.posting.specs.Reopening.{HasStood, IsOpeningFault, IsRaised, MayBeLeftBy, MayBeOpeningFault};
 ghost use Rattle.store_reading.specs.Good.{IsSound, ledger_of};
 ghost use Rattle.posting.specs.Shelf.{IsUsable, IsUnmoved, IsReady, MayTake, StandForEither};
+ghost use Rattle.posting.specs.Settling.{CountsSettling, IsSettled, OnBooks, OnFound, OnOther, StandForOther};
 ghost use Rattle.posting.specs.Standings.{error_of};
 ghost use Rattle.posting.specs.Steps.{after_step, at_place, intervals_in, IsDrawing, post_kind, waiting_for, HasMarksLeft, IsNewUnit, IsOpenUnit, IsOutcome, IsPostedUnit, IsSetByHand, MayGet};
 ghost use Rattle.posting.specs.Views.{open_locks, views_of};
@@ -29,6 +30,7 @@ use crate::batch::{draw_batch, level_batch, mark_behind, note_batch, start_batch
 use crate::opening::{BooksFault, open_ledger, restored};
 use crate::prepared::{Outcome, Prepared, Step};
 use crate::register::Register;
+use crate::settling::{Reread, SettleFault, settled};
 use crate::spots::{apply_to_store, read_text};
 use crate::viewing;
 use enq_base::{
@@ -128,6 +130,50 @@ impl<K: Keeper> Books<K> {
         };
         self.register = register;
         Ok(())
+    }
+
+    /// Reads the store anew after a commit that failed, and tells what it has: the ledger as it was, or the one with the
+    /// change that was to be made. A change that makes no difference it hasn't. A store that has neither is `Other`. The
+    /// ledger of the books stays what it was; behind this call only `reread`, `reopen`, `adopt` and `into_keeper` are allowed.
+    ///
+    /// The time is linear in the rows, but for sorting.
+    pub fn reread(&mut self, alloc: Global, change: Option<&Step>) -> Result<Reread, SettleFault>
+        // Calls are allowed once the books have what was found.
+        ensures usable { IfOk result (λ found. IsUsable K.held K.is_open (record self.new { ledger = found.ledger })) }
+        ensures found { IfOk result (λ found. IsSettled self.old.ledger (option_copied change.entry) found.taken found.ledger) }
+        ensures stood { IfOk result (λ found. IfSome (K.held self.new.keeper) (λ _. HasStood (K.may_leave self.old.keeper) found.ledger)) }
+        // Also where the keeper doesn't tell its rows.
+        ensures sound { IfOk result (λ found. IsSound found.ledger) }
+        ensures numbers { IfOk result (λ found. AreNumbersRight found.ledger) }
+        ensures kept { self.new.ledger ≡ self.old.ledger }
+        ensures told { is_some (K.held self.new.keeper) ≡ is_some (K.held self.old.keeper) }
+        ensures left { IsWithin (K.may_leave self.new.keeper) (K.may_leave self.old.keeper) }
+        ensures counts { OnOk result (K.faults self.new.keeper ≡ K.faults self.old.keeper) }
+        ensures fault { IfErr result (λ fault. OnBooks fault (λ why. IfSome (K.held self.new.keeper) (λ rows. IsOpeningFault false rows why))) }
+        ensures untold_fault { IfErr result (λ fault. OnBooks fault (MayBeOpeningFault false)) }
+        ensures other { IfErr result (λ fault. OnOther fault (IfSome (K.held self.new.keeper)
+            (λ rows. StandForOther rows self.old.ledger (option_copied change.entry)))) }
+        // The rows of a store that isn't good, or that has neither ledger, are some that a crash might have left.
+        ensures found_rows { IfErr result (λ fault. OnFound fault (IfSome (K.held self.new.keeper) (K.may_leave self.old.keeper))) }
+        ensures cause { IfErr result (λ fault. CountsSettling fault (K.faults self.old.keeper) (K.faults self.new.keeper)) }
+    {
+        let stored = match open_ledger(alloc, &mut self.keeper) {
+            Ok(stored) => stored,
+            Err(fault) => return Err(SettleFault::Books(fault)),
+        };
+        let Ok(register) = restored(alloc, stored) else {
+            return Err(SettleFault::Books(BooksFault::NoMemory));
+        };
+        let taken = settled(alloc, &self.register, change, &register)?;
+        Ok(Reread { register, taken })
+    }
+
+    /// Takes what was found for the ledger.
+    pub fn adopt(&mut self, found: Reread)
+        ensures ledger { self.new.ledger ≡ found.ledger }
+        ensures keeper { self.new.keeper ≡ self.old.keeper }
+    {
+        self.register = found.register;
     }
 
     /// The number of this start, or 0 where none was ever raised.

@@ -1,4 +1,4 @@
-ghost use Rattle.std.specs.Prelude.{◌≡◌, ◌≤◌, ◌+◌, length, OnOk, false, slice_get};
+ghost use Rattle.std.specs.Prelude.{◌≡◌, ◌↔◌, ◌≤◌, ◌+◌, length, IfOk, IsTrue, OnOk, false, slice_get};
 ghost use Rattle.std.specs.FinMap.{empty, get, insert};
 ghost use Rattle.std.specs.List.{find, position_or_len};
 ghost use Rattle.std.specs.Option.{option_map, option_map_or};
@@ -7,6 +7,7 @@ ghost use Rattle.posting.specs.Intervals.{AreInOrder, if_called, in_row_order, i
 ghost use Rattle.update_records.specs.Intervals.{level_of, named};
 ghost use Rattle.posting.specs.Steps.{at_place};
 
+use crate::sameness::are_same;
 use enq_base::{Name, NoMemory};
 use std::alloc::Global;
 use std::cmp::Ordering;
@@ -72,6 +73,36 @@ impl IntervalList {
         ensures { result.now ≡ in_row_order self.now.levels }
     {
         self.items.as_slice()
+    }
+
+    /// Whether two lists have the same intervals.
+    pub fn has_same(&self, other: &IntervalList) -> bool
+        ensures { IsTrue result ↔ (self.now.levels ≡ other.now.levels) }
+    {
+        are_same(self.items.as_slice(), other.items.as_slice())
+    }
+
+    /// A list with these intervals too, each put under its name. Each costs a search by halves, and one of a new name a
+    /// move of those behind it.
+    pub fn with_all(
+        &self,
+        alloc: Global,
+        intervals: &[StoredInterval],
+    ) -> Result<IntervalList, NoMemory>
+        ensures { IfOk result (λ list. list.levels ≡ with_levels intervals.now self.now.levels) }
+    {
+        let mut list = self.copy(alloc)?;
+        list.make_room(intervals.len())?;
+        put_all(&mut list, intervals);
+        Ok(list)
+    }
+
+    fn copy(&self, alloc: Global) -> Result<IntervalList, NoMemory>
+        ensures { IfOk result (λ list. list.levels ≡ self.now.levels) }
+    {
+        Ok(IntervalList {
+            items: Vec::from_slice(alloc, self.items.as_slice())?,
+        })
     }
 
     /// Takes the memory for so many more intervals.

@@ -8,10 +8,13 @@ mod opening;
 mod prepared;
 mod register;
 mod restoring;
+mod sameness;
+mod settling;
 mod spots;
 mod viewing;
 
 pub use books::Books;
 pub use opening::BooksFault;
 pub use prepared::{Outcome, Prepared, Step};
+pub use settling::{Reread, SettleFault};
 pub use update_records::StoredInterval;

@@ -228,6 +228,19 @@ impl Register {
         self.intervals.intervals()
     }
 
+    /// All marks in order.
+    pub fn all_marks(&self) -> &[Mark]
+        ensures { result.now ≡ self.now.ledger.marks }
+    {
+        self.marks.as_slice()
+    }
+
+    pub fn interval_list(&self) -> &IntervalList
+        ensures { result.now.levels ≡ self.now.ledger.levels }
+    {
+        &self.intervals
+    }
+
     /// Takes the memory for one more unit, one more mark and so many more intervals.
     pub fn make_room(&mut self, intervals: usize) -> Result<(), NoMemory>
         ensures ledger { self.new.ledger ≡ self.old.ledger }

@@ -12,14 +12,19 @@ use Rattle.script_runner.specs.declared.runner.Why.{Why}
 use Rattle.script_runner.specs.declared.runner.Why.TheVariants.{Done, BadWords, BadLandscape, BadLine, SourceFault, SinkFault, LongLine, ManyLines, StoreFault, BackupFault, BadStore, BadBackup, NoStart, NoMemory}
 use Rattle.script_runner.specs.Run.{AreAllowed, Turn, Progress, begun, next, run, moved, after_turn, file_fails_in, line_does, store_fails_in}
 use Rattle.script_runner.specs.World.{World}
-use Rattle.script_runner.specs.Replay.{Replays, Seen, IsEnd, IsFoundBad, IsReadToEnd}
+use Rattle.script_runner.specs.Replay.{Replays, Seen, HasBadCause, IsEnd, IsReadToEnd, MeetsBad}
 use Rattle.hall.specs.Leaving.{HasCounted}
 use Rattle.script_runner.proofs.Counted.{all_counted}
-use Rattle.script_runner.proofs.Doubts.{or_left, or_right, run_stays_or_fails, run_stops, stays_filed, stays_or_found, stays_shelved, stays_stored, stays_up, stopped, unmade_in, was_in_doubt}
+use Rattle.script_runner.proofs.Doubts.{MadeOrBad, found_met, or_left, or_right, run_made, run_stays_or_fails, run_stops, stays_filed, stays_or_found, stays_stored, stopped, unmade_in}
 use Rattle.enq_base.specs.Causes.{Rose}
+use Rattle.enq_base.specs.declared.condition.Bad.{Bad}
+use Rattle.enq_base.specs.declared.condition.Bad.TheVariants as bad
+use Rattle.enq_base.specs.declared.refusal.Refusal.TheVariants as refusal
+use Rattle.hall.specs.declared.command.Reply.TheVariants as reply
+use Rattle.script_runner.specs.Faults.{is_unsound}
 use Rattle.script_runner.specs.Lines.{line_in}
 use Rattle.script_runner.proofs.Outcomes.{IsFine, calmed, calmed_calm, calmed_may, line_fine, line_well}
-use Rattle.script_runner.specs.Whole.{IsAllDone, IsCalm, IsGood, IsScript, IsComplete}
+use Rattle.script_runner.specs.Whole.{IsAllDone, IsCalm, IsComplete, IsDoneInDoubt, IsDoneUnlessBad, IsGood, IsScript}
 
 -- ---- lines of bytes that are put together
 
@@ -197,26 +202,36 @@ all_done before after bytes left rest turns old new allowed is all off unfiled m
       text = subst (λ (p : Progress). Appends old.written new.written p.text) same end.3;
     }
 
+-- all lines were done, where each lock server was made anew
+done_or_bad : (before after : World) (bytes left rest : List ℕ) (turns : List Turn) (old new : Seen) → AreAllowed (begun before) turns → new.left ≡ Some left → lines_of bytes ≡ lines_in turns ++ lines_of (rest ++ left) → list_any store_fails_in turns ≡ false → list_any file_fails_in turns ≡ false → MadeOrBad (list_any unmade_in turns) before.hall (run before turns).world.hall → after ≡ (run before turns).world → IsReadToEnd before turns rest old new → IsDoneUnlessBad before after.hall bytes old.written new.written
+done_or_bad before after bytes left rest turns old new allowed is all off unfiled (inl made) hall end = inl (all_done before after bytes left rest turns old new allowed is all off unfiled made hall end)
+done_or_bad before after bytes left rest turns old new allowed is all off unfiled (inr met) hall end = inr (subst (λ (w : World). MeetsBad before.hall w.hall) (sym hall) met)
+
+-- by a server that was in doubt before, or is so since a call that found such a device
+doubted_or_bad : (before after : World) (bytes : List ℕ) (old new : Option (List ℕ)) (place : Bad) → is_unsound (reply.Refused (refusal.Unsound place)) ≡ true → HasBadCause before.hall after.hall place → IsDoneUnlessBad before after.hall bytes old new → IsDoneInDoubt before after.hall bytes old new ⊎ MeetsBad before.hall after.hall
+doubted_or_bad before after bytes old new place unsound (inr found) done = inr (found_met before.hall after.hall place unsound found)
+doubted_or_bad before after bytes old new place unsound (inl was) (inl done) = inl (was, done)
+doubted_or_bad before after bytes old new place unsound (inl was) (inr met) = inr met
+
 ends : (before after : World) (bytes left lines rest : List ℕ) (turns : List Turn) (old new : Seen) (why : Why) → AreAllowed (begun before) turns → new.left ≡ Some left → lines_of bytes ≡ lines_in turns ++ lines_of (rest ++ left) → IsScript bytes → (Rose old.source_faults new.source_faults → ⊥) → (Rose old.sink_faults new.sink_faults → ⊥) → list_any store_fails_in turns ≡ false → list_any file_fails_in turns ≡ false → after ≡ (run before turns).world → IsEnd before turns rest old new why → IsComplete before after.hall bytes old.written new.written why
 ends before after bytes left lines rest turns old new Done allowed is all script quiet_source quiet_sink off unfiled hall end =
-    let stays = stays_up _ _ _ before.hall (run before turns).world.hall (run_stays_or_fails before turns end.0.2 allowed) end.1 in
-    all_done before after bytes left rest turns old new allowed is all off unfiled stays.1 hall end.0
-ends before after bytes left lines rest turns old new (StoreFault k) allowed is all script quiet_source quiet_sink off unfiled hall end =
-    let stays = stays_stored _ _ _ before.hall (run before turns).world.hall k (run_stays_or_fails before turns end.0.2 allowed) off end.1 end.2 in
-    (sym stays.0 ∙ end.1, all_done before after bytes left rest turns old new allowed is all off unfiled stays.1 hall end.0)
-ends before after bytes left lines rest turns old new (BackupFault k) allowed is all script quiet_source quiet_sink off unfiled hall end =
-    let stays = stays_filed _ _ _ before.hall (run before turns).world.hall k (run_stays_or_fails before turns end.0.2 allowed) unfiled end.1 in
-    (sym stays.0 ∙ end.1.0, all_done before after bytes left rest turns old new allowed is all off unfiled stays.1 hall end.0)
+    done_or_bad before after bytes left rest turns old new allowed is all off unfiled (run_made before turns end.0.2 allowed) hall end.0
+ends before after bytes left lines rest turns old new (StoreFault k) allowed is all script quiet_source quiet_sink off unfiled hall end = (
+  stays_stored _ _ before.hall (run before turns).world.hall k (run_stays_or_fails before turns end.0.2 allowed) off end.1 end.2,
+  done_or_bad before after bytes left rest turns old new allowed is all off unfiled (run_made before turns end.0.2 allowed) hall end.0,
+)
+ends before after bytes left lines rest turns old new (BackupFault k) allowed is all script quiet_source quiet_sink off unfiled hall end = (
+  stays_filed _ _ before.hall (run before turns).world.hall k (run_stays_or_fails before turns end.0.2 allowed) unfiled end.1,
+  done_or_bad before after bytes left rest turns old new allowed is all off unfiled (run_made before turns end.0.2 allowed) hall end.0,
+)
 ends before after bytes left lines rest turns old new (BadStore table row) allowed is all script quiet_source quiet_sink off unfiled hall end =
-    let now = (run before turns).world.hall in
-    let stays = stays_shelved _ _ _ before.hall now table row (run_stays_or_fails before turns end.0.2 allowed) end.1 in
-    (was_in_doubt before.hall now end.1.0 stays.0 end.1.1.0, all_done before after bytes left rest turns old new allowed is all off unfiled stays.1 hall end.0)
+    let cause = stays_or_found _ _ before.hall (run before turns).world.hall (bad.Store table row) (run_stays_or_fails before turns end.0.2 allowed) end.1 in
+    doubted_or_bad before after bytes old.written new.written (bad.Store table row) refl (subst (λ (w : World). HasBadCause before.hall w.hall (bad.Store table row)) (sym hall) cause)
+    (done_or_bad before after bytes left rest turns old new allowed is all off unfiled (run_made before turns end.0.2 allowed) hall end.0)
 ends before after bytes left lines rest turns old new (BadBackup place) allowed is all script quiet_source quiet_sink off unfiled hall end =
-    let now = (run before turns).world.hall in
-    elim (stays_or_found _ _ _ before.hall now place (run_stays_or_fails before turns end.0.2 allowed) end.1) [
-      | inl stays ↦ inl (was_in_doubt before.hall now end.1.0 stays.0 end.1.1.0, all_done before after bytes left rest turns old new allowed is all off unfiled stays.1 hall end.0)
-      | inr found ↦ inr (subst (λ (w : World). IsFoundBad before.hall w.hall place) (sym hall) found)
-    ]
+    let cause = stays_or_found _ _ before.hall (run before turns).world.hall (bad.Backup place) (run_stays_or_fails before turns end.0.2 allowed) end.1 in
+    doubted_or_bad before after bytes old.written new.written (bad.Backup place) refl (subst (λ (w : World). HasBadCause before.hall w.hall (bad.Backup place)) (sym hall) cause)
+    (done_or_bad before after bytes left rest turns old new allowed is all off unfiled (run_made before turns end.0.2 allowed) hall end.0)
 ends before after bytes left lines rest turns old new NoStart allowed is all script quiet_source quiet_sink off unfiled hall end = absurd end
 ends before after bytes left lines rest turns old new BadWords allowed is all script quiet_source quiet_sink off unfiled hall end = absurd end
 ends before after bytes left lines rest turns old new (BadLandscape rule place) allowed is all script quiet_source quiet_sink off unfiled hall end = absurd end

@@ -1,5 +1,5 @@
 -- What the monitors show of the server.
-use Rattle.std.specs.Prelude.{ℕ, List}
+use Rattle.std.specs.Prelude.{false, ℕ, List}
 use Rattle.hall.specs.History.{after_of}
 use Rattle.hall.specs.State.{State}
 use Rattle.hall.specs.Views.{marks_shown, numbers_shown, ranges_shown, units_shown}
@@ -10,7 +10,7 @@ use Rattle.script_runner.specs.declared.monitor.Monitor.TheVariants as monitor
 
 -- what SM12 says of the server beside its locks
 abbrev pub server_view : State → ServerView
-server_view s = record { condition = s.condition; attached = (after_of s).attached; limit = s.max_locks }
+server_view s = record { condition = s.condition; attached = (after_of false s).attached; limit = s.max_locks }
 
 -- the counts of the server, at the script line of this number
 abbrev pub audit_shown : ℕ → State → List ℕ

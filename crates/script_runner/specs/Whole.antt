@@ -9,7 +9,7 @@ use Rattle.script_runner.specs.declared.runner.Why.{Why}
 use Rattle.script_runner.specs.declared.runner.Why.TheVariants.{Done, BadWords, BadLandscape, BadLine, SourceFault, SinkFault}
 use Rattle.script_runner.specs.declared.runner.Why.TheVariants.{LongLine, ManyLines, StoreFault, BackupFault, BadStore, BadBackup, NoStart, NoMemory}
 use Rattle.script_runner.specs.Lines.{line_in}
-use Rattle.script_runner.specs.Replay.{IsFoundBad, doubt_of}
+use Rattle.script_runner.specs.Replay.{MeetsBad, doubt_of}
 use Rattle.script_runner.specs.Run.{AreAllowed, Called, LineOutcome, NoRoom, Turn, begun, run}
 use Rattle.script_runner.specs.World.{World}
 
@@ -37,21 +37,26 @@ pub record IsAllDone (before : World) (after : State) (bytes : List ℕ) (old ne
   pub state : after ≡ (run before turns).world.hall
   pub text : Appends old new (run before turns).text
 
+-- all lines were done, or a call found a device that isn't good
+abbrev pub IsDoneUnlessBad : World → State → List ℕ → Option (List ℕ) → Option (List ℕ) → Type 0
+IsDoneUnlessBad before after bytes old new = IsAllDone before after bytes old new ⊎ MeetsBad before.hall after
+
 -- all lines were done, by a server that was in doubt before
 abbrev pub IsDoneInDoubt : World → State → List ℕ → Option (List ℕ) → Option (List ℕ) → Type 0
 IsDoneInDoubt before after bytes old new = IsTrue (is_some (doubt_of before.hall)) × IsAllDone before after bytes old new
 
--- All lines were done, by a server that is in doubt only where it was before, or memory was wanting, or a call found a backup
--- file that isn't good.
+-- All lines were done, by a server that is in doubt only where it was before, unless memory was wanting, or a call found a
+-- device that isn't good.
 abbrev pub IsComplete : World → State → List ℕ → Option (List ℕ) → Option (List ℕ) → Why → Type 0
-IsComplete before after bytes old new Done = IsAllDone before after bytes old new
+IsComplete before after bytes old new Done = IsDoneUnlessBad before after bytes old new
 IsComplete before after bytes old new (StoreFault k) =
-    (doubt_of before.hall ≡ Some k) × IsAllDone before after bytes old new
+    (doubt_of before.hall ≡ Some k) × IsDoneUnlessBad before after bytes old new
 IsComplete before after bytes old new (BackupFault k) =
-    (doubt_of before.hall ≡ Some k) × IsAllDone before after bytes old new
-IsComplete before after bytes old new (BadStore table row) = IsDoneInDoubt before after bytes old new
+    (doubt_of before.hall ≡ Some k) × IsDoneUnlessBad before after bytes old new
+IsComplete before after bytes old new (BadStore table row) =
+    IsDoneInDoubt before after bytes old new ⊎ MeetsBad before.hall after
 IsComplete before after bytes old new (BadBackup place) =
-    IsDoneInDoubt before after bytes old new ⊎ IsFoundBad before.hall after place
+    IsDoneInDoubt before after bytes old new ⊎ MeetsBad before.hall after
 IsComplete before after bytes old new NoMemory = Unit {0}
 IsComplete before after bytes old new BadWords = ⊥
 IsComplete before after bytes old new (BadLandscape rule place) = ⊥

@@ -4,7 +4,8 @@ use Rattle.load_gen.specs.Script.{script_of}
 use Rattle.script_runner.specs.LineFaults.{IsToBlame}
 use Rattle.enq_cmd.proofs.Generated.{blameless, is_script}
 use Rattle.enq_cmd.proofs.Served.{calm_load, load_ends, load_run, run_document, run_place, run_unfit, served_by, unloaded}
-use Rattle.script_runner.specs.Replay.{doubt_of}
+use Rattle.enq_base.specs.declared.condition.Bad.TheVariants as bad
+use Rattle.hall.specs.Unsound.{is_unsound_file, is_unsound_store}
 use Rattle.enq_cmd.proofs.Tellings.{completes_as, first_sound, never_bad}
 use Rattle.enq_cmd.specs.Loading.{IsRunEnd, ShowsCounts}
 use Rattle.enq_cmd.proofs.loading.load_site.Goals as goal
@@ -25,7 +26,7 @@ returns-in-Ok-open_hall-clause-loaded g c =
     c.in-Ok.source (script_of c.args.units) c.in-Ok.ensures _ _ _ _ _ r in
     let served = served_by held g.K.Keeper.may_leave faults g.D.Disk.tells g.D.Disk.reads g.D.Disk.may_leave disk_faults _ c.args.site.keeper c.args.site.disk c.in-Ok-open_hall.hall c.in-Ok-open_hall.objects o
     c.load-why.new.hall c.make_ended.result.site.keeper c.make_ended.result.site.disk kept kept_disk c.load-why.ensures.told
-    c.into_site-keeper.ensures.left c.into_site-keeper.ensures.lists c.into_site-keeper.ensures.open_units c.load-why.ensures.good_file known _ _ c.make_ended.result.past r.end run in
+    c.into_site-keeper.ensures.left c.into_site-keeper.ensures.lists c.into_site-keeper.ensures.open_units c.load-why.ensures.good_file c.load-why.ensures.good_store known _ _ c.make_ended.result.past r.end run in
     inl (record {
       land = o.land;
       read = o.read;
@@ -44,14 +45,23 @@ returns-clause-loaded g c =
     c.args.site.keeper c.in-Err.ended.site.keeper c.args.site.disk c.in-Err.ended.site.disk _ _ _ _ c.in-Err.ensures.past c.in-Err.ensures.unserved
 
 pub returns-in-Ok-open_hall-clause-unfit_interval : goal.returns-in-Ok-open_hall-clause-unfit_interval
-returns-in-Ok-open_hall-clause-unfit_interval g c = run_unfit _ _ _ c.make_ended.result.why (subst IsRunEnd (sym c.make_ended.ensures.why) (c.load-why.ensures.kind (ap doubt_of c.in-Ok-open_hall.ensures.opened.first)))
+returns-in-Ok-open_hall-clause-unfit_interval g c = run_unfit _ _ _ c.make_ended.result.why (subst IsRunEnd (sym c.make_ended.ensures.why) c.load-why.ensures.kind)
 
 pub returns-in-Ok-open_hall-clause-bad_store : goal.returns-in-Ok-open_hall-clause-bad_store
-returns-in-Ok-open_hall-clause-bad_store g c = run_place _ c.make_ended.result.why (subst IsRunEnd (sym c.make_ended.ensures.why) (c.load-why.ensures.kind (ap doubt_of c.in-Ok-open_hall.ensures.opened.first)))
+returns-in-Ok-open_hall-clause-bad_store g c =
+    let held = g.K.Keeper.held in
+    let o = c.in-Ok-open_hall.ensures.opened in
+    let before = c.in-Ok-open_hall.hall.state in
+    let t = is_some (held c.args.site.keeper) in
+    run_place _ c.make_ended.result.why (subst IsRunEnd (sym c.make_ended.ensures.why) c.load-why.ensures.kind)
+    (λ yes table row is.
+    let told = sym c.load-why.ensures.told ∙ ap (λ k. is_some (held k)) (sym (c.make_ended.ensures.keeper ∙ c.into_site-keeper.ensures.keeper)) ∙ yes in
+    never_bad is_unsound_store o.land t before.stored before c.load-why.new.hall.state (bad.Store table row) refl o.first
+    (c.load-why.ensures.good_store told (first_sound is_unsound_store o.land t before.stored before o.first)) (c.load-why.ensures.bad_store table row (sym c.make_ended.ensures.why ∙ is)))
 
 pub returns-in-Ok-open_hall-clause-no_landing : goal.returns-in-Ok-open_hall-clause-no_landing
 returns-in-Ok-open_hall-clause-no_landing g c (inl moved) = absurd (moved c.in-Ok-open_hall.ensures.steady)
-returns-in-Ok-open_hall-clause-no_landing g c (inr bad) = absurd (run_document c.make_ended.result.why (subst IsRunEnd (sym c.make_ended.ensures.why) (c.load-why.ensures.kind (ap doubt_of c.in-Ok-open_hall.ensures.opened.first))) bad)
+returns-in-Ok-open_hall-clause-no_landing g c (inr bad) = absurd (run_document c.make_ended.result.why (subst IsRunEnd (sym c.make_ended.ensures.why) c.load-why.ensures.kind) bad)
 
 pub returns-in-Ok-open_hall-clause-line_fault : goal.returns-in-Ok-open_hall-clause-line_fault
 returns-in-Ok-open_hall-clause-line_fault g c bytes =
@@ -72,7 +82,8 @@ returns-in-Ok-open_hall-clause-complete g c document told_document other gives t
     c.as_slice.result.now c.as_slice.ensures c.make_ended.result.past (c.make_ended.ensures.past ∙ c.into_site-keeper.ensures.past)
     c.in-Ok.source text c.in-Ok.ensures _ _ _ _ _ r in
     let end = completes_as (g.K.Keeper.may_leave c.args.site.keeper) o.land (is_some (held c.args.site.keeper)) _ _ _ _ text _ _ r.end r.end o.first refl
-    (c.load-why.ensures.good_file tells (first_sound o.land (is_some (held c.args.site.keeper)) c.in-Ok-open_hall.hall.state.stored c.in-Ok-open_hall.hall.state o.first))
+    (c.load-why.ensures.good_file tells (first_sound is_unsound_file o.land (is_some (held c.args.site.keeper)) c.in-Ok-open_hall.hall.state.stored c.in-Ok-open_hall.hall.state o.first))
+    (c.load-why.ensures.good_store (o.told ∙ told) (first_sound is_unsound_store o.land (is_some (held c.args.site.keeper)) c.in-Ok-open_hall.hall.state.stored c.in-Ok-open_hall.hall.state o.first))
     (run.complete text refl (is_script c.args.units c.requires.count) (calm_load text r.rest _ _ _ _ kept still)) in
     load_ends (g.K.Keeper.may_leave c.args.site.keeper) r.end c.make_ended.result.why c.load-why.new.hall.state (sink.written c.args.sink.now) (sink.written c.load-why.new.sink) (sink.faults c.args.sink.now) (sink.faults c.load-why.new.sink) end
     (subst (ShowsCounts r.end c.load-why.new.hall.state (sink.written c.args.sink.now) (sink.written c.load-why.new.sink) (sink.faults c.args.sink.now) (sink.faults c.load-why.new.sink)) (sym c.make_ended.ensures.why) r.shown) quiet
@@ -85,5 +96,5 @@ returns-in-Ok-open_hall-clause-bad_backup g c is_told place is =
     let o = c.in-Ok-open_hall.ensures.opened in
     let before = c.in-Ok-open_hall.hall.state in
     let t = is_some (g.K.Keeper.held c.args.site.keeper) in
-    absurd (never_bad o.land t before.stored before c.load-why.new.hall.state place o.first
-    (c.load-why.ensures.good_file is_told (first_sound o.land t before.stored before o.first)) (c.load-why.ensures.bad_backup place (sym c.make_ended.ensures.why ∙ is)))
+    absurd (never_bad is_unsound_file o.land t before.stored before c.load-why.new.hall.state (bad.Backup place) refl o.first
+    (c.load-why.ensures.good_file is_told (first_sound is_unsound_file o.land t before.stored before o.first)) (c.load-why.ensures.bad_backup place (sym c.make_ended.ensures.why ∙ is)))

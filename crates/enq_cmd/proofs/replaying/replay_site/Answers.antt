@@ -1,8 +1,10 @@
-use Rattle.std.proofs.Common.{◌≡◌, inl, sym, ap, ◌∙◌}
+use Rattle.std.proofs.Common.{◌≡◌, inl, refl, sym, ap, ◌∙◌}
 use Rattle.std.specs.Prelude.{is_some}
+use Rattle.enq_base.specs.declared.condition.Bad.TheVariants as bad
+use Rattle.hall.specs.Unsound.{is_unsound_file, is_unsound_store}
 use Rattle.script_runner.specs.Replay.{seen}
 use Rattle.enq_cmd.proofs.Served.{run_kind, run_place, served_by, still_by, unserved}
-use Rattle.enq_cmd.proofs.Tellings.{HasRun, completes_as, first_doubt, first_sound, never_bad, served_seen}
+use Rattle.enq_cmd.proofs.Tellings.{HasRun, completes_as, first_sound, never_bad, served_seen}
 use Rattle.enq_cmd.proofs.replaying.replay_site.Goals as goal
 
 pub returns-in-Ok-clause-served : goal.returns-in-Ok-clause-served
@@ -30,7 +32,7 @@ returns-in-Ok-clause-served g c =
     (λ i. seen (source.left c.replay-why.new.source) (sink.written c.replay-why.new.sink) (source.faults c.replay-why.new.source) (sink.faults c.replay-why.new.sink) (faults (sym kept i)) (disk_faults (sym kept_disk i))) in
     let served = served_by held may_leave faults g.D.Disk.tells g.D.Disk.reads g.D.Disk.may_leave disk_faults _ c.args.site.keeper c.args.site.disk c.in-Ok.hall c.in-Ok.objects o
     c.replay-why.new.hall c.make_ended.result.site.keeper c.make_ended.result.site.disk kept kept_disk c.replay-why.ensures.told
-    c.into_site-keeper.ensures.left c.into_site-keeper.ensures.lists c.into_site-keeper.ensures.open_units c.replay-why.ensures.good_file _ _ _ _ _ run in
+    c.into_site-keeper.ensures.left c.into_site-keeper.ensures.lists c.into_site-keeper.ensures.open_units c.replay-why.ensures.good_file c.replay-why.ensures.good_store _ _ _ _ _ run in
     inl (record {
       land = o.land;
       read = o.read;
@@ -54,23 +56,29 @@ returns-in-Ok-clause-complete g c bytes left script document told_document other
     let o = c.in-Ok.ensures.opened in
     let t = is_some (held c.args.site.keeper) in
     completes_as (g.K.Keeper.may_leave c.args.site.keeper) o.land t c.in-Ok.hall.state.stored _ c.in-Ok.hall.state c.replay-why.new.hall.state bytes _ _ c.replay-why.result c.make_ended.result.why o.first (sym c.make_ended.ensures.why)
-    (c.replay-why.ensures.good_file tells (first_sound o.land t c.in-Ok.hall.state.stored c.in-Ok.hall.state o.first))
+    (c.replay-why.ensures.good_file tells (first_sound is_unsound_file o.land t c.in-Ok.hall.state.stored c.in-Ok.hall.state o.first))
+    (c.replay-why.ensures.good_store (o.told ∙ told) (first_sound is_unsound_store o.land t c.in-Ok.hall.state.stored c.in-Ok.hall.state o.first))
     (c.replay-why.ensures.complete bytes left script calm quiet
     (still_by (faults c.in-Ok.hall.keeper) (faults c.replay-why.new.hall.keeper) (faults c.args.site.keeper) (faults c.make_ended.result.site.keeper) o.counts (ap faults (sym (c.make_ended.ensures.keeper ∙ c.into_site-keeper.ensures.keeper))) kept)
     (still_by (disk_faults c.in-Ok.hall.file.disk) (disk_faults c.replay-why.new.hall.file.disk) (disk_faults c.args.site.disk) (disk_faults c.make_ended.result.site.disk) o.file_counts (ap disk_faults (sym (c.make_ended.ensures.disk ∙ c.into_site-keeper.ensures.disk))) still))
 
 pub returns-in-Ok-clause-bad_store : goal.returns-in-Ok-clause-bad_store
 returns-in-Ok-clause-bad_store g c =
+    let held = g.K.Keeper.held in
     let o = c.in-Ok.ensures.opened in
     let before = c.in-Ok.hall.state in
+    let t = is_some (held c.args.site.keeper) in
     run_place _ c.make_ended.result.why
-    (run_kind before c.replay-why.new.hall.state _ _ _ c.replay-why.result c.make_ended.result.why c.make_ended.ensures.why c.replay-why.ensures.run
-    (first_doubt o.land (is_some (g.K.Keeper.held c.args.site.keeper)) before.stored before o.first) c.replay-why.ensures.bad_store)
+    (run_kind before c.replay-why.new.hall.state _ _ _ c.replay-why.result c.make_ended.result.why c.make_ended.ensures.why c.replay-why.ensures.run)
+    (λ yes table row is.
+    let told = sym c.replay-why.ensures.told ∙ ap (λ k. is_some (held k)) (sym (c.make_ended.ensures.keeper ∙ c.into_site-keeper.ensures.keeper)) ∙ yes in
+    never_bad is_unsound_store o.land t before.stored before c.replay-why.new.hall.state (bad.Store table row) refl o.first
+    (c.replay-why.ensures.good_store told (first_sound is_unsound_store o.land t before.stored before o.first)) (c.replay-why.ensures.bad_store table row (sym c.make_ended.ensures.why ∙ is)))
 
 pub returns-in-Ok-clause-bad_backup : goal.returns-in-Ok-clause-bad_backup
 returns-in-Ok-clause-bad_backup g c is_told place is =
     let o = c.in-Ok.ensures.opened in
     let before = c.in-Ok.hall.state in
     let t = is_some (g.K.Keeper.held c.args.site.keeper) in
-    absurd (never_bad o.land t before.stored before c.replay-why.new.hall.state place o.first
-    (c.replay-why.ensures.good_file is_told (first_sound o.land t before.stored before o.first)) (c.replay-why.ensures.bad_backup place (sym c.make_ended.ensures.why ∙ is)))
+    absurd (never_bad is_unsound_file o.land t before.stored before c.replay-why.new.hall.state (bad.Backup place) refl o.first
+    (c.replay-why.ensures.good_file is_told (first_sound is_unsound_file o.land t before.stored before o.first)) (c.replay-why.ensures.bad_backup place (sym c.make_ended.ensures.why ∙ is)))

@@ -10,7 +10,7 @@ use Rattle.update_records.specs.declared.records.MarkKind.TheVariants.{Gone}
 use Rattle.hall.proofs.Cancels.{can_be, may_follow_gone, refused_plainly}
 use Rattle.hall.proofs.Leaves.{answered_leaves, failed_leaves, plain_quiet, untouched_keeps, where_told}
 use Rattle.hall.proofs.Writes.{below_limit, cancels, cancels_in_doubt, cancels_not, cancels_unfiled, cancels_wanting}
-use Rattle.hall.specs.declared.units.InFlight.TheVariants as flight
+use Rattle.posting.specs.declared.prepared.Step.TheVariants.{Note}
 use Rattle.hall.specs.Filing.{is_open, lists_ended}
 use Rattle.hall.specs.OpenUnits.{AgreeAll, AreOpenLists}
 use Rattle.hall.proofs.Filing.{failed_before, half_written_files, refused_files, same_file, written_files}
@@ -87,7 +87,7 @@ pub returns-in-Err-write-clause-left : goal.returns-in-Err-write-clause-left
 returns-in-Err-write-clause-left g c =
     let held = g.K.Keeper.held in
     failed_leaves (held c.write.new.self.keeper) (held c.prepare_mark.new.self.keeper) (g.K.Keeper.may_leave c.write.new.self.keeper)
-    c.write.new.self.ledger c.prepare_mark.new.self.ledger c.in-Ok-prepare_mark.prepared.step (flight.Cancel c.args.unit)
+    c.write.new.self.ledger c.prepare_mark.new.self.ledger c.in-Ok-prepare_mark.prepared.step (Note c.args.unit Gone)
     c.write.ensures.told c.in-Err-write.ensures.kept
     (where_told (held c.prepare_mark.new.self.keeper) _ (ap (after_step c.prepare_mark.new.self.ledger) c.in-Ok-prepare_mark.ensures.step)) c.write.ensures.left
 
@@ -120,7 +120,7 @@ returns-in_default-clause-file g c =
 pub returns-in-Err-write-clause-file : goal.returns-in-Err-write-clause-file
 returns-in-Err-write-clause-file g c =
     let ledger = c.args.books.now.ledger in
-    failed_before g.D.Disk.tells g.D.Disk.reads g.D.Disk.may_leave g.D.Disk.faults ledger c.write.new.self.ledger c.args.locks.now.file (Some (flight.Cancel c.args.unit)) c.requires.filed (c.in-Err-write.ensures.kept ∙ c.prepare_mark.ensures.unmoved.ledger)
+    failed_before g.D.Disk.tells g.D.Disk.reads g.D.Disk.may_leave g.D.Disk.faults ledger c.write.new.self.ledger c.args.locks.now.file (Some (Note c.args.unit Gone)) c.requires.filed (c.in-Err-write.ensures.kept ∙ c.prepare_mark.ensures.unmoved.ledger)
     (λ lists just. gone_agree ledger c.args.unit lists just.agree)
 
 pub returns-in-Ok-end_locks-clause-file : goal.returns-in-Ok-end_locks-clause-file

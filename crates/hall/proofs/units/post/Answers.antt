@@ -6,13 +6,15 @@ use Rattle.posting.specs.Posts.{kind_for}
 use Rattle.posting.specs.Steps.{after_step}
 use Rattle.update_records.specs.Growing.{with_mark}
 use Rattle.hall.proofs.Claims.{held_for}
-use Rattle.hall.proofs.Writes.{below_limit, landed_where_told, may_come, posts, posts_full, posts_in_doubt, posts_none, posts_unfiled, posts_wanting}
+use Rattle.hall.proofs.Writes.{below_limit, may_come, posts, posts_full, posts_in_doubt, posts_none, posts_unfiled, posts_unread, posts_wanting}
 use Rattle.hall.specs.Leaving.{HasStoreCause, KeepsStore}
-use Rattle.hall.proofs.Leaves.{answered_leaves, failed_leaves, posted_keeps, posted_quiet, told_too, unread_leaves}
+use Rattle.hall.proofs.Leaves.{answered_leaves, failed_leaves, posted_keeps, posted_quiet, unread_leaves, where_told}
 use Rattle.hall.specs.Acts.{IsAct, locks_posted, post_of}
-use Rattle.hall.specs.declared.units.InFlight.TheVariants as flight
+use Rattle.posting.specs.declared.prepared.Step.TheVariants.{Note}
+use Rattle.hall.specs.Calls.{call_of}
+use Rattle.hall.specs.History.{doubted, without_stock}
+use Rattle.hall.specs.declared.command.Reply.TheVariants as reply
 use Rattle.hall.specs.Orders.{order_for, order_of}
-use Rattle.hall.specs.Coming.{outcome_in}
 use Rattle.hall.specs.Filing.{FilesAs, lists_ended}
 use Rattle.hall.specs.OpenUnits.{AgreeAll, AreOpenLists}
 use Rattle.hall.specs.Step.{posted_reply}
@@ -22,12 +24,12 @@ use Rattle.hall.proofs.Listing.{posted_agree, posted_half, posted_lists}
 use Rattle.hall.proofs.units.post.Goals as goal
 
 pub returns-in_default-clause-act : goal.returns-in_default-clause-act
-returns-in_default-clause-act g c s t e f l m room =
+returns-in_default-clause-act g c s t e f l m none room =
     posts_none c.args.part s c.args.orders.now.items c.args.locks.now.table.entries c.args.books.now.ledger c.args.worker c.requires.part e f l room
     (ap (λ xs. order_for c.args.part c.args.books.now.ledger xs c.args.worker) (sym c.as_slice.ensures.value) ∙ sym c.order_for.ensures ∙ c.in_default.is)
 
 pub returns-then-is_full-clause-act : goal.returns-then-is_full-clause-act
-returns-then-is_full-clause-act g c s t e f l m room =
+returns-then-is_full-clause-act g c s t e f l m none room =
     posts_full c.args.part s c.args.orders.now.items c.args.locks.now.table.entries c.args.books.now.ledger c.args.max_marks c.args.worker c.in-Some.unit c.requires.part e f l m room
     (ap (λ xs. order_for c.args.part c.args.books.now.ledger xs c.args.worker) (sym c.as_slice.ensures.value) ∙ sym c.order_for.ensures ∙ c.in-Some.is)
     (sym c.is_full.ensures ∙ c.if-is_full.true)
@@ -50,18 +52,18 @@ prepare-requires-clause-waits g c =
     (ap (λ xs. order_for c.args.part c.args.books.now.ledger xs c.args.worker) (sym c.as_slice.ensures.value) ∙ sym c.order_for.ensures ∙ c.in-Some.is)).1
 
 pub returns-in-Err-NoMemory-clause-act : goal.returns-in-Err-NoMemory-clause-act
-returns-in-Err-NoMemory-clause-act g c s t e f l m room =
+returns-in-Err-NoMemory-clause-act g c s t e f l m none room =
     posts_wanting c.args.part s c.args.orders.now.items c.args.locks.now.table.entries c.args.books.now.ledger c.prepare.new.books.ledger c.args.worker c.in-Some.unit c.requires.part e f l c.prepare.ensures.ledger room
     (ap (λ xs. order_for c.args.part c.args.books.now.ledger xs c.args.worker) (sym c.as_slice.ensures.value) ∙ sym c.order_for.ensures ∙ c.in-Some.is)
 
 pub returns-in-Err-Failed-clause-act : goal.returns-in-Err-Failed-clause-act
-returns-in-Err-Failed-clause-act g c s t e f l m room =
-    posts_in_doubt c.args.part s c.args.orders.now.items c.args.books.now.ledger c.args.max_marks c.args.worker c.in-Some.unit c.requires.part e l m room
+returns-in-Err-Failed-clause-act g c s t e f l m none room =
+    posts_unread c.args.part s c.args.orders.now.items c.args.books.now.ledger c.args.max_marks c.args.worker c.in-Some.unit c.requires.part e l m none room
     (ap (λ xs. order_for c.args.part c.args.books.now.ledger xs c.args.worker) (sym c.as_slice.ensures.value) ∙ sym c.order_for.ensures ∙ c.in-Some.is)
     (sym c.is_full.ensures ∙ c.if-is_full.false)
 
 pub returns-in-Ok-end_locks-clause-act : goal.returns-in-Ok-end_locks-clause-act
-returns-in-Ok-end_locks-clause-act g c s t e f l m room =
+returns-in-Ok-end_locks-clause-act g c s t e f l m none room =
     let kind = kind_for c.args.part c.in-Ok.ready.1 in
     let new = c.in-Ok-write.ensures.done ∙ ap (after_step c.prepare.new.books.ledger) c.in-Ok.ensures.step ∙ ap (λ x. with_mark x c.in-Some.unit kind) c.in-Ok.ensures.ledger in
     subst (λ r. IsAct s (post_of c.args.part c.args.worker) (record s { orders = slice_set c.args.orders.now.items c.args.worker None; locks = locks_posted c.args.part s.locks c.end_locks.new.locks.table.entries; stored = c.write.new.self.ledger }) r) (sym c.posted.ensures)
@@ -72,7 +74,7 @@ returns-in-Ok-end_locks-clause-act g c s t e f l m room =
     refl (ap (λ t. t.entries) c.in-Ok-end_locks.ensures.table) new)
 
 pub returns-in-Err-end_locks-clause-act : goal.returns-in-Err-end_locks-clause-act
-returns-in-Err-end_locks-clause-act g c s t e f l m room =
+returns-in-Err-end_locks-clause-act g c s t e f l m none room =
     let kind = kind_for c.args.part c.in-Ok.ready.1 in
     let new = c.in-Ok-write.ensures.done ∙ ap (after_step c.prepare.new.books.ledger) c.in-Ok.ensures.step ∙ ap (λ x. with_mark x c.in-Some.unit kind) c.in-Ok.ensures.ledger in
     posts_unfiled c.args.part s (is_some (g.K.Keeper.held c.args.books.now.keeper)) c.args.orders.now.items c.args.books.now.ledger c.write.new.self.ledger c.args.max_marks c.args.worker c.in-Some.unit c.in-Ok.ready.1 c.requires.part c.in-Err-end_locks.ensures.file.needed t e l m room
@@ -82,10 +84,13 @@ returns-in-Err-end_locks-clause-act g c s t e f l m room =
     new
 
 pub returns-in-Err-clause-act : goal.returns-in-Err-clause-act
-returns-in-Err-clause-act g c s t e f l m room =
-    posts_in_doubt c.args.part s c.args.orders.now.items c.args.books.now.ledger c.args.max_marks c.args.worker c.in-Some.unit c.requires.part e l m room
+returns-in-Err-clause-act g c s t e f l m none room =
+    let call = call_of (post_of c.args.part c.args.worker) in
+    subst (λ k. IsAct s (post_of c.args.part c.args.worker) (doubted (without_stock call s) call None (Some (with_mark s.stored c.in-Some.unit k))) (reply.Refused refusal.StoreFault)) (sym c.kind_for-kind.ensures)
+    (posts_in_doubt c.args.part s (is_some (g.K.Keeper.held c.args.books.now.keeper)) c.args.orders.now.items c.args.books.now.ledger c.args.max_marks c.args.worker c.in-Some.unit c.in-Ok.ready.1 c.requires.part t e l m room
     (ap (λ xs. order_for c.args.part c.args.books.now.ledger xs c.args.worker) (sym c.as_slice.ensures.value) ∙ sym c.order_for.ensures ∙ c.in-Some.is)
     (sym c.is_full.ensures ∙ c.if-is_full.false)
+    (may_come c.args.part _ (g.K.Keeper.held c.args.books.now.keeper) c.args.books.now.ledger c.in-Some.unit c.in-Ok.ready.1 refl c.in-Ok.ensures.outcome c.in-Ok.ensures.possible))
 
 pub returns-in_default-clause-told : goal.returns-in_default-clause-told
 returns-in_default-clause-told g c = refl
@@ -114,7 +119,7 @@ returns-in-Err-Failed-clause-left g c =
     let held = g.K.Keeper.held in
     let may_leave = g.K.Keeper.may_leave in
     unread_leaves (held c.prepare.new.books.keeper) (held c.args.books.now.keeper) (may_leave c.prepare.new.books.keeper) (may_leave c.args.books.now.keeper)
-    c.prepare.new.books.ledger c.args.books.now.ledger (Some (flight.Post c.in-Some.unit c.args.part))
+    c.prepare.new.books.ledger c.args.books.now.ledger None
     c.prepare.ensures.told c.prepare.ensures.ledger c.prepare.ensures.crash
     (answered_leaves held g.K.Keeper.is_open may_leave c.args.books.now g.met.K.Keeper.settled c.requires.usable)
 
@@ -141,11 +146,9 @@ pub returns-in-Err-clause-left : goal.returns-in-Err-clause-left
 returns-in-Err-clause-left g c =
     let held = g.K.Keeper.held in
     failed_leaves (held c.write.new.self.keeper) (held c.prepare.new.books.keeper) (g.K.Keeper.may_leave c.write.new.self.keeper)
-    c.write.new.self.ledger c.prepare.new.books.ledger c.in-Ok.ready.0.step (flight.Post c.in-Some.unit c.args.part)
+    c.write.new.self.ledger c.prepare.new.books.ledger c.in-Ok.ready.0.step (Note c.in-Some.unit c.kind_for-kind.result)
     c.write.ensures.told c.in-Err.ensures.kept
-    (told_too (held c.prepare.new.books.keeper) (held c.args.books.now.keeper) _ c.prepare.ensures.told
-    (landed_where_told c.args.part (held c.args.books.now.keeper) c.prepare.new.books.ledger c.args.books.now.ledger c.in-Ok.ready.0.step c.in-Some.unit c.in-Ok.ready.1
-    c.in-Ok.ensures.ledger c.in-Ok.ensures.step c.in-Ok.ensures.outcome))
+    (where_told (held c.prepare.new.books.keeper) _ (ap (after_step c.prepare.new.books.ledger) (c.in-Ok.ensures.step ∙ ap (λ k. Note c.in-Some.unit k) (sym c.kind_for-kind.ensures))))
     c.write.ensures.left
 
 pub returns-in-Err-clause-cause : goal.returns-in-Err-clause-cause
@@ -190,14 +193,14 @@ returns-in-Err-NoMemory-clause-file g c =
 pub returns-in-Err-Failed-clause-file : goal.returns-in-Err-Failed-clause-file
 returns-in-Err-Failed-clause-file g c =
     let ledger = c.args.books.now.ledger in
-    failed_before g.D.Disk.tells g.D.Disk.reads g.D.Disk.may_leave g.D.Disk.faults ledger c.prepare.new.books.ledger c.args.locks.now.file (Some (flight.Post c.in-Some.unit c.args.part)) c.requires.filed c.prepare.ensures.ledger
-    (λ lists just. posted_agree c.args.part c.requires.part ledger c.in-Some.unit (outcome_in ledger c.args.part c.in-Some.unit) lists just.agree)
+    failed_before g.D.Disk.tells g.D.Disk.reads g.D.Disk.may_leave g.D.Disk.faults ledger c.prepare.new.books.ledger c.args.locks.now.file None c.requires.filed c.prepare.ensures.ledger
+    (λ lists just. tt)
 
 pub returns-in-Err-clause-file : goal.returns-in-Err-clause-file
 returns-in-Err-clause-file g c =
     let ledger = c.args.books.now.ledger in
-    failed_before g.D.Disk.tells g.D.Disk.reads g.D.Disk.may_leave g.D.Disk.faults ledger c.write.new.self.ledger c.args.locks.now.file (Some (flight.Post c.in-Some.unit c.args.part)) c.requires.filed (c.in-Err.ensures.kept ∙ c.in-Ok.ensures.ledger)
-    (λ lists just. posted_agree c.args.part c.requires.part ledger c.in-Some.unit (outcome_in ledger c.args.part c.in-Some.unit) lists just.agree)
+    failed_before g.D.Disk.tells g.D.Disk.reads g.D.Disk.may_leave g.D.Disk.faults ledger c.write.new.self.ledger c.args.locks.now.file (Some (Note c.in-Some.unit c.kind_for-kind.result)) c.requires.filed (c.in-Err.ensures.kept ∙ c.in-Ok.ensures.ledger)
+    (λ lists just. subst (λ k. AgreeAll (with_mark ledger c.in-Some.unit k) lists) (sym c.kind_for-kind.ensures) (posted_agree c.args.part c.requires.part ledger c.in-Some.unit c.in-Ok.ready.1 lists just.agree))
 
 pub returns-in-Ok-end_locks-clause-file : goal.returns-in-Ok-end_locks-clause-file
 returns-in-Ok-end_locks-clause-file g c =

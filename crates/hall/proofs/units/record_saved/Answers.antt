@@ -3,7 +3,7 @@ use Rattle.posting.specs.Intervals.{with_intervals}
 use Rattle.posting.specs.Steps.{after_step}
 use Rattle.update_records.specs.Growing.{with_unit}
 use Rattle.hall.specs.declared.command.Reply.TheVariants as reply
-use Rattle.hall.specs.declared.units.InFlight.TheVariants as flight
+use Rattle.posting.specs.declared.prepared.Step.TheVariants.{Record}
 use Rattle.hall.proofs.Commits.{landed_unit}
 use Rattle.hall.proofs.Filing.{answered_files, failed_files}
 use Rattle.hall.proofs.Listing.{saved_agrees, saved_lists}
@@ -26,12 +26,12 @@ returns-in-Ok-clause-file g c =
 pub returns-in-Err-clause-file : goal.returns-in-Err-clause-file
 returns-in-Err-clause-file g c =
     let ledger = c.args.books.now.ledger in
-    failed_files g.D.Disk.tells g.D.Disk.reads g.D.Disk.may_leave g.D.Disk.faults c.write.new.books.ledger c.args.locks.now.file c.args.locks.now.file (Some (flight.Unit c.args.unit c.from_vec-levels.result))
+    failed_files g.D.Disk.tells g.D.Disk.reads g.D.Disk.may_leave g.D.Disk.faults c.write.new.books.ledger c.args.locks.now.file c.args.locks.now.file (Some (Record c.args.unit c.from_vec-levels.result))
     (saved_agrees g.D.Disk.tells g.D.Disk.reads g.D.Disk.may_leave ledger c.write.new.books.ledger c.args.unit c.args.levels.items c.from_vec-levels.result c.args.locks.now.file c.requires.saved c.in-Err.ensures.tried.kept c.from_vec-levels.ensures)
     refl
 
 pub returns-in-Err-clause-store : goal.returns-in-Err-clause-store
 returns-in-Err-clause-store g c =
     failed_ends g.K.Keeper.held g.K.Keeper.is_open g.K.Keeper.may_leave g.K.Keeper.faults c.args.books.now c.write.new.books c.args.prepared.step
-    (flight.Unit c.args.unit c.from_vec-levels.result) (rw c.in-Err.ensures.failed at c.in-Err.ensures.tried)
+    (Record c.args.unit c.from_vec-levels.result) (rw c.in-Err.ensures.failed at c.in-Err.ensures.tried)
     (ap (after_step c.args.books.now.ledger) c.requires.step ∙ landed_unit c.args.books.now.ledger c.args.unit c.args.levels.items c.from_vec-levels.result c.from_vec-levels.ensures)

@@ -27,7 +27,7 @@ use Rattle.hall.specs.Leaving.{HasStoreCause, KeepsStore, LeavesWritten}
 use Rattle.hall.specs.declared.command.Command.TheVariants as command
 use Rattle.hall.specs.Sessions.{owners_of}
 use Rattle.hall.specs.declared.command.Reply.TheVariants as reply
-use Rattle.hall.specs.declared.units.InFlight.TheVariants as flight
+use Rattle.posting.specs.declared.prepared.Step.TheVariants.{Note}
 use Rattle.hall.proofs.units.reopen.Goals as goal
 
 pub readmit-requires-clause-entries : goal.readmit-requires-clause-entries
@@ -112,7 +112,7 @@ pub returns-clause-left : goal.returns-clause-left
 returns-clause-left g c =
     let held = g.K.Keeper.held in
     failed_leaves (held c.write.new.self.keeper) (held c.prepare_mark.new.self.keeper) (g.K.Keeper.may_leave c.write.new.self.keeper)
-    c.write.new.self.ledger c.prepare_mark.new.self.ledger c.in-Ok-prepare_mark.prepared.step (flight.Again c.args.unit 1)
+    c.write.new.self.ledger c.prepare_mark.new.self.ledger c.in-Ok-prepare_mark.prepared.step (Note c.args.unit Again1)
     c.write.ensures.told c.in-Err-write.ensures.kept
     (where_told (held c.prepare_mark.new.self.keeper) _ (ap (after_step c.prepare_mark.new.self.ledger) c.in-Ok-prepare_mark.ensures.step)) c.write.ensures.left
 
@@ -156,7 +156,7 @@ returns-clause-file g c =
     let ledger = c.args.books.now.ledger in
     let given = c.as_slice.ensures.value ∙ c.in-Ok.ensures in
     let h = c.in_default-readmit.ensures in
-    failed_files g.D.Disk.tells g.D.Disk.reads g.D.Disk.may_leave g.D.Disk.faults c.write.new.self.ledger c.args.locks.now.file c.readmit.new.self.file (Some (flight.Again c.args.unit 1))
+    failed_files g.D.Disk.tells g.D.Disk.reads g.D.Disk.may_leave g.D.Disk.faults c.write.new.self.ledger c.args.locks.now.file c.readmit.new.self.file (Some (Note c.args.unit Again1))
     (again_agrees g.D.Disk.tells g.D.Disk.reads g.D.Disk.may_leave g.D.Disk.faults ledger c.write.new.self.ledger c.args.unit c.as_slice.result.now c.args.locks.now.file c.readmit.new.self.file c.requires.filed (c.in-Err-write.ensures.kept ∙ c.prepare_mark.ensures.unmoved.ledger)
     c.requires.follows.follows c.requires.stored given h.listed)
     h.cause

@@ -10,7 +10,7 @@ use Rattle.update_records.specs.Growing.{with_mark}
 use Rattle.update_records.specs.declared.records.MarkKind.TheVariants.{Again2}
 use Rattle.hall.proofs.Leaves.{failed_leaves, where_told}
 use Rattle.hall.proofs.Writes.{reposts, reposts_in_doubt, resubmits_wanting}
-use Rattle.hall.specs.declared.units.InFlight.TheVariants as flight
+use Rattle.posting.specs.declared.prepared.Step.TheVariants.{Note}
 use Rattle.hall.proofs.units.repost.Goals as goal
 
 pub returns-in_default-clause-act : goal.returns-in_default-clause-act
@@ -33,7 +33,7 @@ pub returns-in-Err-clause-left : goal.returns-in-Err-clause-left
 returns-in-Err-clause-left g c =
     let held = g.K.Keeper.held in
     failed_leaves (held c.write.new.self.keeper) (held c.prepare_mark.new.self.keeper) (g.K.Keeper.may_leave c.write.new.self.keeper)
-    c.write.new.self.ledger c.prepare_mark.new.self.ledger c.in-Ok.prepared.step (flight.Again c.args.unit 2)
+    c.write.new.self.ledger c.prepare_mark.new.self.ledger c.in-Ok.prepared.step (Note c.args.unit Again2)
     c.write.ensures.told c.in-Err.ensures.kept
     (where_told (held c.prepare_mark.new.self.keeper) _ (ap (after_step c.prepare_mark.new.self.ledger) c.in-Ok.ensures.step)) c.write.ensures.left
 
@@ -60,5 +60,5 @@ returns-in-Ok-write-clause-file g c =
 pub returns-in-Err-clause-file : goal.returns-in-Err-clause-file
 returns-in-Err-clause-file g c =
     let ledger = c.args.books.now.ledger in
-    failed_before g.D.Disk.tells g.D.Disk.reads g.D.Disk.may_leave g.D.Disk.faults ledger c.write.new.self.ledger c.args.locks.now.file (Some (flight.Again c.args.unit 2)) c.requires.filed (c.in-Err.ensures.kept ∙ c.prepare_mark.ensures.unmoved.ledger)
+    failed_before g.D.Disk.tells g.D.Disk.reads g.D.Disk.may_leave g.D.Disk.faults ledger c.write.new.self.ledger c.args.locks.now.file (Some (Note c.args.unit Again2)) c.requires.filed (c.in-Err.ensures.kept ∙ c.prepare_mark.ensures.unmoved.ledger)
     (λ lists just. again2_agree ledger c.args.unit c.requires.follows.follows lists just.agree)

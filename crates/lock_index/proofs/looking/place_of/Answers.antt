@@ -1,5 +1,5 @@
 use Rattle.std.proofs.Common.{◌∙◌, ap, None, take}
-use Rattle.lock_index.specs.declared.key.Key.TheVariants.{Spot}
+use Rattle.lock_index.specs.Keys.{spot_at}
 use Rattle.lock_index.specs.declared.search.Search.TheVariants.{Named}
 use Rattle.lock_index.specs.Members.{members}
 use Rattle.lock_index.specs.Searches.{oldest_of}
@@ -10,5 +10,5 @@ pub returns : goal.returns
 returns c = λ shown.
     let n = c.args.name.now in
     c.oldest_of.ensures
-    ∙ ap (oldest_of c.args.slots.now (Named n) None) (c.members.ensures.members ∙ ap (members c.args.map.now) (c.spot_key-key.ensures ∙ ap (λ l. Spot n.asked.table (take l n.asked.pattern)) c.literal.ensures.literal))
-    ∙ named-is c.args.slots.now c.args.map.now shown n
+    ∙ ap (oldest_of c.args.slots.now (Named c.args.name) None) (c.members.ensures.members ∙ ap (members c.args.map.now) (c.spot_key-key.ensures ∙ ap (λ l. spot_at n.asked.table (take l n.asked.pattern)) c.literal.ensures.literal))
+    ∙ named-is c.args.slots.now c.args.map.now shown c.args.name

@@ -9,7 +9,7 @@ use Rattle.script_runner.proofs.TurnLemmas.{taken_at}
 use Rattle.script_runner.proofs.runner.replay_lines.Goals as goal
 
 pub lines-init : goal.lines-init
-lines-init g c = (begins _ _ _ c.new-reader.ensures.number c.new-reader.ensures.reading, refl, λ yes none. none)
+lines-init g c = (begins _ _ _ c.new-reader.ensures.number c.new-reader.ensures.reading, refl, λ yes none. none, λ yes none. none)
 
 pub take_turn-requires : goal.take_turn-requires
 take_turn-requires g c =
@@ -28,6 +28,7 @@ lines-preserved g c = (
       c.take_turn.ensures.later,
   c.in_default.ensures.turn.devices.told ∙ c.lines.invariant.1,
   λ yes none. c.take_turn.ensures.good_file yes (c.lines.invariant.2 yes none),
+  λ yes none. c.take_turn.ensures.good_store (c.lines.invariant.1 ∙ yes) (c.lines.invariant.3 yes none),
 )
 
 pub returns-in-Ok-false-clause-run : goal.returns-in-Ok-false-clause-run
@@ -60,3 +61,12 @@ returns-in-Err-clause-good_file g c = c.lines.invariant.2
 
 pub returns-in-Err-take_turn-clause-good_file : goal.returns-in-Err-take_turn-clause-good_file
 returns-in-Err-take_turn-clause-good_file g c = λ yes none. c.take_turn.ensures.good_file yes (c.lines.invariant.2 yes none)
+
+pub returns-in-Ok-false-clause-good_store : goal.returns-in-Ok-false-clause-good_store
+returns-in-Ok-false-clause-good_store g c = c.lines.invariant.3
+
+pub returns-in-Err-clause-good_store : goal.returns-in-Err-clause-good_store
+returns-in-Err-clause-good_store g c = c.lines.invariant.3
+
+pub returns-in-Err-take_turn-clause-good_store : goal.returns-in-Err-take_turn-clause-good_store
+returns-in-Err-take_turn-clause-good_store g c = λ yes none. c.take_turn.ensures.good_store (c.lines.invariant.1 ∙ yes) (c.lines.invariant.3 yes none)

@@ -1,6 +1,6 @@
 use Rattle.std.proofs.Common.{◌≡◌, ◌-◌}
-use Rattle.std.specs.Prelude.{is_some, IsTrue}
-use Rattle.script_runner.specs.Faults.{NoneUnsound}
+use Rattle.std.specs.Prelude.{true, is_some, IsTrue}
+use Rattle.script_runner.specs.Faults.{NoneUnsound, NoneUnsoundStore}
 use Rattle.script_runner.specs.Replay.{seen}
 use Rattle.script_runner.specs.World.{world}
 use Rattle.script_runner.proofs.Loop.{GoesOn}
@@ -14,6 +14,7 @@ invariant-lines g l =
     l.reader
     × (is_some (g.K.Keeper.held l.hall.keeper) ≡ is_some (g.K.Keeper.held l.initial.hall.keeper))
     × (IsTrue g.D.Disk.tells → NoneUnsound l.initial.hall.state.past → NoneUnsound l.hall.state.past)
+    × (is_some (g.K.Keeper.held l.initial.hall.keeper) ≡ true → NoneUnsoundStore l.initial.hall.state.past → NoneUnsoundStore l.hall.state.past)
 
 abbrev pub decreases-lines : goal.decreases-lines
 decreases-lines g l = 200000 - l.reader.number

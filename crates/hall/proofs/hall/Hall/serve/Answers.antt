@@ -1,53 +1,55 @@
-use Rattle.std.proofs.Common.{[], ◌∷◌, ◌++◌, sym, ◌∙◌, subst, rules}
-use Rattle.hall.proofs.Endings.{given_noted, unrecorded_same}
-use Rattle.hall.proofs.Few.{kept_call}
-use Rattle.hall.proofs.Frames.{noted_step}
+use Rattle.std.proofs.Common.{[], ◌∷◌, ◌++◌, refl, sym, ◌∙◌, subst, rules}
+use Rattle.hall.proofs.Endings.{given_cause, given_keeps, given_noted, unrecorded_same}
+use Rattle.hall.proofs.Landings.{kept_call}
+use Rattle.hall.proofs.Frames.{noted_step, unnoted_step}
 use Rattle.hall.proofs.GoodFiles.{given_sound}
-use Rattle.hall.proofs.Replies.{given_act}
+use Rattle.hall.proofs.Replies.{given_telling}
 use Rattle.hall.specs.History.{IsStep, entry_of}
 use Rattle.hall.specs.Kept.{IsKept}
 use Rattle.hall.specs.Calls.{call_of}
 use Rattle.hall.specs.Serving.{with_calls}
 use Rattle.hall.specs.State.{View}
 use Rattle.hall.specs.Stocks.{MayCall}
+use Rattle.hall.specs.Unsound.{is_unsound_file, is_unsound_store}
 use Rattle.hall.proofs.hall.Hall.serve.Goals as goal
 
 pub invariant_of-self : goal.invariant_of-self
 invariant_of-self g c =
     let past = c.self.inside.past.items in
     let s = with_calls c.self.inside.server.state past in
-    let after = with_calls c.serve-reply.new.self.state past in
+    let after = with_calls c.serve-answer.new.self.state past in
     let off = sym c.is_unrecorded.ensures ∙ c.if-is_unrecorded.true in
-    (c.self.invariant.0, subst IsKept (sym (unrecorded_same s c.args.command after c.serve-reply.result c.serve-reply.ensures.call off)) c.self.invariant.1)
+    (c.self.invariant.0, subst IsKept (sym (unrecorded_same s c.args.command after c.serve-answer.result.reply c.serve-answer.ensures.call.act off)) c.self.invariant.1)
 
 pub invariant_of-self-2 : goal.invariant_of-self-2
 invariant_of-self-2 g c =
     let past = c.self.inside.past.items in
     let s = with_calls c.self.inside.server.state past in
-    let after = with_calls c.serve-reply.new.self.state past in
+    let after = with_calls c.serve-answer.new.self.state past in
     let given = c.told_twice-noted.result.1 in
     let on = sym c.is_unrecorded.ensures ∙ c.if-is_unrecorded.false in
     let asked : MayCall s (call_of c.args.command) = subst (λ (v : View g.row.K.Denot g.row.D.Denot g.row.L.Denot). MayCall v.state (call_of c.args.command)) (sym c.self.view_is) c.requires in
-    let act = given_act s c.args.command after c.serve-reply.result given c.told_twice-noted.ensures.given c.serve-reply.ensures.call in
+    let act = given_telling s c.args.command c.serve-answer.result.taken after c.serve-answer.result.reply given c.told_twice-noted.ensures.given c.serve-answer.ensures.call in
     let noted = c.note.ensures.noted ∙ (λ i. past ++ entry_of c.args.line c.args.command (c.told_twice-noted.ensures.twice i) (c.after-after.ensures i) ∷ []) in (
       search rules,
-      subst (λ p. IsKept (with_calls c.serve-reply.new.self.state p)) (sym noted)
-          (kept_call s c.args.line c.args.command after given asked c.self.invariant.1 (c.serve-reply.ensures.room on) act),
+      subst (λ p. IsKept (with_calls c.serve-answer.new.self.state p)) (sym noted)
+          (kept_call s c.args.line c.args.command c.serve-answer.result.taken after given asked c.self.invariant.1 (c.serve-answer.ensures.room on) act.act),
     )
 
 pub returns-clause-step : goal.returns-clause-step
 returns-clause-step g c =
     let past = c.self.inside.past.items in
     let s = with_calls c.self.inside.server.state past in
-    let after = with_calls c.serve-reply.new.self.state past in
+    let after = with_calls c.serve-answer.new.self.state past in
     let given = c.told_twice-noted.result.1 in
     let on = sym c.is_unrecorded.ensures ∙ c.if-is_unrecorded.false in
     let asked : MayCall s (call_of c.args.command) = subst (λ (v : View g.row.K.Denot g.row.D.Denot g.row.L.Denot). MayCall v.state (call_of c.args.command)) (sym c.self.view_is) c.requires in
-    let act = given_act s c.args.command after c.serve-reply.result given c.told_twice-noted.ensures.given c.serve-reply.ensures.call in
+    let act = given_telling s c.args.command c.serve-answer.result.taken after c.serve-answer.result.reply given c.told_twice-noted.ensures.given c.serve-answer.ensures.call in
     let noted = c.note.ensures.noted ∙ (λ i. past ++ entry_of c.args.line c.args.command (c.told_twice-noted.ensures.twice i) (c.after-after.ensures i) ∷ []) in
-    subst (λ v. IsStep v.state (with_calls c.serve-reply.new.self.state c.note.new.past.items) c.args.line c.args.command given) c.self.view_is
-    (subst (λ p. IsStep s (with_calls c.serve-reply.new.self.state p) c.args.line c.args.command given) (sym noted)
-    (noted_step s c.args.line c.args.command after given asked act (given_noted c.serve-reply.result given c.told_twice-noted.ensures.given on)))
+    subst (λ v. IsStep v.state (with_calls c.serve-answer.new.self.state c.note.new.past.items) c.args.line c.args.command given) c.self.view_is
+    (subst (λ p. IsStep s (with_calls c.serve-answer.new.self.state p) c.args.line c.args.command given) (sym noted)
+    (noted_step s c.args.line c.args.command c.serve-answer.result.taken after given asked act (given_noted c.serve-answer.result.reply given c.told_twice-noted.ensures.given on)))
 
 pub returns-clause-good_file : goal.returns-clause-good_file
-returns-clause-good_file g c = λ yes. given_sound c.serve-reply.result c.told_twice-noted.result.1 c.told_twice-noted.ensures.given (c.serve-reply.ensures.good_file yes)
+returns-clause-good_file g c = λ yes.
+    given_sound is_unsound_file c.serve-answer.result.reply c.told_twice-noted.result.1 refl c.told_twice-noted.ensures.given (c.serve-answer.ensures.good_file yes)

@@ -1,11 +1,14 @@
 use Rattle.std.proofs.Common.{[], refl, sym, subst, is_some}
+use Rattle.std.specs.Prelude.{None}
 use Rattle.enq_base.specs.declared.condition.Condition.{Condition}
 use Rattle.enq_base.specs.declared.condition.Condition.TheVariants.{Up}
-use Rattle.hall.proofs.Endings.{no_flight, state_with, written_up}
+use Rattle.hall.proofs.Endings.{lost_none, no_flight, written_up}
+use Rattle.hall.proofs.Ends.{same_ranges, state_with}
 use Rattle.hall.proofs.Filing.{recovers_after}
 use Rattle.hall.proofs.Leaves.{also_failed, leaves_after, usable_after}
 use Rattle.hall.specs.Filing.{MayFile}
 use Rattle.hall.specs.Leaving.{HasStoreCause, KeepsStore}
+use Rattle.hall.specs.Calls.{call_of}
 use Rattle.hall.specs.Serving.{IsDue, Serves}
 use Rattle.hall.specs.State.{State}
 use Rattle.hall.specs.declared.command.Command.TheVariants as command
@@ -16,13 +19,14 @@ invariant_of-self g c =
     let old = c.self.inside in
     let called = c.cancel-written in
     let ended = c.ended in
-    let due = subst (λ v. IsDue v.state c.args.past.now.items (command.Cancel c.args.unit)) (sym c.self.view_is) c.requires in (
+    let due = subst (λ v. IsDue v.state c.args.past.now.items (command.Cancel c.args.unit)) (sym c.self.view_is) c.requires in
+    let none = no_flight (is_some (g.K.Keeper.held old.books.keeper)) old.condition old.sessions old.next_session old.orders.items old.locks.table old.max_locks old.max_marks old.ranges old.books.ledger old.failure c.args.past.now.items _ refl due in (
       usable_after _ old.condition ended.new.condition _ called.result ended.ensures.condition called.ensures.usable,
-      leaves_after g.K.Keeper.held g.K.Keeper.may_leave called.new.books old.pending ended.new.pending called.result ended.ensures.pending called.ensures.left,
+      leaves_after g.K.Keeper.held g.K.Keeper.may_leave called.new.books old.failure ended.new.failure None called.result ended.ensures.failure none.0 none.1 called.ensures.left,
       usable_after _ old.condition ended.new.condition _ called.result ended.ensures.condition called.ensures.file.lists,
-      recovers_after g.D.Disk.tells g.D.Disk.reads g.D.Disk.may_leave g.D.Disk.faults called.new.books.ledger called.new.locks.file old.pending ended.new.pending old.condition ended.new.condition _ called.result
-          (no_flight (is_some (g.K.Keeper.held old.books.keeper)) old.condition old.sessions old.next_session old.orders.items old.locks.table old.max_locks old.max_marks old.ranges old.books.ledger old.pending c.args.past.now.items _ due)
-          ended.ensures.pending ended.ensures.condition called.ensures.file.images,
+      recovers_after g.D.Disk.tells g.D.Disk.reads g.D.Disk.may_leave g.D.Disk.faults called.new.books.ledger called.new.locks.file old.failure ended.new.failure None old.condition ended.new.condition _ called.result
+          none
+          ended.ensures.failure ended.ensures.condition called.ensures.file.images,
     )
 
 pub returns : goal.returns
@@ -35,15 +39,15 @@ returns g c =
     let ended = c.ended in
     let past = c.args.past.now.items in
     let due = subst (λ v. IsDue v.state past (command.Cancel c.args.unit)) (sym c.self.view_is) c.requires in
-    let before : Condition → State = λ k. state_with (is_some (held old.books.keeper)) k old.sessions old.next_session old.orders.items old.locks.table old.max_locks old.max_marks old.ranges old.books.ledger old.pending past in
-    let new : State = state_with (is_some (held called.new.books.keeper)) ended.new.condition old.sessions old.next_session old.orders.items called.new.locks.table old.max_locks old.max_marks old.ranges called.new.books.ledger ended.new.pending [] in
+    let before : Condition → State = λ k. state_with (is_some (held old.books.keeper)) k old.sessions old.next_session old.orders.items old.locks.table old.max_locks old.max_marks old.ranges old.books.ledger old.failure past in
+    let new : State = state_with (is_some (held called.new.books.keeper)) ended.new.condition old.sessions old.next_session old.orders.items called.new.locks.table old.max_locks old.max_marks old.ranges called.new.books.ledger ended.new.failure [] in
     subst (λ v. Serves held may_leave faults g.D.Disk.faults g.L.Link.faults g.L.Link.refusals v (record { state = new; keeper = called.new.books.keeper; file = called.new.locks.file; follower = called.new.locks.copy }) past (command.Cancel c.args.unit) ended.result) c.self.view_is
     (record {
       call =
           written_up (is_some (held old.books.keeper)) (is_some (held called.new.books.keeper)) old.condition ended.new.condition old.sessions old.sessions old.next_session old.orders.items old.orders.items old.locks.table called.new.locks.table old.max_locks old.max_marks old.ranges old.ranges old.books.ledger called.new.books.ledger
-          old.pending ended.new.pending past called.result (command.Cancel c.args.unit) ended.result refl due
-          called.ensures.told ended.ensures.condition ended.ensures.pending ended.ensures.reply called.ensures.limit (also_failed _ called.result refl) (also_failed _ called.result refl) called.ensures.ledger
-          (also_failed _ called.result refl)
+          old.failure ended.new.failure past called.result (command.Cancel c.args.unit) ended.result refl due
+          called.ensures.told ended.ensures.condition ended.ensures.failure ended.ensures.reply called.ensures.limit (lost_none _ _ called.result called.ensures.table) (also_failed _ called.result refl) (also_failed _ called.result refl) called.ensures.ledger
+          (same_ranges (call_of (command.Cancel c.args.unit)) called.result old.ranges refl)
           (λ none room. called.ensures.act (before Up) (sym c.as_slice.ensures.value) refl refl refl room);
       store = record {
         told = called.ensures.told;

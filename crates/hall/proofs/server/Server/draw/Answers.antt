@@ -1,10 +1,12 @@
 use Rattle.std.proofs.Common.{[], refl, sym, subst, is_some}
+use Rattle.std.specs.Prelude.{Some}
 use Rattle.enq_base.specs.declared.condition.Condition.{Condition}
 use Rattle.enq_server.proofs.Following.{keeps_none}
-use Rattle.hall.proofs.Endings.{does_store, due_serving, no_flight, outside, state_with, written_call}
+use Rattle.hall.proofs.Endings.{does_store, due_serving, no_flight, outside, written_call}
+use Rattle.hall.proofs.Ends.{kept_ranges, state_with}
 use Rattle.hall.proofs.Filing.{beside_images, beside_lists, recovers_after}
-use Rattle.hall.proofs.Leaves.{also_failed, leaves_after, usable_after}
-use Rattle.hall.specs.Calls.{OfSession, Draws}
+use Rattle.hall.proofs.Leaves.{also_answered, also_failed, leaves_after, usable_after}
+use Rattle.hall.specs.Calls.{OfSession, Draws, call_of}
 use Rattle.hall.specs.Devices.{reaches_store}
 use Rattle.hall.specs.Filing.{HasOpenLists}
 use Rattle.hall.specs.Leaving.{HasStoreCause, KeepsStore}
@@ -19,14 +21,15 @@ invariant_of-self g c =
     let called = c.draw-written in
     let ended = c.ended in
     let due = subst (λ v. IsDue v.state c.args.past.now.items (command.Number c.args.session.now c.args.object.now c.args.nr)) (sym c.self.view_is) c.requires in
-    let filed = outside old.condition (HasOpenLists g.D.Disk.tells g.D.Disk.reads g.D.Disk.may_leave old.books.ledger old.locks.file) (due_serving _ _ _ due) c.self.invariant.2 in (
+    let filed = outside old.condition (HasOpenLists g.D.Disk.tells g.D.Disk.reads g.D.Disk.may_leave old.books.ledger old.locks.file) (due_serving _ _ _ refl due) c.self.invariant.2 in
+    let none = no_flight (is_some (g.K.Keeper.held old.books.keeper)) old.condition old.sessions old.next_session old.orders.items old.locks.table old.max_locks old.max_marks old.ranges old.books.ledger old.failure c.args.past.now.items _ refl due in (
       usable_after _ old.condition ended.new.condition _ called.result ended.ensures.condition called.ensures.store.usable,
-      leaves_after g.K.Keeper.held g.K.Keeper.may_leave called.new.books old.pending ended.new.pending called.result ended.ensures.pending called.ensures.store.left,
+      leaves_after g.K.Keeper.held g.K.Keeper.may_leave called.new.books old.failure ended.new.failure (Some c.args.session.now) called.result ended.ensures.failure none.0 none.1 called.ensures.store.left,
       usable_after _ old.condition ended.new.condition _ called.result ended.ensures.condition
           (beside_lists g.D.Disk.tells g.D.Disk.reads g.D.Disk.may_leave g.D.Disk.faults old.books.ledger called.new.books.ledger old.locks.file called.result called.ensures.levels filed),
-      recovers_after g.D.Disk.tells g.D.Disk.reads g.D.Disk.may_leave g.D.Disk.faults called.new.books.ledger old.locks.file old.pending ended.new.pending old.condition ended.new.condition _ called.result
-          (no_flight (is_some (g.K.Keeper.held old.books.keeper)) old.condition old.sessions old.next_session old.orders.items old.locks.table old.max_locks old.max_marks old.ranges old.books.ledger old.pending c.args.past.now.items _ due)
-          ended.ensures.pending ended.ensures.condition
+      recovers_after g.D.Disk.tells g.D.Disk.reads g.D.Disk.may_leave g.D.Disk.faults called.new.books.ledger old.locks.file old.failure ended.new.failure (Some c.args.session.now) old.condition ended.new.condition _ called.result
+          none
+          ended.ensures.failure ended.ensures.condition
           (beside_images g.D.Disk.tells g.D.Disk.reads g.D.Disk.may_leave g.D.Disk.faults old.books.ledger called.new.books.ledger old.locks.file called.result called.ensures.levels filed),
     )
 
@@ -40,16 +43,16 @@ returns g c =
     let ended = c.ended in
     let past = c.args.past.now.items in
     let due = subst (λ v. IsDue v.state past (command.Number c.args.session.now c.args.object.now c.args.nr)) (sym c.self.view_is) c.requires in
-    let before : Condition → State = λ k. state_with (is_some (held old.books.keeper)) k old.sessions old.next_session old.orders.items old.locks.table old.max_locks old.max_marks old.ranges old.books.ledger old.pending past in
-    let start : State = state_with (is_some (held old.books.keeper)) old.condition old.sessions old.next_session old.orders.items old.locks.table old.max_locks old.max_marks old.ranges old.books.ledger old.pending [] in
-    let new : State = state_with (is_some (held called.new.books.keeper)) ended.new.condition called.new.sessions old.next_session old.orders.items old.locks.table old.max_locks old.max_marks called.new.ranges called.new.books.ledger ended.new.pending [] in
+    let before : Condition → State = λ k. state_with (is_some (held old.books.keeper)) k old.sessions old.next_session old.orders.items old.locks.table old.max_locks old.max_marks old.ranges old.books.ledger old.failure past in
+    let start : State = state_with (is_some (held old.books.keeper)) old.condition old.sessions old.next_session old.orders.items old.locks.table old.max_locks old.max_marks old.ranges old.books.ledger old.failure [] in
+    let new : State = state_with (is_some (held called.new.books.keeper)) ended.new.condition called.new.sessions old.next_session old.orders.items old.locks.table old.max_locks old.max_marks called.new.ranges called.new.books.ledger ended.new.failure [] in
     subst (λ v. Serves held may_leave faults g.D.Disk.faults g.L.Link.faults g.L.Link.refusals v (record { state = new; keeper = called.new.books.keeper; file = old.locks.file; follower = old.locks.copy }) past (command.Number c.args.session.now c.args.object.now c.args.nr) ended.result) c.self.view_is
     (record {
       call =
           written_call (is_some (held old.books.keeper)) (is_some (held called.new.books.keeper)) old.condition ended.new.condition old.sessions called.new.sessions old.next_session old.orders.items old.orders.items old.locks.table old.locks.table old.max_locks old.max_marks old.ranges called.new.ranges old.books.ledger called.new.books.ledger
-          old.pending ended.new.pending past called.result (command.Number c.args.session.now c.args.object.now c.args.nr) ended.result due
-          called.ensures.store.told ended.ensures.condition ended.ensures.pending ended.ensures.reply refl refl called.ensures.sessions (also_failed _ called.result refl) called.ensures.store.ledger
-          called.ensures.ranges
+          old.failure ended.new.failure past called.result (command.Number c.args.session.now c.args.object.now c.args.nr) ended.result refl due
+          called.ensures.store.told ended.ensures.condition ended.ensures.failure ended.ensures.reply refl (also_answered _ called.result refl) (also_failed _ called.result refl) called.ensures.sessions (also_failed _ called.result refl) called.ensures.store.ledger
+          (kept_ranges (call_of (command.Number c.args.session.now c.args.object.now c.args.nr)) called.result old.ranges called.new.ranges refl called.ensures.ranges)
           (λ none room. called.ensures.act (before old.condition) refl refl refl room);
       store = does_store held may_leave faults (reaches_store start (OfSession c.args.session.now (Draws c.args.object.now c.args.nr))) old.books.keeper called.new.books.keeper ended.result (record {
         told = called.ensures.store.told;

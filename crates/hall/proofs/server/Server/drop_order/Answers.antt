@@ -1,7 +1,8 @@
 use Rattle.std.proofs.Common.{[], refl, is_some}
 use Rattle.enq_base.specs.declared.condition.Condition.{Condition}
 use Rattle.enq_server.proofs.Following.{keeps_none}
-use Rattle.hall.proofs.Endings.{serves_apart, state_with}
+use Rattle.hall.proofs.Endings.{serves_apart}
+use Rattle.hall.proofs.Ends.{state_with}
 use Rattle.hall.specs.Serving.{with_calls}
 use Rattle.hall.specs.State.{View}
 use Rattle.hall.specs.declared.command.Command.TheVariants as command
@@ -12,13 +13,13 @@ returns g c =
     let old = c.self.inside in
     let told = is_some (g.K.Keeper.held old.books.keeper) in
     let before : Condition → View g.row.K.Denot g.row.D.Denot g.row.L.Denot = λ k. record {
-      state = state_with told k old.sessions old.next_session old.orders.items old.locks.table old.max_locks old.max_marks old.ranges old.books.ledger old.pending [];
+      state = state_with told k old.sessions old.next_session old.orders.items old.locks.table old.max_locks old.max_marks old.ranges old.books.ledger old.failure [];
       keeper = old.books.keeper;
       file = old.locks.file;
       follower = old.locks.copy;
     } in
     let after : Condition → View g.row.K.Denot g.row.D.Denot g.row.L.Denot = λ k. record {
-      state = state_with told k old.sessions old.next_session c.drop_order.new.orders.items old.locks.table old.max_locks old.max_marks old.ranges old.books.ledger old.pending [];
+      state = state_with told k old.sessions old.next_session c.drop_order.new.orders.items old.locks.table old.max_locks old.max_marks old.ranges old.books.ledger old.failure [];
       keeper = old.books.keeper;
       file = old.locks.file;
       follower = old.locks.copy;

@@ -3,7 +3,8 @@ use Rattle.enq_base.specs.declared.condition.Condition.{Condition}
 use Rattle.enq_base.specs.declared.condition.Condition.TheVariants.{NoServer, Up}
 use Rattle.enq_server.proofs.Following.{keeps_none}
 use Rattle.hall.proofs.Calls.{is_done}
-use Rattle.hall.proofs.Endings.{due_serving, outside, serves_beside, state_with}
+use Rattle.hall.proofs.Endings.{due_serving, outside, serves_beside}
+use Rattle.hall.proofs.Ends.{state_with}
 use Rattle.hall.specs.Filing.{HasOpenLists}
 use Rattle.hall.specs.Serving.{IsDue, with_calls}
 use Rattle.hall.specs.State.{View}
@@ -15,7 +16,7 @@ pub invariant_of-self : goal.invariant_of-self
 invariant_of-self g c =
     let old = c.self.inside in
     let due = subst (λ v. IsDue v.state c.args.past.now.items command.Kill) (sym c.self.view_is) c.requires in
-    let serving = due_serving _ _ _ due in (
+    let serving = due_serving _ _ _ refl due in (
       outside old.condition (IsUsable g.K.Keeper.held g.K.Keeper.is_open old.books) serving c.self.invariant.0,
       c.self.invariant.1,
       outside old.condition (HasOpenLists g.D.Disk.tells g.D.Disk.reads g.D.Disk.may_leave old.books.ledger old.locks.file) serving c.self.invariant.2,
@@ -33,13 +34,13 @@ returns g c =
     let old = c.self.inside in
     let told = is_some (g.K.Keeper.held old.books.keeper) in
     let before : Condition → View g.row.K.Denot g.row.D.Denot g.row.L.Denot = λ k. record {
-      state = state_with told k old.sessions old.next_session old.orders.items old.locks.table old.max_locks old.max_marks old.ranges old.books.ledger old.pending [];
+      state = state_with told k old.sessions old.next_session old.orders.items old.locks.table old.max_locks old.max_marks old.ranges old.books.ledger old.failure [];
       keeper = old.books.keeper;
       file = old.locks.file;
       follower = old.locks.copy;
     } in
     let after : Condition → View g.row.K.Denot g.row.D.Denot g.row.L.Denot = λ k. record {
-      state = state_with told NoServer old.sessions old.next_session old.orders.items old.locks.table old.max_locks old.max_marks old.ranges old.books.ledger old.pending [];
+      state = state_with told NoServer old.sessions old.next_session old.orders.items old.locks.table old.max_locks old.max_marks old.ranges old.books.ledger old.failure [];
       keeper = old.books.keeper;
       file = old.locks.file;
       follower = old.locks.copy;

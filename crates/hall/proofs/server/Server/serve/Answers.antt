@@ -1,71 +1,133 @@
-use Rattle.std.proofs.Common.{IsTrue, sym, ◌∙◌, subst}
-use Rattle.hall.proofs.Endings.{any_link, any_store, due_of, file_cause, file_kept, not_barred, refused_call, refused_file, refused_room, refused_store, same_as_filed, same_keeper}
+use Rattle.std.proofs.Common.{◌≡◌, true, false, IsTrue, refl, sym, ap, ◌∙◌, subst}
+use Rattle.keeper_api.specs.Keeping.{IsWithin}
+use Rattle.hall.proofs.Endings.{any_link, file_cause, file_kept, never_restarts, not_barred, refused_file, refused_room, refused_store, refused_telling, same_as_filed, same_keeper, store_caused, store_kept, store_told, store_within}
 use Rattle.hall.proofs.Few.{has_room}
-use Rattle.hall.proofs.GoodFiles.{refused_sound, served_sound}
+use Rattle.hall.proofs.Frames.{tells_none}
+use Rattle.hall.proofs.GoodFiles.{file_sound, others_sound, refused_sound, store_sound}
+use Rattle.hall.specs.Acts.{IsTelling}
 use Rattle.hall.specs.Calls.{call_of, restarts}
+use Rattle.hall.specs.Filing.{HasFileCause, KeepsFile}
+use Rattle.hall.specs.History.{is_unrecorded}
+use Rattle.hall.specs.Leaving.{HasStoreCause, KeepsStore}
 use Rattle.hall.specs.Serving.{Follows, with_calls}
+use Rattle.hall.specs.Step.{is_full}
+use Rattle.hall.specs.Unsound.{is_unsound_file, is_unsound_store}
+use Rattle.hall.specs.declared.command.Answer.{Answer}
+use Rattle.hall.specs.declared.command.Command.TheVariants as command
+use Rattle.hall.specs.declared.command.Reply.TheVariants as reply
 use Rattle.hall.proofs.server.Server.serve.Goals as goal
+
+-- ---- a call that isn't served
 
 pub returns-in-Some-clause-call : goal.returns-in-Some-clause-call
 returns-in-Some-clause-call g c =
-    refused_call (with_calls c.args.self.now.state c.args.past.now.items) c.args.command.now c.in-Some.refusal (sym c.unavailable.ensures ∙ c.in-Some.is)
+    let s = with_calls c.args.self.now.state c.args.past.now.items in
+    subst (λ (a : Answer). IsTelling s c.args.command.now a.taken s a.reply) (sym c.of.ensures)
+    (refused_telling s c.args.command.now c.in-Some.refusal (sym c.unavailable.ensures ∙ c.in-Some.is))
+
+pub returns-in-Some-clause-store_cause : goal.returns-in-Some-clause-store_cause
+returns-in-Some-clause-store_cause g c =
+    let faults = g.K.Keeper.faults c.args.self.now.keeper in
+    subst (λ (a : Answer). HasStoreCause faults faults a.reply) (sym c.of.ensures)
+    (refused_store g.K.Keeper.held g.K.Keeper.may_leave g.K.Keeper.faults c.args.self.now.keeper (with_calls c.args.self.now.state c.args.past.now.items) (call_of c.args.command.now) c.in-Some.refusal (sym c.unavailable.ensures ∙ c.in-Some.is)).cause
 
 pub returns-in-Some-clause-store : goal.returns-in-Some-clause-store
-returns-in-Some-clause-store g c =
-    refused_store g.K.Keeper.held g.K.Keeper.may_leave g.K.Keeper.faults c.args.self.now.keeper (with_calls c.args.self.now.state c.args.past.now.items) (call_of c.args.command.now) c.in-Some.refusal (sym c.unavailable.ensures ∙ c.in-Some.is)
-
-pub returns-in-Some-clause-room : goal.returns-in-Some-clause-room
-returns-in-Some-clause-room g c =
-    refused_room (with_calls c.args.self.now.state c.args.past.now.items) (call_of c.args.command.now) c.in-Some.refusal (sym c.unavailable.ensures ∙ c.in-Some.is)
-
-pub returns-in-None-clause-store : goal.returns-in-None-clause-store
-returns-in-None-clause-store g c =
-    any_store g.K.Keeper.held g.K.Keeper.may_leave g.K.Keeper.faults c.args.self.now.keeper c.act.new.self.keeper (with_calls c.args.self.now.state c.args.past.now.items) c.args.command.now (with_calls c.act.new.self.state c.args.past.now.items) c.act.result c.act.ensures.serves.call c.act.ensures.serves.store
-
-pub returns-in-None-clause-keeper : goal.returns-in-None-clause-keeper
-returns-in-None-clause-keeper g c =
-    same_keeper g.K.Keeper.held g.K.Keeper.may_leave g.K.Keeper.faults c.args.self.now.keeper c.act.new.self.keeper c.args.self.now.state c.args.command.now c.act.result c.act.ensures.serves.store
-
-pub returns-in-None-clause-room : goal.returns-in-None-clause-room
-returns-in-None-clause-room g c =
-    λ noted. has_room (with_calls c.args.self.now.state c.args.past.now.items) (not_barred (with_calls c.args.self.now.state c.args.past.now.items) (call_of c.args.command.now) (sym c.unavailable.ensures ∙ c.in-None.is))
-
-pub act-requires : goal.act-requires
-act-requires g c = record {
-  due = due_of c.args.self.now.state c.args.past.now.items c.args.command.now c.requires.kept (sym c.unavailable.ensures ∙ c.in-None.is);
-  call = c.requires.call;
-}
+returns-in-Some-clause-store g c = λ off.
+    subst (λ (a : Answer). KeepsStore g.K.Keeper.held g.K.Keeper.may_leave c.args.self.now.keeper c.args.self.now.keeper a.reply) (sym c.of.ensures)
+    (refused_store g.K.Keeper.held g.K.Keeper.may_leave g.K.Keeper.faults c.args.self.now.keeper (with_calls c.args.self.now.state c.args.past.now.items) (call_of c.args.command.now) c.in-Some.refusal (sym c.unavailable.ensures ∙ c.in-Some.is)).kept
 
 pub returns-in-Some-clause-file_cause : goal.returns-in-Some-clause-file_cause
 returns-in-Some-clause-file_cause g c =
+    let faults = g.D.Disk.faults c.args.self.now.file.disk in
+    subst (λ (a : Answer). HasFileCause faults faults a.reply) (sym c.of.ensures)
     (refused_file g.D.Disk.faults c.args.self.now.file (with_calls c.args.self.now.state c.args.past.now.items) (call_of c.args.command.now) c.in-Some.refusal (sym c.unavailable.ensures ∙ c.in-Some.is)).cause
 
 pub returns-in-Some-clause-file : goal.returns-in-Some-clause-file
 returns-in-Some-clause-file g c = λ off.
+    subst (λ (a : Answer). KeepsFile c.args.self.now.file c.args.self.now.file a.reply) (sym c.of.ensures)
     (refused_file g.D.Disk.faults c.args.self.now.file (with_calls c.args.self.now.state c.args.past.now.items) (call_of c.args.command.now) c.in-Some.refusal (sym c.unavailable.ensures ∙ c.in-Some.is)).kept
 
-pub returns-in-None-clause-file_cause : goal.returns-in-None-clause-file_cause
-returns-in-None-clause-file_cause g c =
-    file_cause g.D.Disk.faults c.args.self.now.file c.act.new.self.file (with_calls c.args.self.now.state c.args.past.now.items) c.args.command.now (with_calls c.act.new.self.state c.args.past.now.items) c.act.result c.act.ensures.serves.call c.act.ensures.serves.file
-
-pub returns-in-None-clause-file : goal.returns-in-None-clause-file
-returns-in-None-clause-file g c =
-    file_kept g.D.Disk.faults c.args.self.now.file c.act.new.self.file (with_calls c.args.self.now.state c.args.past.now.items) c.args.command.now (with_calls c.act.new.self.state c.args.past.now.items) c.act.result c.act.ensures.serves.call c.act.ensures.serves.file
-
-pub returns-in-None-clause-link : goal.returns-in-None-clause-link
-returns-in-None-clause-link g c = any_link g.L.Link.faults g.L.Link.refusals c.args.self.now.follower c.act.new.self.follower (restarts (call_of c.args.command.now)) c.act.ensures.serves.follower
-
-pub returns-in-None-clause-follower : goal.returns-in-None-clause-follower
-returns-in-None-clause-follower g c = λ off. subst (λ b. Follows g.L.Link.faults g.L.Link.refusals b c.args.self.now.follower c.act.new.self.follower) off c.act.ensures.serves.follower
-
-pub returns-in-None-clause-unfiled : goal.returns-in-None-clause-unfiled
-returns-in-None-clause-unfiled g c = same_as_filed g.D.Disk.faults c.args.self.now.file c.act.new.self.file c.args.command.now c.act.result c.act.ensures.serves.file
+pub returns-in-Some-clause-room : goal.returns-in-Some-clause-room
+returns-in-Some-clause-room g c =
+    let s = with_calls c.args.self.now.state c.args.past.now.items in
+    subst (λ (a : Answer). is_unrecorded a.reply ≡ false → is_full s ≡ false) (sym c.of.ensures)
+    (refused_room s (call_of c.args.command.now) c.in-Some.refusal (sym c.unavailable.ensures ∙ c.in-Some.is))
 
 pub returns-in-Some-clause-good_file : goal.returns-in-Some-clause-good_file
 returns-in-Some-clause-good_file g c = λ yes.
-    refused_sound (with_calls c.args.self.now.state c.args.past.now.items) (call_of c.args.command.now) c.in-Some.refusal (sym c.unavailable.ensures ∙ c.in-Some.is)
+    subst (λ (a : Answer). is_unsound_file a.reply ≡ false) (sym c.of.ensures)
+    (file_sound (reply.Refused c.in-Some.refusal) (refused_sound (with_calls c.args.self.now.state c.args.past.now.items) (call_of c.args.command.now) c.in-Some.refusal (sym c.unavailable.ensures ∙ c.in-Some.is)))
 
-pub returns-in-None-clause-good_file : goal.returns-in-None-clause-good_file
-returns-in-None-clause-good_file g c =
-    served_sound (IsTrue g.D.Disk.tells) (with_calls c.args.self.now.state c.args.past.now.items) c.args.command.now (with_calls c.act.new.self.state c.args.past.now.items)
-    c.act.result c.act.ensures.serves.call c.act.ensures.good_file
+pub returns-in-Some-clause-good_store : goal.returns-in-Some-clause-good_store
+returns-in-Some-clause-good_store g c = λ yes.
+    subst (λ (a : Answer). is_unsound_store a.reply ≡ false) (sym c.of.ensures)
+    (store_sound (reply.Refused c.in-Some.refusal) (refused_sound (with_calls c.args.self.now.state c.args.past.now.items) (call_of c.args.command.now) c.in-Some.refusal (sym c.unavailable.ensures ∙ c.in-Some.is)))
+
+-- ---- a restart
+
+pub returns-in-Restart-clause-store_cause : goal.returns-in-Restart-clause-store_cause
+returns-in-Restart-clause-store_cause g c =
+    store_caused g.K.Keeper.held g.K.Keeper.may_leave g.K.Keeper.faults c.args.self.now.keeper c.restart.new.self.keeper (with_calls c.args.self.now.state c.args.past.now.items) command.Restart c.restart.result.reply
+    c.restart.ensures.serves.store (with_calls c.restart.new.self.state c.args.past.now.items) c.restart.ensures.serves.call
+
+-- ---- any other call
+
+pub returns-in_default-clause-call : goal.returns-in_default-clause-call
+returns-in_default-clause-call g c =
+    subst (λ (a : Answer). IsTelling (with_calls c.args.self.now.state c.args.past.now.items) c.args.command.now a.taken (with_calls c.act.new.self.state c.args.past.now.items) a.reply) (sym c.of-in_default.ensures)
+    (tells_none (with_calls c.args.self.now.state c.args.past.now.items) c.args.command.now (with_calls c.act.new.self.state c.args.past.now.items) c.act.result c.act.ensures.call (never_restarts c.args.command.now c.in_default.not-Restart))
+
+pub returns-in_default-clause-told : goal.returns-in_default-clause-told
+returns-in_default-clause-told g c =
+    store_told g.K.Keeper.held g.K.Keeper.may_leave g.K.Keeper.faults c.args.self.now.keeper c.act.new.self.keeper (with_calls c.args.self.now.state c.args.past.now.items) c.args.command.now c.act.result c.act.ensures.store
+
+pub returns-in_default-clause-store_cause : goal.returns-in_default-clause-store_cause
+returns-in_default-clause-store_cause g c =
+    subst (λ (a : Answer). HasStoreCause (g.K.Keeper.faults c.args.self.now.keeper) (g.K.Keeper.faults c.act.new.self.keeper) a.reply) (sym c.of-in_default.ensures)
+    (store_caused g.K.Keeper.held g.K.Keeper.may_leave g.K.Keeper.faults c.args.self.now.keeper c.act.new.self.keeper (with_calls c.args.self.now.state c.args.past.now.items) c.args.command.now c.act.result c.act.ensures.store (with_calls c.act.new.self.state c.args.past.now.items) c.act.ensures.call)
+
+pub returns-in_default-clause-store : goal.returns-in_default-clause-store
+returns-in_default-clause-store g c = λ off.
+    subst (λ (a : Answer). KeepsStore g.K.Keeper.held g.K.Keeper.may_leave c.args.self.now.keeper c.act.new.self.keeper a.reply) (sym c.of-in_default.ensures)
+    (store_kept g.K.Keeper.held g.K.Keeper.may_leave g.K.Keeper.faults c.args.self.now.keeper c.act.new.self.keeper (with_calls c.args.self.now.state c.args.past.now.items) c.args.command.now c.act.result c.act.ensures.store off)
+
+pub returns-in_default-clause-reread : goal.returns-in_default-clause-reread
+returns-in_default-clause-reread g c = λ on.
+    store_within g.K.Keeper.held g.K.Keeper.may_leave g.K.Keeper.faults c.args.self.now.keeper c.act.new.self.keeper (with_calls c.args.self.now.state c.args.past.now.items) c.args.command.now c.act.result c.act.ensures.store on
+
+pub returns-in_default-clause-keeper : goal.returns-in_default-clause-keeper
+returns-in_default-clause-keeper g c = λ off.
+    same_keeper g.K.Keeper.held g.K.Keeper.may_leave g.K.Keeper.faults c.args.self.now.keeper c.act.new.self.keeper (with_calls c.args.self.now.state c.args.past.now.items) c.args.command.now c.act.result c.act.ensures.store off
+
+pub returns-in_default-clause-file_cause : goal.returns-in_default-clause-file_cause
+returns-in_default-clause-file_cause g c =
+    subst (λ (a : Answer). HasFileCause (g.D.Disk.faults c.args.self.now.file.disk) (g.D.Disk.faults c.act.new.self.file.disk) a.reply) (sym c.of-in_default.ensures)
+    (file_cause g.D.Disk.faults c.args.self.now.file c.act.new.self.file (with_calls c.args.self.now.state c.args.past.now.items) c.args.command.now (with_calls c.act.new.self.state c.args.past.now.items) c.act.result c.act.ensures.call c.act.ensures.file)
+
+pub returns-in_default-clause-file : goal.returns-in_default-clause-file
+returns-in_default-clause-file g c = λ off.
+    subst (λ (a : Answer). KeepsFile c.args.self.now.file c.act.new.self.file a.reply) (sym c.of-in_default.ensures)
+    (file_kept g.D.Disk.faults c.args.self.now.file c.act.new.self.file (with_calls c.args.self.now.state c.args.past.now.items) c.args.command.now (with_calls c.act.new.self.state c.args.past.now.items) c.act.result c.act.ensures.call c.act.ensures.file off)
+
+pub returns-in_default-clause-unfiled : goal.returns-in_default-clause-unfiled
+returns-in_default-clause-unfiled g c = same_as_filed g.D.Disk.faults c.args.self.now.file c.act.new.self.file c.args.command.now c.act.result c.act.ensures.file
+
+pub returns-in_default-clause-link : goal.returns-in_default-clause-link
+returns-in_default-clause-link g c = any_link g.L.Link.faults g.L.Link.refusals c.args.self.now.follower c.act.new.self.follower (restarts (call_of c.args.command.now)) c.act.ensures.follower
+
+pub returns-in_default-clause-follower : goal.returns-in_default-clause-follower
+returns-in_default-clause-follower g c = λ off. subst (λ b. Follows g.L.Link.faults g.L.Link.refusals b c.args.self.now.follower c.act.new.self.follower) off c.act.ensures.follower
+
+pub returns-in_default-clause-room : goal.returns-in_default-clause-room
+returns-in_default-clause-room g c = λ noted.
+    has_room (with_calls c.args.self.now.state c.args.past.now.items) (call_of c.args.command.now) (not_barred (with_calls c.args.self.now.state c.args.past.now.items) (call_of c.args.command.now) (sym c.unavailable.ensures ∙ c.in-None.is))
+
+pub returns-in_default-clause-good_file : goal.returns-in_default-clause-good_file
+returns-in_default-clause-good_file g c = λ yes.
+    subst (λ (a : Answer). is_unsound_file a.reply ≡ false) (sym c.of-in_default.ensures)
+    (file_sound c.act.result (others_sound (with_calls c.args.self.now.state c.args.past.now.items) c.args.command.now (with_calls c.act.new.self.state c.args.past.now.items) c.act.result c.act.ensures.call (never_restarts c.args.command.now c.in_default.not-Restart)))
+
+pub returns-in_default-clause-good_store : goal.returns-in_default-clause-good_store
+returns-in_default-clause-good_store g c = λ yes.
+    subst (λ (a : Answer). is_unsound_store a.reply ≡ false) (sym c.of-in_default.ensures)
+    (store_sound c.act.result (others_sound (with_calls c.args.self.now.state c.args.past.now.items) c.args.command.now (with_calls c.act.new.self.state c.args.past.now.items) c.act.result c.act.ensures.call (never_restarts c.args.command.now c.in_default.not-Restart)))

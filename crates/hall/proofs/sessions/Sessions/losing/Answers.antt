@@ -3,7 +3,7 @@ use Rattle.std.specs.Borrow.{Bor}
 use Rattle.std.proofs.lemmas.List.{map-append}
 use Rattle.std.proofs.lemmas.Iterator.Consumers.{YieldsList-end, YieldsList-from_rest}
 use Rattle.indexmap.specs.IndexMap.{values}
-use Rattle.hall.specs.Sessions.{has_one_of}
+use Rattle.hall.specs.Sessions.{loses}
 use Rattle.hall.specs.State.{unhanded}
 use Rattle.hall.specs.declared.command.Session.{Session}
 use Rattle.hall.proofs.sessions.Sessions.losing.Goals as goal
@@ -18,9 +18,9 @@ one_more has seen x told next b so_far is pushed =
 
 pub loop-session-preserved : goal.loop-session-preserved
 loop-session-preserved g c = record {
-  so_far = one_more (has_one_of c.args.start (unhanded c.args.locks.now.table.entries)) c.loop-session.yielded c.in-Some.session
-      c.loop-session.losing.items c.push.new.self.items c.in_ok-has_own_lock.field-0 c.loop-session.invariant.so_far
-      c.in_ok-has_own_lock.ensures c.in_ok-push.ensures.items;
+  so_far = one_more (loses c.args.start (unhanded c.args.locks.now.table.entries) c.args.caller) c.loop-session.yielded c.in-Some.session
+      c.loop-session.losing.items c.push.new.self.items c.in_ok-is_loser.field-0 c.loop-session.invariant.so_far
+      c.in_ok-is_loser.ensures c.in_ok-push.ensures.items;
 }
 
 -- once all are told
@@ -33,5 +33,5 @@ returns g c =
     let all = YieldsList-end
     (YieldsList-from_rest (values c.self.inside.by_name) (c.into_iter-session-iterator.ensures.into_iter_gives ∙ c.values-session-items.ensures.rest))
     c.loop-session.yielded _ c.loop-session.yielded_by _ _ c.in-None.is c.next.ensures.steps in
-    all_told (has_one_of c.args.start (unhanded c.args.locks.now.table.entries)) c.loop-session.yielded c.loop-session.losing.items
+    all_told (loses c.args.start (unhanded c.args.locks.now.table.entries) c.args.caller) c.loop-session.yielded c.loop-session.losing.items
     (values c.self.inside.by_name) c.args.self.now c.loop-session.invariant.so_far all.0 c.self.view_is

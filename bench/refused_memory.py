@@ -1,0 +1,111 @@
+#!/usr/bin/env python3
+"""refused_memory.py ENQD LIBRARY STEP FOLDER: what bench/refused_memory.sh runs, with the library made of refused_memory.c.
+
+A run in which allocations were refused ends in one of these ways, with the line on standard error that belongs to it:
+- with status 0 and all replies that the script has to have;
+- with status 12, behind the first of those replies: no memory for the line that comes next, or for the start;
+- with status 5, 7 or 8 and no reply: the landscape, the store or the backup file was refused it at the start;
+- with status 7 or 8: it was refused to the store or to the backup file in a call. This one is answered STORE_FAULT or BACKUP_FAULT,
+  behind the first of those replies, and the calls behind it are answered DOWN, for as long as there is memory for them.
+
+The next start, to which none is refused, ends with status 0. It shows the locks, units, number ranges and counts that stand where a
+script ends behind the line that was answered last. Behind a fault in a call it may be that line or the one before."""
+import collections
+import concurrent.futures
+import itertools
+import os
+import pathlib
+import re
+import shutil
+import subprocess
+import sys
+
+ROOT = pathlib.Path(__file__).resolve().parent.parent
+ROWS = ROOT / "demo" / "rows"
+# An order with all that belongs to it; a part refused and tried again; a lock server ended and made anew; a start over a unit that waits.
+NAMES = ["order_entry", "refused_part_tried_again", "lock_server_ended", "next_start_goes_on_2"]
+MONITORS = b"? SM12\n? SM13\n? SNRO\n? AUDIT\n"
+ENDS = {0: rb"", 5: rb"enqd: cannot read\n", 7: rb"enqd: store fault in command \d+\n", 8: rb"enqd: backup fault in command \d+\n",
+        12: rb"enqd: no memory\n"}
+
+
+def start(enqd, folder, script, **more):
+    """The status, the replies, and standard error."""
+    done = subprocess.run([enqd, "replay"], cwd=folder, input=script, capture_output=True, timeout=60, env={**os.environ, **more})
+    return done.returncode, done.stdout, done.stderr
+
+
+def number(reply):
+    return int(reply.split()[0])
+
+
+class Row:
+    def __init__(self, enqd, name, folder):
+        self.name, self.base = name, folder / name
+        script = (ROWS / f"{name}.txt").read_bytes().splitlines(keepends=True)
+        self.script, self.replies = b"".join(script), (ROWS / f"{name}.out").read_bytes().splitlines(keepends=True)
+        self.base.mkdir()
+        shutil.copy(ROOT / "demo" / "landscape.toml", self.base)
+        if name.endswith("_2"):
+            start(enqd, self.base, (ROWS / f"{name[:-1]}1.txt").read_bytes())
+        self.shown = []  # by the next start, where the script ends behind so many lines
+        for lines in range(len(script) + 1):
+            copy = shutil.copytree(self.base, folder / "copy")
+            whole = start(enqd, copy, b"".join(script[:lines]))
+            self.shown.append(start(enqd, copy, MONITORS))
+            shutil.rmtree(copy)
+            if whole[0] != 0 or self.shown[-1][0] != 0:
+                sys.exit(f"{name}: with its memory it ends with {whole!r}, the next start with {self.shown[-1]!r}")
+
+    def problem(self, status, output, error, shown):
+        """What is wrong with a run, and with what the next start has shown; nothing where all is well."""
+        if not re.fullmatch(ENDS.get(status, rb"(?!)"), error):
+            return "this status, or its line, doesn't belong here"
+        replies = output.splitlines(keepends=True)
+        fault = next((place for place, reply in enumerate(replies) if reply.endswith(b"_FAULT\n")), None)
+        if replies[:fault] != self.replies[:len(replies[:fault])] or status == 0 and replies != self.replies:
+            return "other replies"
+        if status in (5, 7, 8) and (fault is None) != (not replies and error.endswith((b"read\n", b" 0\n"))):
+            return "no reply tells this fault"
+        if fault is None:
+            lines = [number(replies[-1]) if replies else 0]
+        else:
+            lines = [number(replies[fault]) - 1, number(replies[fault])]
+        if shown not in [self.shown[line] for line in lines]:
+            return f"the next start has shown {shown!r}"
+        return None
+
+
+def refuse(enqd, library, step, folder, row, behind):
+    """Refuses each allocation of a row in turn, and with `behind` all behind it; how many runs were wrong."""
+    name = f"{row.name}{'-and-behind' * behind}"
+    more = {"LD_PRELOAD": library, "REFUSED_NOTE": str(folder / f"{name}-note"), **({"REFUSED_BEHIND": "1"} if behind else {})}
+    statuses, wrong = collections.Counter(), 0
+    for at in itertools.count(1, step):
+        copy = shutil.copytree(row.base, folder / f"{name}-{at}")
+        run = start(enqd, copy, row.script, REFUSED=str(at), **more)
+        if not os.path.exists(more["REFUSED_NOTE"]):
+            shutil.rmtree(copy)
+            break  # it took fewer
+        os.unlink(more["REFUSED_NOTE"])
+        problem = row.problem(*run, start(enqd, copy, MONITORS))
+        if problem:
+            print(f"{copy.name}: status {run[0]}, {run[2]!r}, {run[1][-200:]!r}: {problem}", flush=True)
+            wrong += 1
+        else:
+            shutil.rmtree(copy)
+        statuses[run[0]] += 1
+    counts = ", ".join(f"{count} with status {status}" for status, count in sorted(statuses.items()))
+    print(f"{row.name}, {'an allocation and all behind it' if behind else 'one allocation'} refused: {counts}; {wrong} wrong", flush=True)
+    return wrong
+
+
+def main(enqd, library, step, folder):
+    rows = [Row(enqd, name, folder) for name in NAMES]
+    with concurrent.futures.ThreadPoolExecutor(len(os.sched_getaffinity(0))) as pool:
+        tries = [pool.submit(refuse, enqd, library, step, folder, row, behind) for row in rows for behind in (False, True)]
+        return sum(one.result() for one in tries) > 0
+
+
+if __name__ == "__main__":
+    sys.exit(main(sys.argv[1], sys.argv[2], int(sys.argv[3]), pathlib.Path(sys.argv[4])))

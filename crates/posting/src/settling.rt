@@ -1,0 +1,202 @@
+ghost use Rattle.std.specs.Prelude.{◌≡◌, ◌≢◌, ◌↔◌, ◌+◌, ◌++◌, ◌∷◌, [], length, IsTrue, IfOk, IfErr, Some};
+ghost use Rattle.std.specs.Option.{option_copied};
+ghost use Rattle.posting.specs.Intervals.{with_levels};
+ghost use Rattle.posting.specs.Settling.{IsOther, IsSettled, OnBooks, OnOther, mark_in, marks_after, start_after, units_after};
+ghost use Rattle.posting.specs.Steps.{after_step, intervals_in};
+ghost use Rattle.posting.specs.Views.{open_locks};
+
+use crate::interval_list::IntervalList;
+use crate::opening::BooksFault;
+use crate::prepared::Step;
+use crate::register::Register;
+use crate::sameness::{Same, are_same, is_num};
+use crate::viewing;
+use enq_base::NoMemory;
+use lock_entry::UnitLocks;
+use std::alloc::Global;
+use std::marker::Model;
+use update_records::{Mark, MarkKind, StoredInterval, Unit};
+
+/// Why a change in doubt isn't settled.
+#[derive(Clone, Copy, Debug, PartialEq, Eq)]
+pub enum SettleFault {
+    /// The store isn't read.
+    Books(BooksFault),
+    /// The store has neither the ledger as it was nor the one with the change.
+    Other,
+}
+
+/// What a store that was read anew has.
+#[derive(Drop)]
+pub struct Reread {
+    pub(crate) register: Register,
+    pub(crate) taken: bool,
+}
+
+impl Model for Reread {
+    ghost use Rattle.posting.specs.Settling.{FoundAnew};
+
+    ghost Value = { FoundAnew };
+
+    ghost use Rattle.std.specs.Coded.{codes};
+    ghost use Rattle.update_records.specs.Codes.{levels_code};
+
+    ghost coded = { Prim.hlevel (codes, levels_code) };
+
+    ghost view = { λ r. record { ledger = r.register.ledger; taken = r.taken } };
+}
+
+impl Reread {
+    /// Whether the store has the change that was to be made.
+    pub fn taken(&self) -> bool
+        ensures { result ≡ self.now.taken }
+    {
+        self.taken
+    }
+
+    /// The number of the start that was found, or 0 where none was ever raised.
+    pub fn start(&self) -> u32
+        ensures { result ≡ self.now.ledger.start }
+    {
+        self.register.start()
+    }
+
+    /// The units that wait for their V1 part, the one whose last mark is oldest first, each with its locks.
+    pub fn open_units(&self, alloc: Global) -> Result<Vec<UnitLocks>, NoMemory>
+        ensures { IfOk result (λ locks. locks.items ≡ open_locks self.now.ledger) }
+    {
+        viewing::open_units(alloc, &self.register)
+    }
+}
+
+/// Whether a change was made, by the register as it was and the one that was read. Each record is looked at twice at
+/// most.
+pub fn settled(
+    alloc: Global,
+    old: &Register,
+    change: Option<&Step>,
+    new: &Register,
+) -> Result<bool, SettleFault>
+    ensures settled { IfOk result (λ taken. IsSettled old.now.ledger (option_copied change.entry) taken new.now.ledger) }
+    ensures other { IfErr result (λ fault. OnOther fault (IsOther old.now.ledger (option_copied change.entry) new.now.ledger)) }
+    ensures fault { IfErr result (λ fault. OnBooks fault (λ why. why ≡ BooksFault.NoMemory)) }
+{
+    if is_ledger(old, new) {
+        return Ok(false);
+    }
+    let Some(step) = change else {
+        return Err(SettleFault::Other);
+    };
+    match is_ledger_after(alloc, old, step, new) {
+        Ok(true) => Ok(true),
+        Ok(false) => Err(SettleFault::Other),
+        Err(_) => Err(SettleFault::Books(BooksFault::NoMemory)),
+    }
+}
+
+fn is_ledger(old: &Register, new: &Register) -> bool
+    ensures { IsTrue result ↔ (new.now.ledger ≡ old.now.ledger) }
+{
+    new.start() == old.start()
+        && are_same(new.units(), old.units())
+        && are_same(new.all_marks(), old.all_marks())
+        && new.interval_list().has_same(old.interval_list())
+}
+
+fn is_ledger_after(
+    alloc: Global,
+    old: &Register,
+    step: &Step,
+    new: &Register,
+) -> Result<bool, NoMemory>
+    ensures { IfOk result (λ is. IsTrue is ↔ (new.now.ledger ≡ after_step old.now.ledger step.now)) }
+{
+    let books = new.start() == start_after(old.start(), step)
+        && are_units_after(old.units(), step, new.units())
+        && are_marks_after(old.all_marks(), step, new.all_marks());
+    if !books {
+        return Ok(false);
+    }
+    are_levels_after(alloc, old.interval_list(), step, new.interval_list())
+}
+
+fn start_after(start: u32, step: &Step) -> u32
+    ensures { result ≡ start_after start step.now }
+{
+    match step {
+        Step::Start(raised) => *raised,
+        _ => start,
+    }
+}
+
+fn are_units_after(old: &[Unit], step: &Step, new: &[Unit]) -> bool
+    ensures { IsTrue result ↔ (new.now ≡ units_after old.now step.now) }
+{
+    match step {
+        Step::Record { unit, .. } => match new.split_last() {
+            Some((last, front)) => last.is_same(unit) && are_same(front, old),
+            None => false,
+        },
+        _ => are_same(new, old),
+    }
+}
+
+fn are_marks_after(old: &[Mark], step: &Step, new: &[Mark]) -> bool
+    ensures { IsTrue result ↔ (new.now ≡ marks_after old.now step.now) }
+{
+    match step {
+        Step::Start(_) | Step::Level(_) => are_same(new, old),
+        _ => match new.split_last() {
+            Some((last, front)) => is_mark_of(last, old.len(), step) && are_same(front, old),
+            None => false,
+        },
+    }
+}
+
+/// Whether a mark is the one that a step adds behind so many.
+fn is_mark_of(mark: &Mark, before: usize, step: &Step) -> bool
+    ensures { IsTrue result ↔ (Some mark.now ≡ mark_in before step.now) }
+{
+    if mark.seq == 0 || mark.seq - 1 != before as u64 {
+        return false;
+    }
+    match step {
+        Step::Record { unit, .. } => {
+            mark.unit.is(&unit.key) && mark.kind.is_same(&MarkKind::Rec)
+        }
+        Step::Note { unit, kind } => mark.unit.is(unit) && mark.kind.is_same(kind),
+        Step::Draw { unit, numbers, .. } => {
+            mark.unit.is(unit) && is_num(&mark.kind, numbers.as_slice())
+        }
+        Step::Start(_) | Step::Level(_) => false,
+    }
+}
+
+fn are_levels_after(
+    alloc: Global,
+    old: &IntervalList,
+    step: &Step,
+    new: &IntervalList,
+) -> Result<bool, NoMemory>
+    ensures { IfOk result (λ is. IsTrue is ↔ (new.now.levels ≡ with_levels (intervals_in step.now) old.now.levels)) }
+{
+    match step {
+        Step::Record { levels, .. } => are_levels_with(alloc, old, levels.as_slice(), new),
+        Step::Draw { levels, .. } => are_levels_with(alloc, old, levels.as_slice(), new),
+        Step::Level(interval) => are_levels_with(alloc, old, &[*interval], new),
+        _ => Ok(new.has_same(old)),
+    }
+}
+
+/// Whether a list is an older one with these intervals, each put under its name.
+fn are_levels_with(
+    alloc: Global,
+    old: &IntervalList,
+    intervals: &[StoredInterval],
+    new: &IntervalList,
+) -> Result<bool, NoMemory>
+    ensures { IfOk result (λ is. IsTrue is ↔ (new.now.levels ≡ with_levels intervals.now old.now.levels)) }
+{
+    let expected = old.with_all(alloc, intervals)?;
+    Ok(new.has_same(&expected))
+}
