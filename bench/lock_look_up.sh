@@ -2,22 +2,23 @@
 # Times the lock index beside a std::unordered_map in C++ that does the same look-ups:
 #   200,000 refused asks over 100,000 locks: at most 2.3 times as long as the map's;
 #   100,000 grants and then 100,000 frees in an order of their own: at most 2.3 times as long as half as many.
-# What the asks take is what the run with them takes longer than the run without. Each time is the best of five runs. Ends
+# What the asks take is what the run with them takes longer than the run without. Each time is the best of 25 runs. Ends
 # with status 1 where one is too long.
 set -eu
 cd "$(dirname "$0")/.."
 locks=${1:-100000}
 asks=${2:-200000}
+rounds=${3:-25}
 load=crates/lock_load/out/lock_load
 [ -x "$load" ] || (cd crates/lock_load && rt run -- grants 1 0) > /dev/null
 work=$(mktemp -d)
 trap 'rm -rf "$work"' EXIT
 c++ -O2 -o "$work/look_ups" bench/look_ups.cpp
 
-# The best time of five runs of a command, in microseconds. What it writes stays in $work/output.
+# The best time of all rounds of a command, in microseconds. What it writes stays in $work/output.
 best() {
     least=
-    for _ in 1 2 3 4 5; do
+    for _ in $(seq "$rounds"); do
         start=$(date +%s%N)
         "$@" > "$work/output"
         took=$((($(date +%s%N) - start) / 1000))

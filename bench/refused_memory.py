@@ -6,10 +6,13 @@ A run in which allocations were refused ends in one of these ways, with the line
 - with status 12, behind the first of those replies: no memory for the line that comes next, or for the start;
 - with status 5, 7 or 8 and no reply: the landscape, the store or the backup file was refused it at the start;
 - with status 7 or 8: it was refused to the store or to the backup file in a call. This one is answered STORE_FAULT or BACKUP_FAULT,
-  behind the first of those replies, and the calls behind it are answered DOWN, for as long as there is memory for them.
+  behind the first of those replies, and the calls behind it are answered DOWN, for as long as there is memory for them;
+- with status 0 behind such a call, where the script's RESTART comes behind it and is answered OK. What the lines behind that are
+  answered isn't compared, as a session may have lost its unit.
 
 The next start, to which none is refused, ends with status 0. It shows the locks, units, number ranges and counts that stand where a
-script ends behind the line that was answered last. Behind a fault in a call it may be that line or the one before."""
+script ends behind the line that was answered last. Behind a fault in a call it may be that line or the one before; behind a RESTART
+that was done in doubt, whatever it shows."""
 import collections
 import concurrent.futures
 import itertools
@@ -43,6 +46,7 @@ class Row:
     def __init__(self, enqd, name, folder):
         self.name, self.base = name, folder / name
         script = (ROWS / f"{name}.txt").read_bytes().splitlines(keepends=True)
+        self.restarts = [place for place, line in enumerate(script, 1) if line == b"! RESTART\n"]
         self.script, self.replies = b"".join(script), (ROWS / f"{name}.out").read_bytes().splitlines(keepends=True)
         self.base.mkdir()
         shutil.copy(ROOT / "demo" / "landscape.toml", self.base)
@@ -63,6 +67,8 @@ class Row:
             return "this status, or its line, doesn't belong here"
         replies = output.splitlines(keepends=True)
         fault = next((place for place, reply in enumerate(replies) if reply.endswith(b"_FAULT\n")), None)
+        if fault is not None and status == 0:
+            return self.problem_behind_doubt(replies, fault, shown)
         if replies[:fault] != self.replies[:len(replies[:fault])] or status == 0 and replies != self.replies:
             return "other replies"
         if status in (5, 7, 8) and (fault is None) != (not replies and error.endswith((b"read\n", b" 0\n"))):
@@ -72,6 +78,15 @@ class Row:
         else:
             lines = [number(replies[fault]) - 1, number(replies[fault])]
         if shown not in [self.shown[line] for line in lines]:
+            return f"the next start has shown {shown!r}"
+        return None
+
+    def problem_behind_doubt(self, replies, fault, shown):
+        """The same of a run with status 0 in which a call was answered with a fault."""
+        done = any(place > number(replies[fault]) and b"%d OK\n" % place in replies for place in self.restarts)
+        if replies[:fault] != self.replies[:fault] or not done:
+            return "other replies"
+        if shown[0] != 0:
             return f"the next start has shown {shown!r}"
         return None
 
