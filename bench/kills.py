@@ -3,7 +3,8 @@
 
 kills.py ENQD [KILLS [SEED]]: ENQD is the program (crates/enqd/out/enqd), KILLS is 1,000 where it isn't given. Each round gives
 it a script of which every reply is known beforehand: four sessions record units with a lock and two numbers each, workers post
-them or find them refused, and an administrator cancels them, lets them be tried again, ends the lock server and makes it anew.
+them or find them refused, and an administrator cancels them, lets them be tried again, has a replica follow the locks, ends the
+lock server, and has it taken over by the replica or made anew.
 At some moment between start and end the process is killed, and now and then the starts behind it too. What is answered by then
 has to be the beginning of what was to be answered. The next start has to end with status 0 and to show, line by line, the
 units, locks, levels, counts and rows that the answered lines have made, or those and the one line behind them. It ends with
@@ -45,6 +46,7 @@ class State:
         self.marks = 0
         self.level = 0  # of ZBUF
         self.drawn = 0  # the last number of ZBUF that was handed out
+        self.is_followed = False  # by a replica, which no start finds
 
     def with_status(self, *statuses):
         return [unit for unit in self.units if unit.status in statuses]
@@ -54,7 +56,7 @@ class State:
 
 
 def play(state, start, chance):
-    state.drawn = state.level
+    state.drawn, state.is_followed = state.level, False
     for session in range(1, 5):
         yield f"S{session} LOGON U{session}", "OK"
     for place in range(UNITS):
@@ -83,7 +85,7 @@ def enter(state, start, place, is_wrong):
 
 def work(state, chance):
     """What a worker or the administrator does, where there is something to do it with."""
-    deed = chance.choice(["DO1"] * 8 + ["DO2"] * 8 + ["RESUBMIT"] * 2 + ["CANCEL", "KILL"])
+    deed = chance.choice(["DO1"] * 8 + ["DO2"] * 8 + ["RESUBMIT"] * 2 + ["CANCEL", "KILL", "ATTACH"])
     if deed == "DO1" and state.waiting:
         unit = state.waiting[0]
         yield "@1 TAKE1", f"OK {unit.key}"
@@ -111,12 +113,20 @@ def work(state, chance):
             state.waiting.remove(unit)
         mark(state, unit, "CANCELLED")
         yield f"! CANCEL {unit.key}", f"OK {unit.key}"
+    elif deed == "ATTACH":
+        state.is_followed = True
+        yield "! ATTACH", "OK"
     elif deed == "KILL":
+        is_followed, state.is_followed = state.is_followed, False
         if state.waiting:
-            yield "@3 TAKE1", f"OK {state.waiting[0].key}"  # an order, which goes with the RESTART
+            yield "@3 TAKE1", f"OK {state.waiting[0].key}"  # an order, which goes with the RESTART alone
         yield "! KILL", "OK"
         yield "S1 COMMIT", "SYSTEM_FAILURE"
-        yield "! RESTART", "OK"
+        yield "! FAILOVER", "OK" if is_followed else "NOT_ATTACHED"
+        if not is_followed:
+            yield "! RESTART", "OK"
+        elif state.waiting:
+            yield "@3 DROP", f"OK {state.waiting[0].key}"
 
 
 def mark(state, unit, status):

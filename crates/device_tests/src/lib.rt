@@ -6,6 +6,8 @@ mod disks;
 #[cfg(test)]
 mod files;
 #[cfg(test)]
+mod misled;
+#[cfg(test)]
 mod replicas;
 #[cfg(test)]
 mod servers;

@@ -15,7 +15,7 @@ use std::test::*;
 /// The lock table's server over devices in memory.
 pub type Server = EnqServer<ListTable, MemDisk, MemLink>;
 
-const UNIT: UnitKey = UnitKey {
+pub const UNIT: UnitKey = UnitKey {
     start: 1,
     session: 1,
     luw: 1,
@@ -31,7 +31,7 @@ pub const F1: &[u8] = b"1000000000001";
 
 pub const F2: &[u8] = b"1000000000002";
 
-fn asker(session: u32) -> Asker
+pub fn asker(session: u32) -> Asker
     ensures pair { IsPair result }
     ensures update { result.update ≡ Upd (record { start = 1; session = session; luw = 1 }) }
 {
@@ -45,11 +45,11 @@ fn asker(session: u32) -> Asker
     }
 }
 
-fn user() -> Result<Name, Fail> {
+pub fn user() -> Result<Name, Fail> {
     Ok(read_name(b"MILLER").ok_or("a name")?)
 }
 
-fn asked(argument: &[u8], mode: Mode) -> Result<Asked, Fail> {
+pub fn asked(argument: &[u8], mode: Mode) -> Result<Asked, Fail> {
     Ok(Asked {
         table: read_name(b"ZORDER").ok_or("a name")?,
         pattern: Pattern::new(argument).ok_or("an argument")?,
@@ -58,7 +58,7 @@ fn asked(argument: &[u8], mode: Mode) -> Result<Asked, Fail> {
 }
 
 /// A lock as the file has it.
-fn lock_of(unit: &UnitKey, argument: &[u8], mode: Mode) -> Result<Entry, Fail>
+pub fn lock_of(unit: &UnitKey, argument: &[u8], mode: Mode) -> Result<Entry, Fail>
     ensures owner { IfOk result (λ lock. lock.owner ≡ Upd unit.now) }
     ensures mode { IfOk result (λ lock. lock.mode ≡ mode) }
     ensures count { IfOk result (λ lock. lock.count ≡ 1) }

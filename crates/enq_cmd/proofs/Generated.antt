@@ -21,7 +21,7 @@ use Rattle.script_lang.specs.declared.script_line.RawValue.{RawValue}
 use Rattle.script_lang.specs.declared.script_line.ScriptLine.{ScriptLine}
 use Rattle.script_lang.specs.declared.script_line.ScriptLine.TheVariants as line
 use Rattle.script_runner.specs.LineFaults.{IsFirstBad, IsFirstLong, IsToBlame}
-use Rattle.script_runner.specs.Lines.{is_built, line_in}
+use Rattle.script_runner.specs.Lines.{line_in}
 use Rattle.script_runner.specs.Whole.{IsGood, IsScript}
 use Rattle.script_runner.specs.declared.runner.Why.{Why}
 use Rattle.script_runner.specs.declared.runner.Why.TheVariants.{Done, BadWords, BadLandscape, BadLine, SourceFault, SinkFault, LongLine, ManyLines, StoreFault, BackupFault, BadStore, BadBackup, NoStart, NoMemory}
@@ -99,9 +99,9 @@ padded_digits k small =
 
 -- ---- lines
 
-known_line : (bytes : List ℕ) (l : ScriptLine) → IsScriptLine l → Spells bytes l → is_built l ≡ true → IsTrue (is_some (line_in bytes))
+known_line : (bytes : List ℕ) (l : ScriptLine) → IsScriptLine l → Spells bytes l → IsTrue (is_some (line_in bytes))
 unfolding line_in
-known_line bytes l h k built = rw (line_again l bytes h k, built) refl
+known_line bytes l h k = rw (line_again l bytes h k) refl
 
 -- words whose text is a line that can be done
 record EndsGood (words : List (List ℕ)) : Type 0 where
@@ -133,12 +133,12 @@ session_named s small =
 
 -- a line of a session, with what stands behind its name
 session_line : (s tail : List ℕ) (words : List (List ℕ)) (l : ScriptLine) → IsSession s → IsPlain tail → length tail ≤ 100 → line_text words ≡ s ++ 32 ∷ (tail ++ 10 ∷ [])
-    → IsScriptLine l → Spells (s ++ 32 ∷ tail) l → is_built l ≡ true → EndsGood words
-session_line s tail words l h plain short text line spells built = record {
+    → IsScriptLine l → Spells (s ++ 32 ∷ tail) l → EndsGood words
+session_line s tail words l h plain short text line spells = record {
   line = s ++ 32 ∷ tail;
   plain = plain_both s (32 ∷ tail) h.plain plain;
   text = text ∙ sym (append_assoc s (32 ∷ tail) (10 ∷ []));
-  good = good_plain (s ++ 32 ∷ tail) (plain_both s (32 ∷ tail) h.plain plain) (omega (arith, h.few, short, length-append s (32 ∷ tail))) (known_line (s ++ 32 ∷ tail) l line spells built);
+  good = good_plain (s ++ 32 ∷ tail) (plain_both s (32 ∷ tail) h.plain plain) (omega (arith, h.few, short, length-append s (32 ∷ tail))) (known_line (s ++ 32 ∷ tail) l line spells);
 }
 
 logon_ends : (s : ℕ) → s < 2 ^ 32 → EndsGood (logon_line s)
@@ -148,7 +148,7 @@ logon_ends s small =
     let user = user_named (decimal s) d in
     session_line (session s) (codes "LOGON" ++ 32 ∷ (85 ∷ decimal s)) (logon_line s) (line.Logon (session s) (85 ∷ decimal s)) (session_named s small)
     (plain_digits (decimal s) d) (omega (arith, d.few)) refl
-    ((session_named s small).name, user) refl refl
+    ((session_named s small).name, user) refl
   where
     short_name : (ds : List ℕ) → length ds ≤ 20 → nat_le (length (85 ∷ ds)) 30 ≡ true
     short_name ds few = le-leb (length (85 ∷ ds)) 30 (omega (arith, few))
@@ -163,13 +163,13 @@ lock_ends s k small fits =
     let values : List RawValue = record { field = codes "MANDT"; raw = codes "100" } ∷ record { field = codes "ORDNR"; raw = order_digits k } ∷ [] in
     session_line (session s) (codes "ENQ EZORDER E 2 MANDT=100 ORDNR=" ++ order_digits k) (lock_line s k) (line.Enq (session s) (codes "EZORDER") E Two values) (session_named s small)
     (plain_digits (order_digits k) d) (omega (arith, d.few)) refl
-    ((session_named s small).name, refl, ((refl, refl), ((refl, digit_keys (order_digits k) d.digits), tt))) (ap (λ ds. session s ++ 32 ∷ (codes "ENQ EZORDER E 2 MANDT=100 ORDNR=" ++ ds)) (sym (append-nil (order_digits k)))) refl
+    ((session_named s small).name, refl, ((refl, refl), ((refl, digit_keys (order_digits k) d.digits), tt))) (ap (λ ds. session s ++ 32 ∷ (codes "ENQ EZORDER E 2 MANDT=100 ORDNR=" ++ ds)) (sym (append-nil (order_digits k))))
 
 number_ends : (s : ℕ) → s < 2 ^ 32 → EndsGood (number_line s)
 unfolding line_text
 number_ends s small =
     session_line (session s) (codes "NUM ZORDNR 01 N") (number_line s) (line.Num (session s) (codes "ZORDNR") (codes "01") (codes "N")) (session_named s small)
-    refl (omega arith) refl ((session_named s small).name, refl, refl, refl) refl refl
+    refl (omega arith) refl ((session_named s small).name, refl, refl, refl) refl
 
 header_ends : (s k : ℕ) → s < 2 ^ 32 → k < 2 ^ 32 → EndsGood (header_line s k)
 unfolding line_text
@@ -177,7 +177,7 @@ header_ends s k small fits =
     let d = decimal_digits k fits in
     session_line (session s) (codes "V1 INS VBAK $N ORDER " ++ decimal k) (header_line s k) (line.Ins (session s) 1 (codes "VBAK") (codes "$N") (codes "ORDER " ++ decimal k)) (session_named s small)
     (plain_digits (decimal k) d) (omega (arith, d.few)) refl
-    ((session_named s small).name, (omega arith, omega arith), refl, refl, plain_digits (decimal k) d) refl refl
+    ((session_named s small).name, (omega arith, omega arith), refl, refl, plain_digits (decimal k) d) refl
 
 item_ends : (s k : ℕ) → s < 2 ^ 32 → k < 2 ^ 32 → EndsGood (item_line s k)
 unfolding line_text
@@ -185,27 +185,27 @@ item_ends s k small fits =
     let d = decimal_digits k fits in
     session_line (session s) (codes "V1 INS VBAP $N-10 ITEM " ++ decimal k) (item_line s k) (line.Ins (session s) 1 (codes "VBAP") (codes "$N-10") (codes "ITEM " ++ decimal k)) (session_named s small)
     (plain_digits (decimal k) d) (omega (arith, d.few)) refl
-    ((session_named s small).name, (omega arith, omega arith), refl, refl, plain_digits (decimal k) d) refl refl
+    ((session_named s small).name, (omega arith, omega arith), refl, refl, plain_digits (decimal k) d) refl
 
 statistics_ends : (s : ℕ) → s < 2 ^ 32 → EndsGood (statistics_line s)
 unfolding line_text
 statistics_ends s small =
     session_line (session s) (codes "V2 ADD STAT ORDERS 1") (statistics_line s) (line.Add (session s) 2 (codes "STAT") (codes "ORDERS") (codes "1")) (session_named s small)
-    refl (omega arith) refl ((session_named s small).name, (omega arith, omega arith), refl, refl, refl) refl refl
+    refl (omega arith) refl ((session_named s small).name, (omega arith, omega arith), refl, refl, refl) refl
 
 commit_ends : (s : ℕ) → s < 2 ^ 32 → EndsGood (commit_line s)
 unfolding line_text
 commit_ends s small =
     session_line (session s) (codes "COMMIT") (commit_line s) (line.Commit (session s)) (session_named s small)
-    refl (omega arith) refl (session_named s small).name refl refl
+    refl (omega arith) refl (session_named s small).name refl
 
-worker_ends : (call : List ℕ) (l : ScriptLine) → IsPlain call → length call ≤ 100 → IsScriptLine l → Spells (codes "@1 " ++ call) l → is_built l ≡ true → EndsGood (codes "@1" ∷ call ∷ [])
+worker_ends : (call : List ℕ) (l : ScriptLine) → IsPlain call → length call ≤ 100 → IsScriptLine l → Spells (codes "@1 " ++ call) l → EndsGood (codes "@1" ∷ call ∷ [])
 unfolding line_text
-worker_ends call l plain short is spells built = record {
+worker_ends call l plain short is spells = record {
   line = codes "@1 " ++ call;
   plain = plain;
   text = refl;
-  good = good_plain (codes "@1 " ++ call) plain (omega (arith, short)) (known_line (codes "@1 " ++ call) l is spells built);
+  good = good_plain (codes "@1 " ++ call) plain (omega (arith, short)) (known_line (codes "@1 " ++ call) l is spells);
 }
 
 one_worker : IsScriptLine (line.Take1 1)
@@ -216,10 +216,10 @@ one_digit = decimal_digit 1 (lit< tt)
 
 work_ends : AllByRecursion EndsGood work_lines
 work_ends =
-    let take1 = worker_ends (codes "TAKE1") (line.Take1 1) refl (omega arith) one_worker (rw one_digit refl) refl in
-    let do1 = worker_ends (codes "DO1") (line.Do1 1) refl (omega arith) one_worker (rw one_digit refl) refl in
-    let take2 = worker_ends (codes "TAKE2") (line.Take2 1) refl (omega arith) one_worker (rw one_digit refl) refl in
-    let do2 = worker_ends (codes "DO2") (line.Do2 1) refl (omega arith) one_worker (rw one_digit refl) refl in
+    let take1 = worker_ends (codes "TAKE1") (line.Take1 1) refl (omega arith) one_worker (rw one_digit refl) in
+    let do1 = worker_ends (codes "DO1") (line.Do1 1) refl (omega arith) one_worker (rw one_digit refl) in
+    let take2 = worker_ends (codes "TAKE2") (line.Take2 1) refl (omega arith) one_worker (rw one_digit refl) in
+    let do2 = worker_ends (codes "DO2") (line.Do2 1) refl (omega arith) one_worker (rw one_digit refl) in
     (take1, (do1, (take2, (do2, tt))))
 
 unit_ends : (s k : ℕ) → s < 2 ^ 32 → k < 2 ^ 32 → AllByRecursion EndsGood (lines_by s k)

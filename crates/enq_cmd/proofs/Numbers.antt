@@ -39,7 +39,7 @@ use Rattle.hall.specs.History.{is_unread, judged, pending_after, served, takes_f
 use Rattle.hall.specs.Kept.{IsDrawn, IsSteady}
 use Rattle.hall.specs.Numbers.{drawn, next_number, raised_to}
 use Rattle.hall.specs.Calls.{Call, call_of, only_reads}
-use Rattle.hall.specs.OpenUnits.{OfPending}
+use Rattle.hall.specs.OpenUnits.{HoldsOpenUnits, OfPending}
 use Rattle.hall.specs.Recall.{IsModelAnswer, Made, recalled, state_after}
 use Rattle.hall.specs.Sessions.{is_called, session_at, unit_key, with_draw, with_session, without_draws}
 use Rattle.hall.specs.State.{State, opened}
@@ -52,6 +52,7 @@ use Rattle.hall.proofs.FirstState.{IsFirstTable, first_few, first_open, first_so
 use Rattle.hall.proofs.Frames.{by_noting, verdict_pending}
 use Rattle.hall.proofs.Fresh.{open_unheard}
 use Rattle.hall.proofs.Landings.{HoldsAll, step_all}
+use Rattle.hall.proofs.OpenKept.{holds_up, while_up}
 use Rattle.enq_cmd.specs.Main.{HandedAreOpen}
 use Rattle.hall.proofs.Recalls.{AnswersFrom}
 
@@ -151,6 +152,9 @@ each-agreed found s steady h flight = record {
   posts = λ worker part unit e may. agreed_marked s.stored unit (kind_for part (found.part part unit)) (post_commits_none part (found.part part unit)) h;
   drops = λ worker unit e may. h;
   kills = λ up may. h;
+  fails_over = λ list can may. h;
+  strays = λ first second none may. h;
+  attaches = λ up may. h;
   restarts = λ off may. agreed_anew (is_taken found.anew) s.stored s.pending h flight;
   cancels = λ unit status can may. agreed_marked s.stored unit mark.Gone (λ units seq key. refl) h;
   reopens = λ unit es here stand may. agreed_marked s.stored unit mark.Again1 (λ units seq key. refl) h;
@@ -163,8 +167,8 @@ judged-agreed found s call may steady h flight =
 
 served-agreed : (o : DeviceOutcome) (s : State) (c : Command) → MayCall s (call_of c) → IsSteady s → Agrees s.stored → OfPending s.pending Agrees → Agrees (served o s c).state.stored
 served-agreed o s c may steady h flight =
-    by_event (λ r. Agrees r.state.stored) o s c
-    (λ found. judged-agreed found s (call_of c) may steady h flight) h
+    by_event (λ r. Agrees r.state.stored) o s c (λ lost done k. k)
+    (λ found. judged-agreed found s (call_of c) may steady h flight) h h
     (λ reading. by_stock (λ call t. Agrees t.stored) s (λ name parts stock. h) (λ call. h) (call_of c))
     (λ reading.
     let found = found_by reading s in
@@ -181,8 +185,8 @@ failing-agreed reading s call (Leaves after r) flight h =
 
 flight-agreed : (o : DeviceOutcome) (s : State) (c : Command) → MayCall s (call_of c) → IsSteady s → Agrees s.stored → OfPending s.pending Agrees → OfPending (served o s c).state.pending Agrees
 flight-agreed o s c may steady h flight =
-    by_event (λ r. OfPending r.state.pending Agrees) o s c
-    (λ found. verdict_pending (λ o. OfPending o Agrees) found s (call_of c) flight tt) flight
+    by_event (λ r. OfPending r.state.pending Agrees) o s c (λ lost done k. k)
+    (λ found. verdict_pending (λ o. OfPending o Agrees) found s (call_of c) flight tt) flight flight
     (λ reading.
     let found = found_by reading s in
     failing-agreed reading s (call_of c) (call_verdict found s (call_of c)) flight (judged-agreed found s (call_of c) may steady h flight))
@@ -283,15 +287,20 @@ agreed_right ledger agree = record {
 
 -- ---- whole histories
 
-reached : (limit mark_limit : ℕ) (intervals : List Interval) (told : Bool) (ledger : Ledger) (made : List Made) → IsFirstTable limit ledger → mark_limit ≤ 1048576 → AgreeWith intervals ledger → IsFirst ledger → AnswersFrom (opened limit mark_limit intervals told ledger) made → IsReached (state_after (opened limit mark_limit intervals told ledger) made)
-reached limit mark_limit intervals told ledger made fits limited agree first answers =
-    let start = opened limit mark_limit intervals told ledger in
+reached : (limit mark_limit : ℕ) (intervals : List Interval) (told linked : Bool) (ledger : Ledger) (made : List Made) → IsFirstTable limit ledger
+    → mark_limit ≤ 1048576 → AgreeWith intervals ledger → IsFirst ledger → AnswersFrom (opened limit mark_limit intervals told linked ledger) made
+    → IsReached (state_after (opened limit mark_limit intervals told linked ledger) made)
+reached limit mark_limit intervals told linked ledger made fits limited agree first answers =
+    let start = opened limit mark_limit intervals told linked ledger in
     reached_after start made answers (record {
       calls = 0;
       all = record {
-        holds = record { few = first_few limit mark_limit intervals told ledger; steady = first_steady limit mark_limit intervals told ledger limited fits agree first };
-        sound = first_sound limit mark_limit intervals told ledger fits first;
-        open_units = first_open limit mark_limit intervals told ledger fits first;
+        holds = record {
+          few = first_few limit mark_limit intervals told linked ledger;
+          steady = first_steady limit mark_limit intervals told linked ledger limited fits agree first;
+        };
+        sound = first_sound limit mark_limit intervals told linked ledger fits first;
+        open_units = first_open limit mark_limit intervals told linked ledger fits first;
         landing = tt;
       };
       agreed = first_agrees ledger first;
@@ -299,11 +308,18 @@ reached limit mark_limit intervals told ledger made fits limited agree first ans
     })
 
 -- in each state to which calls lead that are answered as the model answers them the committed numbers are right
-pub numbers_right : (limit mark_limit : ℕ) (intervals : List Interval) (told : Bool) (ledger : Ledger) (made : List Made) → IsFirstTable limit ledger → mark_limit ≤ 1048576 → AgreeWith intervals ledger → IsFirst ledger → AnswersFrom (opened limit mark_limit intervals told ledger) made → AreNumbersRight (state_after (opened limit mark_limit intervals told ledger) made).stored
-numbers_right limit mark_limit intervals told ledger made fits limited agree first answers =
-    agreed_right (state_after (opened limit mark_limit intervals told ledger) made).stored (reached limit mark_limit intervals told ledger made fits limited agree first answers).agreed
+pub numbers_right : (limit mark_limit : ℕ) (intervals : List Interval) (told linked : Bool) (ledger : Ledger) (made : List Made) → IsFirstTable limit ledger
+    → mark_limit ≤ 1048576 → AgreeWith intervals ledger → IsFirst ledger → AnswersFrom (opened limit mark_limit intervals told linked ledger) made
+    → AreNumbersRight (state_after (opened limit mark_limit intervals told linked ledger) made).stored
+numbers_right limit mark_limit intervals told linked ledger made fits limited agree first answers =
+    agreed_right (state_after (opened limit mark_limit intervals told linked ledger) made).stored
+    (reached limit mark_limit intervals told linked ledger made fits limited agree first answers).agreed
 
 -- and while the server is up the locks that were handed over are just those of the units that wait
-pub handed_held : (limit mark_limit : ℕ) (intervals : List Interval) (told : Bool) (ledger : Ledger) (made : List Made) → IsFirstTable limit ledger → mark_limit ≤ 1048576 → AgreeWith intervals ledger → IsFirst ledger → AnswersFrom (opened limit mark_limit intervals told ledger) made → HandedAreOpen (state_after (opened limit mark_limit intervals told ledger) made)
-handed_held limit mark_limit intervals told ledger made fits limited agree first answers =
-    (reached limit mark_limit intervals told ledger made fits limited agree first answers).all.open_units.held
+pub handed_held : (limit mark_limit : ℕ) (intervals : List Interval) (told linked : Bool) (ledger : Ledger) (made : List Made) → IsFirstTable limit ledger
+    → mark_limit ≤ 1048576 → AgreeWith intervals ledger → IsFirst ledger → AnswersFrom (opened limit mark_limit intervals told linked ledger) made
+    → HandedAreOpen (state_after (opened limit mark_limit intervals told linked ledger) made)
+handed_held limit mark_limit intervals told linked ledger made fits limited agree first answers =
+    let now = state_after (opened limit mark_limit intervals told linked ledger) made in
+    let units = (reached limit mark_limit intervals told linked ledger made fits limited agree first answers).all.open_units in
+    while_up now.condition (HoldsOpenUnits now.locks now.stored) (λ up. holds_up now units up)

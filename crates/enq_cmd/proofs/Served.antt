@@ -9,11 +9,15 @@ use Rattle.hall.specs.Recall.{state_after}
 use Rattle.hall.specs.State.{State, View}
 use Rattle.enq_base.specs.declared.condition.BackupBad.{BackupBad}
 use Rattle.hall.specs.declared.command.PastEntry.{PastEntry}
+use Rattle.hall.specs.declared.command.Reply.{Reply}
 use Rattle.keeper_api.specs.Rows.{Rows}
 use Rattle.landscape.proofs.Limits.{read_limits}
+use Rattle.landscape.specs.declared.landscape.Landscape.{Landscape}
+use Rattle.lock_entry.specs.declared.entry.Entry.{Entry}
 use Rattle.lock_objects.specs.Objects.{Object}
+use Rattle.update_records.specs.Ledger.{Ledger}
 use Rattle.hall.specs.Unsound.{is_unsound_file, is_unsound_store}
-use Rattle.script_runner.specs.Faults.{NoneUnsound, NoneUnsoundStore}
+use Rattle.script_runner.specs.Faults.{NoneTells, NoneUnsound, NoneUnsoundStore, TellsNoFault, is_link_fault}
 use Rattle.script_runner.specs.Replay.{RunsScript, Seen, seen}
 use Rattle.script_runner.specs.Shown.{audit_shown}
 use Rattle.script_runner.specs.declared.runner.Why.{Why}
@@ -26,34 +30,36 @@ use Rattle.enq_cmd.specs.Opening.{IsLandedAlone, IsOpened, IsUnlanded}
 
 -- an open server, whose calls led to another state, and its devices then
 pub served_by : {K D L : Type 0} (held : K → Option Rows) (may_leave : K → Rows → Type 0) (faults : K → ℕ) (tells : Bool) (reads : D → List ℕ) (images : D → List ℕ → Type 0) (file_faults : D → ℕ)
-    (left : Option (List ℕ)) (keeper : K) (disk : D) (hall : View K D L) (objects : List Object) (o : IsOpened held may_leave faults tells reads file_faults left keeper disk hall objects)
+    (applied : L → Option (List Entry)) (left : Option (List ℕ)) (keeper : K) (disk : D) (link : L) (hall : View K D L) (objects : List Object) (o : IsOpened held may_leave faults tells reads file_faults applied left keeper disk link hall objects)
     (after : View K D L) (keeper_now : K) (disk_now : D) → keeper_now ≡ after.keeper → disk_now ≡ after.file.disk → is_some (held after.keeper) ≡ is_some (held hall.keeper)
     → LeavesState held may_leave after → LeavesLists tells images after → HasOpenUnits after.state
+    → (copy : Option (List Entry)) → (after.state.attached ≡ true → IfSome copy (λ list. list ≡ after.state.locks))
     → (IsTrue tells → NoneUnsound hall.state.past → NoneUnsound after.state.past)
     → (is_some (held hall.keeper) ≡ true → NoneUnsoundStore hall.state.past → NoneUnsoundStore after.state.past)
-    → (known : List Object) (old new : Seen) (past : List PastEntry) (why : Why) → HasRun o.land (is_some (held keeper)) hall.state.stored hall.state after.state known old new past why
-    → (s : IsServed o.land (is_some (held keeper)) (may_leave keeper) (may_leave keeper_now) tells (reads disk) (images disk_now) old new past why) × (after.state ≡ state_after (first_state o.land (is_some (held keeper)) s.stored) s.made)
-served_by held may_leave faults tells reads images file_faults left keeper disk hall objects o after keeper_now disk_now kept kept_disk told leaves lists units files stores known old new past why run =
-    served_with o.land (is_some (held keeper)) hall.state.stored (may_leave keeper) (may_leave keeper_now) tells (reads disk) (images disk_now) hall.state after.state known old new past why
+    → (known : List Object) (old new : Seen) (past : List PastEntry) (why : Why) → HasRun o.land (is_some (held keeper)) (is_some (applied link)) hall.state.stored hall.state after.state known old new past why
+    → (s : IsServed o.land (is_some (held keeper)) (is_some (applied link)) (may_leave keeper) (may_leave keeper_now) tells (reads disk) (images disk_now) copy old new past why)
+    × (after.state ≡ state_after (first_state o.land (is_some (held keeper)) (is_some (applied link)) s.stored) s.made)
+served_by held may_leave faults tells reads images file_faults applied left keeper disk link hall objects o after keeper_now disk_now kept kept_disk told leaves lists units copy follows files stores known old new past why run =
+    served_with o.land (is_some (held keeper)) (is_some (applied link)) hall.state.stored (may_leave keeper) (may_leave keeper_now) tells (reads disk) (images disk_now) copy hall.state after.state known old new past why
     (read_limits o.read.bytes o.land o.read.gives)
     o.sound
     (λ yes. where_told _ (held hall.keeper) (subst IsTrue (sym o.told) yes) o.stored)
     o.fits o.table o.filed run
     (λ yes. subst (λ k. (rows : Rows) → may_leave k rows → StandForState rows after.state) (sym kept) (where_told _ (held after.keeper) (subst IsTrue (sym (told ∙ o.told)) yes) leaves))
     (subst (λ d. AllRecover tells images after.state.condition after.state.stored after.state.pending after.state.found (record after.file { disk = d })) (sym kept_disk) lists)
-    units
-    (λ yes. subst NoneUnsound (sym run.history) (files yes (first_sound is_unsound_file o.land (is_some (held keeper)) hall.state.stored hall.state o.first)))
-    (λ yes. subst NoneUnsoundStore (sym run.history) (stores (o.told ∙ yes) (first_sound is_unsound_store o.land (is_some (held keeper)) hall.state.stored hall.state o.first)))
+    units follows
+    (λ yes. subst NoneUnsound (sym run.history) (files yes (first_sound is_unsound_file o.land (is_some (held keeper)) (is_some (applied link)) hall.state.stored hall.state o.first)))
+    (λ yes. subst NoneUnsoundStore (sym run.history) (stores (o.told ∙ yes) (first_sound is_unsound_store o.land (is_some (held keeper)) (is_some (applied link)) hall.state.stored hall.state o.first)))
 
 -- a run of a script in memory, with the devices as they were given and as they are given back
 pub load_run : {K D L : Type 0} (held : K → Option Rows) (may_leave : K → Rows → Type 0) (faults : K → ℕ) (tells : Bool) (reads : D → List ℕ) (file_faults : D → ℕ)
-    (left : Option (List ℕ)) (keeper : K) (disk : D) (hall : View K D L) (objects : List Object) (o : IsOpened held may_leave faults tells reads file_faults left keeper disk hall objects)
+    (applied : L → Option (List Entry)) (left : Option (List ℕ)) (keeper : K) (disk : D) (link : L) (hall : View K D L) (objects : List Object) (o : IsOpened held may_leave faults tells reads file_faults applied left keeper disk link hall objects)
     (after : View K D L) (keeper_now : K) (disk_now : D) → keeper_now ≡ after.keeper → disk_now ≡ after.file.disk
     → (known : List Object) → known ≡ objects → (past : List PastEntry) → past ≡ after.state.past
     → (source text : List ℕ) → source ≡ text → (written written_now : Option (List ℕ)) (sink_faults sink_faults_now : ℕ) (why : Why)
     → (r : RunsLoad known source hall.state after.state (faults hall.keeper) (faults after.keeper) (file_faults hall.file.disk) (file_faults after.file.disk) written written_now sink_faults sink_faults_now why)
-    → HasRun o.land (is_some (held keeper)) hall.state.stored hall.state after.state known (unheard text (faults keeper) (file_faults disk)) (unheard r.rest (faults keeper_now) (file_faults disk_now)) past r.end
-load_run held may_leave faults tells reads file_faults left keeper disk hall objects o after keeper_now disk_now kept kept_disk known same past history source text is written written_now sink_faults sink_faults_now why r =
+    → HasRun o.land (is_some (held keeper)) (is_some (applied link)) hall.state.stored hall.state after.state known (unheard text (faults keeper) (file_faults disk)) (unheard r.rest (faults keeper_now) (file_faults disk_now)) past r.end
+load_run held may_leave faults tells reads file_faults applied left keeper disk link hall objects o after keeper_now disk_now kept kept_disk known same past history source text is written written_now sink_faults sink_faults_now why r =
     let before = unheard source (faults hall.keeper) (file_faults hall.file.disk) in
     let behind = unheard r.rest (faults after.keeper) (file_faults after.file.disk) in
     let old = unheard text (faults keeper) (file_faults disk) in
@@ -99,15 +105,15 @@ load_ends may_be end why after old new before now (inr (inr last)) shown quiet =
 
 -- a site of which no server came, beside a script and a sink that nobody touched
 pub unserved : {S T K D : Type 0} (held : K → Option Rows) (may_leave : K → Rows → Type 0) (faults : K → ℕ) (tells : Bool) (bytes : List ℕ) (images : D → List ℕ → Type 0) (file_faults : D → ℕ)
-    (left : Option (List ℕ)) (before now : ℕ) (script : S) (sink : T) (keeper keeper_now : K) (disk disk_now : D) (rest written : Option (List ℕ)) (source_faults sink_faults : ℕ) (past : List PastEntry) (why : Why)
+    (linked : Bool) (copy : Option (List Entry)) (left : Option (List ℕ)) (before now : ℕ) (script : S) (sink : T) (keeper keeper_now : K) (disk disk_now : D) (rest written : Option (List ℕ)) (source_faults sink_faults : ℕ) (past : List PastEntry) (why : Why)
     → past ≡ []
     → IsUnlanded before now keeper keeper_now disk disk_now why ⊎ IsLandedAlone held may_leave faults tells images file_faults left keeper keeper_now disk disk_now why
-    → HasLandscape left (is_some (held keeper)) (may_leave keeper) (may_leave keeper_now) tells bytes images disk disk_now
+    → HasLandscape left (is_some (held keeper)) linked (may_leave keeper) (may_leave keeper_now) tells bytes images disk disk_now copy
     (seen rest written source_faults sink_faults (faults keeper) (file_faults disk)) (seen rest written source_faults sink_faults (faults keeper_now) (file_faults disk_now)) past why
     ⊎ (IsLandEnd before now why × IsUntouched script script sink sink keeper keeper_now disk disk_now past)
-unserved held may_leave faults tells bytes images file_faults left before now script sink keeper keeper_now disk disk_now rest written source_faults sink_faults past why none (inl u) =
+unserved held may_leave faults tells bytes images file_faults linked copy left before now script sink keeper keeper_now disk disk_now rest written source_faults sink_faults past why none (inl u) =
     inr (u.end, record { reading = refl; writing = refl; storing = u.storing; filing = u.filing; none = none })
-unserved held may_leave faults tells bytes images file_faults left before now script sink keeper keeper_now disk disk_now rest written source_faults sink_faults past why none (inr a) =
+unserved held may_leave faults tells bytes images file_faults linked copy left before now script sink keeper keeper_now disk disk_now rest written source_faults sink_faults past why none (inr a) =
     inl (record {
       land = a.land;
       read = a.read;
@@ -118,15 +124,15 @@ unserved held may_leave faults tells bytes images file_faults left before now sc
 
 -- the same of one whose script is made from a number
 pub unloaded : {T K D : Type 0} (held : K → Option Rows) (may_leave : K → Rows → Type 0) (faults : K → ℕ) (tells : Bool) (bytes : List ℕ) (images : D → List ℕ → Type 0) (file_faults : D → ℕ)
-    (units : ℕ) (left : Option (List ℕ)) (before now : ℕ) (sink : T) (keeper keeper_now : K) (disk disk_now : D) (written : Option (List ℕ)) (sink_faults : ℕ) (past : List PastEntry) (why : Why)
+    (linked : Bool) (copy : Option (List Entry)) (units : ℕ) (left : Option (List ℕ)) (before now : ℕ) (sink : T) (keeper keeper_now : K) (disk disk_now : D) (written : Option (List ℕ)) (sink_faults : ℕ) (past : List PastEntry) (why : Why)
     → past ≡ []
     → IsUnlanded before now keeper keeper_now disk disk_now why ⊎ IsLandedAlone held may_leave faults tells images file_faults left keeper keeper_now disk disk_now why
-    → HasLoaded units left (is_some (held keeper)) (may_leave keeper) (may_leave keeper_now) tells bytes images disk disk_now
+    → HasLoaded units left (is_some (held keeper)) linked (may_leave keeper) (may_leave keeper_now) tells bytes images disk disk_now copy
     (seen None written 0 sink_faults (faults keeper) (file_faults disk)) (seen None written 0 sink_faults (faults keeper_now) (file_faults disk_now)) past why
     ⊎ (IsLandEnd before now why × (sink ≡ sink) × (keeper_now ≡ keeper) × (disk_now ≡ disk) × (past ≡ []))
-unloaded held may_leave faults tells bytes images file_faults units left before now sink keeper keeper_now disk disk_now written sink_faults past why none (inl u) =
+unloaded held may_leave faults tells bytes images file_faults linked copy units left before now sink keeper keeper_now disk disk_now written sink_faults past why none (inl u) =
     inr (u.end, refl, u.storing, u.filing, none)
-unloaded held may_leave faults tells bytes images file_faults units left before now sink keeper keeper_now disk disk_now written sink_faults past why none (inr a) =
+unloaded held may_leave faults tells bytes images file_faults linked copy units left before now sink keeper keeper_now disk disk_now written sink_faults past why none (inr a) =
     inl (record {
       land = a.land;
       read = a.read;
@@ -136,13 +142,13 @@ unloaded held may_leave faults tells bytes images file_faults units left before 
     })
 
 -- the same of the number that the words name, and of a script that nobody touched
-pub loaded_as : {S T K D : Type 0} (m n : ℕ) → m ≡ n → (left : Option (List ℕ)) (told : Bool) (before after : Rows → Type 0) (tells : Bool) (bytes : List ℕ) (images : D → List ℕ → Type 0) (disk disk_now : D) (old new : Seen)
+pub loaded_as : {S T K D : Type 0} (m n : ℕ) → m ≡ n → (left : Option (List ℕ)) (told linked : Bool) (before after : Rows → Type 0) (tells : Bool) (bytes : List ℕ) (images : D → List ℕ → Type 0) (disk disk_now : D) (copy : Option (List Entry)) (old new : Seen)
     (faults faults_now : ℕ) (script script_now : S) (sink sink_now : T) (keeper keeper_now : K) (past : List PastEntry) (why : Why) → script_now ≡ script
-    → HasLoaded m left told before after tells bytes images disk disk_now old new past why ⊎ (IsLandEnd faults faults_now why × (sink_now ≡ sink) × (keeper_now ≡ keeper) × (disk_now ≡ disk) × (past ≡ []))
-    → HasLoaded n left told before after tells bytes images disk disk_now old new past why ⊎ (IsLandEnd faults faults_now why × IsUntouched script script_now sink sink_now keeper keeper_now disk disk_now past)
-loaded_as m n same left told before after tells bytes images disk disk_now old new faults faults_now script script_now sink sink_now keeper keeper_now past why still (inl h) =
-    inl (subst (λ k. HasLoaded k left told before after tells bytes images disk disk_now old new past why) same h)
-loaded_as m n same left told before after tells bytes images disk disk_now old new faults faults_now script script_now sink sink_now keeper keeper_now past why still (inr h) =
+    → HasLoaded m left told linked before after tells bytes images disk disk_now copy old new past why ⊎ (IsLandEnd faults faults_now why × (sink_now ≡ sink) × (keeper_now ≡ keeper) × (disk_now ≡ disk) × (past ≡ []))
+    → HasLoaded n left told linked before after tells bytes images disk disk_now copy old new past why ⊎ (IsLandEnd faults faults_now why × IsUntouched script script_now sink sink_now keeper keeper_now disk disk_now past)
+loaded_as m n same left told linked before after tells bytes images disk disk_now copy old new faults faults_now script script_now sink sink_now keeper keeper_now past why still (inl h) =
+    inl (subst (λ k. HasLoaded k left told linked before after tells bytes images disk disk_now copy old new past why) same h)
+loaded_as m n same left told linked before after tells bytes images disk disk_now copy old new faults faults_now script script_now sink sink_now keeper keeper_now past why still (inr h) =
     inr (h.0, record { reading = still; writing = h.1; storing = h.2; filing = h.3; none = h.4 })
 
 -- ---- the ends of a run
@@ -207,3 +213,13 @@ run_kind before after objects old new why end is run = subst IsRunEnd (sym is) (
 -- a count that stood still under other names
 pub still_by : (a b c d : ℕ) → a ≡ c → b ≡ d → (Rose c d → ⊥) → Rose a b → ⊥
 still_by a b c d from to still rose = still (subst (λ n. Rose n d) from (subst (λ n. Rose a n) to rose))
+
+-- where no call was made none was answered so
+pub none_answered : (tells : Reply → Bool) (past : List PastEntry) → past ≡ [] → NoneTells tells past
+none_answered tells past none = subst (NoneTells tells) (sym none) refl
+
+-- a link that didn't fail over a run from a first state
+pub link_quiet : (land : Landscape) (t linked : Bool) (l : Ledger) (before after : State) (past : List PastEntry) (a b c d : ℕ) → before ≡ first_state land t linked l → past ≡ after.past → a ≡ c → b ≡ d
+    → TellsNoFault a b before.past after.past → (Rose c d → ⊥) → NoneTells is_link_fault past
+link_quiet land t linked l before after past a b c d first history from to tells still =
+    subst (NoneTells is_link_fault) (sym history) (tells (still_by a b c d from to still) (first_sound is_link_fault land t linked l before first))

@@ -51,6 +51,7 @@ use Rattle.hall.specs.Leaving.{StandForKnown, StandForPending, StandForState}
 use Rattle.hall.specs.OpenUnits.{AgreeAll, OfPending, open_entries}
 use Rattle.backup_file.specs.declared.handed.Handed.{Handed}
 use Rattle.lock_entry.specs.Sound.{IsSound as IsSoundTable}
+use Rattle.lock_entry.specs.declared.entry.Entry.{Entry}
 
 told_does : (first : State) (w : World) (n : ℕ) (l : ScriptLine) (d : DeviceOutcome) (m : Meaning) → ((c : Command) → m ≡ Calls c → IsAllowed d w.hall c) → IsTold first w.hall → IsTold first (does w n l d m).world.hall
 told_does first w n l d Silent allowed h = h
@@ -82,44 +83,44 @@ told_turns first p [] allowed h = h
 told_turns first p (t ∷ ts) allowed h = told_turns first (next p t) ts allowed.1 (told_turn first p t p.stop allowed.0 h)
 
 -- the state in which a run from the first one ends is that to which its history leads
-told_after : (land : Landscape) (t : Bool) (l : Ledger) (after : State) (old new : Seen) (why : Why) → RunsScript land.objects (first_state land t l) after old new why → IsTold (first_state land t l) after
-told_after land t l after old new why h =
-    let first = first_world land.objects (first_state land t l) in
+told_after : (land : Landscape) (t linked : Bool) (l : Ledger) (after : State) (old new : Seen) (why : Why) → RunsScript land.objects (first_state land t linked l) after old new why → IsTold (first_state land t linked l) after
+told_after land t linked l after old new why h =
+    let first = first_world land.objects (first_state land t linked l) in
     let turns = h.replays.turns in
-    let told : IsTold (first_state land t l) (run first turns).world.hall = told_turns (first_state land t l) (begun first) turns h.replays.allowed (told_first (first_state land t l) refl) in
-    subst (λ (x : World). IsTold (first_state land t l) x.hall) (sym h.replays.world) told
+    let told : IsTold (first_state land t linked l) (run first turns).world.hall = told_turns (first_state land t linked l) (begun first) turns h.replays.allowed (told_first (first_state land t linked l) refl) in
+    subst (λ (x : World). IsTold (first_state land t linked l) x.hall) (sym h.replays.world) told
 
 -- a run, said of what is known of its parts
-pub record HasRun (land : Landscape) (t : Bool) (l : Ledger) (before after : State) (objects : List Object) (old new : Seen) (past : List PastEntry) (why : Why) : Type 0 where
-  pub first : before ≡ first_state land t l
+pub record HasRun (land : Landscape) (t linked : Bool) (l : Ledger) (before after : State) (objects : List Object) (old new : Seen) (past : List PastEntry) (why : Why) : Type 0 where
+  pub first : before ≡ first_state land t linked l
   pub known : objects ≡ land.objects
   pub history : past ≡ after.past
   pub runs : RunsScript objects before after old new why
   pub complete : (bytes : List ℕ) → old.left ≡ Some bytes → IsScript bytes → IsFaultless old new → IsComplete (first_world objects before) after bytes old.written new.written why
 
-runs_first : (land : Landscape) (t : Bool) (l : Ledger) (before after : State) (objects : List Object) (old new : Seen) (past : List PastEntry) (why : Why) → HasRun land t l before after objects old new past why → RunsScript land.objects (first_state land t l) after old new why
-runs_first land t l before after objects old new past why h =
+runs_first : (land : Landscape) (t linked : Bool) (l : Ledger) (before after : State) (objects : List Object) (old new : Seen) (past : List PastEntry) (why : Why) → HasRun land t linked l before after objects old new past why → RunsScript land.objects (first_state land t linked l) after old new why
+runs_first land t linked l before after objects old new past why h =
     subst (λ s. RunsScript land.objects s after old new why) h.first (subst (λ os. RunsScript os before after old new why) h.known h.runs)
 
 -- the calls of a run, each with what the devices did in it
-told_by : (land : Landscape) (t : Bool) (l : Ledger) (before after : State) (objects : List Object) (old new : Seen) (past : List PastEntry) (why : Why) → HasRun land t l before after objects old new past why → IsTold (first_state land t l) after
-told_by land t l before after objects old new past why h = told_after land t l after old new why (runs_first land t l before after objects old new past why h)
+told_by : (land : Landscape) (t linked : Bool) (l : Ledger) (before after : State) (objects : List Object) (old new : Seen) (past : List PastEntry) (why : Why) → HasRun land t linked l before after objects old new past why → IsTold (first_state land t linked l) after
+told_by land t linked l before after objects old new past why h = told_after land t linked l after old new why (runs_first land t linked l before after objects old new past why h)
 
-ran : (land : Landscape) (t : Bool) (l : Ledger) (before after : State) (objects : List Object) (old new : Seen) (past : List PastEntry) (why : Why) → HasRun land t l before after objects old new past why → (told : IsTold (first_state land t l) after) → Ran land t l old new told.made why
-ran land t l before after objects old new past why h told =
+ran : (land : Landscape) (t linked : Bool) (l : Ledger) (before after : State) (objects : List Object) (old new : Seen) (past : List PastEntry) (why : Why) → HasRun land t linked l before after objects old new past why → (told : IsTold (first_state land t linked l) after) → Ran land t linked l old new told.made why
+ran land t linked l before after objects old new past why h told =
     record {
       after = after;
       history = told.calls;
       leads = told.state;
-      runs = runs_first land t l before after objects old new past why h;
+      runs = runs_first land t linked l before after objects old new past why h;
       complete = λ bytes left script calm.
           subst (λ s. IsComplete (first_world land.objects s) after bytes old.written new.written why) h.first
           (subst (λ os. IsComplete (first_world os before) after bytes old.written new.written why) h.known (h.complete bytes left script calm));
     }
 
 -- a first state isn't in doubt
-never_in_doubt : (land : Landscape) (t : Bool) (l : Ledger) (before : State) → before ≡ first_state land t l → IsTrue (is_some (doubt_of before)) → ⊥
-never_in_doubt land t l before e doubted = let up = sym doubted ∙ ap (λ (s : State). is_some (doubt_of s)) e in cc
+never_in_doubt : (land : Landscape) (t linked : Bool) (l : Ledger) (before : State) → before ≡ first_state land t linked l → IsTrue (is_some (doubt_of before)) → ⊥
+never_in_doubt land t linked l before e doubted = let up = sym doubted ∙ ap (λ (s : State). is_some (doubt_of s)) e in cc
 
 -- no call of such a history found a device that isn't good
 never_found : (tells : Reply → Bool) (before after : State) (place : Bad) → tells (reply.Refused (refusal.Unsound place)) ≡ true → NoneTells tells after.past → IsFoundBad before after place → ⊥
@@ -127,36 +128,36 @@ never_found tells before after place on none found =
     let wrong : true ≡ false = sym on ∙ answer_sound tells after.past found.call (reply.Refused (refusal.Unsound place)) none found.doubted.1 in cc
 
 -- a run that is complete from a server that is up is done, or memory was wanting
-complete_ends : (may_be : Rows → Type 0) (land : Landscape) (t : Bool) (l : Ledger) (objects : List Object) (before after : State) (bytes : List ℕ) (old new : Option (List ℕ)) (why : Why) → before ≡ first_state land t l → NoneUnsound after.past → NoneUnsoundStore after.past → IsComplete (first_world objects before) after bytes old new why → EndsComplete may_be why
-complete_ends may_be land t l objects before after bytes old new Done e none stores h = inl refl
-complete_ends may_be land t l objects before after bytes old new (StoreFault k) e none stores h = absurd (let up = sym h.0 ∙ ap doubt_of e in cc)
-complete_ends may_be land t l objects before after bytes old new (BackupFault k) e none stores h = absurd (let up = sym h.0 ∙ ap doubt_of e in cc)
-complete_ends may_be land t l objects before after bytes old new NoMemory e none stores h = inr (inl refl)
-complete_ends may_be land t l objects before after bytes old new BadWords e none stores h = absurd h
-complete_ends may_be land t l objects before after bytes old new (BadLandscape rule place) e none stores h = absurd h
-complete_ends may_be land t l objects before after bytes old new (BadLine n) e none stores h = absurd h
-complete_ends may_be land t l objects before after bytes old new SourceFault e none stores h = absurd h
-complete_ends may_be land t l objects before after bytes old new SinkFault e none stores h = absurd h
-complete_ends may_be land t l objects before after bytes old new (LongLine n) e none stores h = absurd h
-complete_ends may_be land t l objects before after bytes old new ManyLines e none stores h = absurd h
-complete_ends may_be land t l objects before after bytes old new (BadStore table row) e none stores (inl h) = absurd (never_in_doubt land t l before e h.0)
-complete_ends may_be land t l objects before after bytes old new (BadStore table row) e none stores (inr met) = absurd (never_met before after none stores met)
-complete_ends may_be land t l objects before after bytes old new (BadBackup place) e none stores (inl h) = absurd (never_in_doubt land t l before e h.0)
-complete_ends may_be land t l objects before after bytes old new (BadBackup place) e none stores (inr met) = absurd (never_met before after none stores met)
-complete_ends may_be land t l objects before after bytes old new NoStart e none stores h = absurd h
+complete_ends : (may_be : Rows → Type 0) (land : Landscape) (t linked : Bool) (l : Ledger) (objects : List Object) (before after : State) (bytes : List ℕ) (old new : Option (List ℕ)) (why : Why) → before ≡ first_state land t linked l → NoneUnsound after.past → NoneUnsoundStore after.past → IsComplete (first_world objects before) after bytes old new why → EndsComplete may_be why
+complete_ends may_be land t linked l objects before after bytes old new Done e none stores h = inl refl
+complete_ends may_be land t linked l objects before after bytes old new (StoreFault k) e none stores h = absurd (let up = sym h.0 ∙ ap doubt_of e in cc)
+complete_ends may_be land t linked l objects before after bytes old new (BackupFault k) e none stores h = absurd (let up = sym h.0 ∙ ap doubt_of e in cc)
+complete_ends may_be land t linked l objects before after bytes old new NoMemory e none stores h = inr (inl refl)
+complete_ends may_be land t linked l objects before after bytes old new BadWords e none stores h = absurd h
+complete_ends may_be land t linked l objects before after bytes old new (BadLandscape rule place) e none stores h = absurd h
+complete_ends may_be land t linked l objects before after bytes old new (BadLine n) e none stores h = absurd h
+complete_ends may_be land t linked l objects before after bytes old new SourceFault e none stores h = absurd h
+complete_ends may_be land t linked l objects before after bytes old new SinkFault e none stores h = absurd h
+complete_ends may_be land t linked l objects before after bytes old new (LongLine n) e none stores h = absurd h
+complete_ends may_be land t linked l objects before after bytes old new ManyLines e none stores h = absurd h
+complete_ends may_be land t linked l objects before after bytes old new (BadStore table row) e none stores (inl h) = absurd (never_in_doubt land t linked l before e h.0)
+complete_ends may_be land t linked l objects before after bytes old new (BadStore table row) e none stores (inr met) = absurd (never_met before after none stores met)
+complete_ends may_be land t linked l objects before after bytes old new (BadBackup place) e none stores (inl h) = absurd (never_in_doubt land t linked l before e h.0)
+complete_ends may_be land t linked l objects before after bytes old new (BadBackup place) e none stores (inr met) = absurd (never_met before after none stores met)
+complete_ends may_be land t linked l objects before after bytes old new NoStart e none stores h = absurd h
 
-pub completes_as : (may_be : Rows → Type 0) (land : Landscape) (t : Bool) (l : Ledger) (objects : List Object) (before after : State) (bytes : List ℕ) (old new : Option (List ℕ)) (why end : Why) → before ≡ first_state land t l → why ≡ end → NoneUnsound after.past → NoneUnsoundStore after.past → IsComplete (first_world objects before) after bytes old new why → EndsComplete may_be end
-completes_as may_be land t l objects before after bytes old new why end e w none stores h =
-    subst (EndsComplete may_be) w (complete_ends may_be land t l objects before after bytes old new why e none stores h)
+pub completes_as : (may_be : Rows → Type 0) (land : Landscape) (t linked : Bool) (l : Ledger) (objects : List Object) (before after : State) (bytes : List ℕ) (old new : Option (List ℕ)) (why end : Why) → before ≡ first_state land t linked l → why ≡ end → NoneUnsound after.past → NoneUnsoundStore after.past → IsComplete (first_world objects before) after bytes old new why → EndsComplete may_be end
+completes_as may_be land t linked l objects before after bytes old new why end e w none stores h =
+    subst (EndsComplete may_be) w (complete_ends may_be land t linked l objects before after bytes old new why e none stores h)
 
 -- no call before a first state was answered so
-pub first_sound : (tells : Reply → Bool) (land : Landscape) (t : Bool) (l : Ledger) (before : State) → before ≡ first_state land t l → NoneTells tells before.past
-first_sound tells land t l before e = subst (λ (s : State). NoneTells tells s.past) (sym e) refl
+pub first_sound : (tells : Reply → Bool) (land : Landscape) (t linked : Bool) (l : Ledger) (before : State) → before ≡ first_state land t linked l → NoneTells tells before.past
+first_sound tells land t linked l before e = subst (λ (s : State). NoneTells tells s.past) (sym e) refl
 
 -- a device that isn't good is told by no run from a first state
-pub never_bad : (tells : Reply → Bool) (land : Landscape) (t : Bool) (l : Ledger) (before after : State) (place : Bad) → tells (reply.Refused (refusal.Unsound place)) ≡ true → before ≡ first_state land t l → NoneTells tells after.past → HasBadCause before after place → ⊥
-never_bad tells land t l before after place on e none (inl doubted) = never_in_doubt land t l before e doubted
-never_bad tells land t l before after place on e none (inr found) = never_found tells before after place on none found
+pub never_bad : (tells : Reply → Bool) (land : Landscape) (t linked : Bool) (l : Ledger) (before after : State) (place : Bad) → tells (reply.Refused (refusal.Unsound place)) ≡ true → before ≡ first_state land t linked l → NoneTells tells after.past → HasBadCause before after place → ⊥
+never_bad tells land t linked l before after place on e none (inl doubted) = never_in_doubt land t linked l before e doubted
+never_bad tells land t linked l before after place on e none (inr found) = never_found tells before after place on none found
 
 -- what is said where rows are told
 pub where_told : (P : Type 0) (o : Option Rows) → IsTrue (is_some o) → IfSome o (λ _. P) → P
@@ -226,16 +227,18 @@ follows_on may_leave s left next found =
     (survives.ledger, survives.known, found.2 ∙ ap (λ (l : Ledger). with_start l (l.start + 1)) one)
 
 -- all that is said of a program that opened its store, and the state to which its calls lead
-pub served_with : (land : Landscape) (t : Bool) (l : Ledger) (may_be may_leave : Rows → Type 0) (tells : Bool) (bytes : List ℕ) (images : List ℕ → Type 0) (before after : State) (objects : List Object) (old new : Seen) (past : List PastEntry) (why : Why)
+pub served_with : (land : Landscape) (t linked : Bool) (l : Ledger) (may_be may_leave : Rows → Type 0) (tells : Bool) (bytes : List ℕ) (images : List ℕ → Type 0)
+    (copy : Option (List Entry)) (before after : State) (objects : List Object) (old new : Seen) (past : List PastEntry) (why : Why)
     → HasLimits land → IsRaised IsSound true l → (IsTrue t → IsRaised (HasStood may_be) true l) → FitRows land.ranges l.levels → IsFirstTable land.max_locks l → (IsTrue tells → HadHanded bytes l)
-    → HasRun land t l before after objects old new past why
+    → HasRun land t linked l before after objects old new past why
     → (IsTrue t → (rows : Rows) → may_leave rows → StandForState rows after)
     → (IsTrue tells → (image : List ℕ) → images image → RecoversFrom after.condition after.stored after.pending after.found image) → HasOpenUnits after
+    → (after.attached ≡ true → IfSome copy (λ list. list ≡ after.locks))
     → (IsTrue tells → NoneUnsound past) → (IsTrue t → NoneUnsoundStore past)
-    → (s : IsServed land t may_be may_leave tells bytes images old new past why) × (after ≡ state_after (first_state land t s.stored) s.made)
-served_with land t l may_be may_leave tells bytes images before after objects old new past why limits good found fit table filed h left lists units files stores =
-    let first = first_state land t l in
-    let told = told_by land t l before after objects old new past why h in
+    → (s : IsServed land t linked may_be may_leave tells bytes images copy old new past why) × (after ≡ state_after (first_state land t linked s.stored) s.made)
+served_with land t linked l may_be may_leave tells bytes images copy before after objects old new past why limits good found fit table filed h left lists units follows files stores =
+    let first = first_state land t linked l in
+    let told = told_by land t linked l before after objects old new past why h in
     let made : List Made = told.made in
     let answers = told-answers first after told in
     let agree : AgreeWith land.ranges l = record { good = landed_intervals land limits; fit = fit } in
@@ -249,18 +252,19 @@ served_with land t l may_be may_leave tells bytes images before after objects ol
         fit = fit;
         made = made;
         calls = h.history ∙ told.calls;
-        run = ran land t l before after objects old new past why h told;
+        run = ran land t linked l before after objects old new past why h told;
         history = answers;
-        sound = stays_sound land.max_locks land.max_marks land.ranges t l made table limits.marks agree good answers;
-        stand = locks_stand land.max_locks land.max_marks land.ranges t l made table limits.marks agree good answers;
-        back = locks_return land.max_locks land.max_marks land.ranges t l made table limits.marks agree good answers;
+        sound = stays_sound land.max_locks land.max_marks land.ranges t linked l made table limits.marks agree good answers;
+        stand = locks_stand land.max_locks land.max_marks land.ranges t linked l made table limits.marks agree good answers;
+        back = locks_return land.max_locks land.max_marks land.ranges t linked l made table limits.marks agree good answers;
         held = λ earlier later whole.
-            handed_held land.max_locks land.max_marks land.ranges t l earlier table limits.marks agree good (answers_before first made earlier later answers whole);
+            handed_held land.max_locks land.max_marks land.ranges t linked l earlier table limits.marks agree good (answers_before first made earlier later answers whole);
         lost = losers_told first made answers;
         numbers = λ earlier later whole.
-            numbers_right land.max_locks land.max_marks land.ranges t l earlier table limits.marks agree good (answers_before first made earlier later answers whole);
+            numbers_right land.max_locks land.max_marks land.ranges t linked l earlier table limits.marks agree good (answers_before first made earlier later answers whole);
         left = λ yes rows may. left_after yes rows may;
         handed = λ yes image may. subst (HasHanded image) told.state (handed_in image after units (lists yes image may));
+        replica = subst (λ (s : State). s.attached ≡ true → IfSome copy (λ list. list ≡ s.locks)) told.state follows;
         good_file = files;
         good_store = stores;
         opens = λ yes tells image may. good_next may_leave (state_after first made) image (left_after yes) (subst (HasHanded image) told.state (handed_in image after units (lists tells image may)));
@@ -270,9 +274,11 @@ served_with land t l may_be may_leave tells bytes images before after objects ol
     )
 
 -- the same of what was seen, under other names
-pub served_seen : (land : Landscape) (t : Bool) (may_be may_leave : Rows → Type 0) (tells : Bool) (bytes : List ℕ) (images : List ℕ → Type 0) (old new older newer : Seen) (past : List PastEntry) (why end : Why)
-    → old ≡ older → new ≡ newer → why ≡ end → IsServed land t may_be may_leave tells bytes images old new past why → IsServed land t may_be may_leave tells bytes images older newer past end
-served_seen land t may_be may_leave tells bytes images old new older newer past why end o n w h =
-    subst (λ x. IsServed land t may_be may_leave tells bytes images older newer past x) w
-    (subst (λ x. IsServed land t may_be may_leave tells bytes images older x past why) n
-    (subst (λ x. IsServed land t may_be may_leave tells bytes images x new past why) o h))
+pub served_seen : (land : Landscape) (t linked : Bool) (may_be may_leave : Rows → Type 0) (tells : Bool) (bytes : List ℕ) (images : List ℕ → Type 0)
+    (copy : Option (List Entry)) (old new older newer : Seen) (past : List PastEntry) (why end : Why)
+    → old ≡ older → new ≡ newer → why ≡ end → IsServed land t linked may_be may_leave tells bytes images copy old new past why
+    → IsServed land t linked may_be may_leave tells bytes images copy older newer past end
+served_seen land t linked may_be may_leave tells bytes images copy old new older newer past why end o n w h =
+    subst (λ x. IsServed land t linked may_be may_leave tells bytes images copy older newer past x) w
+    (subst (λ x. IsServed land t linked may_be may_leave tells bytes images copy older x past why) n
+    (subst (λ x. IsServed land t linked may_be may_leave tells bytes images copy x new past why) o h))

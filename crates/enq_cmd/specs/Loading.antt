@@ -6,6 +6,7 @@ use Rattle.hall.specs.declared.command.PastEntry.{PastEntry}
 use Rattle.keeper_api.specs.Rows.{Rows}
 use Rattle.landscape.specs.declared.landscape.Landscape.{Landscape}
 use Rattle.load_gen.specs.Script.{script_of}
+use Rattle.lock_entry.specs.declared.entry.Entry.{Entry}
 use Rattle.lock_objects.specs.Objects.{Object}
 use Rattle.script_runner.specs.Replay.{RunsScript, Seen, seen}
 use Rattle.script_runner.specs.Shown.{audit_shown}
@@ -53,17 +54,19 @@ pub record RunsLoad (objects : List Object) (text : List ℕ) (before after : St
 
 -- What a program does that opens its store and its backup file for the script of n units: what a program does that is handed
 -- just this script, and whose replies nobody reads. Then it writes the counts.
-pub record IsLoaded (n : ℕ) (land : Landscape) (told : Bool) (before after : Rows → Type 0) (tells : Bool) (bytes : List ℕ) (images : List ℕ → Type 0) (old new : Seen) (past : List PastEntry) (why : Why) : Type 0 where
+pub record IsLoaded (n : ℕ) (land : Landscape) (told linked : Bool) (before after : Rows → Type 0) (tells : Bool) (bytes : List ℕ) (images : List ℕ → Type 0)
+    (copy : Option (List Entry)) (old new : Seen) (past : List PastEntry) (why : Why) : Type 0 where
   -- why the run of the script ends, and what is left of the script then
   pub end : Why
   pub rest : List ℕ
-  pub served : IsServed land told before after tells bytes images (unheard (script_of n) old.store_faults old.file_faults) (unheard rest new.store_faults new.file_faults) past end
+  pub served : IsServed land told linked before after tells bytes images copy (unheard (script_of n) old.store_faults old.file_faults) (unheard rest new.store_faults new.file_faults) past end
   -- the counts are those of the state to which the calls lead
-  pub shown : ShowsCounts end (state_after (first_state land told served.stored) served.made) old.written new.written old.sink_faults new.sink_faults why
+  pub shown : ShowsCounts end (state_after (first_state land told linked served.stored) served.made) old.written new.written old.sink_faults new.sink_faults why
 
 -- What a program does that has read its landscape and is to do the script of n units: it does, or doesn't open its store.
-pub record HasLoaded {D : Type 0} (n : ℕ) (left : Option (List ℕ)) (told : Bool) (before after : Rows → Type 0) (tells : Bool) (bytes : List ℕ) (may_leave : D → List ℕ → Type 0) (disk disk_now : D) (old new : Seen) (past : List PastEntry) (why : Why) : Type 0 where
+pub record HasLoaded {D : Type 0} (n : ℕ) (left : Option (List ℕ)) (told linked : Bool) (before after : Rows → Type 0) (tells : Bool) (bytes : List ℕ) (may_leave : D → List ℕ → Type 0) (disk disk_now : D)
+    (copy : Option (List Entry)) (old new : Seen) (past : List PastEntry) (why : Why) : Type 0 where
   pub land : Landscape
   pub read : IsRead left land
-  pub loads : IsLoaded n land told before after tells bytes (may_leave disk_now) old new past why
+  pub loads : IsLoaded n land told linked before after tells bytes (may_leave disk_now) copy old new past why
       ⊎ IsUnopened told before after tells may_leave disk disk_now old new past why

@@ -2,6 +2,7 @@
 use Rattle.std.specs.Prelude.{◌≡◌, Bool, true, ℕ, List, [], Option, is_some, IfSome, IsTrue}
 use Rattle.enq_server.specs.Server.{recovered}
 use Rattle.lock_entry.specs.Table.{IsTable}
+use Rattle.lock_entry.specs.declared.entry.Entry.{Entry}
 use Rattle.posting.specs.Views.{open_locks}
 use Rattle.hall.specs.State.{View}
 use Rattle.keeper_api.specs.Rows.{Rows}
@@ -16,11 +17,11 @@ use Rattle.enq_cmd.specs.Main.{HadHanded, IsLandEnd, IsRead, IsUnopened, first_s
 
 -- a server before its first call, with the lock objects of its landscape
 pub record IsOpened {K D L : Type 0} (held : K → Option Rows) (may_leave : K → Rows → Type 0) (faults : K → ℕ) (tells : Bool) (reads : D → List ℕ) (file_faults : D → ℕ)
-    (left : Option (List ℕ)) (keeper : K) (disk : D) (hall : View K D L) (objects : List Object) : Type 0 where
+    (applied : L → Option (List Entry)) (left : Option (List ℕ)) (keeper : K) (disk : D) (link : L) (hall : View K D L) (objects : List Object) : Type 0 where
   pub land : Landscape
   pub read : IsRead left land
   pub known : objects ≡ land.objects
-  pub first : hall.state ≡ first_state land (is_some (held keeper)) hall.state.stored
+  pub first : hall.state ≡ first_state land (is_some (held keeper)) (is_some (applied link)) hall.state.stored
   pub sound : IsRaised IsSound true hall.state.stored
   pub stored : IfSome (held hall.keeper) (λ _. IsRaised (HasStood (may_leave keeper)) true hall.state.stored)
   pub fits : FitRows land.ranges hall.state.stored.levels
@@ -29,6 +30,7 @@ pub record IsOpened {K D L : Type 0} (held : K → Option Rows) (may_leave : K �
   pub told : is_some (held hall.keeper) ≡ is_some (held keeper)
   pub counts : faults hall.keeper ≡ faults keeper
   pub file_counts : file_faults hall.file.disk ≡ file_faults disk
+  pub linked : hall.follower.link ≡ link
 
 -- a landscape that wasn't read: the site is as it was
 pub record IsUnlanded {K D : Type 0} (before now : ℕ) (keeper keeper_now : K) (disk disk_now : D) (why : Why) : Type 0 where

@@ -4,12 +4,13 @@ ghost use Rattle.enq_base.specs.declared.condition.Bad.TheVariants as bad;
 ghost use Rattle.enq_base.specs.declared.condition.BackupBad.{BackupBad};
 ghost use Rattle.enq_cmd.specs.Loading.{HasLoaded, IsRunEnd, RunsLoad, end_of};
 ghost use Rattle.enq_cmd.specs.Main.{EndsComplete, FitAll, HasNoStart, IsBadDocument, IsBadStore, IsFirstBroken, IsGoodFile, IsLandEnd, IsUnfitEnd, status_of};
+ghost use Rattle.enq_server.specs.Following.{IsLater};
 ghost use Rattle.keeper_api.specs.Rows.{Rows};
 ghost use Rattle.landscape.specs.Landscape.{landscape_of};
 ghost use Rattle.landscape.specs.declared.landscape.Landscape.{Landscape};
 ghost use Rattle.load_gen.specs.Script.{script_of};
 ghost use Rattle.script_runner.specs.LineFaults.{IsToBlame};
-ghost use Rattle.script_runner.specs.Faults.{NoneUnsound, NoneUnsoundStore};
+ghost use Rattle.script_runner.specs.Faults.{NoneTells, NoneUnsound, NoneUnsoundStore, TellsNoFault, is_link_fault};
 ghost use Rattle.script_runner.specs.Replay.{HasBadCause, HasDoubtCause, seen};
 ghost use Rattle.update_records.specs.Ledger.{IsGood};
 
@@ -40,14 +41,15 @@ pub(crate) fn load_site<A: Source, T: Sink, K: Keeper, D: Disk, L: Link>(
     requires count { units ≤ 10000 }
     ensures status { result.status ≡ status_of result.why }
     ensures words { result.why ≢ Why.BadWords }
-    ensures loaded { HasLoaded units (A.left landscape.old) (is_some (K.held site.keeper)) (K.may_leave site.keeper) (K.may_leave result.site.keeper)
-        D.tells (D.reads site.disk) D.may_leave site.disk result.site.disk
+    ensures loaded { HasLoaded units (A.left landscape.old) (is_some (K.held site.keeper)) (is_some (L.applied site.link)) (K.may_leave site.keeper) (K.may_leave result.site.keeper)
+        D.tells (D.reads site.disk) D.may_leave site.disk result.site.disk (L.applied result.site.link)
         (seen None (T.written sink.old) 0 (T.faults sink.old) (K.faults site.keeper) (D.faults site.disk))
         (seen None (T.written sink.new) 0 (T.faults sink.new) (K.faults result.site.keeper) (D.faults result.site.disk))
         result.past result.why
         ⊎ (IsLandEnd (A.faults landscape.old) (A.faults landscape.new) result.why × (sink.new ≡ sink.old)
         × (result.site.keeper ≡ site.keeper) × (result.site.disk ≡ site.disk) × (result.past ≡ [])) }
     ensures told { is_some (K.held result.site.keeper) ≡ is_some (K.held site.keeper) }
+    ensures link_told { is_some (L.applied result.site.link) ≡ is_some (L.applied site.link) }
     ensures broken_rule { (bytes : List ℕ) → A.left landscape.old ≡ Some bytes → IsFirstBroken bytes result.why }
     ensures unfit_interval { IfSome (K.held result.site.keeper)
         (λ _. IsUnfitEnd (A.left landscape.old) (K.may_leave site.keeper) result.why) }
@@ -67,6 +69,7 @@ pub(crate) fn load_site<A: Source, T: Sink, K: Keeper, D: Disk, L: Link>(
     ensures sink_fault { result.why ≡ Why.SinkFault → Rose (T.faults sink.old) (T.faults sink.new) }
     ensures store_fault { (call : ℕ) → result.why ≡ Why.StoreFault call → Rose (K.faults site.keeper) (K.faults result.site.keeper) }
     ensures backup_fault { (call : ℕ) → result.why ≡ Why.BackupFault call → Rose (D.faults site.disk) (D.faults result.site.disk) }
+    ensures link_fault { ¬ Rose (L.faults site.link) (L.faults result.site.link) → NoneTells is_link_fault result.past }
     ensures bad_store { IfSome (K.held result.site.keeper) (λ rows. IsBadStore rows result.why) }
     ensures bad_backup { IsTrue D.tells → (place : BackupBad) → result.why ≡ Why.BadBackup place → result.past ≡ [] }
     ensures no_start { IfSome (K.held result.site.keeper) (λ rows. HasNoStart rows result.why) }
@@ -116,6 +119,8 @@ fn load<T: Sink, K: Keeper, D: Disk, L: Link>(
     ensures good_file { IsTrue D.tells → NoneUnsound hall.old.state.past → NoneUnsound hall.new.state.past }
     ensures good_store { is_some (K.held hall.old.keeper) ≡ true → NoneUnsoundStore hall.old.state.past → NoneUnsoundStore hall.new.state.past }
     ensures told { is_some (K.held hall.new.keeper) ≡ is_some (K.held hall.old.keeper) }
+    ensures link { IsLater L.applied L.faults L.refusals hall.old.follower hall.new.follower }
+    ensures link_fault { TellsNoFault (L.faults hall.old.follower.link) (L.faults hall.new.follower.link) hall.old.state.past hall.new.state.past }
 {
     match replay(alloc, source, &mut BlindSink, hall, objects) {
         Why::Done => end_of(write_audit(alloc, 0, hall, sink)),

@@ -31,7 +31,7 @@ pub(crate) fn open_hall<A: Source, K: Keeper, D: Disk, L: Link>(
     site: Site<K, D, L>,
 ) -> Result<(Hall<IndexTable, K, D, L>, Items<LockObject>), Ended<K, D, L>>
     ensures opened { IfOk result (λ o. IsOpened K.held K.may_leave K.faults D.tells D.reads D.faults
-        (A.left landscape.old) site.keeper site.disk o.0 o.1) }
+        L.applied (A.left landscape.old) site.keeper site.disk site.link o.0 o.1) }
     ensures steady { IfOk result (λ o. A.faults landscape.new ≡ A.faults landscape.old) }
     ensures status { IfErr result (λ e. e.status ≡ status_of e.why) }
     ensures past { IfErr result (λ e. e.past ≡ []) }
@@ -40,6 +40,7 @@ pub(crate) fn open_hall<A: Source, K: Keeper, D: Disk, L: Link>(
         ⊎ IsLandedAlone K.held K.may_leave K.faults D.tells D.may_leave D.faults (A.left landscape.old)
         site.keeper e.site.keeper site.disk e.site.disk e.why) }
     ensures told { IfErr result (λ e. is_some (K.held e.site.keeper) ≡ is_some (K.held site.keeper)) }
+    ensures linked { IfErr result (λ e. e.site.link ≡ site.link) }
     ensures bad_landscape { IfErr result (λ e. (bytes : List ℕ) → A.left landscape.old ≡ Some bytes
         → (broken : Broken) → landscape_of bytes ≡ Err broken
         → TellsBroken broken (A.faults landscape.old) (A.faults landscape.new) e.why) }

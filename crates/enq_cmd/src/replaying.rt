@@ -6,6 +6,7 @@ ghost use Rattle.keeper_api.specs.Rows.{Rows};
 ghost use Rattle.landscape.specs.Broken.{Broken};
 ghost use Rattle.landscape.specs.Landscape.{landscape_of};
 ghost use Rattle.landscape.specs.declared.landscape.Landscape.{Landscape};
+ghost use Rattle.script_runner.specs.Faults.{NoneTells, is_link_fault};
 ghost use Rattle.script_runner.specs.LineFaults.{IsToBlame};
 ghost use Rattle.script_runner.specs.Replay.{seen};
 ghost use Rattle.script_runner.specs.Whole.{IsScript};
@@ -31,14 +32,15 @@ pub(crate) fn replay_site<A: Source, S: Source, T: Sink, K: Keeper, D: Disk, L: 
 ) -> Ended<K, D, L>
     ensures status { result.status ≡ status_of result.why }
     ensures words { result.why ≢ Why.BadWords }
-    ensures served { HasLandscape (A.left landscape.old) (is_some (K.held site.keeper)) (K.may_leave site.keeper) (K.may_leave result.site.keeper)
-        D.tells (D.reads site.disk) D.may_leave site.disk result.site.disk
+    ensures served { HasLandscape (A.left landscape.old) (is_some (K.held site.keeper)) (is_some (L.applied site.link)) (K.may_leave site.keeper) (K.may_leave result.site.keeper)
+        D.tells (D.reads site.disk) D.may_leave site.disk result.site.disk (L.applied result.site.link)
         (seen (S.left script.old) (T.written sink.old) (S.faults script.old) (T.faults sink.old) (K.faults site.keeper) (D.faults site.disk))
         (seen (S.left script.new) (T.written sink.new) (S.faults script.new) (T.faults sink.new) (K.faults result.site.keeper) (D.faults result.site.disk))
         result.past result.why
         ⊎ (IsLandEnd (A.faults landscape.old) (A.faults landscape.new) result.why
         × IsUntouched script.old script.new sink.old sink.new site.keeper result.site.keeper site.disk result.site.disk result.past) }
     ensures told { is_some (K.held result.site.keeper) ≡ is_some (K.held site.keeper) }
+    ensures link_told { is_some (L.applied result.site.link) ≡ is_some (L.applied site.link) }
     ensures bad_landscape { (bytes : List ℕ) → A.left landscape.old ≡ Some bytes
         → (broken : Broken) → landscape_of bytes ≡ Err broken
         → TellsBroken broken (A.faults landscape.old) (A.faults landscape.new) result.why }
@@ -63,6 +65,7 @@ pub(crate) fn replay_site<A: Source, S: Source, T: Sink, K: Keeper, D: Disk, L: 
     ensures sink_fault { result.why ≡ Why.SinkFault → Rose (T.faults sink.old) (T.faults sink.new) }
     ensures store_fault { (call : ℕ) → result.why ≡ Why.StoreFault call → Rose (K.faults site.keeper) (K.faults result.site.keeper) }
     ensures backup_fault { (call : ℕ) → result.why ≡ Why.BackupFault call → Rose (D.faults site.disk) (D.faults result.site.disk) }
+    ensures link_fault { ¬ Rose (L.faults site.link) (L.faults result.site.link) → NoneTells is_link_fault result.past }
     ensures bad_store { IfSome (K.held result.site.keeper) (λ rows. IsBadStore rows result.why) }
     ensures bad_backup { IsTrue D.tells → (place : BackupBad) → result.why ≡ Why.BadBackup place → result.past ≡ [] }
     ensures no_start { IfSome (K.held result.site.keeper) (λ rows. HasNoStart rows result.why) }

@@ -29,20 +29,22 @@ rose_before a b c rose less = rises (one_more a) b c rose less
     rises : (a b c : ℕ) → a ≤ b → b ≤ c → a ≤ c
     rises a b c one two = omega (arith, one, two)
 
-pub keeps_none : {L : Type 0} (faults refusals : L → ℕ) (f : Following L) → KeepsOn faults refusals f f
-keeps_none faults refusals f = record {
+pub keeps_none : {L : Type 0} (applied : L → Option (List Entry)) (faults refusals : L → ℕ) (f : Following L) → KeepsOn applied faults refusals f f
+keeps_none applied faults refusals f = record {
   faults_later = omega arith;
   refusals_later = omega arith;
   kept = λ on. on;
   lost = λ on off. let odd : true ≡ false = sym on ∙ off in cc;
+  told = refl;
 }
 
-pub keeps_both : {L : Type 0} (faults refusals : L → ℕ) (a b c : Following L) → KeepsOn faults refusals a b → KeepsOn faults refusals b c → KeepsOn faults refusals a c
-keeps_both faults refusals a b c one two = record {
+pub keeps_both : {L : Type 0} (applied : L → Option (List Entry)) (faults refusals : L → ℕ) (a b c : Following L) → KeepsOn applied faults refusals a b → KeepsOn applied faults refusals b c → KeepsOn applied faults refusals a c
+keeps_both applied faults refusals a b c one two = record {
   faults_later = omega (arith, one.faults_later, two.faults_later);
   refusals_later = omega (arith, one.refusals_later, two.refusals_later);
   kept = λ on. one.kept (two.kept on);
   lost = λ on off. either on off (cases_Bool b.attached);
+  told = two.told ∙ one.told;
 }
   where
     either : a.attached ≡ true → c.attached ≡ false → (b.attached ≡ true) ⊎ (b.attached ≡ false) → Rose (faults a.link) (faults c.link) ⊎ Rose (refusals a.link) (refusals c.link)

@@ -87,8 +87,7 @@ impl<L: Link> Follower<L> {
     /// Sends it a change of the table, where it follows.
     pub fn ship(&mut self, op: &TableOp)
         ensures at { (list : List Entry) → IsAt L.applied self.old list → IsAt L.applied self.new (after_op list op.now) }
-        ensures told { is_some (L.applied self.new.link) ≡ is_some (L.applied self.old.link) }
-        ensures keeps { KeepsOn L.faults L.refusals self.old self.new }
+        ensures keeps { KeepsOn L.applied L.faults L.refusals self.old self.new }
     {
         if self.attached {
             self.send(op);
@@ -98,8 +97,7 @@ impl<L: Link> Follower<L> {
     fn send(&mut self, op: &TableOp)
         requires { self.old.attached ≡ true }
         ensures at { (list : List Entry) → IsAt L.applied self.old list → IsAt L.applied self.new (after_op list op.now) }
-        ensures told { is_some (L.applied self.new.link) ≡ is_some (L.applied self.old.link) }
-        ensures keeps { KeepsOn L.faults L.refusals self.old self.new }
+        ensures keeps { KeepsOn L.applied L.faults L.refusals self.old self.new }
     {
         match self.link.ship(self.alloc, self.seq, op) {
             Ok(()) => self.seq = self.seq.saturating_add(1),
@@ -113,6 +111,7 @@ impl<L: Link> Follower<L> {
         ensures list { IfOk result (λ list. list.items ≡ L.gives self.old.link) }
         ensures stays { UnlessFailed result (StillFollows L.gives L.applied self.old self.new) }
         ensures detached { OnFailed result (self.new.attached ≡ false) }
+        ensures told { is_some (L.applied self.new.link) ≡ is_some (L.applied self.old.link) }
         ensures causes { HasCauses L.faults L.refusals self.old.link self.new.link result }
     {
         match self.link.hand_over(self.alloc) {

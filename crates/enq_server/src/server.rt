@@ -9,7 +9,7 @@ ghost use Rattle.lock_entry.specs.Converting.{converted};
 ghost use Rattle.lock_entry.specs.Freeing.{freed, freed_owner, handed_over};
 ghost use Rattle.lock_entry.specs.Granting as granting;
 ghost use Rattle.lock_entry.specs.Names.{is_of, named};
-ghost use Rattle.enq_server.specs.Following.{IsLater, IsOverFault, KeepsOn};
+ghost use Rattle.enq_server.specs.Following.{IsLater, IsOverFault, KeepsOn, may_replace};
 ghost use Rattle.lock_entry.specs.Pairs.{IsPair};
 ghost use Rattle.lock_entry.specs.Sound.{ReadmitsOnly};
 ghost use Rattle.lock_entry.specs.Table.{IsTable, entry_at, with_entries};
@@ -25,7 +25,7 @@ ghost use Rattle.enq_server.specs.Server.{IsConverted, IsRecovered, lasting, rec
 
 use crate::fault::{OpenFault, OverFault, ServerFault};
 use crate::follower::Follower;
-use crate::recovery::{load_list, read_anew};
+use crate::recovery::{load_list, may_replace, read_anew};
 use crate::shipping::{ship_drops, ship_freed, ship_granted, ship_owner, ship_puts, ship_turns};
 use backup_file::{Backup, WriteFault};
 use bk_disk::Disk;
@@ -130,25 +130,37 @@ impl<T: LockStore, D: Disk, L: Link> EnqServer<T, D, L> {
         Ok(())
     }
 
-    /// Takes the table over from the replica, which then follows no longer. The limit is the larger of `limit` and the
-    /// number of entries. After an error the table stays; after `Link` and `Clash` the replica follows no longer either.
+    /// Takes the table over from the replica, which then follows no longer, where its list may take the place of the
+    /// table that stood: it has the same locks in their order, and lacks at most some that weren't handed over. The limit
+    /// is the larger of `limit` and the number of entries. After an error the table stays; after `Link`, `Clash` and
+    /// `Other` the replica follows no longer either.
     pub fn fail_over(&mut self, alloc: Global, limit: u32) -> Result<(), OverFault>
         ensures table { OnOk result (self.new.table ≡ replicated limit (L.gives self.old.copy.link)) }
+        ensures replaces { OnOk result (may_replace self.old.table.entries (L.gives self.old.copy.link) ≡ true) }
         ensures kept { OnErr result (self.new.table ≡ self.old.table) }
         ensures good { IsTable self.new.table }
         ensures followed { OnOk result (self.old.copy.attached ≡ true) }
         ensures detached { OnOk result (self.new.copy.attached ≡ false) }
+        // A link that tells its list gives that of the table.
+        ensures told { self.old.copy.attached ≡ true → IfSome (L.applied self.old.copy.link) (λ _. L.gives self.old.copy.link ≡ self.old.table.entries) }
         ensures file { self.new.file ≡ self.old.file }
-        ensures fault { IfErr result (IsOverFault L.faults L.gives L.applied self.old.copy self.new.copy) }
-        ensures later { IsLater L.faults L.refusals self.old.copy self.new.copy }
+        ensures fault { IfErr result (IsOverFault L.faults L.gives L.applied self.old.table.entries self.old.copy self.new.copy) }
+        ensures later { IsLater L.applied L.faults L.refusals self.old.copy self.new.copy }
     {
         if !self.follower.attached() {
             return Err(OverFault::NotAttached);
         }
         let list = self.follower.hand_over()?;
+        let Ok(own) = self.table.list(alloc) else {
+            return Err(OverFault::NoMemory);
+        };
+        let replaces = may_replace(own.as_slice(), list.as_slice());
         match load_list(alloc, limit, list) {
             Ok(table) => {
                 self.follower.detach();
+                if !replaces {
+                    return Err(OverFault::Other);
+                }
                 self.table = table;
                 Ok(())
             }
@@ -176,7 +188,7 @@ impl<T: LockStore, D: Disk, L: Link> EnqServer<T, D, L> {
         ensures limit { self.new.table.limit ≡ self.old.table.limit }
         ensures good { IsTable self.new.table }
         ensures file { self.new.file ≡ self.old.file }
-        ensures copy { KeepsOn L.faults L.refusals self.old.copy self.new.copy }
+        ensures copy { KeepsOn L.applied L.faults L.refusals self.old.copy self.new.copy }
     {
         self.table.ask(alloc, asker, user, requests)?;
         ship_granted(&mut self.follower, &self.table, asker, requests);
@@ -188,7 +200,7 @@ impl<T: LockStore, D: Disk, L: Link> EnqServer<T, D, L> {
         ensures after { self.new.table ≡ with_entries self.old.table (freed self.old.table.entries (named owner.now asked.now)) }
         ensures good { IsTable self.new.table }
         ensures file { self.new.file ≡ self.old.file }
-        ensures copy { KeepsOn L.faults L.refusals self.old.copy self.new.copy }
+        ensures copy { KeepsOn L.applied L.faults L.refusals self.old.copy self.new.copy }
     {
         ship_freed(&mut self.follower, &self.table, owner, asked);
         self.table.free_one(owner, asked);
@@ -199,7 +211,7 @@ impl<T: LockStore, D: Disk, L: Link> EnqServer<T, D, L> {
         ensures after { self.new.table ≡ with_entries self.old.table (freed_owner self.old.table.entries owner.now) }
         ensures good { IsTable self.new.table }
         ensures file { self.new.file ≡ self.old.file }
-        ensures copy { KeepsOn L.faults L.refusals self.old.copy self.new.copy }
+        ensures copy { KeepsOn L.applied L.faults L.refusals self.old.copy self.new.copy }
     {
         ship_owner(&mut self.follower, &self.table, owner);
         self.table.free_owner(owner);
@@ -221,7 +233,7 @@ impl<T: LockStore, D: Disk, L: Link> EnqServer<T, D, L> {
         ensures limit { self.new.table.limit ≡ self.old.table.limit }
         ensures good { IsTable self.new.table }
         ensures file { self.new.file ≡ self.old.file }
-        ensures copy { KeepsOn L.faults L.refusals self.old.copy self.new.copy }
+        ensures copy { KeepsOn L.applied L.faults L.refusals self.old.copy self.new.copy }
     {
         let removed = self.table.convert(alloc, asker, asked)?;
         ship_turns(&mut self.follower, asker, asked);
@@ -293,7 +305,7 @@ impl<T: LockStore, D: Disk, L: Link> EnqServer<T, D, L> {
         ensures after { self.new.table ≡ with_entries self.old.table (handed_over self.old.table.entries unit.now) }
         ensures good { IsTable self.new.table }
         ensures file { self.new.file ≡ self.old.file }
-        ensures copy { KeepsOn L.faults L.refusals self.old.copy self.new.copy }
+        ensures copy { KeepsOn L.applied L.faults L.refusals self.old.copy self.new.copy }
     {
         self.follower.ship(&TableOp::Handed(*unit));
         self.table.hand(unit);
@@ -330,7 +342,7 @@ impl<T: LockStore, D: Disk, L: Link> EnqServer<T, D, L> {
         // The disk can fail only where there is a list to write.
         ensures some { IsErrOf result server.Failed → 1 ≤ length entries.now }
         ensures cause { HasCallCause (D.faults self.old.file.disk) (D.faults self.new.file.disk) result }
-        ensures copy { KeepsOn L.faults L.refusals self.old.copy self.new.copy }
+        ensures copy { KeepsOn L.applied L.faults L.refusals self.old.copy self.new.copy }
     {
         let own = self.table.entries_of(alloc, &asker.update)?;
         if entries.is_empty() {
@@ -357,7 +369,7 @@ impl<T: LockStore, D: Disk, L: Link> EnqServer<T, D, L> {
         ensures usable { OnOk result (self.new.file.failed ≡ false) }
         ensures failed { OnErr result (self.new.file.failed ≡ true) }
         ensures cause { HasCause (D.faults self.old.file.disk) (D.faults self.new.file.disk) result }
-        ensures copy { KeepsOn L.faults L.refusals self.old.copy self.new.copy }
+        ensures copy { KeepsOn L.applied L.faults L.refusals self.old.copy self.new.copy }
     {
         if self.backup.stands(unit) {
             self.backup.free(unit)?;
@@ -385,7 +397,7 @@ impl<T: LockStore, D: Disk, L: Link> EnqServer<T, D, L> {
         ensures limit { self.new.table.limit ≡ self.old.table.limit }
         ensures good { IsTable self.new.table }
         ensures file { self.new.file ≡ self.old.file }
-        ensures copy { KeepsOn L.faults L.refusals self.old.copy self.new.copy }
+        ensures copy { KeepsOn L.applied L.faults L.refusals self.old.copy self.new.copy }
     {
         self.table.readmit(alloc, asker, entries)?;
         ship_drops(&mut self.follower, own);
@@ -397,8 +409,7 @@ impl<T: LockStore, D: Disk, L: Link> EnqServer<T, D, L> {
     pub fn attach(&mut self, alloc: Global) -> Result<(), LinkFault>
         ensures attached { OnOk result (self.new.copy.attached ≡ true) }
         ensures detached { OnErr result (self.new.copy.attached ≡ false) }
-        ensures faults_later { L.faults self.old.copy.link ≤ L.faults self.new.copy.link }
-        ensures refusals_later { L.refusals self.old.copy.link ≤ L.refusals self.new.copy.link }
+        ensures later { IsLater L.applied L.faults L.refusals self.old.copy self.new.copy }
         ensures failed { IsErrOf result LinkFault.Failed → Rose (L.faults self.old.copy.link) (L.faults self.new.copy.link) }
         ensures table { self.new.table ≡ self.old.table }
         ensures file { self.new.file ≡ self.old.file }

@@ -1,4 +1,4 @@
-ghost use Rattle.std.specs.Prelude.{◌≡◌, [], ◌∷◌, List, map, is_some};
+ghost use Rattle.std.specs.Prelude.{◌≡◌, [], ◌∷◌, List, map};
 ghost use Rattle.std.specs.List.{flat_map};
 ghost use Rattle.lock_entry.specs.declared.entry.Entry.{Entry};
 ghost use Rattle.lock_entry.specs.Names.{halves, halves_of, named};
@@ -24,8 +24,7 @@ fn drop_of(entry: &Entry) -> TableOp
 /// The entry goes, where it is the owner's.
 fn ship_own<L: Link>(follower: &mut Follower<L>, entry: &Entry, owner: &Owner)
     ensures at { (list : List Entry) → IsAt L.applied follower.old list → IsAt L.applied follower.new (replica list (owner_ops (entry.now ∷ []) owner.now)) }
-    ensures told { is_some (L.applied follower.new.link) ≡ is_some (L.applied follower.old.link) }
-    ensures keeps { KeepsOn L.faults L.refusals follower.old follower.new }
+    ensures keeps { KeepsOn L.applied L.faults L.refusals follower.old follower.new }
 {
     if entry.is_of(owner) {
         follower.ship(&drop_of(entry));
@@ -35,8 +34,7 @@ fn ship_own<L: Link>(follower: &mut Follower<L>, entry: &Entry, owner: &Owner)
 /// The owner's entries of the table go, found one by one.
 fn ship_found<T: LockStore, L: Link>(follower: &mut Follower<L>, table: &T, owner: &Owner)
     ensures at { (list : List Entry) → IsAt L.applied follower.old list → IsAt L.applied follower.new (replica list (owner_ops (T.table table.now).entries owner.now)) }
-    ensures told { is_some (L.applied follower.new.link) ≡ is_some (L.applied follower.old.link) }
-    ensures keeps { KeepsOn L.faults L.refusals follower.old follower.new }
+    ensures keeps { KeepsOn L.applied L.faults L.refusals follower.old follower.new }
 {
     for place in 0..table.len() {
         if let Some(entry) = table.at(place + 1) {
@@ -48,8 +46,7 @@ fn ship_found<T: LockStore, L: Link>(follower: &mut Follower<L>, table: &T, owne
 /// The owner's entries of the table go. Without memory for a list of them it goes over the whole table.
 pub fn ship_owner<T: LockStore, L: Link>(follower: &mut Follower<L>, table: &T, owner: &Owner)
     ensures at { (list : List Entry) → IsAt L.applied follower.old list → IsAt L.applied follower.new (replica list (owner_ops (T.table table.now).entries owner.now)) }
-    ensures told { is_some (L.applied follower.new.link) ≡ is_some (L.applied follower.old.link) }
-    ensures keeps { KeepsOn L.faults L.refusals follower.old follower.new }
+    ensures keeps { KeepsOn L.applied L.faults L.refusals follower.old follower.new }
 {
     if follower.attached() {
         match table.entries_of(follower.alloc(), owner) {
@@ -62,8 +59,7 @@ pub fn ship_owner<T: LockStore, L: Link>(follower: &mut Follower<L>, table: &T, 
 /// These entries stand.
 pub fn ship_puts<L: Link>(follower: &mut Follower<L>, entries: &[Entry])
     ensures at { (list : List Entry) → IsAt L.applied follower.old list → IsAt L.applied follower.new (replica list (map Put entries.now)) }
-    ensures told { is_some (L.applied follower.new.link) ≡ is_some (L.applied follower.old.link) }
-    ensures keeps { KeepsOn L.faults L.refusals follower.old follower.new }
+    ensures keeps { KeepsOn L.applied L.faults L.refusals follower.old follower.new }
 {
     for entry in entries {
         follower.ship(&TableOp::Put(*entry));
@@ -73,8 +69,7 @@ pub fn ship_puts<L: Link>(follower: &mut Follower<L>, entries: &[Entry])
 /// These entries go.
 pub fn ship_drops<L: Link>(follower: &mut Follower<L>, entries: &[Entry])
     ensures at { (list : List Entry) → IsAt L.applied follower.old list → IsAt L.applied follower.new (replica list (map drop_of entries.now)) }
-    ensures told { is_some (L.applied follower.new.link) ≡ is_some (L.applied follower.old.link) }
-    ensures keeps { KeepsOn L.faults L.refusals follower.old follower.new }
+    ensures keeps { KeepsOn L.applied L.faults L.refusals follower.old follower.new }
 {
     for entry in entries {
         follower.ship(&drop_of(entry));
@@ -89,8 +84,7 @@ fn ship_name<T: LockStore, L: Link>(
     asked: &Asked,
 )
     ensures at { (list : List Entry) → IsAt L.applied follower.old list → IsAt L.applied follower.new (replica list (put_ops (T.table table.now).entries (named owner.now asked.now))) }
-    ensures told { is_some (L.applied follower.new.link) ≡ is_some (L.applied follower.old.link) }
-    ensures keeps { KeepsOn L.faults L.refusals follower.old follower.new }
+    ensures keeps { KeepsOn L.applied L.faults L.refusals follower.old follower.new }
 {
     if let Some(entry) = table.find(owner, asked) {
         follower.ship(&TableOp::Put(entry));
@@ -105,8 +99,7 @@ fn ship_halves<T: LockStore, L: Link>(
     request: &Request,
 )
     ensures at { (list : List Entry) → IsAt L.applied follower.old list → IsAt L.applied follower.new (replica list (granted_ops (T.table table.now).entries (halves_of asker.now request.now))) }
-    ensures told { is_some (L.applied follower.new.link) ≡ is_some (L.applied follower.old.link) }
-    ensures keeps { KeepsOn L.faults L.refusals follower.old follower.new }
+    ensures keeps { KeepsOn L.applied L.faults L.refusals follower.old follower.new }
 {
     if request.dialogue {
         ship_name(follower, table, &asker.dialogue, &request.asked);
@@ -124,8 +117,7 @@ pub fn ship_granted<T: LockStore, L: Link>(
     requests: &[Request],
 )
     ensures at { (list : List Entry) → IsAt L.applied follower.old list → IsAt L.applied follower.new (replica list (granted_ops (T.table table.now).entries (halves asker.now requests.now))) }
-    ensures told { is_some (L.applied follower.new.link) ≡ is_some (L.applied follower.old.link) }
-    ensures keeps { KeepsOn L.faults L.refusals follower.old follower.new }
+    ensures keeps { KeepsOn L.applied L.faults L.refusals follower.old follower.new }
 {
     for request in requests {
         ship_halves(follower, table, asker, request);
@@ -152,8 +144,7 @@ pub fn ship_freed<T: LockStore, L: Link>(
     asked: &Asked,
 )
     ensures at { (list : List Entry) → IsAt L.applied follower.old list → IsAt L.applied follower.new (replica list (freed_ops (T.table table.now).entries (named owner.now asked.now))) }
-    ensures told { is_some (L.applied follower.new.link) ≡ is_some (L.applied follower.old.link) }
-    ensures keeps { KeepsOn L.faults L.refusals follower.old follower.new }
+    ensures keeps { KeepsOn L.applied L.faults L.refusals follower.old follower.new }
 {
     if let Some(entry) = table.find(owner, asked) {
         follower.ship(&lowered(&entry));
@@ -173,8 +164,7 @@ fn turn_of(owner: Owner, asked: &Asked) -> TableOp
 /// The asker's optimistic entries at these tables and arguments turn.
 pub fn ship_turns<L: Link>(follower: &mut Follower<L>, asker: &Asker, asked: &[Asked])
     ensures at { (list : List Entry) → IsAt L.applied follower.old list → IsAt L.applied follower.new (replica list (flat_map (turn_ops asker.now) asked.now)) }
-    ensures told { is_some (L.applied follower.new.link) ≡ is_some (L.applied follower.old.link) }
-    ensures keeps { KeepsOn L.faults L.refusals follower.old follower.new }
+    ensures keeps { KeepsOn L.applied L.faults L.refusals follower.old follower.new }
 {
     for one in asked {
         ship_turn(follower, asker, one);
@@ -183,8 +173,7 @@ pub fn ship_turns<L: Link>(follower: &mut Follower<L>, asker: &Asker, asked: &[A
 
 fn ship_turn<L: Link>(follower: &mut Follower<L>, asker: &Asker, asked: &Asked)
     ensures at { (list : List Entry) → IsAt L.applied follower.old list → IsAt L.applied follower.new (replica list (turn_ops asker.now asked.now)) }
-    ensures told { is_some (L.applied follower.new.link) ≡ is_some (L.applied follower.old.link) }
-    ensures keeps { KeepsOn L.faults L.refusals follower.old follower.new }
+    ensures keeps { KeepsOn L.applied L.faults L.refusals follower.old follower.new }
 {
     follower.ship(&turn_of(asker.dialogue, asked));
     follower.ship(&turn_of(asker.update, asked));

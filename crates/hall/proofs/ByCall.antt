@@ -1,5 +1,5 @@
 -- What holds of the verdict of each call holds of any call.
-use Rattle.std.proofs.Common.{◌≡◌, ℕ, Bool, true, false, cond, List, [], ◌∷◌, ◌++◌, length, map, refl, sym, ◌∙◌, subst, arith}
+use Rattle.std.proofs.Common.{◌≡◌, ℕ, Bool, true, false, cond, List, [], ◌∷◌, ◌++◌, length, map, refl, sym, ap, ◌∙◌, subst, arith}
 use Rattle.std.specs.Prelude.{◌&&◌, ◌||◌, not, if◌then◌else◌, nat_eq, nat_le, nat_lt, Option, Some, None, Result, Ok, Err, is_some}
 use Rattle.std.proofs.lemmas.Bool.{and_parts, eqb-true}
 use Rattle.std.proofs.lemmas.List.{length-append}
@@ -12,9 +12,11 @@ use Rattle.enq_base.specs.declared.unit.Num.{Num}
 use Rattle.enq_base.specs.declared.unit.Parts.{Parts}
 use Rattle.enq_base.specs.declared.unit.Status.{Status}
 use Rattle.enq_base.specs.declared.unit.Status.TheVariants.{Bad, Bad2}
+use Rattle.enq_server.specs.Following.{may_replace}
 use Rattle.lock_entry.specs.Converting.{Conversion, converted, first_withstanding, is_lost, sum_exceeds}
 use Rattle.lock_entry.specs.Granting.{asked, first_bar, is_full as has_no_room, is_over, new_names, readmitted, unless_barred}
 use Rattle.lock_entry.specs.Names.{halves}
+use Rattle.lock_entry.specs.Sound.{first_clash}
 use Rattle.lock_entry.specs.Table.{Table}
 use Rattle.lock_entry.specs.declared.entry.Asked.{Asked}
 use Rattle.lock_entry.specs.declared.entry.Asker.{Asker}
@@ -24,10 +26,10 @@ use Rattle.lock_entry.specs.declared.fault.AskFault.{AskFault}
 use Rattle.posting.specs.Posts.{entries_of, kind_for}
 use Rattle.posting.specs.Steps.{waiting_for}
 use Rattle.update_records.specs.Marks.{status_of}
-use Rattle.hall.specs.Calls.{Call, LogsOn, OfSession, OfWorker, OfAdmin, Kills, Restarts, Cancels, Resubmits, Takes, Posts, Drops, is_of_server}
+use Rattle.hall.specs.Calls.{Call, LogsOn, OfSession, OfWorker, OfAdmin, Kills, FailsOver, Restarts, Attaches, Cancels, Resubmits, Takes, Posts, Drops}
 use Rattle.hall.specs.Calls.{SessionCall, LogsOff, Asks, Frees, FreesAll, Converts, Draws, Reserves, Reads, Commits, RollsBack, call_of, restarts, wants_server}
-use Rattle.hall.specs.Devices.{DeviceOutcome, AllWell, Wanting, StoreFails, BackupFails, NotRemade, Reading, fault_told, found_by}
-use Rattle.hall.specs.History.{Served, doubted, ends_in, judged, pending_after, read_anew, refused, served, stored_before_file, unfiled, without_stock}
+use Rattle.hall.specs.Devices.{DeviceOutcome, AllWell, Wanting, StoreFails, BackupFails, LinkFails, NotRemade, Reading, fault_told, found_by}
+use Rattle.hall.specs.History.{Served, doubted, ends_in, judged, losing, pending_after, read_anew, refused, served, stored_before_file, unfiled, without_stock}
 use Rattle.hall.specs.Orders.{first_unclaimed, order_for, order_of, without_order}
 use Rattle.hall.specs.Sessions.{owners_of, pair_of, session_at, unit_key}
 use Rattle.hall.specs.Numbers.{drawn, next_number, other_holder, raised_to, stocked}
@@ -36,7 +38,7 @@ use Rattle.hall.specs.Stocks.{MayCall}
 use Rattle.number_ranges.specs.Intervals.{block_level, code_of, is_buffered}
 use Rattle.range_list.specs.Levels.{present, range_at}
 use Rattle.range_list.specs.declared.range.NumberRange.{NumberRange}
-use Rattle.hall.specs.Step.{Found, Verdict, Refuses, Leaves, ask_refusal, barred, called, caller_refusal, call_verdict, cancelled, commit, committed, converting, down_refusal, drawing, effects_in, entered, freed_all, giving, granting, is_full, is_taken, killed, logged_off, logon, lowered, marked, numbered, or_else, own_verdict, passing, posted_reply, posting, reopened, reposted, reserving, restart, restarted, rolled_back, session_call, session_refusal, taken, taking, unavailable, unless_refused, verdict, with_room, server_refusal}
+use Rattle.hall.specs.Step.{Found, Verdict, Refuses, Leaves, ask_refusal, attached, barred, called, clashing, caller_refusal, call_verdict, cancelled, commit, committed, converting, detached, down_refusal, drawing, effects_in, entered, followed_over, freed_all, from_replica, giving, granting, handing, is_full, is_sound, is_taken, killed, logged_off, logon, lowered, marked, not_over, numbered, or_else, own_verdict, passing, posted_reply, posting, reopened, reposted, reserving, restart, restarted, rolled_back, session_call, session_refusal, taken, taking, unavailable, unless_refused, verdict, with_room, server_refusal}
 use Rattle.hall.specs.declared.command.Command.{Command}
 use Rattle.hall.specs.declared.command.Reply.TheVariants as reply
 use Rattle.hall.specs.declared.command.Session.{Session}
@@ -57,6 +59,18 @@ pub record CanReserve (s : State) (object nr : List ℕ) (upto : ℕ) (r : Numbe
   pub range : range_at s.ranges object nr ≡ Some r
   pub buffered : not (is_buffered r.interval) ≡ false
   pub within : nat_lt r.interval.to upto ≡ false
+
+-- a replica that followed hands over a list which may take the place of the table that stood
+pub record IsHandedOver (s : State) (list : List Entry) : Type 0 where
+  pub none : s.condition ≡ condition.NoServer
+  pub followed : s.attached ≡ true
+  pub sound : is_sound list ≡ true
+  pub replaces : may_replace s.locks list ≡ true
+
+-- and one that may not
+pub record IsStray (found : Found) (s : State) : Type 0 where
+  pub none : s.condition ≡ condition.NoServer
+  pub astray : (is_sound found.list && may_replace s.locks found.list) ≡ false
 
 -- What each call comes to, by the cases that there are: a property is shown for each of them once. The refusals of all
 -- calls are one case.
@@ -79,7 +93,10 @@ pub record OfEach (P : Call → Verdict → Type 0) (found : Found) (s : State) 
   pub posts : (worker part : ℕ) (unit : UnitKey) → order_for part s.stored s.orders worker ≡ Some unit → P (OfWorker worker (Posts part)) (Leaves (marked part s worker unit (kind_for part (found.part part unit))) (posted_reply part unit (found.part part unit)))
   pub drops : (worker : ℕ) (unit : UnitKey) → order_of s.orders worker ≡ Some unit → P (OfWorker worker Drops) (Leaves (record s { orders = without_order s.orders worker }) (reply.Unit unit))
   pub kills : s.condition ≡ condition.Up → P (OfAdmin Kills) (Leaves (killed s) reply.Done)
+  pub fails_over : (list : List Entry) → IsHandedOver s list → P (OfAdmin FailsOver) (Leaves (followed_over list s) reply.Done)
+  pub strays : (first second : ℕ) → IsStray found s → P (OfAdmin FailsOver) (not_over s first second)
   pub restarts : (s.condition ≡ condition.Up → ⊥) → P (OfAdmin Restarts) (Leaves (restarted (is_taken found.anew) s) reply.Done)
+  pub attaches : s.condition ≡ condition.Up → P (OfAdmin Attaches) (Leaves (attached s) reply.Done)
   pub cancels : (unit : UnitKey) (status : Status) → CanBeCancelled s.stored s.orders s.mark_limit unit status → P (OfAdmin (Cancels unit)) (Leaves (cancelled s unit status) (reply.Unit unit))
   pub reopens : (unit : UnitKey) (es : List Entry) → status_of s.stored.units s.stored.marks unit ≡ Some Bad → readmitted (table_in s) (owners_of unit) (entries_of s.stored.units unit) ≡ Ok es → P (OfAdmin (Resubmits unit)) (Leaves (reopened s unit es) (reply.Unit unit))
   pub reposts : (unit : UnitKey) → status_of s.stored.units s.stored.marks unit ≡ Some Bad2 → P (OfAdmin (Resubmits unit)) (Leaves (reposted s unit) (reply.Unit unit))
@@ -132,6 +149,15 @@ kills_up true k e = cc
 kills_up false condition.Up e = refl
 kills_up false condition.NoServer e = cc
 kills_up false (condition.Doubt n) e = cc
+
+-- and a replica follows one
+attaches_up : (full : Bool) (k : Condition)
+    → or_else (if full then Some refusal.LogFull else down_refusal k (OfAdmin Attaches)) (or_else None (server_refusal k (OfAdmin Attaches))) ≡ None
+    → k ≡ condition.Up
+attaches_up true k e = cc
+attaches_up false condition.Up e = refl
+attaches_up false condition.NoServer e = cc
+attaches_up false (condition.Doubt n) e = cc
 
 no_server_up : condition.NoServer ≡ condition.Up → ⊥
 no_server_up e = cc
@@ -232,6 +258,30 @@ module _ (P : Call → Verdict → Type 0) (found : Found) (s : State) (each : O
   restart-holds condition.NoServer none = each.restarts (λ up. no_server_up (sym none ∙ up))
   restart-holds (condition.Doubt n) down = each.restarts (λ up. in_doubt_up n (sym down ∙ up))
 
+  clashing-holds : (o : Option (ℕ × ℕ)) → IsStray found s → P (OfAdmin FailsOver) (clashing s o)
+  clashing-holds None stray = each.strays 0 0 stray
+  clashing-holds (Some places) stray = each.strays places.0 places.1 stray
+
+  handing-holds : s.condition ≡ condition.NoServer → s.attached ≡ true → P (OfAdmin FailsOver) (handing s found.list)
+  handing-holds none followed =
+      let list = found.list in
+      let Q = P (OfAdmin FailsOver) in
+      one_of Q (is_sound list) _ _
+      (λ sound. one_of Q (may_replace s.locks list) _ _
+      (λ replaces. each.fails_over list (record { none = none; followed = followed; sound = sound; replaces = replaces }))
+      (λ e. each.strays 0 0 (record { none = none; astray = λ i. sound i && e i })))
+      (λ e. clashing-holds (first_clash list) (record { none = none; astray = ap (λ b. b && may_replace s.locks list) e }))
+
+  over-holds : (k : Condition) → s.condition ≡ k → P (OfAdmin FailsOver) (elim k [
+    | condition.Up ↦ Refuses refusal.ServerUp
+    | condition.NoServer ↦ from_replica found s
+    | condition.Doubt n ↦ Refuses (refusal.Down n)
+  ])
+  over-holds condition.Up up = each.refuses _ _ refl
+  over-holds condition.NoServer none =
+      one_of (P (OfAdmin FailsOver)) s.attached _ _ (λ followed. handing-holds none followed) (λ e. each.refuses _ _ refl)
+  over-holds (condition.Doubt n) down = each.refuses _ _ refl
+
   own-holds : (call : Call) → unavailable s call ≡ None → P call (own_verdict found s call)
   own-holds (LogsOn name user) free = logon-holds name user
   own-holds (OfSession name call) free = called-holds name call (session_at s.sessions name) refl
@@ -239,7 +289,9 @@ module _ (P : Call → Verdict → Type 0) (found : Found) (s : State) (each : O
   own-holds (OfWorker worker (Posts part)) free = post-holds worker part (order_for part s.stored s.orders worker) refl
   own-holds (OfWorker worker Drops) free = drop-holds worker (order_of s.orders worker) refl
   own-holds (OfAdmin Kills) free = each.kills (kills_up (is_full s) s.condition free)
+  own-holds (OfAdmin FailsOver) free = over-holds s.condition refl
   own-holds (OfAdmin Restarts) free = restart-holds s.condition refl
+  own-holds (OfAdmin Attaches) free = each.attaches (attaches_up (is_full s) s.condition free)
   own-holds (OfAdmin (Cancels unit)) free = by_cancel (P (OfAdmin (Cancels unit))) s unit (each.refuses _) (each.cancels unit)
   own-holds (OfAdmin (Resubmits unit)) free = by_resubmit (P (OfAdmin (Resubmits unit))) s unit (each.refuses _) (each.reopens unit) (each.reposts unit)
 
@@ -304,21 +356,13 @@ by_restart Q anew other (LogsOn name user) = other _ refl
 by_restart Q anew other (OfSession name call) = other _ refl
 by_restart Q anew other (OfWorker worker call) = other _ refl
 by_restart Q anew other (OfAdmin Kills) = other _ refl
+by_restart Q anew other (OfAdmin FailsOver) = other _ refl
+by_restart Q anew other (OfAdmin Attaches) = other _ refl
 by_restart Q anew other (OfAdmin Restarts) = anew
 by_restart Q anew other (OfAdmin (Cancels unit)) = other _ refl
 by_restart Q anew other (OfAdmin (Resubmits unit)) = other _ refl
 
--- the calls that end a lock server or make one anew, and all others
-pub by_server : (Q : Call → Type 0) → Q (OfAdmin Kills) → Q (OfAdmin Restarts) → ((call : Call) → is_of_server call ≡ false → Q call) → (call : Call) → Q call
-by_server Q kills anew other (LogsOn name user) = other _ refl
-by_server Q kills anew other (OfSession name call) = other _ refl
-by_server Q kills anew other (OfWorker worker call) = other _ refl
-by_server Q kills anew other (OfAdmin Kills) = kills
-by_server Q kills anew other (OfAdmin Restarts) = anew
-by_server Q kills anew other (OfAdmin (Cancels unit)) = other _ refl
-by_server Q kills anew other (OfAdmin (Resubmits unit)) = other _ refl
-
--- the same of a call that may be made
+-- as `by_call`, of a call that may be made
 pub by_made : (P : Call → Verdict → Type 0) (found : Found) (s : State) → OfEach (λ call v. MayCall s call → P call v) found s → (call : Call) → MayCall s call → P call (call_verdict found s call)
 by_made P found s each call may = by_call (λ c v. MayCall s c → P c v) found s each call may
 
@@ -415,23 +459,27 @@ by_stock Q s commits other (OfAdmin call) = other _
 
 -- ---- any event
 
--- What is shown of what a call comes to, of want of memory, and of a server in doubt, is shown of what is served.
-pub by_event : (Q : Served → Type 0) (o : DeviceOutcome) (s : State) (c : Command) → ((found : Found) → Q (judged s (verdict found s c)))
+-- What is shown of what a call comes to, of want of memory, of a link that failed, and of a server in doubt, is shown of what is
+-- served, where it stays so without the replica.
+pub by_event : (Q : Served → Type 0) (o : DeviceOutcome) (s : State) (c : Command) → ((lost : Bool) (done : Served) → Q done → Q (losing lost done))
+    → ((found : Found) → Q (judged s (verdict found s c)))
     → Q (refused s refusal.NoMemory)
+    → Q (refused (detached s) refusal.LinkFault)
     → ((reading : Reading) → Q (refused (doubted (without_stock (call_of c) s) (call_of c) None
     (pending_after reading s (call_of c) (verdict (found_by reading s) s c))) refusal.StoreFault))
     → ((reading : Reading) → Q (refused (unfiled s (call_of c) (read_anew reading)
     (stored_before_file s (call_of c) (verdict (found_by reading s) s c))) refusal.BackupFault))
     → ((read : Option Bool) (r : Refusal) → Q (refused (doubted s (call_of c) read s.pending) r)) → Q (served o s c)
-by_event Q o s c well wanting fails unfiles remakes =
+by_event Q o s c loses well wanting unlinked fails unfiles remakes =
     let found = found_by o.reading s in
-    elim o.event as (λ e. Q (ends_in e o.reading s (call_of c) (verdict found s c))) [
+    loses o.lost (ends_in o.event o.reading s (call_of c) (verdict found s c)) (elim o.event as (λ e. Q (ends_in e o.reading s (call_of c) (verdict found s c))) [
       | AllWell ↦ well found
       | Wanting ↦ wanting
       | StoreFails ↦ fails o.reading
       | BackupFails ↦ unfiles o.reading
+      | LinkFails ↦ unlinked
       | NotRemade fault ↦ remakes (read_anew o.reading) (fault_told fault)
-    ]
+    ])
 
 -- What the store has where the disk of the backup file fails: what it had, or with the mark of a post or of a cancelling.
 pub by_filing : (P : Ledger → Type 0) (found : Found) (s : State) (call : Call) → P s.stored
@@ -458,6 +506,9 @@ by_filing P found s call same posts cancels =
       posts = λ worker part unit e. posts worker part unit e;
       drops = λ worker unit e. same;
       kills = λ up. same;
+      fails_over = λ list can. same;
+      strays = λ first second none. same;
+      attaches = λ up. same;
       restarts = λ off. same;
       cancels = λ unit status can. cancels unit status can;
       reopens = λ unit es here stand. same;

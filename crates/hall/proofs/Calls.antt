@@ -47,7 +47,7 @@ refused_verdict found s call r shut = ap (λ o. unless_refused o (own_verdict fo
 pub tells : (s : State) (c : Command) (v : Verdict) (after : State) (r : Reply) → Admits s c → own_verdict (found_in s) s (call_of c) ≡ v → judged s v ≡ record { state = after; reply = r } → IsAct s c after r
 tells s c v after r h e j = record {
   outcome = all_well;
-  possible = record { reading = tt; event = tt };
+  possible = record { reading = tt; event = tt; lost = tt };
   same = ap (judged s) (admitted (found_in s) s c h ∙ e) ∙ j;
 }
 
@@ -62,7 +62,7 @@ is_done s c after h e = leaves_as s c after reply.Done h e
 
 -- memory was wanting
 pub is_wanting : (s : State) (c : Command) → unavailable s (call_of c) ≡ None → IsTrue (may_want s (verdict (found_in s) s c) (call_of c)) → IsAct s c s (reply.Refused refusal.NoMemory)
-is_wanting s c free may = record { outcome = only Wanting; possible = record { reading = tt; event = (free, may) }; same = refl }
+is_wanting s c free may = record { outcome = only Wanting; possible = record { reading = tt; event = (free, may); lost = tt }; same = refl }
 
 -- the store failed
 pub fails : (s : State) (c : Command) (after : State) (r : Reply) → Admits s c → own_verdict (found_in s) s (call_of c) ≡ Leaves after r → IsTrue (uses_store s (call_of c)) → (only_reads (call_of c) || is_unread AsKnown (call_of c)) ≡ false
@@ -71,7 +71,7 @@ fails s c after r h e uses writes =
     let v = admitted (found_in s) s c h ∙ e in
     record {
       outcome = only StoreFails;
-      possible = record { reading = tt; event = (ap leaves v, uses) };
+      possible = record { reading = tt; event = (ap leaves v, uses); lost = tt };
       same = ap (λ x. refused (doubted (without_stock (call_of c) s) (call_of c) None (pending_after AsKnown s (call_of c) x)) refusal.StoreFault) v
           ∙ ap (λ b. refused (doubted (without_stock (call_of c) s) (call_of c) None (if b then s.pending else Some after.stored)) refusal.StoreFault) writes;
     }
@@ -83,7 +83,7 @@ fails_filing s c after r h e uses =
     let v = admitted (found_in s) s c h ∙ e in
     record {
       outcome = only BackupFails;
-      possible = record { reading = tt; event = (ap leaves v, uses) };
+      possible = record { reading = tt; event = (ap leaves v, uses); lost = tt };
       same = ap (λ x. refused (unfiled s (call_of c) None (stored_before_file s (call_of c) x)) refusal.BackupFault) v;
     }
 

@@ -12,20 +12,20 @@ use Rattle.update_records.specs.Ledger.{Ledger}
 use Rattle.enq_base.specs.declared.condition.Condition.TheVariants as condition
 use Rattle.enq_base.specs.declared.refusal.Refusal.{Refusal}
 use Rattle.enq_base.specs.declared.refusal.Refusal.TheVariants as refusal
-use Rattle.enq_server.specs.Following.{Following, IsLater, KeepsOn}
+use Rattle.enq_server.specs.Following.{KeepsOn}
 use Rattle.keeper_api.specs.Keeping.{IsWithin}
 use Rattle.keeper_api.specs.Rows.{Rows}
 use Rattle.posting.specs.Steps.{after_step}
 use Rattle.hall.specs.Acts.{Admits, IsAct, IsTelling, IsWritten, OnAnswer, OnFailure, OnStoreFailure, locks_posted, post_of, written_condition, written_failure, written_reply}
-use Rattle.hall.specs.Calls.{Call, LogsOn, OfSession, OfWorker, OfAdmin, Kills, Restarts, Cancels, Resubmits, SessionCall, LogsOff, Asks, Frees, FreesAll, Converts, Draws, Reserves, Reads, Commits, RollsBack, Takes, Posts, Drops, call_of, restarts, session_touches_file, touches_file, wants_server}
+use Rattle.hall.specs.Calls.{Call, LogsOn, OfSession, OfWorker, OfAdmin, Kills, FailsOver, Restarts, Attaches, Cancels, Resubmits, SessionCall, LogsOff, Asks, Frees, FreesAll, Converts, Draws, Reserves, Reads, Commits, RollsBack, Takes, Posts, Drops, call_of, renews_replica, restarts, session_touches_file, touches_file, wants_server}
 use Rattle.hall.specs.Devices.{all_well, reaches_store, session_reaches_store, session_uses_file, session_uses_store, uses_file, uses_store}
 use Rattle.hall.specs.Filing.{DoesFile, HasFileCause, KeepsFile, MayFile}
 use Rattle.hall.specs.History.{IsGiven, Served, doubted, is_row, is_unrecorded, judged}
 use Rattle.hall.specs.Kept.{IsKept, OutsideDoubt}
 use Rattle.hall.specs.Leaving.{HasStoreCause, KeepsStore}
-use Rattle.hall.specs.Serving.{DoesStore, Follows, IsDue, LeavesFile, MayWrite, Serves, with_calls}
+use Rattle.hall.specs.Serving.{DoesStore, IsDue, LeavesFile, MayWrite, Serves, with_calls}
 use Rattle.hall.specs.Remaking.{flight_over}
-use Rattle.hall.specs.State.{State, View, gone_in, locks_in, unhanded}
+use Rattle.hall.specs.State.{State, View, attached_in, gone_in, locks_in, unhanded}
 use Rattle.hall.specs.Step.{barred, caller_refusal, down_refusal, found_in, is_full, or_else, server_refusal, unavailable}
 use Rattle.hall.specs.declared.command.Command.{Command}
 use Rattle.hall.specs.declared.command.Command.TheVariants as command
@@ -44,6 +44,8 @@ use Rattle.hall.proofs.Few.{full_or}
 use Rattle.hall.proofs.Frames.{shut_by_history}
 use Rattle.hall.proofs.Leaves.{also_answered, plain_quiet, same_keeps, untouched_keeps}
 use Rattle.hall.proofs.Filing.{any_file, plain_file, same_file}
+use Rattle.hall.proofs.Linking.{never_remakes, serves_as}
+use Rattle.hall.proofs.Shipping.{Stays, shipped_written, stays_in}
 use Rattle.hall.proofs.Replies.{fault_uses_file, fault_uses_store, unnoted_same}
 use Rattle.backup_file.specs.Backup.{BackupView}
 
@@ -99,7 +101,9 @@ wants_none (LogsOn name user) wants = refl
 wants_none (OfSession name call) wants = refl
 wants_none (OfWorker worker call) wants = refl
 wants_none (OfAdmin Kills) wants = refl
+wants_none (OfAdmin FailsOver) wants = refl
 wants_none (OfAdmin Restarts) wants = cc
+wants_none (OfAdmin Attaches) wants = refl
 wants_none (OfAdmin (Cancels unit)) wants = refl
 wants_none (OfAdmin (Resubmits unit)) wants = refl
 
@@ -133,38 +137,41 @@ same_past s after call (Failed change) h = ap (λ (x : State). record (doubted x
 same_past s after call Unfiled h = refl
 
 -- a call that uses the store, where it fails too
-pub written_call : (told told' : Bool) (k k' : Condition) (ss ss' : List Session) (n : ℕ) (os os' : List (Option UnitKey)) (t t' : Table) (x m : ℕ) (rs rs' : List NumberRange) (l l' : Ledger) (f f' : Failure) (past : List PastEntry) (w : Written) (c : Command) (said : Reply)
-    → restarts (call_of c) ≡ false → IsDue (state_with told k ss n os t x m rs l f []) past c
-    → told' ≡ told → k' ≡ written_condition k (length past) w → f' ≡ written_failure f (caller_of (call_of c)) w → said ≡ written_reply w
+pub written_call : (told told' link link' on on' : Bool) (k k' : Condition) (ss ss' : List Session) (n : ℕ) (os os' : List (Option UnitKey)) (t t' : Table) (x m : ℕ) (rs rs' : List NumberRange) (l l' : Ledger) (f f' : Failure) (past : List PastEntry) (w : Written) (c : Command) (said : Reply)
+    → restarts (call_of c) ≡ false → IsDue (state_with told link on k ss n os t x m rs l f []) past c
+    → told' ≡ told → link' ≡ link → Stays (call_of c) on on' → k' ≡ written_condition k (length past) w → f' ≡ written_failure f (caller_of (call_of c)) w → said ≡ written_reply w
     → t'.limit ≡ t.limit → OnAnswer w (gone_in k t'.entries ≡ gone_in k t.entries) → OnFailure w (unhanded t'.entries ≡ unhanded t.entries)
     → OnFailure w (ss' ≡ ss) → OnFailure w (os' ≡ os) → OnStoreFailure w (l' ≡ l) → HasRanges (call_of c) w rs rs'
-    → (flight_over l f ≡ None → Admits (state_with told k ss n os t x m rs l f past) c → IsWritten (state_with told k ss n os t x m rs l f past) c (rewritten (state_with told k ss n os t x m rs l f past) ss' os' t' rs' l') w)
-    → IsAct (state_with told k ss n os t x m rs l f past) c (state_with told' k' ss' n os' t' x m rs' l' f' past) said
-written_call told told' k k' ss ss' n os os' t t' x m rs rs' l l' f f' past w c said off due tells condition failure reply limit gone lost a b d e written =
-    let s : State = state_with told k ss n os t x m rs l f past in
+    → (flight_over l f ≡ None → Admits (state_with told link on k ss n os t x m rs l f past) c → IsWritten (state_with told link on k ss n os t x m rs l f past) c (rewritten (state_with told link on k ss n os t x m rs l f past) ss' os' t' rs' l') w)
+    → IsAct (state_with told link on k ss n os t x m rs l f past) c (state_with told' link' on' k' ss' n os' t' x m rs' l' f' past) said
+written_call told told' link link' on on' k k' ss ss' n os os' t t' x m rs rs' l l' f f' past w c said off due tells links stays condition failure reply limit gone lost a b d e written =
+    let s : State = state_with told link on k ss n os t x m rs l f past in
     let serving = is_serving s c off due.admits in
     let none : flight_over l f ≡ None = outside k _ serving due.kept.steady.settled in
     let unfailed : f.caller ≡ None = outside k _ serving due.kept.steady.unfailed in
-    let after : State = written_state s (call_of c) (rewritten s ss' os' t' rs' l') w in
-    let act : IsAct s c after (written_reply w) = written_act s c (rewritten s ss' os' t' rs' l') w (written none due.admits) in
-    let is : state_with told' k' ss' n os' t' x m rs' l' f' past ≡ after =
-    (λ i. state_with told' (condition i) ss' n os' t' x m rs' l' (failure i) past)
-    ∙ ends_as k (call_of c) told told' ss ss' n os os' t t' x m rs rs' l l' f past past w tells none unfailed limit gone lost a b d e
-    ∙ same_past s (rewritten s ss' os' t' rs' l') (call_of c) w refl in
-    acts_as s c after (state_with told' k' ss' n os' t' x m rs' l' f' past) (written_reply w) said act is reply
+    let now : State = record (rewritten s ss' os' t' rs' l') { attached = attached_in k on' } in
+    let after : State = written_state s (call_of c) now w in
+    let act : IsAct s c after (written_reply w) =
+    written_act s c now w
+    (shipped_written s c (rewritten s ss' os' t' rs' l') (attached_in k on') w (stays_in k (call_of c) on on' stays) due.admits refl (written none due.admits)) in
+    let is : state_with told' link' on' k' ss' n os' t' x m rs' l' f' past ≡ after =
+    (λ i. state_with told' link' on' (condition i) ss' n os' t' x m rs' l' (failure i) past)
+    ∙ ends_as k (call_of c) told told' link link' on on' ss ss' n os os' t t' x m rs rs' l l' f past past w tells links none unfailed limit gone lost a b d e
+    ∙ same_past s now (call_of c) w refl in
+    acts_as s c after (state_with told' link' on' k' ss' n os' t' x m rs' l' f' past) (written_reply w) said act is reply
 
 -- the same of a call that wants a server
-pub written_up : (told told' : Bool) (k k' : Condition) (ss ss' : List Session) (n : ℕ) (os os' : List (Option UnitKey)) (t t' : Table) (x m : ℕ) (rs rs' : List NumberRange) (l l' : Ledger) (f f' : Failure) (past : List PastEntry) (w : Written) (c : Command) (said : Reply)
-    → wants_server (call_of c) ≡ true → IsDue (state_with told k ss n os t x m rs l f []) past c
-    → told' ≡ told → k' ≡ written_condition k (length past) w → f' ≡ written_failure f (caller_of (call_of c)) w → said ≡ written_reply w
+pub written_up : (told told' link link' on on' : Bool) (k k' : Condition) (ss ss' : List Session) (n : ℕ) (os os' : List (Option UnitKey)) (t t' : Table) (x m : ℕ) (rs rs' : List NumberRange) (l l' : Ledger) (f f' : Failure) (past : List PastEntry) (w : Written) (c : Command) (said : Reply)
+    → wants_server (call_of c) ≡ true → IsDue (state_with told link on k ss n os t x m rs l f []) past c
+    → told' ≡ told → link' ≡ link → Stays (call_of c) on on' → k' ≡ written_condition k (length past) w → f' ≡ written_failure f (caller_of (call_of c)) w → said ≡ written_reply w
     → t'.limit ≡ t.limit → OnFailure w (unhanded t'.entries ≡ unhanded t.entries) → OnFailure w (ss' ≡ ss) → OnFailure w (os' ≡ os) → OnStoreFailure w (l' ≡ l) → HasRanges (call_of c) w rs rs'
-    → (flight_over l f ≡ None → Admits (state_with told Up ss n os t x m rs l f past) c → IsWritten (state_with told Up ss n os t x m rs l f past) c (rewritten (state_with told Up ss n os t x m rs l f past) ss' os' t' rs' l') w)
-    → IsAct (state_with told k ss n os t x m rs l f past) c (state_with told' k' ss' n os' t' x m rs' l' f' past) said
-written_up told told' k k' ss ss' n os os' t t' x m rs rs' l l' f f' past w c said wants due tells condition failure reply limit lost a b d e written =
-    let before : Condition → State = λ q. state_with told q ss n os t x m rs l f past in
-    let up : k ≡ Up = due_up (state_with told k ss n os t x m rs l f []) past c wants due in
+    → (flight_over l f ≡ None → Admits (state_with told link on Up ss n os t x m rs l f past) c → IsWritten (state_with told link on Up ss n os t x m rs l f past) c (rewritten (state_with told link on Up ss n os t x m rs l f past) ss' os' t' rs' l') w)
+    → IsAct (state_with told link on k ss n os t x m rs l f past) c (state_with told' link' on' k' ss' n os' t' x m rs' l' f' past) said
+written_up told told' link link' on on' k k' ss ss' n os os' t t' x m rs rs' l l' f f' past w c said wants due tells links stays condition failure reply limit lost a b d e written =
+    let before : Condition → State = λ q. state_with told link on q ss n os t x m rs l f past in
+    let up : k ≡ Up = due_up (state_with told link on k ss n os t x m rs l f []) past c wants due in
     let gone : gone_in k t'.entries ≡ gone_in k t.entries = subst (λ q. gone_in q t'.entries ≡ gone_in q t.entries) (sym up) refl in
-    written_call told told' k k' ss ss' n os os' t t' x m rs rs' l l' f f' past w c said (wants_none (call_of c) wants) due tells condition failure reply limit (also_answered _ w gone) lost a b d e
+    written_call told told' link link' on on' k k' ss ss' n os os' t t' x m rs rs' l l' f f' past w c said (wants_none (call_of c) wants) due tells links stays condition failure reply limit (also_answered _ w gone) lost a b d e
     (λ none room. subst (λ q. IsWritten (before q) c (rewritten (before q) ss' os' t' rs' l') w) (sym up) (written none (subst (λ q. Admits (before q) c) up room)))
 
 -- a table that is as it was
@@ -194,13 +201,13 @@ posted_gone k part old new up same = by_part (nat_eq part 1) up same
 pub refused_call : (s : State) (c : Command) (r : Refusal) → unavailable s (call_of c) ≡ Some r → IsAct s c s (reply.Refused r)
 refused_call s c r shut = record {
   outcome = all_well;
-  possible = record { reading = tt; event = tt };
+  possible = record { reading = tt; event = tt; lost = tt };
   same = ap (judged s) (refused_verdict (found_in s) s (call_of c) r shut);
 }
 
 pub refused_telling : (s : State) (c : Command) (r : Refusal) → unavailable s (call_of c) ≡ Some r → IsTelling s c false s (reply.Refused r)
 refused_telling s c r shut = record {
-  act = record { outcome = all_well; possible = record { reading = tt; event = tt }; same = ap (judged s) (refused_verdict (found_in s) s (call_of c) r shut) };
+  act = record { outcome = all_well; possible = record { reading = tt; event = tt; lost = tt }; same = ap (judged s) (refused_verdict (found_in s) s (call_of c) r shut) };
   taken = refl;
 }
 
@@ -216,7 +223,7 @@ refused_room s call r shut noted =
     absurd (true_not_false (ap (λ q. is_unrecorded (reply.Refused q)) (sym is) ∙ noted)))
     (λ e. e)
 
-shut_plain : (s : State) (call : Call) (r : Refusal) → unavailable s call ≡ Some r → IsPlain r
+pub shut_plain : (s : State) (call : Call) (r : Refusal) → unavailable s call ≡ Some r → IsPlain r
 shut_plain s call r shut = subst ArePlain shut (plain_unavailable s call)
 
 pub refused_store : {K : Type 0} (held : K → Option Rows) (may_leave : K → Rows → Type 0) (faults : K → ℕ) (keeper : K) (s : State) (call : Call) (r : Refusal) → unavailable s call ≡ Some r → MayWrite held may_leave faults keeper keeper (reply.Refused r)
@@ -245,7 +252,9 @@ uses_touches s (OfWorker worker (Takes part)) uses = cc
 uses_touches s (OfWorker worker (Posts part)) uses = refl
 uses_touches s (OfWorker worker Drops) uses = cc
 uses_touches s (OfAdmin Kills) uses = cc
+uses_touches s (OfAdmin FailsOver) uses = cc
 uses_touches s (OfAdmin Restarts) uses = uses
+uses_touches s (OfAdmin Attaches) uses = cc
 uses_touches s (OfAdmin (Cancels unit)) uses = refl
 uses_touches s (OfAdmin (Resubmits unit)) uses = refl
 
@@ -337,7 +346,9 @@ uses_touches_file s (OfWorker worker (Takes part)) uses = cc
 uses_touches_file s (OfWorker worker (Posts part)) uses = uses
 uses_touches_file s (OfWorker worker Drops) uses = cc
 uses_touches_file s (OfAdmin Kills) uses = cc
+uses_touches_file s (OfAdmin FailsOver) uses = cc
 uses_touches_file s (OfAdmin Restarts) uses = refl
+uses_touches_file s (OfAdmin Attaches) uses = cc
 uses_touches_file s (OfAdmin (Cancels unit)) uses = refl
 uses_touches_file s (OfAdmin (Resubmits unit)) uses = refl
 
@@ -374,7 +385,9 @@ restarts_touch (LogsOn name user) is = cc
 restarts_touch (OfSession name call) is = cc
 restarts_touch (OfWorker worker call) is = cc
 restarts_touch (OfAdmin Kills) is = cc
+restarts_touch (OfAdmin FailsOver) is = cc
 restarts_touch (OfAdmin Restarts) is = refl
+restarts_touch (OfAdmin Attaches) is = cc
 restarts_touch (OfAdmin (Cancels unit)) is = cc
 restarts_touch (OfAdmin (Resubmits unit)) is = cc
 
@@ -385,37 +398,34 @@ same_as_filed faults old new c r h e =
       | false ↦ λ is k. subst (λ b. DoesFile faults b old new r) e k
     ] refl h
 
--- ---- what a call does to what follows the table
-
-pub any_link : {L : Type 0} (faults refusals : L → ℕ) (old new : Following L) (remakes : Bool) → Follows faults refusals remakes old new → IsLater faults refusals old new
-any_link faults refusals old new true h = h
-any_link faults refusals old new false h = record { faults_later = h.faults_later; refusals_later = h.refusals_later }
+-- ---- a call by itself
 
 -- a call that doesn't touch the store
-pub serves_apart : {K D L : Type 0} (held : K → Option Rows) (may_leave : K → Rows → Type 0) (faults : K → ℕ) (disk_faults : D → ℕ) (link_faults refusals : L → ℕ) (before after : Condition → View K D L) (k : Condition) (was : View K D L) (past : List PastEntry) (c : Command) (r said : Reply)
-    → before k ≡ was → (after k).keeper ≡ (before k).keeper → (after k).file ≡ (before k).file → KeepsOn link_faults refusals (before k).follower (after k).follower → IsDue was.state past c → reaches_store (before k).state (call_of c) ≡ false → touches_file (call_of c) ≡ false → restarts (call_of c) ≡ false → said ≡ r
+pub serves_apart : {K D L : Type 0} (held : K → Option Rows) (may_leave : K → Rows → Type 0) (faults : K → ℕ) (disk_faults : D → ℕ) (gives : L → List Entry) (applied : L → Option (List Entry)) (link_faults refusals : L → ℕ) (before after : Condition → View K D L) (k : Condition) (was : View K D L) (past : List PastEntry) (c : Command) (r said : Reply)
+    → before k ≡ was → (after k).keeper ≡ (before k).keeper → (after k).file ≡ (before k).file → KeepsOn applied link_faults refusals (before k).follower (after k).follower → IsDue was.state past c → reaches_store (before k).state (call_of c) ≡ false → touches_file (call_of c) ≡ false → renews_replica (call_of c) ≡ false → said ≡ r
     → (Admits (with_calls (before k).state past) c → IsAct (with_calls (before k).state past) c (with_calls (after k).state past) r)
-    → Serves held may_leave faults disk_faults link_faults refusals was (after k) past c said
-serves_apart held may_leave faults disk_faults link_faults refusals before after k was past c r said is kept file follows due off unfiled on same act =
+    → Serves held may_leave faults disk_faults gives applied link_faults refusals was (after k) past c said
+serves_apart held may_leave faults disk_faults gives applied link_faults refusals before after k was past c r said is kept file follows due off unfiled still same act =
     let here : IsDue (before k).state past c = subst (λ (v : View _ _ _). IsDue v.state past c) (sym is) due in
-    subst (λ v. Serves held may_leave faults disk_faults link_faults refusals v (after k) past c said) is (record {
-      call = subst (IsAct (with_calls (before k).state past) c (with_calls (after k).state past)) (sym same) (act here.admits);
-      store = subst (λ b. DoesStore held may_leave faults b (reaches_store (before k).state (call_of c)) (before k).keeper (after k).keeper said) (sym on)
-          (subst (λ b. DoesStore held may_leave faults false b (before k).keeper (after k).keeper said) (sym off) kept);
-      file = subst (λ b. LeavesFile disk_faults b (touches_file (call_of c)) (before k).file (after k).file said) (sym on)
-          (subst (λ b. DoesFile disk_faults b (before k).file (after k).file said) (sym unfiled) file);
-      follower = subst (λ b. Follows link_faults refusals b (before k).follower (after k).follower) (sym on) follows;
-    })
+    let never = never_remakes (call_of c) still in
+    subst (λ v. Serves held may_leave faults disk_faults gives applied link_faults refusals v (after k) past c said) is
+    (serves_as held may_leave faults disk_faults gives applied link_faults refusals (before k) (after k) past c said still
+    (subst (IsAct (with_calls (before k).state past) c (with_calls (after k).state past)) (sym same) (act here.admits))
+    (subst (λ b. DoesStore held may_leave faults b (reaches_store (before k).state (call_of c)) (before k).keeper (after k).keeper said) (sym never)
+    (subst (λ b. DoesStore held may_leave faults false b (before k).keeper (after k).keeper said) (sym off) kept))
+    (subst (λ b. LeavesFile disk_faults b (touches_file (call_of c)) (before k).file (after k).file said) (sym never)
+    (subst (λ b. DoesFile disk_faults b (before k).file (after k).file said) (sym unfiled) file))
+    follows)
 
 -- the same of one that wants a server
-pub serves_beside : {K D L : Type 0} (held : K → Option Rows) (may_leave : K → Rows → Type 0) (faults : K → ℕ) (disk_faults : D → ℕ) (link_faults refusals : L → ℕ) (before after : Condition → View K D L) (k : Condition) (was : View K D L) (past : List PastEntry) (c : Command) (r said : Reply)
-    → before k ≡ was → (before k).state.condition ≡ k → (after k).keeper ≡ (before k).keeper → (after k).file ≡ (before k).file → KeepsOn link_faults refusals (before k).follower (after k).follower → wants_server (call_of c) ≡ true → IsDue was.state past c → reaches_store (before k).state (call_of c) ≡ false → touches_file (call_of c) ≡ false → restarts (call_of c) ≡ false → said ≡ r
+pub serves_beside : {K D L : Type 0} (held : K → Option Rows) (may_leave : K → Rows → Type 0) (faults : K → ℕ) (disk_faults : D → ℕ) (gives : L → List Entry) (applied : L → Option (List Entry)) (link_faults refusals : L → ℕ) (before after : Condition → View K D L) (k : Condition) (was : View K D L) (past : List PastEntry) (c : Command) (r said : Reply)
+    → before k ≡ was → (before k).state.condition ≡ k → (after k).keeper ≡ (before k).keeper → (after k).file ≡ (before k).file → KeepsOn applied link_faults refusals (before k).follower (after k).follower → wants_server (call_of c) ≡ true → IsDue was.state past c → reaches_store (before k).state (call_of c) ≡ false → touches_file (call_of c) ≡ false → renews_replica (call_of c) ≡ false → said ≡ r
     → (Admits (with_calls (before Up).state past) c → IsAct (with_calls (before Up).state past) c (with_calls (after Up).state past) r)
-    → Serves held may_leave faults disk_faults link_faults refusals was (after k) past c said
-serves_beside held may_leave faults disk_faults link_faults refusals before after k was past c r said is own kept file follows wants due off unfiled on same act =
+    → Serves held may_leave faults disk_faults gives applied link_faults refusals was (after k) past c said
+serves_beside held may_leave faults disk_faults gives applied link_faults refusals before after k was past c r said is own kept file follows wants due off unfiled still same act =
     let here : IsDue (before k).state past c = subst (λ (v : View _ _ _). IsDue v.state past c) (sym is) due in
     let up : k ≡ Up = sym own ∙ due_up (before k).state past c wants here in
-    serves_apart held may_leave faults disk_faults link_faults refusals before after k was past c r said is kept file follows due off unfiled on same
+    serves_apart held may_leave faults disk_faults gives applied link_faults refusals before after k was past c r said is kept file follows due off unfiled still same
     (λ room. subst (λ q. IsAct (with_calls (before q).state past) c (with_calls (after q).state past) r) (sym up) (act (subst (λ q. Admits (with_calls (before q).state past) c) up room)))
 
 -- any call but a restart
@@ -428,7 +438,7 @@ never_restarts _ other = refl
 -- a call that isn't recorded changes nothing
 pub unrecorded_same : (s : State) (c : Command) (after : State) (r : Reply) → IsAct s c after r → is_unrecorded r ≡ true → after ≡ s
 unrecorded_same s c after r act e =
-    ap (λ (x : Served). x.state) (sym act.same) ∙ unnoted_same act.outcome s c (ap (λ (x : Served). is_unrecorded x.reply) act.same ∙ e)
+    ap (λ (x : Served). x.state) (sym act.same) ∙ unnoted_same act.outcome s c act.possible.lost (ap (λ (x : Served). is_unrecorded x.reply) act.same ∙ e)
 
 -- an answer that is given as want of memory leaves the counts and the keeper as the text did
 pub given_cause : (before now : ℕ) (made given : Reply) → IsGiven made given → HasStoreCause before now made → HasStoreCause before now given
@@ -452,10 +462,10 @@ given_noted made given (inl same) noted = ap is_unrecorded same ∙ noted
 given_noted made given (inr (row, is)) noted = ap is_unrecorded is
 
 -- no change is in flight where a call is due
-pub no_flight : (told : Bool) (k : Condition) (ss : List Session) (n : ℕ) (os : List (Option UnitKey)) (t : Table) (x m : ℕ) (rs : List NumberRange) (l : Ledger) (f : Failure) (past : List PastEntry) (c : Command) → restarts (call_of c) ≡ false → IsDue (state_with told k ss n os t x m rs l f []) past c
+pub no_flight : (told link on : Bool) (k : Condition) (ss : List Session) (n : ℕ) (os : List (Option UnitKey)) (t : Table) (x m : ℕ) (rs : List NumberRange) (l : Ledger) (f : Failure) (past : List PastEntry) (c : Command) → restarts (call_of c) ≡ false → IsDue (state_with told link on k ss n os t x m rs l f []) past c
     → (f.pending ≡ None) × (f.found ≡ None)
-no_flight told k ss n os t x m rs l f past c off due =
-    let serving = due_serving (state_with told k ss n os t x m rs l f []) past c off due in
+no_flight told link on k ss n os t x m rs l f past c off due =
+    let serving = due_serving (state_with told link on k ss n os t x m rs l f []) past c off due in
     (none_before f l (outside k _ serving due.kept.steady.settled), outside k _ serving due.kept.steady.unknown)
 
 -- a V2 part isn't one whose locks end

@@ -1,5 +1,5 @@
 -- The state behind a call that writes the store or makes a lock server anew, answered or in doubt.
-use Rattle.std.proofs.Common.{◌≡◌, ◌⊎◌, inl, inr, ℕ, ◌+◌, Bool, false, List, [], length, refl, sym, ap, ◌∙◌, subst, arith}
+use Rattle.std.proofs.Common.{◌≡◌, ◌⊎◌, inl, inr, ℕ, ◌+◌, Bool, false, List, length, refl, sym, ap, ◌∙◌, subst, arith}
 use Rattle.std.specs.Prelude.{nat_eq, Option, Some, None}
 use Rattle.std.proofs.lemmas.Bool.Decides.{nat_tests}
 use Rattle.std.specs.Option.{option_map}
@@ -19,8 +19,8 @@ use Rattle.hall.specs.Acts.{Admits, IsAct, IsWritten, OnAnswer, OnFailure, OnSto
 use Rattle.hall.specs.Calls.{Call, LogsOn, OfSession, OfWorker, OfAdmin, Posts, Takes, call_of}
 use Rattle.hall.specs.Calls.{LogsOff, Asks, Frees, FreesAll, Converts, Draws, Reserves, Reads, Commits, RollsBack}
 use Rattle.hall.specs.History.{caller_behind, doubted, judged, unfiled, without_stock}
-use Rattle.hall.specs.Remaking.{OnNotRemade, flight_over, remade_condition, remade_failure, remade_state}
-use Rattle.hall.specs.State.{State, gone_in, locks_in, state_of, unhanded}
+use Rattle.hall.specs.Remaking.{OnNotRemade, OnRefusedFirst, OnRemade, flight_over, remade_condition, remade_failure, remade_state}
+use Rattle.hall.specs.State.{State, attached_in, gone_in, locks_in, state_of, unhanded}
 use Rattle.hall.specs.Step.{found_in, own_verdict, take}
 use Rattle.hall.specs.declared.command.Command.{Command}
 use Rattle.hall.specs.declared.command.PastEntry.{PastEntry}
@@ -116,39 +116,39 @@ same_flight : (f : Failure) (l l' : Ledger) → flight_over l f ≡ None → fli
 same_flight f l l' none = ap (option_map (after_step l')) (none_before f l none) ∙ sym none
 
 -- the fields of a server
-abbrev pub state_with : Bool → Condition → List Session → ℕ → List (Option UnitKey) → Table → ℕ → ℕ → List NumberRange → Ledger → Failure → List PastEntry → State
-state_with told k sessions n orders table x m rs ledger f past = state_of told k sessions n orders table x m rs ledger (flight_over ledger f) f.found f.caller past
+abbrev pub state_with : (told link_told attached : Bool) → Condition → List Session → ℕ → List (Option UnitKey) → Table → ℕ → ℕ → List NumberRange → Ledger → Failure → List PastEntry → State
+state_with told link_told attached k sessions n orders table x m rs ledger f past = state_of told link_told attached k sessions n orders table x m rs ledger (flight_over ledger f) f.found f.caller past
 
 -- what the fields are behind a call that uses the store
-pub ends_as : (c : Condition) (call : Call) (told told' : Bool) (ss ss' : List Session) (n : ℕ) (os os' : List (Option UnitKey)) (t t' : Table) (k m : ℕ) (rs rs' : List NumberRange) (l l' : Ledger) (f : Failure) (past past' : List PastEntry) (w : Written)
-    → told' ≡ told → flight_over l f ≡ None → f.caller ≡ None → t'.limit ≡ t.limit → OnAnswer w (gone_in c t'.entries ≡ gone_in c t.entries) → OnFailure w (unhanded t'.entries ≡ unhanded t.entries)
+pub ends_as : (c : Condition) (call : Call) (told told' link link' on on' : Bool) (ss ss' : List Session) (n : ℕ) (os os' : List (Option UnitKey)) (t t' : Table) (k m : ℕ) (rs rs' : List NumberRange) (l l' : Ledger) (f : Failure) (past past' : List PastEntry) (w : Written)
+    → told' ≡ told → link' ≡ link → flight_over l f ≡ None → f.caller ≡ None → t'.limit ≡ t.limit → OnAnswer w (gone_in c t'.entries ≡ gone_in c t.entries) → OnFailure w (unhanded t'.entries ≡ unhanded t.entries)
     → OnFailure w (ss' ≡ ss) → OnFailure w (os' ≡ os) → OnStoreFailure w (l' ≡ l) → HasRanges call w rs rs'
-    → state_with told' (written_condition c (length past) w) ss' n os' t' k m rs' l' (written_failure f (caller_of call) w) past'
-    ≡ record (written_state (state_with told c ss n os t k m rs l f past) call (record (state_with told c ss n os t k m rs l f past) { sessions = ss'; orders = os'; locks = locks_in c t'.entries; ranges = rs'; stored = l' }) w) { past = past' }
-ends_as c call told told' ss ss' n os os' t t' k m rs rs' l l' f past past' (Answered r) tells none unfailed limit gone lost a b kept d =
-    λ i. record (state_of (tells i) c ss' n os' t' k m rs' l' (same_flight f l l' none i) f.found f.caller past') { limit = limit i; gone = gone i }
-ends_as c call told told' ss ss' n os os' t t' k m rs rs' l l' f past past' (Failed change) tells none unfailed limit gone lost a b kept d =
-    let s = state_with told c ss n os t k m rs l f past in
+    → state_with told' link' on' (written_condition c (length past) w) ss' n os' t' k m rs' l' (written_failure f (caller_of call) w) past'
+    ≡ record (written_state (state_with told link on c ss n os t k m rs l f past) call (record (state_with told link on c ss n os t k m rs l f past) { sessions = ss'; orders = os'; locks = locks_in c t'.entries; ranges = rs'; attached = attached_in c on'; stored = l' }) w) { past = past' }
+ends_as c call told told' link link' on on' ss ss' n os os' t t' k m rs rs' l l' f past past' (Answered r) tells links none unfailed limit gone lost a b kept d =
+    λ i. record (state_of (tells i) (links i) on' c ss' n os' t' k m rs' l' (same_flight f l l' none i) f.found f.caller past') { limit = limit i; gone = gone i }
+ends_as c call told told' link link' on on' ss ss' n os os' t t' k m rs rs' l l' f past past' (Failed change) tells links none unfailed limit gone lost a b kept d =
+    let s = state_with told link on c ss n os t k m rs l f past in
     let bereft : unhanded t'.entries ≡ behind_in c t.entries = lost ∙ sym (gone_at c t.entries) in
     let caller : caller_of call ≡ caller_behind f.caller call = sym (caller_as f.caller call unfailed) in
-    (λ i. record (state_of (tells i) (condition.Doubt (length past + 1)) (a i) n (b i) t k m (d i) (kept i) (option_map (after_step (kept i)) change) f.found (caller i) past') { limit = limit i; gone = bereft i })
+    (λ i. record (state_of (tells i) (links i) on' (condition.Doubt (length past + 1)) (a i) n (b i) t k m (d i) (kept i) (option_map (after_step (kept i)) change) f.found (caller i) past') { limit = limit i; gone = bereft i })
     ∙ ap (λ (x : State). record (doubted x call None (option_map (after_step l) change)) { past = past' }) (sym (without_as call s))
-ends_as c call told told' ss ss' n os os' t t' k m rs rs' l l' f past past' Unfiled tells none unfailed limit gone lost a b kept d =
+ends_as c call told told' link link' on on' ss ss' n os os' t t' k m rs rs' l l' f past past' Unfiled tells links none unfailed limit gone lost a b kept d =
     let bereft : unhanded t'.entries ≡ behind_in c t.entries = lost ∙ sym (gone_at c t.entries) in
     let caller : caller_of call ≡ caller_behind f.caller call = sym (caller_as f.caller call unfailed) in
-    λ i. record (state_of (tells i) (condition.Doubt (length past + 1)) (a i) n (b i) t k m (d i) l' (same_flight f l l' none i) f.found (caller i) past') { limit = limit i; gone = bereft i }
+    λ i. record (state_of (tells i) (links i) on' (condition.Doubt (length past + 1)) (a i) n (b i) t k m (d i) l' (same_flight f l l' none i) f.found (caller i) past') { limit = limit i; gone = bereft i }
 
 -- the fields behind a restart
-pub remade_as : (remade : Remade) (told told' : Bool) (k k' : Condition) (ss ss' : List Session) (n : ℕ) (os os' : List (Option UnitKey)) (t t' : Table) (x m : ℕ) (rs : List NumberRange) (l l' : Ledger) (f f' : Failure) (past : List PastEntry)
-    → told' ≡ told → k' ≡ remade_condition k (length past) remade → f' ≡ remade_failure f remade → OnNotRemade remade (ss' ≡ ss) → OnNotRemade remade (os' ≡ os) → OnNotRemade remade (t' ≡ t) → OnNotRemade remade (l' ≡ l)
-    → state_with told' k' ss' n os' t' x m rs l' f' past ≡ remade_state (state_with told k ss n os t x m rs l f past) ss' os' t' l' remade
-remade_as (Done taken) told told' k k' ss ss' n os os' t t' x m rs l l' f f' past tells is now a b c kept =
-    λ i. state_with (tells i) (is i) ss' n os' t' x m rs l' (now i) past
-remade_as (Refused r) told told' k k' ss ss' n os os' t t' x m rs l l' f f' past tells is now a b c kept =
-    λ i. state_with (tells i) (is i) (a i) n (b i) (c i) x m rs (kept i) (now i) past
-remade_as (InDoubt r read) told told' k k' ss ss' n os os' t t' x m rs l l' f f' past tells is now a b c kept =
-    (λ i. state_with (tells i) (is i) (a i) n (b i) (c i) x m rs (kept i) (now i) past)
-    ∙ (λ i. record (state_with told (condition.Doubt (length past + 1)) ss n os t x m rs l (remade_failure f (InDoubt r read)) past) { gone = sym (gone_at k t.entries) i })
+pub remade_as : (remade : Remade) (told told' link link' on on' : Bool) (k k' : Condition) (ss ss' : List Session) (n : ℕ) (os os' : List (Option UnitKey)) (t t' : Table) (x m : ℕ) (rs : List NumberRange) (l l' : Ledger) (f f' : Failure) (past : List PastEntry)
+    → told' ≡ told → link' ≡ link → OnRemade remade (on' ≡ false) → OnRefusedFirst remade (on' ≡ on) → k' ≡ remade_condition k (length past) remade → f' ≡ remade_failure f remade → OnNotRemade remade (ss' ≡ ss) → OnNotRemade remade (os' ≡ os) → OnNotRemade remade (t' ≡ t) → OnNotRemade remade (l' ≡ l)
+    → state_with told' link' on' k' ss' n os' t' x m rs l' f' past ≡ remade_state (state_with told link on k ss n os t x m rs l f past) ss' os' t' l' remade
+remade_as (Done taken) told told' link link' on on' k k' ss ss' n os os' t t' x m rs l l' f f' past tells links off still is now a b c kept =
+    λ i. state_with (tells i) (links i) (off i) (is i) ss' n os' t' x m rs l' (now i) past
+remade_as (Refused r) told told' link link' on on' k k' ss ss' n os os' t t' x m rs l l' f f' past tells links off still is now a b c kept =
+    λ i. state_with (tells i) (links i) (still i) (is i) (a i) n (b i) (c i) x m rs (kept i) (now i) past
+remade_as (InDoubt r read) told told' link link' on on' k k' ss ss' n os os' t t' x m rs l l' f f' past tells links off still is now a b c kept =
+    (λ i. state_with (tells i) (links i) on' (is i) (a i) n (b i) (c i) x m rs (kept i) (now i) past)
+    ∙ (λ i. record (state_with told link on (condition.Doubt (length past + 1)) ss n os t x m rs l (remade_failure f (InDoubt r read)) past) { gone = sym (gone_at k t.entries) i })
 
 -- one of the two parts of a unit
 abbrev pub IsPart : ℕ → Type 0

@@ -1,14 +1,16 @@
 -- Each call keeps the locks sound.
-use Rattle.std.proofs.Common.{◌≡◌, ℕ, ◌<◌, ◌≤◌, ◌^◌, arith, Bool, true, false, List, [], ◌∷◌, ◌++◌, fold, length, refl}
+use Rattle.std.proofs.Common.{◌≡◌, ℕ, ◌<◌, ◌≤◌, ◌^◌, arith, ◌&&◌, not, cond, Bool, true, false, List, [], ◌∷◌, ◌++◌, fold, length, refl}
 use Rattle.std.specs.Prelude.{if◌then◌else◌, nat_eq, nat_le, Option, None}
 use Rattle.std.specs.List.{AllByRecursion}
-use Rattle.std.proofs.lemmas.Bool.{and_from, eq-eqb}
+use Rattle.std.proofs.lemmas.Bool.{and_from, and_parts, eq-eqb}
 use Rattle.std.proofs.lemmas.Bool.Decides.{nat_tests}
 use Rattle.enq_base.specs.declared.owner.Owner.TheVariants.{Upd}
 use Rattle.enq_base.specs.declared.owner.UnitKey.{UnitKey}
 use Rattle.enq_base.specs.declared.unit.Status.{Status}
 use Rattle.enq_base.specs.declared.unit.Status.TheVariants.{Open, Posted, Bad, Closed, Bad2, Cancelled}
-use Rattle.enq_server.specs.Server.{larger, recovered}
+use Rattle.enq_server.specs.Following.{may_replace, same_entry}
+use Rattle.enq_server.specs.Server.{larger, recovered, replicated}
+use Rattle.lock_entry.specs.declared.entry.Entry.{Entry}
 use Rattle.lock_entry.specs.declared.entry.LockName.{LockName}
 use Rattle.lock_entry.specs.Freeing.{freed, freed_owner}
 use Rattle.lock_entry.specs.Names.{halves}
@@ -37,9 +39,9 @@ use Rattle.number_ranges.specs.declared.interval.Interval.{Interval}
 use Rattle.posting.specs.Intervals.{with_intervals}
 use Rattle.range_list.specs.Drawn.{num_of, stored_as}
 use Rattle.range_list.specs.Levels.{present}
-use Rattle.hall.specs.Step.{Found, call_verdict, cancelled, is_taken, restarted, stored_anew, unit_of}
+use Rattle.hall.specs.Step.{Found, call_verdict, cancelled, is_sound, is_taken, restarted, stored_anew, unit_of}
 use Rattle.update_records.specs.Ledger.{Ledger}
-use Rattle.hall.proofs.ByCall.{OfEach, by_call, by_event, by_filing, by_stock}
+use Rattle.hall.proofs.ByCall.{IsHandedOver, OfEach, by_call, by_event, by_filing, by_stock}
 use Rattle.hall.proofs.Frames.{by_noting}
 use Rattle.hall.proofs.HandedLocks.{handed_good}
 use Rattle.hall.proofs.Owned.{may_be_readmitted}
@@ -112,6 +114,39 @@ remade-sound max_locks ledger limited together fit =
     let count = length (open_entries ledger) in
     record { sound = together; within = larger_within max_locks count; limit_fits = larger_fits max_locks count limited fit }
 
+-- ---- a replica's list in place of the table
+
+-- it is no longer than the table
+replacing_length : (table list : List Entry) → may_replace table list ≡ true → length list ≤ length table
+replacing_length [] [] may = omega arith
+replacing_length [] (x ∷ xs) may = absurd (cc)
+replacing_length (e ∷ es) [] may = omega arith
+replacing_length (e ∷ es) (x ∷ xs) may =
+    elim (same_entry e x) as (λ b. cond b (may_replace es xs) (not e.handed && may_replace es (x ∷ xs)) ≡ true → length (x ∷ xs) ≤ length (e ∷ es)) [
+      | true ↦ λ k. let rest = replacing_length es xs k in omega (arith, rest)
+      | false ↦ λ k. let rest = replacing_length es (x ∷ xs) (and_parts (not e.handed) _ k).1 in omega (arith, rest)
+    ] may
+
+sound_list : (list : List Entry) → is_sound list ≡ true → IsSound list
+sound_list list h =
+    let names = and_parts _ _ h in
+    let counts = and_parts _ _ names.1 in
+    record { names = names.0; counts = counts.0; conflicts = counts.1 }
+
+replicated-sound : (s : State) (list : List Entry) → IsHandedOver s list → s.max_locks < 2 ^ 32 → IsTable (table_in s) → IsTable (replicated s.max_locks list)
+replicated-sound s list can limited good =
+    let count = length list in
+    let fewer = replacing_length s.locks list can.replaces in
+    let within = good.within in
+    let fits = good.limit_fits in
+    record {
+      sound = sound_list list can.sound;
+      within = larger_within s.max_locks count;
+      limit_fits = larger_fits s.max_locks count limited (omega (arith, fewer, within, fits));
+    }
+
+-- ---- all calls
+
 restarted-sound : (taken : Bool) (s : State) → IsSteady s → HasLanding s (stored_anew taken s.stored s.pending) → HasSoundLocks (restarted taken s)
 restarted-sound taken s steady l = over_table l.units (remade-sound s.max_locks (stored_anew taken s.stored s.pending) steady.locks_fit l.together l.fit)
 
@@ -141,7 +176,10 @@ sound found s steady units good landing = record {
   takes = λ worker part unit free e. over_table good.stored good.table;
   posts = λ worker part unit e. over_table good.stored (behind-sound s unit (nat_eq part 1) good.table);
   drops = λ worker unit e. over_table good.stored good.table;
-  kills = λ up. over_table good.stored (none_stands s.limit good.table.limit_fits);
+  kills = λ up. over_table good.stored good.table;
+  fails_over = λ list can. over_table good.stored (replicated-sound s list can steady.locks_fit good.table);
+  strays = λ first second none. over_table good.stored good.table;
+  attaches = λ up. over_table good.stored good.table;
   restarts = λ off. let taken = is_taken found.anew in restarted-sound taken s steady (restart_lands taken s good.stored steady units landing);
   cancels = λ unit status can. over_table good.stored (without-sound s unit status good.table);
   reopens = λ unit es here stand.
@@ -171,7 +209,8 @@ pub served-sound : (o : DeviceOutcome) (s : State) (c : Command) → IsSteady s 
     → HasSoundLocks (served o s c).state
 served-sound o s c steady good units landing =
     by_event (λ r. HasSoundLocks r.state) o s c
-    (λ found. verdict-sound found s (call_of c) steady good units landing) good
+    (λ lost done h. over_table h.stored h.table)
+    (λ found. verdict-sound found s (call_of c) steady good units landing) good (over_table good.stored good.table)
     (λ reading. failing-sound s (call_of c) _ good)
     (λ reading.
     let found = found_by reading s in

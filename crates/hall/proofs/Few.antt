@@ -1,6 +1,6 @@
 -- What each call keeps.
 use Rattle.std.proofs.Common.{◌≡◌, ℕ, ◌+◌, ◌≤◌, ◌<◌, Bool, true, false, List, [], ◌∷◌, ◌++◌, length, fold, set, refl, sym, ap, ◌∙◌, subst, arith, cond}
-use Rattle.std.specs.Prelude.{if◌then◌else◌, is_some, nat_eq, nat_le, nat_lt, not, Option, Some, None, Ok}
+use Rattle.std.specs.Prelude.{◌&&◌, if◌then◌else◌, is_some, nat_eq, nat_le, nat_lt, not, Option, Some, None, Ok}
 use Rattle.std.specs.List.{AllByRecursion, filter, find}
 use Rattle.std.proofs.lemmas.List.{length-set}
 use Rattle.std.proofs.lemmas.Bool.{or_from}
@@ -35,8 +35,8 @@ use Rattle.posting.specs.Steps.{waiting_for}
 use Rattle.hall.specs.declared.command.Command.{Command}
 use Rattle.hall.specs.declared.command.PastEntry.{PastEntry}
 use Rattle.hall.specs.declared.command.Session.{Session}
-use Rattle.hall.specs.Devices.{DeviceOutcome, Event, AllWell, Wanting, StoreFails, BackupFails, NotRemade, IsAllowed, MayRead, found_by}
-use Rattle.hall.specs.Devices.{Reading, AsKnown, Comes, Shows, Reopens}
+use Rattle.hall.specs.Devices.{DeviceOutcome, Event, AllWell, Wanting, StoreFails, BackupFails, LinkFails, NotRemade, IsAllowed, MayRead, found_by}
+use Rattle.hall.specs.Devices.{Reading, AsKnown, Comes, Shows, Reopens, Hands}
 use Rattle.hall.specs.History.{doubted, ends_in, judged, known_behind, pending_after, read_anew, served, stored_before_file, unfiled, without_stock}
 use Rattle.number_ranges.specs.Intervals.{block_level, is_buffered, with_level}
 use Rattle.number_ranges.specs.declared.interval.Interval.{Interval}
@@ -53,9 +53,9 @@ use Rattle.hall.specs.Sessions.{begun, is_called, owners_of, pair_of, session_at
 use Rattle.hall.specs.Calls.{Call, Commits, OfAdmin, OfSession, Restarts, call_of}
 use Rattle.hall.specs.State.{State}
 use Rattle.hall.specs.Stocks.{IsStockIn, MayCall}
-use Rattle.hall.specs.Step.{Found, Verdict, barred, call_verdict, cancelled, committed, entered, is_full, is_taken, killed, locks_behind, locks_without, marked, numbered, reopened, reposted, restarted, stored_anew, taken, unit_of}
+use Rattle.hall.specs.Step.{Found, Verdict, barred, call_verdict, cancelled, committed, entered, followed_over, is_full, is_taken, killed, locks_behind, locks_without, marked, numbered, reopened, reposted, restarted, stored_anew, taken, unit_of}
 use Rattle.hall.proofs.Alike.{AreAlike, HaveOneStatus, ahead_alike, alike_all, alike_self, alike_with, count_alike, numbered_alike, orders_alike, owned_alike, with_others, young_alike}
-use Rattle.hall.proofs.ByCall.{CanDraw, OfEach, by_anew, by_doubt, by_filing, by_made, by_restart, by_stock, pending_stays}
+use Rattle.hall.proofs.ByCall.{CanDraw, IsHandedOver, OfEach, by_anew, by_doubt, by_filing, by_made, by_restart, by_stock, pending_stays}
 use Rattle.hall.proofs.Cancels.{CanBeCancelled, unclaimed}
 use Rattle.hall.proofs.Claims.{found_all, held_for, orders_marked, orders_posted, orders_recorded, orders_with, orders_without, outside_more}
 use Rattle.hall.proofs.Drawn.{AreRightIn, CommitsNone, drawn_back, drawn_buffered, drawn_entered, drawn_left, drawn_marked, drawn_numbered, drawn_plain, drawn_raised, drawn_recorded, drawn_stocked, marks_marked, marks_recorded, named_filter, named_push, named_with, post_commits_none}
@@ -65,7 +65,7 @@ use Rattle.hall.proofs.Heard.{all_waiting, apart_from_waiting, numbers_leave, st
 use Rattle.hall.proofs.LockLists.{allowed, Allows, asked_allows, converted_allows}
 use Rattle.hall.proofs.Owned.{owned_back, owned_beside, owned_by_none, owned_entered, owned_freed, owned_left, owned_locks, owned_next, owned_recorded}
 use Rattle.hall.proofs.Resubmissions.{readmitted_is, table_in}
-use Rattle.hall.proofs.Restarts.{killed_steady, restart_lands, restarted_few, restarted_steady}
+use Rattle.hall.proofs.Restarts.{killed_steady, over_steady, restart_lands, restarted_few, restarted_steady}
 use Rattle.hall.proofs.Users.{every_conversion, every_freed, every_freed_owner, every_granted, every_handed, every_of, known_dialogue, known_update, one_number, only_dialogue, only_update}
 
 young_more : (n m : ℕ) (xs : List Session) → n ≤ m → AllByRecursion (IsYoung n) xs → AllByRecursion (IsYoung m) xs
@@ -642,6 +642,36 @@ killed-holds n s up h =
     let few = few_more n s h.few in
     record { few = record { sessions = few.sessions; units = few.units }; steady = killed_steady s up h.steady }
 
+over-holds : (n : ℕ) (s : State) (list : List Entry) → IsHandedOver s list → Holds n s → Holds (n + 1) (followed_over list s)
+over-holds n s list can h =
+    let few = few_more n s h.few in
+    record { few = record { sessions = few.sessions; units = few.units }; steady = over_steady s list can h.steady }
+
+-- a replica follows, or none
+following-holds : (n : ℕ) (s : State) (follows : Bool) → Holds n s → Holds n (record s { attached = follows })
+following-holds n s follows h =
+    let few = h.few in
+    let steady = h.steady in
+    record {
+      few = record { sessions = few.sessions; units = few.units };
+      steady = record {
+        started = steady.started;
+        limited = steady.limited;
+        locks_fit = steady.locks_fit;
+        named = steady.named;
+        drawn = steady.drawn;
+        marked = steady.marked;
+        settled = steady.settled;
+        unknown = steady.unknown;
+        unfailed = steady.unfailed;
+        known = steady.known;
+        fresh = record { numbered = steady.fresh.numbered; ahead = steady.fresh.ahead; later = steady.fresh.later };
+        places = steady.places;
+        orders = steady.orders;
+        owned = steady.owned;
+      };
+    }
+
 restarted-holds : (n : ℕ) (taken : Bool) (s : State) → HasLanding s (stored_anew taken s.stored s.pending) → Holds n s → Holds (n + 1) (restarted taken s)
 restarted-holds n taken s landing h = record { few = restarted_few n taken s h.few; steady = restarted_steady taken s h.steady landing }
 
@@ -675,6 +705,9 @@ each-holds n found s sound landing unread h = record {
       marked-holds n part s worker unit (kind_for part (found.part part unit)) (post_commits_none part (found.part part unit)) e unread h;
   drops = λ worker unit e may. dropped-holds n s worker h;
   kills = λ up may. killed-holds n s up h;
+  fails_over = λ list can may. over-holds n s list can h;
+  strays = λ first second none may. following-holds (n + 1) s false (holds_more n s h);
+  attaches = λ up may. following-holds (n + 1) s true (holds_more n s h);
   restarts = λ off may. restarted-holds n (is_taken found.anew) s landing h;
   cancels = λ unit status can may. cancelled-holds n s unit status can unread h;
   reopens = λ unit es here stand may. reopened-holds n s unit es here (back-owned s unit es sound.stored stand h.steady.owned) unread h;
@@ -815,6 +848,7 @@ read_known AsKnown s call may h = h
 read_known (Comes outcome) s call may h = h
 read_known (Shows text) s call may h = h
 read_known (Reopens taken) s call may h = (may_find taken s call may).flight
+read_known (Hands list) s call may h = h
 
 failed_filing-holds : (n : ℕ) (reading : Reading) (s : State) (call : Call) → MayRead reading s call → Holds n s
     → Holds (n + 1) (unfiled s call (read_anew reading) (stored_before_file s call (call_verdict (found_by reading s) s call)))
@@ -842,12 +876,16 @@ ended-holds n Wanting reading s call may read sound units landing h = holds_more
 ended-holds n StoreFails reading s call may read sound units landing h =
     failing-holds n s call _ may (failing_known reading (found_by reading s) s call h.steady) h
 ended-holds n BackupFails reading s call may read sound units landing h = failed_filing-holds n reading s call read h
+ended-holds n LinkFails reading s call may read sound units landing h = following-holds (n + 1) s false (holds_more n s h)
 ended-holds n (NotRemade fault) reading s call may read sound units landing h =
     doubted-holds n s call (read_anew reading) s.pending (read_known reading s call read h.steady.known) h
 
 pub served-holds : (n : ℕ) (o : DeviceOutcome) (s : State) (c : Command) → IsAllowed o s c → HasSoundLocks s → HasOpenUnits s
     → OfPending s.pending (HasLanding s) → Holds n s → Holds (n + 1) (served o s c).state
-served-holds n o s c allowed sound units landing h = ended-holds n o.event o.reading s (call_of c) allowed.call allowed.possible.reading sound units landing h
+served-holds n o s c allowed sound units landing h =
+    let t = (ends_in o.event o.reading s (call_of c) (call_verdict (found_by o.reading s) s (call_of c))).state in
+    following-holds (n + 1) t (not o.lost && t.attached)
+    (ended-holds n o.event o.reading s (call_of c) allowed.call allowed.possible.reading sound units landing h)
 
 -- ---- the history
 

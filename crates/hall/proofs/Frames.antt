@@ -7,9 +7,9 @@ use Rattle.enq_base.specs.declared.condition.Condition.{Condition}
 use Rattle.enq_base.specs.declared.condition.Condition.TheVariants as condition
 use Rattle.enq_base.specs.declared.refusal.Refusal.TheVariants as refusal
 use Rattle.hall.specs.Acts.{IsAct, IsTelling}
-use Rattle.hall.specs.Calls.{Kills, Restarts, Cancels, Resubmits, Call, LogsOn, OfSession, OfWorker, OfAdmin, call_of, is_of_server, restarts}
-use Rattle.hall.specs.Devices.{DeviceOutcome, Event, AllWell, Wanting, StoreFails, BackupFails, NotRemade, MayFind, MayRead, found_by}
-use Rattle.hall.specs.Devices.{Reading, AsKnown, Comes, Shows, Reopens}
+use Rattle.hall.specs.Calls.{Kills, FailsOver, Restarts, Attaches, Cancels, Resubmits, Call, LogsOn, OfSession, OfWorker, OfAdmin, call_of, is_of_server, restarts}
+use Rattle.hall.specs.Devices.{DeviceOutcome, Event, AllWell, Wanting, StoreFails, BackupFails, LinkFails, NotRemade, MayFind, MayRead, found_by}
+use Rattle.hall.specs.Devices.{Reading, AsKnown, Comes, Shows, Reopens, Hands}
 use Rattle.hall.specs.History.{IsStep, Served, doubted, finds_flight, is_unrecorded, judged, noted, past_entry, pending_after, read_anew, served, step, takes_flight, with_entry, without_stock}
 use Rattle.hall.specs.Recall.{HasBegun}
 use Rattle.hall.specs.Numbers.{drawn, raised_to}
@@ -66,6 +66,9 @@ framed found s = record {
   posts = λ worker part unit e. record { mark_limit = refl; past = refl };
   drops = λ worker unit e. record { mark_limit = refl; past = refl };
   kills = λ up. record { mark_limit = refl; past = refl };
+  fails_over = λ list can. record { mark_limit = refl; past = refl };
+  strays = λ first second none. record { mark_limit = refl; past = refl };
+  attaches = λ up. record { mark_limit = refl; past = refl };
   restarts = λ off. record { mark_limit = refl; past = refl };
   cancels = λ unit status can. record { mark_limit = refl; past = refl };
   reopens = λ unit es here stand. record { mark_limit = refl; past = refl };
@@ -103,6 +106,9 @@ flights Q found s h none = record {
   posts = λ worker part unit e. h;
   drops = λ worker unit e. h;
   kills = λ up. h;
+  fails_over = λ list can. h;
+  strays = λ first second none. h;
+  attaches = λ up. h;
   restarts = λ off. none;
   cancels = λ unit status can. h;
   reopens = λ unit es here stand. h;
@@ -118,7 +124,7 @@ verdict_pending Q found s call h none = by_call (λ call v. Q (judged s v).state
 abbrev KeepsCondition : State → Call → Verdict → Type 0
 KeepsCondition s call v = is_of_server call ≡ false → (judged s v).state.condition ≡ s.condition
 
-pub drawn_condition : (s : State) (x : Session) (i : Interval) (number : ℕ) → (drawn s x i number).condition ≡ s.condition
+drawn_condition : (s : State) (x : Session) (i : Interval) (number : ℕ) → (drawn s x i number).condition ≡ s.condition
 drawn_condition s x i number =
     let t : State = record s { sessions = with_session x.name (with_draw (num_of i number)) s.sessions } in
     elim (is_buffered i) as (λ b. (if b then record t { ranges = handed_out i t.ranges; stored = raised_to i number t.stored } else t).condition ≡ s.condition) [ true ↦ refl | false ↦ refl ]
@@ -146,6 +152,9 @@ conditions found s = record {
   posts = λ worker part unit e off. refl;
   drops = λ worker unit e off. refl;
   kills = λ up off. of_server off;
+  fails_over = λ list can off. of_server off;
+  strays = λ first second none off. of_server off;
+  attaches = λ up off. refl;
   restarts = λ was off. of_server off;
   cancels = λ unit status can off. refl;
   reopens = λ unit es here stand off. refl;
@@ -179,6 +188,9 @@ doubts found s = record {
   posts = λ worker part unit e. inl refl;
   drops = λ worker unit e. inl refl;
   kills = λ up. inl (sym (ap doubt_in up));
+  fails_over = λ list can. inr refl;
+  strays = λ first second none. inl refl;
+  attaches = λ up. inl refl;
   restarts = λ off. inr refl;
   cancels = λ unit status can. inl refl;
   reopens = λ unit es here stand. inl refl;
@@ -189,7 +201,7 @@ pub verdict_doubt : (found : Found) (s : State) (call : Call) → EndsDoubt s ca
 verdict_doubt found s call = by_call (EndsDoubt s) found s (doubts found s) call
 
 pub served-past : (o : DeviceOutcome) (s : State) (c : Command) → (served o s c).state.past ≡ s.past
-served-past o s c = by_event (λ r. r.state.past ≡ s.past) o s c (λ found. (verdict_framed found s c).past) refl
+served-past o s c = by_event (λ r. r.state.past ≡ s.past) o s c (λ lost done same. same) (λ found. (verdict_framed found s c).past) refl refl
     (λ reading. by_stock (λ call t. t.past ≡ s.past) s (λ name parts stock. refl) (λ call. refl) (call_of c)) (λ reading. refl) (λ read r. refl)
 
 -- what leaves the server in doubt
@@ -198,6 +210,7 @@ leaves_doubt AllWell = false
 leaves_doubt Wanting = false
 leaves_doubt StoreFails = true
 leaves_doubt BackupFails = true
+leaves_doubt LinkFails = false
 leaves_doubt (NotRemade fault) = true
 
 -- the doubt stays as it was, or a restart ends it, or a device fails, or no lock server could be made anew
@@ -215,11 +228,12 @@ failing_past s call pending =
 
 served_becomes : (o : DeviceOutcome) (s : State) (c : Command) → Becomes (leaves_doubt o.event) s.condition (served o s c).state.condition
 served_becomes o s c =
-    elim o.event as (λ e. Becomes (leaves_doubt e) s.condition (served (record { event = e; reading = o.reading }) s c).state.condition) [
+    elim o.event as (λ e. Becomes (leaves_doubt e) s.condition (served (record { event = e; reading = o.reading; lost = o.lost }) s c).state.condition) [
       | AllWell ↦ stays_or_ends false _ _ (verdict_doubt _ s (call_of c))
       | Wanting ↦ inl refl
       | StoreFails ↦ inr (inr (refl, (length s.past, failing_past s (call_of c) (pending_after o.reading s (call_of c) (verdict (found_by o.reading s) s c)))))
       | BackupFails ↦ inr (inr (refl, (length s.past, refl)))
+      | LinkFails ↦ inl refl
       | NotRemade fault ↦ inr (inr (refl, (length s.past, refl)))
     ]
 
@@ -248,6 +262,8 @@ reads_anew taken s (LogsOn name user) off may = may
 reads_anew taken s (OfSession name call) off may = may
 reads_anew taken s (OfWorker worker call) off may = may
 reads_anew taken s (OfAdmin Kills) off may = may
+reads_anew taken s (OfAdmin FailsOver) off may = may
+reads_anew taken s (OfAdmin Attaches) off may = may
 reads_anew taken s (OfAdmin Restarts) off may = of_server off
 reads_anew taken s (OfAdmin (Cancels unit)) off may = may
 reads_anew taken s (OfAdmin (Resubmits unit)) off may = may
@@ -262,23 +278,26 @@ reads_none AsKnown s call off may = refl
 reads_none (Comes outcome) s call off may = refl
 reads_none (Shows text) s call off may = refl
 reads_none (Reopens taken) s call off may = absurd (reads_anew taken s call off may)
+reads_none (Hands list) s call off may = refl
 
 pub finds_none : (reading : Reading) (s : State) (call : Call) → restarts call ≡ false → MayRead reading s call → finds_flight reading ≡ false
 finds_none AsKnown s call off may = refl
 finds_none (Comes outcome) s call off may = refl
 finds_none (Shows text) s call off may = refl
 finds_none (Reopens taken) s call off may = absurd (reads_anew taken s call off may)
+finds_none (Hands list) s call off may = refl
 
 -- no other call takes the change in flight
 pub never_takes : (s : State) (c : Command) (after : State) (r : Reply) (act : IsAct s c after r) → restarts (call_of c) ≡ false
     → takes_flight act.outcome ≡ false
 never_takes s c after r act off =
     let o = act.outcome in
-    elim o.event as (λ e. takes_flight (record { event = e; reading = o.reading }) ≡ false) [
+    elim o.event as (λ e. takes_flight (record { event = e; reading = o.reading; lost = o.lost }) ≡ false) [
       | AllWell ↦ finds_none o.reading s (call_of c) off act.possible.reading
       | Wanting ↦ refl
       | StoreFails ↦ refl
       | BackupFails ↦ refl
+      | LinkFails ↦ refl
       | NotRemade fault ↦ refl
     ]
 

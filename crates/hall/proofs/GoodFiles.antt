@@ -1,7 +1,8 @@
 -- Where the devices tell what they have, no restart finds one that isn't good.
-use Rattle.std.proofs.Common.{◌≡◌, inl, inr, ℕ, Bool, true, false, List, [], ◌∷◌, ◌++◌, Some, IsTrue, refl, sym, ap, ◌∙◌, subst}
+use Rattle.std.proofs.Common.{◌≡◌, inl, inr, ℕ, Bool, true, false, List, [], ◌∷◌, ◌++◌, Some, refl, sym, ap, ◌∙◌, subst}
 use Rattle.std.specs.List.{All, AllByRecursion, slice_get}
 use Rattle.std.proofs.lemmas.List.Elements.{recursion_from_All}
+use Rattle.enq_base.specs.declared.condition.Bad.TheVariants as bad
 use Rattle.enq_base.specs.declared.condition.BackupBad.{BackupBad}
 use Rattle.enq_base.specs.declared.condition.BackupBad.TheVariants as backup
 use Rattle.enq_base.specs.declared.owner.UnitKey.{UnitKey}
@@ -21,7 +22,7 @@ use Rattle.lock_entry.specs.declared.entry.Entry.{Entry}
 use Rattle.lock_entry.specs.declared.entry.UnitLocks.{UnitLocks}
 use Rattle.hall.specs.Acts.{IsAct}
 use Rattle.hall.specs.Calls.{Call, call_of, restarts}
-use Rattle.hall.specs.Devices.{AllWell, BackupFails, MayHappen, NotRemade, StoreFails, Wanting, found_by}
+use Rattle.hall.specs.Devices.{AllWell, BackupFails, LinkFails, MayHappen, NotRemade, StoreFails, Wanting, found_by}
 use Rattle.hall.specs.History.{IsGiven, Served, judged, served}
 use Rattle.hall.specs.Remaking.{remake_refusal}
 use Rattle.hall.specs.State.{State}
@@ -48,11 +49,11 @@ none_missing lists units unit at agree m =
 
 -- no place of it is bad
 pub no_bad_place : (bytes : List ℕ) (units : List UnitLocks) (lists : List Handed) (place : BackupBad) → Stands bytes lists → All (Agrees lists) units → IsSound (joined units) → IsOpenFault bytes units (opening.Bad place) → ⊥
-no_bad_place bytes units lists (backup.Bytes at) stands agree sound bad = stands_unbroken grammar record_at record_reader bytes lists at stands bad
-no_bad_place bytes units lists (backup.Clash first second) stands agree sound bad = bad.2.unsound sound
-no_bad_place bytes units lists (backup.Missing unit at) stands agree sound bad =
-    let one : bad.0 ≡ lists = stands_once grammar record_at record_reader bytes bad.0 lists bad.1 stands in
-    none_missing lists units unit at (recursion_from_All (Agrees lists) units agree) (subst (λ l. IsMissing l units unit at) one bad.2)
+no_bad_place bytes units lists (backup.Bytes at) stands agree sound why = stands_unbroken grammar record_at record_reader bytes lists at stands why
+no_bad_place bytes units lists (backup.Clash first second) stands agree sound why = why.2.unsound sound
+no_bad_place bytes units lists (backup.Missing unit at) stands agree sound why =
+    let one : why.0 ≡ lists = stands_once grammar record_at record_reader bytes why.0 lists why.1 stands in
+    none_missing lists units unit at (recursion_from_All (Agrees lists) units agree) (subst (λ l. IsMissing l units unit at) one why.2)
 
 -- why no lock server is made anew, where what is read of the file stands for lists with which the units agree
 pub ready_sound : (bytes : List ℕ) (units : List UnitLocks) (lists : List Handed) (fault : OpenFault) (r : Refusal)
@@ -64,21 +65,25 @@ ready_sound bytes units lists (opening.Bad place) r is stands agree sound why = 
 
 -- ---- other calls
 
--- a device was read and isn't good
+-- a store or a backup file was read and isn't good
 abbrev pub is_unsound : Reply → Bool
-is_unsound (reply.Refused (refusal.Unsound found)) = true
+is_unsound (reply.Refused (refusal.Unsound (bad.Store table row))) = true
+is_unsound (reply.Refused (refusal.Unsound (bad.Backup place))) = true
 is_unsound r = false
 
 pub file_sound : (r : Reply) → is_unsound r ≡ false → is_unsound_file r ≡ false
-file_sound (reply.Refused (refusal.Unsound found)) own = absurd (cc)
+file_sound (reply.Refused (refusal.Unsound (bad.Store table row))) own = absurd (cc)
+file_sound (reply.Refused (refusal.Unsound (bad.Backup place))) own = absurd (cc)
 file_sound _ own = refl
 
 pub store_sound : (r : Reply) → is_unsound r ≡ false → is_unsound_store r ≡ false
-store_sound (reply.Refused (refusal.Unsound found)) own = absurd (cc)
+store_sound (reply.Refused (refusal.Unsound (bad.Store table row))) own = absurd (cc)
+store_sound (reply.Refused (refusal.Unsound (bad.Backup place))) own = absurd (cc)
 store_sound _ own = refl
 
 plain_sound : (r : Reply) → is_fault_reply r ≡ false → is_unsound r ≡ false
-plain_sound (reply.Refused (refusal.Unsound found)) own = absurd (cc)
+plain_sound (reply.Refused (refusal.Unsound (bad.Store table row))) own = absurd (cc)
+plain_sound (reply.Refused (refusal.Unsound (bad.Backup place))) own = absurd (cc)
 plain_sound _ own = refl
 
 -- only a restart may find a device that isn't good
@@ -86,11 +91,12 @@ pub others_sound : (s : State) (c : Command) (after : State) (r : Reply) → IsA
 others_sound s c after r act off =
     let o = act.outcome in
     let told : (served o s c).reply ≡ r = ap (λ (x : Served). x.reply) act.same in
-    elim o.event as (λ e. MayHappen e s (call_of c) (call_verdict (found_by o.reading s) s (call_of c)) → (served (record { event = e; reading = o.reading }) s c).reply ≡ r → is_unsound r ≡ false) [
+    elim o.event as (λ e. MayHappen e s (call_of c) (call_verdict (found_by o.reading s) s (call_of c)) → (served (record { event = e; reading = o.reading; lost = o.lost }) s c).reply ≡ r → is_unsound r ≡ false) [
       | AllWell ↦ λ may is. subst (λ x. is_unsound x ≡ false) is (plain_sound _ (verdict_answered (found_by o.reading s) s (call_of c)).own)
       | Wanting ↦ λ may is. sym (ap is_unsound is)
       | StoreFails ↦ λ may is. sym (ap is_unsound is)
       | BackupFails ↦ λ may is. sym (ap is_unsound is)
+      | LinkFails ↦ λ may is. sym (ap is_unsound is)
       | NotRemade fault ↦ λ may is. let odd : false ≡ true = sym off ∙ may.1 in absurd (cc)
     ] act.possible.event told
 

@@ -1,6 +1,6 @@
 -- With a change in flight there is a state in order; and so all that calls keep is kept by each of them.
 use Rattle.std.proofs.Common.{◌≡◌, ℕ, ◌+◌, ◌≤◌, Bool, true, false, cond, List, [], ◌∷◌, ◌++◌, length, refl, sym, ap, ◌∙◌, subst, arith}
-use Rattle.std.specs.Prelude.{◌||◌, if◌then◌else◌, nat_le, IsTrue, Option, Some, None}
+use Rattle.std.specs.Prelude.{◌&&◌, ◌||◌, if◌then◌else◌, nat_le, not, IsTrue, Option, Some, None}
 use Rattle.std.specs.List.{AllByRecursion}
 use Rattle.std.proofs.lemmas.Bool.{false≢true}
 use Rattle.std.proofs.lemmas.List.{length-append}
@@ -20,20 +20,20 @@ use Rattle.hall.specs.declared.command.PastEntry.{PastEntry}
 use Rattle.hall.specs.declared.command.Reply.{Reply}
 use Rattle.hall.specs.declared.command.Session.{Session}
 use Rattle.hall.specs.Acts.{IsAct}
-use Rattle.hall.specs.Calls.{Call, LogsOn, OfSession, OfWorker, OfAdmin, Kills, Restarts, Cancels, Resubmits, Takes, Posts, Drops, call_of, only_reads, restarts}
+use Rattle.hall.specs.Calls.{Call, LogsOn, OfSession, OfWorker, OfAdmin, Kills, FailsOver, Restarts, Attaches, Cancels, Resubmits, Takes, Posts, Drops, call_of, only_reads, restarts}
 use Rattle.hall.specs.Calls.{LogsOff, Asks, Frees, FreesAll, Converts, Draws, Reserves, Reads, Commits, RollsBack}
-use Rattle.hall.specs.Devices.{DeviceOutcome, Event, AllWell, Wanting, StoreFails, BackupFails, NotRemade, IsAllowed, MayHappen, Reading, found_by}
+use Rattle.hall.specs.Devices.{DeviceOutcome, Event, AllWell, Wanting, StoreFails, BackupFails, LinkFails, NotRemade, IsAllowed, MayHappen, Reading, found_by}
 use Rattle.hall.specs.History.{caller_behind, doubted, ends_in, is_unread, judged, pending_after, read_anew, served, step, stored_before_file, takes_flight, unfiled, with_entry, without_stock}
-use Rattle.hall.specs.Kept.{AreSameButCaller, HasFew, HasGoodLocks, HasLanding, HasOpenUnits, HasSoundLocks, IsKept, IsMovedOn, IsSteady, MayHaveMoved}
+use Rattle.hall.specs.Kept.{AreSameButCaller, HasFew, HasGoodLocks, HasLanding, HasOpenUnits, HasSoundLocks, IsKept, IsMovedOn, MayHaveMoved}
 use Rattle.hall.specs.Numbers.{drawn, next_number, raised_to, stocked}
 use Rattle.hall.specs.OpenUnits.{OfPending}
 use Rattle.hall.specs.Sessions.{is_called, session_at, with_draw, with_next_unit, with_session, without_draws}
 use Rattle.hall.specs.State.{State}
-use Rattle.hall.specs.Stocks.{IsStockIn, MayCall}
+use Rattle.hall.specs.Stocks.{MayCall}
 use Rattle.hall.specs.Step.{Found, Verdict, Refuses, Leaves, call_verdict, cancelled, committed, is_full, is_taken, leaves, marked, numbered, reopened, reposted, stored_anew}
 use Rattle.hall.proofs.ByCall.{CanDraw, OfEach, by_doubt, by_made, by_restart}
 use Rattle.hall.proofs.Fair.{over_table, served-sound, verdict-sound}
-use Rattle.hall.proofs.Few.{Holds, IsQuiet, below_limit, by_condition, each-holds, raises-holds, served-holds, stocked-holds, with_past}
+use Rattle.hall.proofs.Few.{Holds, below_limit, by_condition, each-holds, raises-holds, served-holds, stocked-holds, with_past}
 use Rattle.hall.proofs.Frames.{by_noting, served-past, verdict_pending}
 use Rattle.hall.proofs.Fresh.{found_name}
 use Rattle.hall.proofs.OpenKept.{StandTogether, served-open, verdict-together}
@@ -203,6 +203,9 @@ landings n found s sound anew unread h =
           refl refl refl refl (each.posts worker part unit e may) fair;
       drops = λ worker unit e may is fair pending. same_lands n s (OfWorker worker Drops) pending h fair;
       kills = λ up may is fair pending. same_lands n s (OfAdmin Kills) pending h fair;
+      fails_over = λ list can may is fair pending. same_lands n s (OfAdmin FailsOver) pending h fair;
+      strays = λ first second none may is fair pending. same_lands n s (OfAdmin FailsOver) pending h fair;
+      attaches = λ up may is fair pending. same_lands n s (OfAdmin Attaches) pending h fair;
       restarts = λ off may is fair pending. anew_doubted s pending (stored_anew (is_taken found.anew) s.stored s.pending) anew;
       cancels = λ unit status can may is fair pending.
           other_lands (n + 1) s (cancelled s unit status) (OfAdmin (Cancels unit)) pending refl refl refl refl (each.cancels unit status can may) fair;
@@ -253,6 +256,25 @@ reland s read changed h = record {
 
 unmade_lands : (s : State) (read : Option Bool) → LandsIn s → LandsIn (doubted s (OfAdmin Restarts) read s.pending)
 unmade_lands s read h = of_pending_more s.pending (HasLanding s) (HasLanding (doubted s (OfAdmin Restarts) read s.pending)) (reland s read) h
+
+-- ---- a replica that follows, or none
+
+relink : (s : State) (follows : Bool) (changed : Ledger) → HasLanding s changed → HasLanding (record s { attached = follows }) changed
+relink s follows changed h = record {
+  state = h.state;
+  stored = h.stored;
+  start = h.start;
+  ranges = h.ranges;
+  next = h.next;
+  sessions = h.sessions;
+  steady = h.steady;
+  units = h.units;
+  together = h.together;
+  fit = h.fit;
+}
+
+following_lands : (s : State) (follows : Bool) → LandsIn s → LandsIn (record s { attached = follows })
+following_lands s follows h = of_pending_more s.pending (HasLanding s) (HasLanding (record s { attached = follows })) (relink s follows) h
 
 -- ---- all that is kept, but for the length of the history
 
@@ -314,16 +336,18 @@ ended_lands n AllWell reading s call may happens h = done_lands n (found_by read
 ended_lands n Wanting reading s call may happens h = h.landing
 ended_lands n StoreFails reading s call may happens h = failing_lands n reading (found_by reading s) s call may h happens.0
 ended_lands n BackupFails reading s call may happens h = unfiled_lands n (read_anew reading) (found_by reading s) s call h happens.0
+ended_lands n LinkFails reading s call may happens h = following_lands s false h.landing
 ended_lands n (NotRemade fault) reading s call may happens h = remade_lands s call (read_anew reading) happens.1 h.landing
 
 pub served_all : (n : ℕ) (o : DeviceOutcome) (s : State) (c : Command) → IsAllowed o s c → HoldsAll n s → HoldsAll (n + 1) (served o s c).state
 served_all n o s c allowed h =
     let steady = h.holds.steady in
+    let t = (ends_in o.event o.reading s (call_of c) (call_verdict (found_by o.reading s) s (call_of c))).state in
     record {
       holds = served-holds n o s c allowed h.sound h.open_units h.landing h.holds;
       sound = served-sound o s c steady h.sound h.open_units h.landing;
       open_units = served-open o s c steady h.sound h.open_units h.landing;
-      landing = ended_lands n o.event o.reading s (call_of c) allowed.call allowed.possible.event h;
+      landing = following_lands t (not o.lost && t.attached) (ended_lands n o.event o.reading s (call_of c) allowed.call allowed.possible.event h);
     }
 
 -- ---- the history

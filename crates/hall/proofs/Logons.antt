@@ -146,6 +146,9 @@ keeps found s = record {
   posts = λ worker part unit e n off h. h;
   drops = λ worker unit e n off h. h;
   kills = λ up n off h. h;
+  fails_over = λ list can n off h. h;
+  strays = λ first second none n off h. h;
+  attaches = λ up n off h. h;
   restarts = λ was n off h.
       let start = s.stored.start in
       logged_map (bereft_if start s.gone s.failed_caller) (bereft_called start s.gone s.failed_caller) s.sessions n h;
@@ -161,7 +164,8 @@ failing_keeps s call n h = by_stock (λ c t. IsLoggedOn t.sessions n) s (λ name
 pub step_keeps : (o : DeviceOutcome) (s : State) (line : ℕ) (c : Command) → KeepsSessions s (call_of c) (step o s line c)
 step_keeps o s line c =
     let h =
-    by_event (KeepsSessions s (call_of c)) o s c (λ found. by_call (λ call v. KeepsSessions s call (judged s v)) found s (keeps found s) _) (λ n off k. k)
+    by_event (KeepsSessions s (call_of c)) o s c (λ lost done h. h) (λ found. by_call (λ call v. KeepsSessions s call (judged s v)) found s (keeps found s) _)
+    (λ n off k. k) (λ n off k. k)
     (λ reading n off k. failing_keeps s (call_of c) n k) (λ reading n off k. k) (λ read r n off k. k) in
     by_noting (KeepsSessions s (call_of c)) line c (takes_flight o) (served o s c) h h
 
@@ -209,6 +213,9 @@ enters found s = record {
   posts = λ worker part unit e. tt;
   drops = λ worker unit e. tt;
   kills = λ up. tt;
+  fails_over = λ list can. tt;
+  strays = λ first second none. tt;
+  attaches = λ up. tt;
   restarts = λ off. tt;
   cancels = λ unit status can. tt;
   reopens = λ unit es here stand. tt;
@@ -219,7 +226,8 @@ pub step_enters : (o : DeviceOutcome) (s : State) (line : ℕ) (name user : List
 step_enters o s line name user =
     let c = command.Logon name user in
     let k =
-    by_event (MayEnter s (call_of c)) o s c (λ found. by_call (λ call v. MayEnter s call (judged s v)) found s (enters found s) (call_of c)) tt
+    by_event (MayEnter s (call_of c)) o s c (λ lost done h. h)
+    (λ found. by_call (λ call v. MayEnter s call (judged s v)) found s (enters found s) (call_of c)) tt tt
     (λ reading. tt) (λ reading. tt) (λ read r. tt) in
     by_noting (MayEnter s (call_of c)) line c (takes_flight o) (served o s c) k k
 

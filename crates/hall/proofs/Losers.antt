@@ -7,7 +7,7 @@ use Rattle.hall.specs.declared.command.Command.{Command}
 use Rattle.hall.specs.declared.command.Reply.TheVariants as reply
 use Rattle.hall.specs.declared.command.Session.{Session}
 use Rattle.hall.specs.Calls.{OfSession, SessionCall, call_of, ends_unit}
-use Rattle.hall.specs.Devices.{AllWell, BackupFails, DeviceOutcome, MayHappen, NotRemade, StoreFails, Wanting, found_by}
+use Rattle.hall.specs.Devices.{AllWell, BackupFails, DeviceOutcome, LinkFails, MayHappen, NotRemade, StoreFails, Wanting, found_by}
 use Rattle.hall.specs.History.{judged, served, takes_flight}
 use Rattle.hall.specs.Losing.{LosersAreTold}
 use Rattle.hall.specs.Recall.{AreModelAnswers, Made, state_after}
@@ -40,11 +40,12 @@ refused_so : (o : DeviceOutcome) (s : State) (c : Command) (r : Refusal) → una
 refused_so o s c r shut =
     let v = call_verdict (found_by o.reading s) s (call_of c) in
     let is : v ≡ Refuses r = refused_verdict (found_by o.reading s) s (call_of c) r shut in
-    elim o.event as (λ e. MayHappen e s (call_of c) v → (served (record { event = e; reading = o.reading }) s c).reply ≡ reply.Refused r) [
+    elim o.event as (λ e. MayHappen e s (call_of c) v → (served (record { event = e; reading = o.reading; lost = o.lost }) s c).reply ≡ reply.Refused r) [
       | AllWell ↦ λ may. ap (λ w. (judged s w).reply) is
       | Wanting ↦ λ may. absurd (no_call (unavailable s (call_of c)) r shut may.0)
       | StoreFails ↦ λ may. absurd (leaves_none v r is may.0)
       | BackupFails ↦ λ may. absurd (leaves_none v r is may.0)
+      | LinkFails ↦ λ may. absurd (leaves_none v r is may.0)
       | NotRemade fault ↦ λ may. absurd (leaves_none v r is may.0)
     ]
 

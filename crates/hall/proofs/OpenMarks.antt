@@ -169,7 +169,7 @@ same_lists before after lists same h =
     })
 
 -- other levels
-pub levels_same : (ledger : Ledger) (levels : List StoredInterval) → SameOpen ledger (with_intervals levels ledger)
+levels_same : (ledger : Ledger) (levels : List StoredInterval) → SameOpen ledger (with_intervals levels ledger)
 levels_same ledger levels = record { units = refl; stays = λ unit waits. waits; was = λ unit waits. waits }
 
 -- another start

@@ -3,10 +3,10 @@ use Rattle.std.proofs.Common.{◌≡◌, ℕ, Bool, true, false, not, List, [], 
 use Rattle.std.specs.Prelude.{if◌then◌else◌, nat_eq, nat_le, ◌-◌, Option, Some, None, Ok}
 use Rattle.std.specs.List.{AllByRecursion, filter, find, list_all}
 use Rattle.std.specs.Option.{option_map_or}
+use Rattle.std.proofs.lemmas.Bool.{and_parts}
 use Rattle.std.proofs.lemmas.List.{append-nil}
 use Rattle.std.proofs.lemmas.List.Elements.{filter-append}
 use Rattle.enq_base.specs.Owners.{same_owner, same_unit}
-use Rattle.enq_base.specs.declared.condition.Condition.TheVariants.{Up}
 use Rattle.enq_base.specs.declared.owner.Owner.{Owner}
 use Rattle.enq_base.specs.declared.owner.Owner.TheVariants.{Dlg, Upd}
 use Rattle.enq_base.specs.declared.owner.UnitKey.{UnitKey}
@@ -15,6 +15,7 @@ use Rattle.enq_base.specs.declared.unit.Parts.{Parts}
 use Rattle.enq_base.specs.declared.unit.Reason.{Reason}
 use Rattle.enq_base.specs.declared.unit.Status.{Status}
 use Rattle.enq_base.specs.declared.unit.Status.TheVariants.{Open, Posted, Bad, Closed, Bad2 as BadSecond, Cancelled}
+use Rattle.enq_server.proofs.Replacing.{replacing_all, replacing_named}
 use Rattle.lock_entry.proofs.Naming.{same_owner-same}
 use Rattle.lock_entry.specs.Converting.{Conversion, conversion, converted, gives_way, turns}
 use Rattle.lock_entry.specs.Freeing.{flagged, freed, freed_owner, handed_over, lowered, without_optimistic}
@@ -56,12 +57,11 @@ use Rattle.hall.specs.Sessions.{owners_of, pair_of, unit_key, with_draw, with_se
 use Rattle.hall.specs.State.{State}
 use Rattle.hall.specs.Step.{Found, Verdict, committed, freed_all, handed_locks, is_taken, locks_behind, locks_without, lowered as names_lowered, numbered, stored_anew, unit_of}
 use Rattle.hall.proofs.Alike.{HaveOneStatus, with_others}
-use Rattle.hall.proofs.ByCall.{OfEach}
+use Rattle.hall.proofs.ByCall.{IsHandedOver, OfEach}
 use Rattle.hall.proofs.Claims.{held_for}
-use Rattle.hall.proofs.Frames.{drawn_condition}
 use Rattle.hall.proofs.Fresh.{open_unheard}
 use Rattle.hall.proofs.Heard.{apart_by, apart_by_status, marked_other, numbers_leave, recorded_open, recorded_other, status_in, status_marked}
-use Rattle.hall.proofs.LockLists.{allowed, asked_allows, converted_allows, filter_source}
+use Rattle.hall.proofs.LockLists.{all_among, allowed, asked_allows, converted_allows, filter_source, kept_filter}
 use Rattle.hall.proofs.OpenEntries.{first_held}
 use Rattle.hall.proofs.Owned.{every_at, every_by, may_be_readmitted, recorded_here, stored_firm, stored_owner}
 use Rattle.hall.proofs.OwnLocks.{IsOther, filter_all, halves_of_others, none_of_others, none_stay}
@@ -428,38 +428,56 @@ reopens-held : (s : State) (unit : UnitKey) (es : List Entry) → es ≡ freed_o
     → AllByRecursion HasGoodLocks s.stored.units → HoldsIn s → HoldsOpenUnits es (with_mark s.stored unit mark.Again1)
 reopens-held s unit es is good h = subst (λ xs. HoldsOpenUnits xs (with_mark s.stored unit mark.Again1)) (sym is) (reopened-held s.stored unit s.locks good h)
 
--- Each call that leaves a lock server keeps it.
+-- the handed locks of a list that may take the place of the table are those of the table
+followed-held : (s : State) (list : List Entry) → IsHandedOver s list → AllByRecursion HasGoodLocks s.stored.units → HoldsIn s → HoldsOpenUnits list s.stored
+followed-held s list can good h =
+    let firm : (unit : UnitKey) → IsOpenUnit s.stored unit → list_all is_firm (filter (is_of (Upd unit)) s.locks) ≡ true =
+    λ unit waits. subst (λ es. list_all is_firm es ≡ true) (sym (h.units unit waits)) (stored_firm s.stored.units unit good) in
+    let handed : (unit : UnitKey) → IsOpenUnit s.stored unit → AllByRecursion (λ (e : Entry). is_of (Upd unit) e ≡ true → e.handed ≡ true) s.locks =
+    λ unit waits.
+    every_by (λ (e : Entry). is_of (Upd unit) e ≡ true → e.handed ≡ true) s.locks
+    (λ e k own.
+    let its = filter (is_of (Upd unit)) s.locks in
+    (and_parts e.handed _ (all_among is_firm its e (firm unit waits) (kept_filter (is_of (Upd unit)) s.locks e own k))).0) in
+    record {
+      units = λ unit waits. replacing_named (is_of (Upd unit)) s.locks list can.replaces (handed unit waits) ∙ h.units unit waits;
+      handed = replacing_all (IsOpenIfHanded s.stored) s.locks list can.replaces h.handed;
+    }
+
+-- each call outside doubt keeps it
 abbrev pub HoldsAfter : State → Call → Verdict → Type 0
-HoldsAfter s call v = (judged s v).state.condition ≡ Up → HoldsOpenUnits (judged s v).state.locks (judged s v).state.stored
+HoldsAfter s call v = HoldsOpenUnits (judged s v).state.locks (judged s v).state.stored
 
 pub held_call : (found : Found) (s : State) → IsSteady s → HasSoundLocks s → HasLanding s (stored_anew (is_taken found.anew) s.stored s.pending)
-    → (s.condition ≡ Up → HoldsOpenUnits s.locks s.stored) → OfEach (HoldsAfter s) found s
+    → HoldsOpenUnits s.locks s.stored → OfEach (HoldsAfter s) found s
 held_call found s steady sound landing h = record {
-  refuses = λ call r plain up. h up;
-  enters = λ name user free up. h up;
-  logs_off = λ name x at up. freed-held s x (open_unheard s name x at steady.fresh) (h up);
-  grants = λ name x rs locks at e up. granted-held s x rs locks (open_unheard s name x at steady.fresh) e (h up);
-  lowers = λ name x rs at up. lowered-held s x rs (open_unheard s name x at steady.fresh) (h up);
-  frees = λ name x at up. freed-held s x (open_unheard s name x at steady.fresh) (h up);
-  converts = λ name x wanted c at e up. converted-held s x wanted c (open_unheard s name x at steady.fresh) sound.stored e (h up);
-  draws = λ name x object nr r at can up.
+  refuses = λ call r plain. h;
+  enters = λ name user free. h;
+  logs_off = λ name x at. freed-held s x (open_unheard s name x at steady.fresh) h;
+  grants = λ name x rs locks at e. granted-held s x rs locks (open_unheard s name x at steady.fresh) e h;
+  lowers = λ name x rs at. lowered-held s x rs (open_unheard s name x at steady.fresh) h;
+  frees = λ name x at. freed-held s x (open_unheard s name x at steady.fresh) h;
+  converts = λ name x wanted c at e. converted-held s x wanted c (open_unheard s name x at steady.fresh) sound.stored e h;
+  draws = λ name x object nr r at can.
       let i = present s.stored.levels r.interval in
-      let number = next_number r i x in
-      drawn-held s x i number (h (sym (drawn_condition s x i number) ∙ up));
-  reserves = λ name x object nr upto r at can up. raised-held s.stored (present s.stored.levels r.interval) upto s.locks (h up);
-  reads = λ name x table key at up. h up;
-  commits_nothing = λ name x parts stock at up. h up;
-  commits_numbers = λ name x parts stock at up. numbered-held s x (x.draws ++ stock) (h up);
-  commits = λ name x parts stock at up.
-      let new = open_unheard s name x at steady.fresh in committed-held s x parts (x.draws ++ stock) new (steady.marked (unit_key s.stored.start x) new) (h up);
-  rolls_back = λ name x at up. update-held s x s.locks (open_unheard s name x at steady.fresh) (h up);
-  takes = λ worker part unit free e up. h up;
-  posts = λ worker part unit e up. posted-held part s.stored unit (found.part part unit) s.locks (held_for part s.stored (order_of s.orders worker) unit e).1 (h up);
-  drops = λ worker unit e up. h up;
-  kills = λ was up. absurd (cc);
-  restarts = λ off up. first_held (stored_anew (is_taken found.anew) s.stored s.pending) landing.units;
-  cancels = λ unit status can up. cancelled-held s.stored unit status s.locks can.recorded (h up);
-  reopens = λ unit es here stand up.
-      reopens-held s unit es (readmitted_is (table_in s) (owners_of unit) (entries_of s.stored.units unit) es stand) sound.stored (h up);
-  reposts = λ unit here up. unopened-held s.stored unit mark.Again2 BadSecond s.locks here (λ e. cc) again2-ends (h up);
+      drawn-held s x i (next_number r i x) h;
+  reserves = λ name x object nr upto r at can. raised-held s.stored (present s.stored.levels r.interval) upto s.locks h;
+  reads = λ name x table key at. h;
+  commits_nothing = λ name x parts stock at. h;
+  commits_numbers = λ name x parts stock at. numbered-held s x (x.draws ++ stock) h;
+  commits = λ name x parts stock at.
+      let new = open_unheard s name x at steady.fresh in committed-held s x parts (x.draws ++ stock) new (steady.marked (unit_key s.stored.start x) new) h;
+  rolls_back = λ name x at. update-held s x s.locks (open_unheard s name x at steady.fresh) h;
+  takes = λ worker part unit free e. h;
+  posts = λ worker part unit e. posted-held part s.stored unit (found.part part unit) s.locks (held_for part s.stored (order_of s.orders worker) unit e).1 h;
+  drops = λ worker unit e. h;
+  kills = λ up. h;
+  fails_over = λ list can. followed-held s list can sound.stored h;
+  strays = λ first second none. h;
+  attaches = λ up. h;
+  restarts = λ off. first_held (stored_anew (is_taken found.anew) s.stored s.pending) landing.units;
+  cancels = λ unit status can. cancelled-held s.stored unit status s.locks can.recorded h;
+  reopens = λ unit es here stand.
+      reopens-held s unit es (readmitted_is (table_in s) (owners_of unit) (entries_of s.stored.units unit) es stand) sound.stored h;
+  reposts = λ unit here. unopened-held s.stored unit mark.Again2 BadSecond s.locks here (λ e. cc) again2-ends h;
 }

@@ -10,6 +10,7 @@ abbrev pub is_fault : Refusal → Bool
 is_fault refusal.NoMemory = true
 is_fault refusal.StoreFault = true
 is_fault refusal.BackupFault = true
+is_fault refusal.LinkFault = true
 is_fault (refusal.Unsound found) = true
 is_fault _ = false
 

@@ -1,23 +1,22 @@
 -- A lock server that is made anew over what was read, or that isn't since its backup file isn't.
-use Rattle.std.proofs.Common.{◌≡◌, ◌⊎◌, inl, ℕ, Bool, true, false, List, length, map, replicate, refl, sym, ap, ◌∙◌, subst}
-use Rattle.std.specs.Prelude.{Option, Some, None, IfSome, IsSomeAnd, IsTrue, is_some}
+use Rattle.std.proofs.Common.{◌≡◌, ◌⊎◌, inl, ℕ, Bool, true, false, refl, sym, ap, subst}
+use Rattle.std.specs.Prelude.{Option, Some, None, IfSome}
 use Rattle.std.specs.Option.{option_map}
 use Rattle.enq_base.specs.declared.condition.Condition.{Condition}
 use Rattle.enq_base.specs.declared.condition.Condition.TheVariants as condition
-use Rattle.keeper_api.specs.Keeping.{IsOnly, IsWithin}
+use Rattle.keeper_api.specs.Keeping.{IsOnly}
 use Rattle.keeper_api.specs.Rows.{Rows}
 use Rattle.posting.specs.Settling.{FoundAnew}
 use Rattle.posting.specs.Shelf.{IsUsable, Shelf}
 use Rattle.posting.specs.Steps.{after_step}
 use Rattle.update_records.specs.Ledger.{Ledger, StandFor}
-use Rattle.hall.specs.Devices.{IsAsBefore, is_doubt}
-use Rattle.hall.specs.Kept.{IsInFlight, OutsideDoubt}
+use Rattle.hall.specs.Devices.{is_doubt}
+use Rattle.hall.specs.Kept.{OutsideDoubt}
 use Rattle.hall.specs.OpenUnits.{OfPending}
 use Rattle.hall.specs.Remaking.{IsReadAs, IsUsableAs, LeavesKnown, flight_over, ledger_read, taken_in, taken_read}
 use Rattle.hall.specs.Serving.{DoesStore, MayReread}
 use Rattle.hall.specs.State.{State}
 use Rattle.hall.specs.Step.{is_taken, stored_anew}
-use Rattle.hall.specs.declared.command.Reply.TheVariants as reply
 use Rattle.hall.specs.declared.units.Failure.{Failure}
 use Rattle.hall.proofs.Leaves.{answered_leaves}
 use Rattle.hall.proofs.Remakes.{IsReadRight}

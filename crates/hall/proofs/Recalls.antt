@@ -4,7 +4,8 @@ use Rattle.std.specs.Prelude.{if◌then◌else◌}
 use Rattle.std.proofs.lemmas.List.{append-nil, map-append}
 use Rattle.std.proofs.lemmas.List.Sums.{fold-append}
 use Rattle.hall.specs.declared.command.Command.{Command}
-use Rattle.hall.specs.Devices.{DeviceOutcome, IsAllowed}
+use Rattle.hall.specs.Calls.{call_of}
+use Rattle.hall.specs.Devices.{DeviceOutcome, IsAllowed, MayLose}
 use Rattle.hall.specs.History.{Served, after_of, is_unrecorded, past_entry, served, step, takes_flight, with_entry}
 use Rattle.hall.specs.Recall.{AreModelAnswers, IsModelAnswer, Made, calls_of, recalled, state_after}
 use Rattle.hall.specs.State.{State}
@@ -57,11 +58,12 @@ told_noted first s o line c h allowed on =
       state = sym leads;
     }
 
-told_unnoted : (first s : State) (o : DeviceOutcome) (line : ℕ) (c : Command) → IsTold first s → is_unrecorded (served o s c).reply ≡ true → IsTold first (step o s line c).state
-told_unnoted first s o line c h off =
+told_unnoted : (first s : State) (o : DeviceOutcome) (line : ℕ) (c : Command) → IsTold first s → MayLose o.lost s (call_of c)
+    → is_unrecorded (served o s c).reply ≡ true → IsTold first (step o s line c).state
+told_unnoted first s o line c h lost off =
     let r : Served = served o s c in
     let stepped : step o s line c ≡ r = ap (λ b. if b then r else record r { state = with_entry line c (takes_flight o) r }) off in
-    subst (λ x. IsTold first x) (sym (ap (λ x. x.state) stepped ∙ unnoted_same o s c off)) h
+    subst (λ x. IsTold first x) (sym (ap (λ x. x.state) stepped ∙ unnoted_same o s c lost off)) h
 
 either : (P : Type 0) (b : Bool) → (b ≡ true → P) → (b ≡ false → P) → P
 either P true f g = f refl
@@ -69,7 +71,7 @@ either P false f g = g refl
 
 pub told_step : (first s : State) (o : DeviceOutcome) (line : ℕ) (c : Command) → IsTold first s → IsAllowed o s c → IsTold first (step o s line c).state
 told_step first s o line c h allowed =
-    either _ (is_unrecorded (served o s c).reply) (told_unnoted first s o line c h) (told_noted first s o line c h allowed)
+    either _ (is_unrecorded (served o s c).reply) (told_unnoted first s o line c h allowed.possible.lost) (told_noted first s o line c h allowed)
 
 pub told-answers : (first s : State) (h : IsTold first s) → AreModelAnswers first h.made
 told-answers first s h earlier later m e = answer_at first earlier later m (subst (λ ms. AnswersFrom first ms) e h.answers)

@@ -68,7 +68,7 @@ pub restarts_up : (s : State) (k : Condition) → s.condition ≡ k → k ≡ co
     → IsTelling s command.Restart false s (reply.Refused refusal.ServerUp)
 restarts_up s k is up free =
     let v = admitted (found_in s) s command.Restart free ∙ comes_to (found_in s) s condition.Up (is ∙ up) in
-    record { act = record { outcome = all_well; possible = record { reading = tt; event = tt }; same = ap (judged s) v }; taken = refl }
+    record { act = record { outcome = all_well; possible = record { reading = tt; event = tt; lost = tt }; same = ap (judged s) v }; taken = refl }
 
 -- where it isn't, the call is done if the devices do well
 module _ (s : State) (k : Condition) (is : s.condition ≡ k) (down : k ≡ condition.Up → ⊥) (free : Admits s command.Restart) where
@@ -83,7 +83,7 @@ module _ (s : State) (k : Condition) (is : s.condition ≡ k) (down : k ≡ cond
 
   pub restart_wanting : Tells false s (reply.Refused refusal.NoMemory)
   restart_wanting = record {
-    act = record { outcome = only Wanting; possible = record { reading = tt; event = (free.served, leaves_so AsKnown) }; same = refl };
+    act = record { outcome = only Wanting; possible = record { reading = tt; event = (free.served, leaves_so AsKnown); lost = tt }; same = refl };
     taken = refl;
   }
 
@@ -109,8 +109,8 @@ module _ (s : State) (k : Condition) (is : s.condition ≡ k) (down : k ≡ cond
   in_vain : (fault : RemakeFault) (read : Option Bool) → MayHaveRead read → Tells false (doubted s (OfAdmin Restarts) read s.pending) (reply.Refused (fault_told fault))
   in_vain fault read may = record {
     act = record {
-      outcome = record { event = NotRemade fault; reading = reading_of read };
-      possible = record { reading = may_read read may; event = (leaves_so (reading_of read), refl) };
+      outcome = record { event = NotRemade fault; reading = reading_of read; lost = false };
+      possible = record { reading = may_read read may; event = (leaves_so (reading_of read), refl); lost = tt };
       same = ap (λ b. refused (doubted s (OfAdmin Restarts) b s.pending) (fault_told fault)) (reads_it read);
     };
     taken = refl;
@@ -120,8 +120,8 @@ module _ (s : State) (k : Condition) (is : s.condition ≡ k) (down : k ≡ cond
   unfiled_so : (read : Option Bool) → MayHaveRead read → Tells false (doubted s (OfAdmin Restarts) read s.pending) (reply.Refused refusal.BackupFault)
   unfiled_so read may = record {
     act = record {
-      outcome = record { event = BackupFails; reading = reading_of read };
-      possible = record { reading = may_read read may; event = (leaves_so (reading_of read), refl) };
+      outcome = record { event = BackupFails; reading = reading_of read; lost = false };
+      possible = record { reading = may_read read may; event = (leaves_so (reading_of read), refl); lost = tt };
       same = ap (λ v. refused (unfiled s (OfAdmin Restarts) (read_anew (reading_of read)) (stored_before_file s (OfAdmin Restarts) v)) refusal.BackupFault) (given (found_by (reading_of read) s))
           ∙ ap (λ b. refused (doubted s (OfAdmin Restarts) b s.pending) refusal.BackupFault) (reads_it read);
     };
@@ -133,7 +133,7 @@ module _ (s : State) (k : Condition) (is : s.condition ≡ k) (down : k ≡ cond
   unread_so doubt = record {
     act = record {
       outcome = only StoreFails;
-      possible = record { reading = tt; event = (leaves_so AsKnown, ap is_doubt is ∙ doubt) };
+      possible = record { reading = tt; event = (leaves_so AsKnown, ap is_doubt is ∙ doubt); lost = tt };
       same = ap (λ v. refused (doubted s (OfAdmin Restarts) None (pending_after AsKnown s (OfAdmin Restarts) v)) refusal.StoreFault) (given (found_in s));
     };
     taken = refl;
@@ -166,13 +166,13 @@ module _ (s : State) (k : Condition) (is : s.condition ≡ k) (down : k ≡ cond
 
   made_of : (read : Option Bool) → MayHaveRead read → Tells (is_taken read) (restarted (is_taken read) s) reply.Done
   made_of None may = record {
-    act = record { outcome = all_well; possible = record { reading = tt; event = tt }; same = ap (judged s) (given (found_in s)) };
+    act = record { outcome = all_well; possible = record { reading = tt; event = tt; lost = tt }; same = ap (judged s) (given (found_in s)) };
     taken = refl;
   }
   made_of (Some taken) may = record {
     act = record {
-      outcome = record { event = AllWell; reading = Reopens taken };
-      possible = record { reading = may; event = tt };
+      outcome = record { event = AllWell; reading = Reopens taken; lost = false };
+      possible = record { reading = may; event = tt; lost = tt };
       same = ap (judged s) (given (found_by (Reopens taken) s));
     };
     taken = refl;
@@ -207,6 +207,7 @@ module _ (s : State) (k : Condition) (is : s.condition ≡ k) (down : k ≡ cond
         orders = sym h.idle i;
         locks = (new i).entries;
         limit = (new i).limit;
+        attached = false;
         stored = sym h.stored i;
         pending = None;
         found = None;

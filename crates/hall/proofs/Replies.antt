@@ -1,15 +1,17 @@
 -- How calls are answered.
 use Rattle.std.proofs.Common.{◌≡◌, inl, inr, ℕ, Bool, true, false, refl, sym, ap, ◌∙◌, subst}
-use Rattle.std.specs.Prelude.{if◌then◌else◌, nat_eq, IsTrue, Some, None}
+use Rattle.std.specs.Prelude.{◌&&◌, not, if◌then◌else◌, nat_eq, IsTrue, Some, None}
 use Rattle.enq_base.specs.declared.owner.UnitKey.{UnitKey}
+use Rattle.enq_base.specs.declared.condition.Bad.TheVariants as bad
+use Rattle.enq_base.specs.declared.refusal.Refusal.{Refusal}
 use Rattle.enq_base.specs.declared.refusal.Refusal.TheVariants as refusal
 use Rattle.posting.specs.declared.prepared.Outcome.{Outcome}
 use Rattle.posting.specs.declared.prepared.Outcome.TheVariants as outcome
 use Rattle.hall.specs.Acts.{IsAct, IsTelling}
 use Rattle.hall.specs.Calls.{Call, call_of, restarts}
-use Rattle.hall.specs.Devices.{DeviceOutcome, Event, AllWell, Wanting, StoreFails, BackupFails, NotRemade, RemakeFault, MeetsWant, FindsBad, FindsBadStore, MayHappen, fault_told, found_by, is_file_failure, is_store_failure, may_want, uses_file, uses_store}
+use Rattle.hall.specs.Devices.{DeviceOutcome, Event, AllWell, Wanting, StoreFails, BackupFails, LinkFails, NotRemade, RemakeFault, MeetsWant, FindsBad, FindsBadStore, MayHappen, fault_told, found_by, is_file_failure, is_store_failure, may_want, MayLose, ShipsTo, uses_file, uses_store}
 use Rattle.hall.specs.Filing.{HasFileCause}
-use Rattle.hall.specs.History.{IsGiven, Served, is_row, is_unrecorded, judged, served, step, takes_flight}
+use Rattle.hall.specs.History.{IsGiven, Served, ends_in, is_row, is_unrecorded, judged, losing, served, step, takes_flight}
 use Rattle.hall.specs.Leaving.{HasCounted, HasStoreCause}
 use Rattle.hall.specs.State.{State}
 use Rattle.hall.specs.Step.{Found, Verdict, Leaves, call_verdict, own_verdict, posted_reply, unavailable, unless_refused, verdict}
@@ -18,11 +20,18 @@ use Rattle.hall.specs.declared.command.Reply.{Reply}
 use Rattle.hall.specs.declared.command.Reply.TheVariants as reply
 use Rattle.hall.proofs.ByCall.{OfEach, by_call}
 use Rattle.hall.proofs.Frames.{by_noting, finds_none}
-use Rattle.hall.proofs.Plain.{is_fault}
+use Rattle.hall.proofs.Noted.{ships_noted}
+use Rattle.hall.proofs.Plain.{IsPlain, is_fault}
 
+-- a failure of store or disk is told, or what they have, or want of memory
 abbrev pub is_fault_reply : Reply → Bool
+is_fault_reply (reply.Refused (refusal.Unsound (bad.Replica first second))) = false
 is_fault_reply (reply.Refused r) = is_fault r
 is_fault_reply _ = false
+
+plain_reply : (r : Refusal) → IsPlain r → is_fault_reply (reply.Refused r) ≡ false
+plain_reply (refusal.Unsound (bad.Replica first second)) plain = refl
+plain_reply r plain = plain
 
 -- an answer that tells no failure, is noted, and has no text
 record IsPlainReply (r : Reply) : Type 0 where
@@ -64,7 +73,7 @@ posted part unit (outcome.Refused index reason) =
 
 answered : (found : Found) (s : State) → OfEach (IsAnswered s) found s
 answered found s = record {
-  refuses = λ call r plain. record { own = plain; quiet = λ e. refl; row = λ e. absurd (never false refl e) };
+  refuses = λ call r plain. record { own = plain_reply r plain; quiet = λ e. refl; row = λ e. absurd (never false refl e) };
   enters = λ name user free. plainly s _ _ _ done;
   logs_off = λ name x at. plainly s _ _ _ done;
   grants = λ name x rs locks at e. plainly s _ _ _ done;
@@ -82,6 +91,9 @@ answered found s = record {
   posts = λ worker part unit e. plainly s _ _ _ (posted part unit (found.part part unit));
   drops = λ worker unit e. plainly s _ _ _ (of_unit unit);
   kills = λ up. plainly s _ _ _ done;
+  fails_over = λ list can. plainly s _ _ _ done;
+  strays = λ first second none. plainly s _ _ _ (record { own = refl; noted = refl; no_row = refl });
+  attaches = λ up. plainly s _ _ _ done;
   restarts = λ off. plainly s _ _ _ done;
   cancels = λ unit status can. plainly s _ _ _ (of_unit unit);
   reopens = λ unit es here stand. plainly s _ _ _ (of_unit unit);
@@ -99,16 +111,42 @@ told_noted MeetsWant = refl
 told_noted (FindsBad place) = refl
 told_noted (FindsBadStore table row) = refl
 
+-- what a call comes to, apart from the replica
+abbrev ending : DeviceOutcome → State → Command → Served
+ending o s c = ends_in o.event o.reading s (call_of c) (call_verdict (found_by o.reading s) s (call_of c))
+
 -- a call that isn't noted changes nothing
-pub unnoted_same : (o : DeviceOutcome) (s : State) (c : Command) → is_unrecorded (served o s c).reply ≡ true → (served o s c).state ≡ s
-unnoted_same o s c =
-    elim o.event as (λ e. is_unrecorded (served (record { event = e; reading = o.reading }) s c).reply ≡ true → (served (record { event = e; reading = o.reading }) s c).state ≡ s) [
+unlost_same : (o : DeviceOutcome) (s : State) (c : Command) → is_unrecorded (ending o s c).reply ≡ true → (ending o s c).state ≡ s
+unlost_same o s c =
+    elim o.event as (λ e. is_unrecorded (ends_in e o.reading s (call_of c) (call_verdict (found_by o.reading s) s (call_of c))).reply ≡ true
+    → (ends_in e o.reading s (call_of c) (call_verdict (found_by o.reading s) s (call_of c))).state ≡ s) [
       | AllWell ↦ (verdict_answered _ s _).quiet
       | Wanting ↦ λ e. refl
       | StoreFails ↦ λ e. absurd (never false refl e)
       | BackupFails ↦ λ e. absurd (never false refl e)
+      | LinkFails ↦ λ e. absurd (never false refl e)
       | NotRemade fault ↦ λ e. absurd (never _ (told_noted fault) e)
     ]
+
+-- and one that may lose the replica is noted
+ships_on : (o : DeviceOutcome) (s : State) (c : Command) → ShipsTo s (call_of c) → is_unrecorded (ending o s c).reply ≡ false
+ships_on o s c may =
+    elim o.event as (λ e. is_unrecorded (ends_in e o.reading s (call_of c) (call_verdict (found_by o.reading s) s (call_of c))).reply ≡ false) [
+      | AllWell ↦ ships_noted (found_by o.reading s) s (call_of c) may.served may.ships
+      | Wanting ↦ refl
+      | StoreFails ↦ refl
+      | BackupFails ↦ refl
+      | LinkFails ↦ refl
+      | NotRemade fault ↦ told_noted fault
+    ]
+
+lost_same : (lost : Bool) (o : DeviceOutcome) (s : State) (c : Command) → MayLose lost s (call_of c) → is_unrecorded (ending o s c).reply ≡ true
+    → (losing lost (ending o s c)).state ≡ s
+lost_same true o s c may e = absurd (never _ (ships_on o s c may) e)
+lost_same false o s c may e = unlost_same o s c e
+
+pub unnoted_same : (o : DeviceOutcome) (s : State) (c : Command) → MayLose o.lost s (call_of c) → is_unrecorded (served o s c).reply ≡ true → (served o s c).state ≡ s
+unnoted_same o s c may e = lost_same o.lost o s c may e
 
 abbrev IsStoreFault : Reply → Type 0
 IsStoreFault r = r ≡ reply.Refused refusal.StoreFault
@@ -122,6 +160,9 @@ not_wanting e = cc
 not_filing : IsStoreFault (reply.Refused refusal.BackupFault) → ⊥
 not_filing e = cc
 
+not_linking : IsStoreFault (reply.Refused refusal.LinkFault) → ⊥
+not_linking e = cc
+
 not_told : (fault : RemakeFault) → IsStoreFault (reply.Refused (fault_told fault)) → ⊥
 not_told MeetsWant e = cc
 not_told (FindsBad place) e = cc
@@ -131,11 +172,12 @@ not_told (FindsBadStore table row) e = cc
 pub fault_uses_store : (s : State) (c : Command) (after : State) → IsAct s c after (reply.Refused refusal.StoreFault) → IsTrue (uses_store s (call_of c))
 fault_uses_store s c after act =
     let o = act.outcome in
-    elim o.event as (λ e. MayHappen e s (call_of c) (call_verdict (found_by o.reading s) s (call_of c)) → IsStoreFault (served (record { event = e; reading = o.reading }) s c).reply → IsTrue (uses_store s (call_of c))) [
+    elim o.event as (λ e. MayHappen e s (call_of c) (call_verdict (found_by o.reading s) s (call_of c)) → IsStoreFault (served (record { event = e; reading = o.reading; lost = o.lost }) s c).reply → IsTrue (uses_store s (call_of c))) [
       | AllWell ↦ λ may is. absurd (no_fault _ (verdict_answered _ s _).own is)
       | Wanting ↦ λ may is. absurd (not_wanting is)
       | StoreFails ↦ λ may is. may.1
       | BackupFails ↦ λ may is. absurd (not_filing is)
+      | LinkFails ↦ λ may is. absurd (not_linking is)
       | NotRemade fault ↦ λ may is. absurd (not_told fault is)
     ] act.possible.event (ap (λ (r : Served). r.reply) act.same)
 
@@ -152,11 +194,12 @@ told_counts (FindsBadStore table row) f g h = h
 
 served_counts : (o : DeviceOutcome) (s : State) (c : Command) (f g : ℕ) → HasStoreCause f g (served o s c).reply → HasCounted (is_store_failure o.event) f g
 served_counts o s c f g =
-    elim o.event as (λ e. HasStoreCause f g (served (record { event = e; reading = o.reading }) s c).reply → HasCounted (is_store_failure e) f g) [
+    elim o.event as (λ e. HasStoreCause f g (served (record { event = e; reading = o.reading; lost = o.lost }) s c).reply → HasCounted (is_store_failure e) f g) [
       | AllWell ↦ λ h. plain_counts _ f g (verdict_answered _ s _).own h
       | Wanting ↦ λ h. h
       | StoreFails ↦ λ h. h
       | BackupFails ↦ λ h. h
+      | LinkFails ↦ λ h. h
       | NotRemade fault ↦ told_counts fault f g
     ]
 
@@ -179,11 +222,12 @@ told_file_counts (FindsBadStore table row) f g h = h
 
 served_file_counts : (o : DeviceOutcome) (s : State) (c : Command) (f g : ℕ) → HasFileCause f g (served o s c).reply → HasCounted (is_file_failure o.event) f g
 served_file_counts o s c f g =
-    elim o.event as (λ e. HasFileCause f g (served (record { event = e; reading = o.reading }) s c).reply → HasCounted (is_file_failure e) f g) [
+    elim o.event as (λ e. HasFileCause f g (served (record { event = e; reading = o.reading; lost = o.lost }) s c).reply → HasCounted (is_file_failure e) f g) [
       | AllWell ↦ λ h. plain_file_counts _ f g (verdict_answered _ s _).own h
       | Wanting ↦ λ h. h
       | StoreFails ↦ λ h. h
       | BackupFails ↦ λ h. h
+      | LinkFails ↦ λ h. h
       | NotRemade fault ↦ told_file_counts fault f g
     ]
 
@@ -205,6 +249,9 @@ file_not_wanting e = cc
 file_not_storing : IsFileFault (reply.Refused refusal.StoreFault) → ⊥
 file_not_storing e = cc
 
+file_not_linking : IsFileFault (reply.Refused refusal.LinkFault) → ⊥
+file_not_linking e = cc
+
 file_not_told : (fault : RemakeFault) → IsFileFault (reply.Refused (fault_told fault)) → ⊥
 file_not_told MeetsWant e = cc
 file_not_told (FindsBad place) e = cc
@@ -214,11 +261,12 @@ file_not_told (FindsBadStore table row) e = cc
 pub fault_uses_file : (s : State) (c : Command) (after : State) → IsAct s c after (reply.Refused refusal.BackupFault) → IsTrue (uses_file s (call_of c))
 fault_uses_file s c after act =
     let o = act.outcome in
-    elim o.event as (λ e. MayHappen e s (call_of c) (call_verdict (found_by o.reading s) s (call_of c)) → IsFileFault (served (record { event = e; reading = o.reading }) s c).reply → IsTrue (uses_file s (call_of c))) [
+    elim o.event as (λ e. MayHappen e s (call_of c) (call_verdict (found_by o.reading s) s (call_of c)) → IsFileFault (served (record { event = e; reading = o.reading; lost = o.lost }) s c).reply → IsTrue (uses_file s (call_of c))) [
       | AllWell ↦ λ may is. absurd (no_file_fault _ (verdict_answered _ s _).own is)
       | Wanting ↦ λ may is. absurd (file_not_wanting is)
       | StoreFails ↦ λ may is. absurd (file_not_storing is)
       | BackupFails ↦ λ may is. may.1
+      | LinkFails ↦ λ may is. absurd (file_not_linking is)
       | NotRemade fault ↦ λ may is. absurd (file_not_told fault is)
     ] act.possible.event (ap (λ (r : Served). r.reply) act.same)
 
@@ -243,17 +291,19 @@ row_wanting s c taken after r row h =
     let act = h.act in
     let o = act.outcome in
     let wanting = reply.Refused refusal.NoMemory in
-    let by : Event → DeviceOutcome = λ e. record { event = e; reading = o.reading } in
+    let by : Event → DeviceOutcome = λ e. record { event = e; reading = o.reading; lost = o.lost } in
     elim o.event as (λ e. takes_flight (by e) ≡ taken → served (by e) s c ≡ record { state = after; reply = r } → IsTelling s c taken after wanting) [
       | AllWell ↦ λ takes same.
           let found = found_by o.reading s in
           let is : is_row (judged s (verdict found s c)).reply ≡ true = row_of _ _ same row in
           let told = (verdict_answered found s (call_of c)).row is in
-          let stays : s ≡ after = sym told.0 ∙ ap (λ (x : Served). x.state) same in
+          let served_so = available s (call_of c) found is in
+          let stays : record s { attached = not o.lost && s.attached } ≡ after =
+          ap (λ (t : State). record t { attached = not o.lost && t.attached }) (sym told.0) ∙ ap (λ (x : Served). x.state) same in
           subst (λ t. IsTelling s c taken t wanting) stays (record {
             act = record {
-              outcome = record { event = Wanting; reading = o.reading };
-              possible = record { reading = act.possible.reading; event = (available s (call_of c) found is, told.1) };
+              outcome = record { event = Wanting; reading = o.reading; lost = o.lost };
+              possible = record { reading = act.possible.reading; event = (served_so, told.1); lost = act.possible.lost };
               same = refl;
             };
             taken = sym (finds_none o.reading s (call_of c) told.2 act.possible.reading) ∙ takes;
@@ -261,6 +311,7 @@ row_wanting s c taken after r row h =
       | Wanting ↦ λ takes same. absurd (never false refl (row_of _ _ same row))
       | StoreFails ↦ λ takes same. absurd (never false refl (row_of _ _ same row))
       | BackupFails ↦ λ takes same. absurd (never false refl (row_of _ _ same row))
+      | LinkFails ↦ λ takes same. absurd (never false refl (row_of _ _ same row))
       | NotRemade fault ↦ λ takes same. absurd (never false refl (row_of _ _ same row))
     ] h.taken act.same
 

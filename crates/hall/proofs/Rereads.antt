@@ -1,22 +1,20 @@
 -- A store that is read anew in doubt: what it has, and why it isn't read.
-use Rattle.std.proofs.Common.{◌≡◌, ◌⊎◌, inl, inr, ℕ, Bool, true, false, not, refl, sym, ap, ◌∙◌, subst, ⊎_elim}
+use Rattle.std.proofs.Common.{◌≡◌, ◌⊎◌, inl, inr, ℕ, Bool, true, false, refl, ap, ◌∙◌, subst}
 use Rattle.std.specs.Prelude.{◌≢◌, Option, Some, None, IfSome, IsSomeAnd, IsTrue, is_some}
 use Rattle.std.specs.Option.{option_map}
 use Rattle.keeper_api.specs.Rows.{Rows}
 use Rattle.keeper_api.specs.Keeping.{IsOnly, IsWithin}
 use Rattle.ledger_laws.proofs.OneLedger.{one_ledger}
 use Rattle.posting.proofs.Settled.{StandForOneOf, not_unsound}
-use Rattle.posting.specs.Opening.{CountsFault}
 use Rattle.posting.specs.Reopening.{HasStood, IsOpeningFault}
-use Rattle.posting.specs.Settling.{CountsSettling, FoundAnew, IsSettled, OnBooks, OnFound, OnOther, StandForOther}
+use Rattle.posting.specs.Settling.{IsSettled, OnBooks, OnFound, OnOther, StandForOther}
 use Rattle.posting.specs.Shelf.{IsUsable, Shelf}
 use Rattle.posting.specs.Steps.{after_step}
 use Rattle.posting.specs.declared.prepared.Step.{Step}
 use Rattle.posting.specs.declared.settling.SettleFault.{SettleFault}
-use Rattle.posting.specs.declared.settling.SettleFault.TheVariants.{Books, Other}
+use Rattle.posting.specs.declared.settling.SettleFault.TheVariants.{Books}
 use Rattle.posting.specs.declared.opening.BooksFault.TheVariants as books
 use Rattle.enq_base.specs.declared.refusal.Refusal.{Refusal}
-use Rattle.enq_base.specs.declared.refusal.Refusal.TheVariants as refusal
 use Rattle.store_laws.proofs.Faultfree.{good_rules_kept, not_both}
 use Rattle.store_laws.proofs.LedgerRows.{good_rows_spelled}
 use Rattle.store_reading.specs.Stores.{store_fault}
@@ -26,7 +24,7 @@ use Rattle.update_records.specs.Ledger.{Ledger, StandFor}
 use Rattle.hall.specs.Devices.{IsAsBefore}
 use Rattle.hall.specs.Kept.{IsInFlight, IsKnownRight}
 use Rattle.hall.specs.Leaving.{StandForKnown, StandForPending}
-use Rattle.hall.specs.Remaking.{IsFoundRight, LeavesKnown, flight_over, store_refusal}
+use Rattle.hall.specs.Remaking.{LeavesKnown, flight_over, store_refusal}
 use Rattle.hall.specs.Step.{stored_anew}
 use Rattle.hall.specs.Unsound.{is_unsound_store}
 use Rattle.hall.specs.declared.command.Reply.TheVariants as reply

@@ -1,10 +1,11 @@
--- A lock server that is ended, and one that is made anew: what each leaves of a state in order.
+-- A lock server that is ended, one that a replica's list brings back, and one that is made anew: what each leaves of a state in order.
 use Rattle.std.proofs.Common.{◌≡◌, ◌⊎◌, inl, inr, ℕ, ◌+◌, ◌≤◌, ◌<◌, Bool, true, false, List, [], ◌∷◌, map, refl, sym, ap, ◌∙◌, subst, arith}
 use Rattle.std.specs.Prelude.{◌||◌, count_by, if◌then◌else◌, Option, Some, None}
 use Rattle.std.specs.List.{AllByRecursion}
 use Rattle.std.specs.Str.{bytes_eq}
 use Rattle.enq_base.specs.declared.condition.Condition.TheVariants as condition
 use Rattle.enq_base.specs.declared.owner.Owner.{Owner}
+use Rattle.enq_server.proofs.Replacing.{replacing_all}
 use Rattle.lock_entry.specs.declared.entry.Entry.{Entry}
 use Rattle.range_list.proofs.Counting.{bit, count_cons}
 use Rattle.range_list.proofs.Sessions.{AreFewer, fewer_drawn, fewer_gone, fewer_new, fewer_none, fewer_same}
@@ -17,11 +18,12 @@ use Rattle.hall.specs.Kept.{IsAhead, IsOwned, IsUnheard, IsUserOf, IsYoung, OfLo
 use Rattle.hall.specs.OpenUnits.{OfPending, open_entries}
 use Rattle.hall.specs.Sessions.{bereft, bereft_if, has_one_of, is_called, is_caller, loses}
 use Rattle.hall.specs.State.{State}
-use Rattle.hall.specs.Step.{killed, restarted, stored_anew}
+use Rattle.hall.specs.Step.{followed_over, killed, restarted, stored_anew}
 use Rattle.hall.specs.declared.command.Session.{Session}
 use Rattle.hall.proofs.Beginning.{idle, no_orders}
+use Rattle.hall.proofs.ByCall.{IsHandedOver}
 use Rattle.hall.proofs.OpenEntries.{open_owned}
-use Rattle.hall.proofs.Owned.{owned_by_none}
+use Rattle.hall.proofs.Owned.{owned_locks}
 use Rattle.hall.proofs.Users.{every_map, every_more}
 
 -- ---- an end
@@ -41,7 +43,27 @@ killed_steady s up h = record {
   fresh = record { numbered = h.fresh.numbered; ahead = h.fresh.ahead; later = h.fresh.later };
   places = h.places;
   orders = subst (λ c. OutsideDoubt c (AreOrders s.stored s.orders)) up h.orders;
-  owned = owned_by_none s.stored s.next_session s.sessions s.locks h.owned;
+  owned = h.owned;
+}
+
+-- ---- a replica's list in place of the table
+
+pub over_steady : (s : State) (list : List Entry) → IsHandedOver s list → IsSteady s → IsSteady (followed_over list s)
+over_steady s list can h = record {
+  started = h.started;
+  limited = h.limited;
+  locks_fit = h.locks_fit;
+  named = h.named;
+  drawn = h.drawn;
+  marked = h.marked;
+  settled = subst (λ c. OutsideDoubt c (s.pending ≡ None)) can.none h.settled;
+  unknown = subst (λ c. OutsideDoubt c (s.found ≡ None)) can.none h.unknown;
+  unfailed = subst (λ c. OutsideDoubt c (s.failed_caller ≡ None)) can.none h.unfailed;
+  known = h.known;
+  fresh = record { numbered = h.fresh.numbered; ahead = h.fresh.ahead; later = h.fresh.later };
+  places = h.places;
+  orders = subst (λ c. OutsideDoubt c (AreOrders s.stored s.orders)) can.none h.orders;
+  owned = owned_locks s.stored s.next_session s.sessions s.locks list (λ Q k. replacing_all (OfLock Q) s.locks list can.replaces k) h.owned;
 }
 
 -- ---- sessions that may have lost a lock

@@ -38,9 +38,9 @@ use Rattle.update_records.specs.declared.records.MarkKind.TheVariants as mark
 use Rattle.hall.specs.declared.command.Reply.{Reply}
 use Rattle.hall.specs.declared.command.Reply.TheVariants as reply
 use Rattle.hall.specs.declared.command.Session.{Session}
-use Rattle.hall.specs.Calls.{Call, LogsOn, OfSession, OfWorker, OfAdmin, Kills, Restarts, Cancels, Resubmits, call_of, is_of_server, restarts, wants_server}
+use Rattle.hall.specs.Calls.{Call, LogsOn, OfSession, OfWorker, OfAdmin, Kills, FailsOver, Restarts, Attaches, Cancels, Resubmits, call_of, is_of_server, restarts, wants_server}
 use Rattle.hall.specs.Calls.{LogsOff, Asks, Frees, FreesAll, Converts, Draws, Reserves, Reads, Commits, RollsBack}
-use Rattle.hall.specs.Devices.{AllWell, Wanting, StoreFails, BackupFails, NotRemade, MayHappen, found_by}
+use Rattle.hall.specs.Devices.{AllWell, Wanting, StoreFails, BackupFails, LinkFails, NotRemade, MayHappen, found_by}
 use Rattle.hall.specs.History.{Served, ends_in, judged, served, takes_flight, without_stock}
 use Rattle.hall.specs.Kept.{IsSteady, OutsideDoubt}
 use Rattle.hall.specs.Numbers.{from_memory, next_number, raised_to, stocked}
@@ -178,6 +178,9 @@ each-stands found s steady nothing = record {
   posts = λ worker part unit e. posted-stands part s.stored unit (found.part part unit) (held_for part s.stored (order_of s.orders worker) unit e).1;
   drops = λ worker unit e. stands_still s.stored _;
   kills = λ up. stands_still s.stored _;
+  fails_over = λ list can. stands_still s.stored _;
+  strays = λ first second none. stands_still s.stored _;
+  attaches = λ up. stands_still s.stored _;
   restarts = λ off. anew-stands (is_taken found.anew) s _ nothing;
   cancels = λ unit status can. marked-stands s.stored unit mark.Gone _ (λ u. refl);
   reopens = λ unit es here stand. beside-stands s.stored unit mark.Again1 Bad _ here (λ e. cc);
@@ -202,8 +205,9 @@ stepped-stands s m steady nothing =
     let c = m.call.command in
     let Q : Served → Type 0 = StandsIn s (call_of c) in
     let h =
-    by_event Q m.outcome s c (λ found. by_call (λ call v. StandsIn s call (judged s v)) found s (each-stands found s steady nothing) _)
-    (stands_still s.stored _) (λ reading. failing-stands s (call_of c)) (λ reading. unfiled-stands s.stored _) (λ read r. stands_still s.stored _) in
+    by_event Q m.outcome s c (λ lost done h. h) (λ found. by_call (λ call v. StandsIn s call (judged s v)) found s (each-stands found s steady nothing) _)
+    (stands_still s.stored _) (stands_still s.stored _) (λ reading. failing-stands s (call_of c)) (λ reading. unfiled-stands s.stored _)
+    (λ read r. stands_still s.stored _) in
     by_noting Q m.call.line c (takes_flight m.outcome) (served m.outcome s c) h h
 
 -- ---- nothing is in flight
@@ -217,7 +221,7 @@ stepped-quiet unit s m nothing =
     let c = m.call.command in
     let Q : Served → Type 0 = QuietUnless unit (call_of c) in
     let h =
-    by_event Q m.outcome s c (λ found on. verdict_pending (λ o. o ≡ None) found s (call_of c) nothing refl) (λ on. nothing)
+    by_event Q m.outcome s c (λ lost done h. h) (λ found on. verdict_pending (λ o. o ≡ None) found s (call_of c) nothing refl) (λ on. nothing) (λ on. nothing)
     (λ reading on. absurd (ended on)) (λ reading on. nothing) (λ read r on. nothing) in
     by_noting Q m.call.line c (takes_flight m.outcome) (served m.outcome s c) h h
 
@@ -283,6 +287,9 @@ each-hands unit found s up = record {
   posts = λ worker part other e is told. absurd (no_commit is);
   drops = λ worker other e is told. absurd (no_commit is);
   kills = λ was is told. absurd (no_commit is);
+  fails_over = λ list can is told. absurd (no_commit is);
+  strays = λ first second none is told. absurd (no_commit is);
+  attaches = λ was is told. absurd (no_commit is);
   restarts = λ off is told. absurd (no_commit is);
   cancels = λ other status can is told. absurd (no_commit is);
   reopens = λ other es here stand is told. absurd (no_commit is);
@@ -335,7 +342,9 @@ recalled-hands unit s m answer is =
     let c = m.call.command in
     let Q : Served → Type 0 = HandsIf unit s (call_of c) in
     let h =
-    by_event Q m.outcome s c (λ found. verdict-hands unit found s (call_of c)) (λ is told. absurd (no_unit unit _ told))
+    by_event Q m.outcome s c
+    (λ lost done h is told. let k = h is told in record { locks = k.locks; waits = record { up = k.waits.up; waits = k.waits.waits } })
+    (λ found. verdict-hands unit found s (call_of c)) (λ is told. absurd (no_unit unit _ told)) (λ is told. absurd (no_unit unit _ told))
     (λ reading is told. absurd (no_unit unit _ told)) (λ reading is told. absurd (no_unit unit _ told)) (λ read r is told. absurd (no_unit unit _ told)) in
     by_noting Q m.call.line c (takes_flight m.outcome) (served m.outcome s c) h
     (λ is told. let k = h is told in record { locks = k.locks; waits = record { up = k.waits.up; waits = k.waits.waits } })
@@ -387,7 +396,9 @@ restart_of_server (LogsOn name user) off is = no_commit is
 restart_of_server (OfSession name call) off is = no_commit is
 restart_of_server (OfWorker worker call) off is = no_commit is
 restart_of_server (OfAdmin Kills) off is = no_commit is
+restart_of_server (OfAdmin FailsOver) off is = no_commit is
 restart_of_server (OfAdmin Restarts) off is = ended off
+restart_of_server (OfAdmin Attaches) off is = no_commit is
 restart_of_server (OfAdmin (Cancels unit)) off is = no_commit is
 restart_of_server (OfAdmin (Resubmits unit)) off is = no_commit is
 
@@ -405,6 +416,7 @@ recalled-up unit s m answer on off up =
       | Wanting ↦ λ may told. up
       | StoreFails ↦ λ may told. absurd (ended told)
       | BackupFails ↦ λ may told. absurd (ended told)
+      | LinkFails ↦ λ may told. up
       | NotRemade r ↦ λ may told. absurd (restart_of_server call off may.1)
     ] answer.allowed.possible.event in
     by_noting Q m.call.line c (takes_flight m.outcome) (served m.outcome s c) h h (ap (ends_wait unit call) answer.reply ∙ on)
@@ -460,22 +472,22 @@ returns_locked unit t ms waits reached answers on =
 -- ---- whole histories
 
 -- a history from the first state of a start on, each of whose calls is answered as the model answers it
-module _ (limit mark_limit : ℕ) (intervals : List Interval) (told : Bool) (ledger : Ledger) (made : List Made) (fits : IsFirstTable limit ledger)
+module _ (limit mark_limit : ℕ) (intervals : List Interval) (told linked : Bool) (ledger : Ledger) (made : List Made) (fits : IsFirstTable limit ledger)
     (limited : mark_limit ≤ 1048576) (agree : AgreeWith intervals ledger) (begun : IsFirst ledger)
-    (answers : AreModelAnswers (opened limit mark_limit intervals told ledger) made) where
+    (answers : AreModelAnswers (opened limit mark_limit intervals told linked ledger) made) where
   abbrev first : State
-  first = opened limit mark_limit intervals told ledger
+  first = opened limit mark_limit intervals told linked ledger
 
   reached_first : IsReached first
   reached_first = record {
     calls = 0;
     all = record {
       holds = record {
-        few = first_few limit mark_limit intervals told ledger;
-        steady = first_steady limit mark_limit intervals told ledger limited fits agree begun;
+        few = first_few limit mark_limit intervals told linked ledger;
+        steady = first_steady limit mark_limit intervals told linked ledger limited fits agree begun;
       };
-      sound = first_sound limit mark_limit intervals told ledger fits begun;
-      open_units = first_open limit mark_limit intervals told ledger fits begun;
+      sound = first_sound limit mark_limit intervals told linked ledger fits begun;
+      open_units = first_open limit mark_limit intervals told linked ledger fits begun;
       landing = tt;
     };
   }
@@ -484,11 +496,11 @@ module _ (limit mark_limit : ℕ) (intervals : List Interval) (told : Bool) (led
   reached earlier later whole = reached_after first earlier (answers_before first made earlier later answers whole) reached_first
 
   -- in each state no two locks of unrelated owners meet and clash
-  pub stays_sound : StaysSound (opened limit mark_limit intervals told ledger) made
+  pub stays_sound : StaysSound (opened limit mark_limit intervals told linked ledger) made
   stays_sound earlier later whole = (reached earlier later whole).all.sound.table.sound
 
   -- each committed unit waits with its locks until a call ends that
-  pub locks_stand : LocksStand (opened limit mark_limit intervals told ledger) made
+  pub locks_stand : LocksStand (opened limit mark_limit intervals told linked ledger) made
   locks_stand earlier between later m unit whole is on =
       let s = state_after first earlier in
       let answer = answers earlier (between ++ later) m whole in
@@ -498,7 +510,7 @@ module _ (limit mark_limit : ℕ) (intervals : List Interval) (told : Bool) (led
       (answers_behind first made earlier between later m answers whole) on)
 
   -- each unit that waits again has its stored locks until a call ends that
-  pub locks_return : LocksReturn (opened limit mark_limit intervals told ledger) made
+  pub locks_return : LocksReturn (opened limit mark_limit intervals told linked ledger) made
   locks_return earlier between later m unit whole is on waits =
       let s = state_after first earlier in
       let t = recalled s m in

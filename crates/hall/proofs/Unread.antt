@@ -1,5 +1,5 @@
 -- A lock server that isn't made anew since the store isn't read, or memory is wanting for the units that wait.
-use Rattle.std.proofs.Common.{◌≡◌, ℕ, ◌+◌, Bool, true, false, List, refl, sym, ap, ◌∙◌, subst}
+use Rattle.std.proofs.Common.{◌≡◌, ℕ, ◌+◌, Bool, true, false, List, refl, sym, ap, subst}
 use Rattle.std.specs.Prelude.{Option, Some, None, IfSome, IsTrue, is_some}
 use Rattle.backup_file.specs.Backup.{BackupView}
 use Rattle.enq_base.specs.declared.condition.Bad.TheVariants as bad
@@ -20,7 +20,7 @@ use Rattle.hall.specs.History.{known_behind}
 use Rattle.hall.specs.Kept.{IsInFlight}
 use Rattle.hall.specs.Remaking.{IsLeftReady, IsReadFault, IsUnread, LeavesKnown, LeavesRemade, OnNotRemade, OnRefusedFirst, OnRemade}
 use Rattle.hall.specs.Remaking.{flight_over, remade_reply, remade_state, remade_taken}
-use Rattle.hall.specs.Serving.{DoesStore, MayReread}
+use Rattle.hall.specs.Serving.{DoesStore}
 use Rattle.hall.specs.State.{State}
 use Rattle.hall.specs.Unsound.{is_unsound_file}
 use Rattle.hall.specs.declared.command.Command.TheVariants as command

@@ -28,9 +28,7 @@ use Rattle.module_effects.specs.declared.fault.EffectFault.TheVariants as effect
 use Rattle.keeper_api.specs.Rows.{Rows}
 use Rattle.posting.specs.Intervals.{with_intervals}
 use Rattle.posting.specs.Posts.{MayCome, effects_of, entries_of, kind_for}
-use Rattle.posting.specs.Steps.{IsNewUnit, IsOutcome, after_step, at_place, waiting_for}
-use Rattle.posting.specs.declared.prepared.Step.{Step}
-use Rattle.posting.specs.declared.prepared.Step.TheVariants.{Note}
+use Rattle.posting.specs.Steps.{IsNewUnit, IsOutcome, at_place, waiting_for}
 use Rattle.posting.specs.declared.prepared.Outcome.{Outcome}
 use Rattle.range_list.specs.Drawn.{passed, settled_rows}
 use Rattle.range_list.specs.declared.range.NumberRange.{NumberRange}
@@ -224,10 +222,11 @@ pub comes : (part : ℕ) (c : Command) (s : State) (worker : ℕ) (unit : UnitKe
 comes part c s worker unit o posts room at space may =
     let found = found_by (Comes o) s in
     record {
-      outcome = record { event = AllWell; reading = Comes o };
+      outcome = record { event = AllWell; reading = Comes o; lost = false };
       possible = record {
         reading = subst (MayRead (Comes o) s) (sym posts) (subst (λ x. IfSome x (λ u. MayComeTo s.told s.stored part u o)) (sym at) may);
         event = tt;
+        lost = tt;
       };
       same = ap (judged s) (admitted found s c room ∙ own_post part c found s worker (Some unit) posts at ∙ fits s _ space);
     }
@@ -281,10 +280,11 @@ failed_post part c s worker unit o posts room at space may =
     let v = admitted found s c room ∙ own_post part c found s worker (Some unit) posts at ∙ fits s _ space in
     let call = call_of c in
     record {
-      outcome = record { event = StoreFails; reading = Comes o };
+      outcome = record { event = StoreFails; reading = Comes o; lost = false };
       possible = record {
         reading = subst (MayRead (Comes o) s) (sym posts) (subst (λ x. IfSome x (λ u. MayComeTo s.told s.stored part u o)) (sym at) may);
         event = (ap leaves v, ap (uses_store s) posts);
+        lost = tt;
       };
       same = ap (λ w. refused (doubted (without_stock call s) call None (pending_after (Comes o) s call w)) refusal.StoreFault) v
           ∙ ap (λ b. refused (doubted (without_stock call s) call None (if b then s.pending else Some (with_mark s.stored unit (kind_for part o)))) refusal.StoreFault)
@@ -308,7 +308,7 @@ posts_unread part s orders ledger limit worker unit is e g m none room found spa
     let v = admitted (found_in s) s c room ∙ own_post part c (found_in s) s worker (Some unit) by (held part s ledger orders worker (Some unit) g e found) ∙ fits s _ (full_as s limit ledger false m g space) in
     record {
       outcome = only StoreFails;
-      possible = record { reading = tt; event = (ap leaves v, ap (uses_store s) by) };
+      possible = record { reading = tt; event = (ap leaves v, ap (uses_store s) by); lost = tt };
       same = ap (λ w. refused (doubted (without_stock call s) call None (pending_after AsKnown s call w)) refusal.StoreFault) v
           ∙ ap (λ b. refused (doubted (without_stock call s) call None (if b then s.pending else Some (with_mark s.stored unit (kind_for part o)))) refusal.StoreFault)
           (λ i. only_reads (by i) || is_unread AsKnown (by i))
@@ -321,10 +321,11 @@ unfiled_post part c s worker unit o posts first room at space may =
     let found = found_by (Comes o) s in
     let v = admitted found s c room ∙ own_post part c found s worker (Some unit) posts at ∙ fits s _ space in
     record {
-      outcome = record { event = BackupFails; reading = Comes o };
+      outcome = record { event = BackupFails; reading = Comes o; lost = false };
       possible = record {
         reading = subst (MayRead (Comes o) s) (sym posts) (subst (λ x. IfSome x (λ u. MayComeTo s.told s.stored part u o)) (sym at) may);
         event = (ap leaves v, ap (uses_file s) posts ∙ first);
+        lost = tt;
       };
       same = ap (λ w. refused (unfiled s (call_of c) None (stored_before_file s (call_of c) w)) refusal.BackupFault) v
           ∙ ap (λ b. refused (unfiled s (call_of c) None (if b then with_mark s.stored unit (kind_for part o) else s.stored)) refusal.BackupFault) (ap writes_store_first posts);
@@ -483,8 +484,8 @@ reads s rows sessions ledger new name table key x text e t g room at known kept 
     let found = found_by (Shows text) s in
     at_state _ _ s _ _ (λ i. record s { stored = g' i })
     (record {
-      outcome = record { event = AllWell; reading = Shows text };
-      possible = record { reading = subst (λ l. TellsText s.told l table key text) (sym g) (told_text s.told rows ledger table key text t known); event = tt };
+      outcome = record { event = AllWell; reading = Shows text; lost = false };
+      possible = record { reading = subst (λ l. TellsText s.told l table key text) (sym g) (told_text s.told rows ledger table key text t known); event = tt; lost = tt };
       same = ap (judged s) (admitted found s (command.Read name table key) room ∙ own_read found s sessions name table key x e at);
     })
 
@@ -500,7 +501,7 @@ reads_in_doubt s sessions name table key x e none room at =
     let v = admitted (found_in s) s (command.Read name table key) room ∙ own_read (found_in s) s sessions name table key x e at in
     record {
       outcome = only StoreFails;
-      possible = record { reading = tt; event = (ap leaves v, refl) };
+      possible = record { reading = tt; event = (ap leaves v, refl); lost = tt };
       same = ap (λ w. refused (doubted s (OfSession name (Reads table key)) None (pending_after AsKnown s (OfSession name (Reads table key)) w)) refusal.StoreFault) v
           ∙ ap (λ p. refused (doubted s (OfSession name (Reads table key)) None p) refusal.StoreFault) none;
     }

@@ -37,8 +37,12 @@ pub data WorkerCall : Type 0 where
 pub data AdminCall : Type 0 where
   -- ends the lock server
   Kills : AdminCall
+  -- makes the replica's list the table of a lock server that goes on
+  FailsOver : AdminCall
   -- makes a lock server anew, with the locks of the units that wait for their V1 part
   Restarts : AdminCall
+  -- has a replica follow the table
+  Attaches : AdminCall
   Cancels : UnitKey → AdminCall
   Resubmits : UnitKey → AdminCall
 
@@ -67,7 +71,9 @@ call_of (command.Do1 worker) = OfWorker worker (Posts 1)
 call_of (command.Do2 worker) = OfWorker worker (Posts 2)
 call_of (command.DropOrder worker) = OfWorker worker Drops
 call_of command.Kill = OfAdmin Kills
+call_of command.FailOver = OfAdmin FailsOver
 call_of command.Restart = OfAdmin Restarts
+call_of command.Attach = OfAdmin Attaches
 call_of (command.Cancel unit) = OfAdmin (Cancels unit)
 call_of (command.Resubmit unit) = OfAdmin (Resubmits unit)
 
@@ -94,8 +100,9 @@ abbrev pub worker_wants_server : WorkerCall → Bool
 worker_wants_server (Posts part) = nat_eq part 1
 worker_wants_server call = false
 
--- all but a restart
+-- all but those that bring one
 abbrev pub admin_wants_server : AdminCall → Bool
+admin_wants_server FailsOver = false
 admin_wants_server Restarts = false
 admin_wants_server call = true
 
@@ -108,6 +115,7 @@ wants_server (OfAdmin call) = admin_wants_server call
 -- the calls that end a lock server or make one anew
 abbrev pub is_of_server : Call → Bool
 is_of_server (OfAdmin Kills) = true
+is_of_server (OfAdmin FailsOver) = true
 is_of_server (OfAdmin Restarts) = true
 is_of_server call = false
 
@@ -116,11 +124,34 @@ abbrev pub restarts : Call → Bool
 restarts (OfAdmin Restarts) = true
 restarts call = false
 
+-- the replica's list becomes the table
+abbrev pub fails_over : Call → Bool
+fails_over (OfAdmin FailsOver) = true
+fails_over call = false
+
+-- the calls behind which another replica follows than before, or none
+abbrev pub renews_replica : Call → Bool
+renews_replica (OfAdmin FailsOver) = true
+renews_replica (OfAdmin Restarts) = true
+renews_replica (OfAdmin Attaches) = true
+renews_replica call = false
+
 -- what a session may still do that lost a lock with a lock server
 abbrev pub ends_unit : SessionCall → Bool
 ends_unit LogsOff = true
 ends_unit RollsBack = true
 ends_unit call = false
+
+-- the calls that speak to the link themselves
+abbrev pub talks : Call → Bool
+talks (OfAdmin FailsOver) = true
+talks (OfAdmin Attaches) = true
+talks call = false
+
+-- the calls in which a change of the table may be shipped: those that want the lock server, but for the one that ends it
+abbrev pub ships : Call → Bool
+ships (OfAdmin Kills) = false
+ships call = wants_server call
 
 -- a call that only reads leaves no change in flight where the store fails
 abbrev pub only_reads : Call → Bool
@@ -143,6 +174,8 @@ worker_touches_store call = false
 
 abbrev pub admin_touches_store : AdminCall → Bool
 admin_touches_store Kills = false
+admin_touches_store FailsOver = false
+admin_touches_store Attaches = false
 admin_touches_store call = true
 
 -- the calls that read rows of the store, or write some where they aren't refused; of these a restart only in doubt
@@ -164,6 +197,8 @@ worker_touches_file call = false
 
 abbrev pub admin_touches_file : AdminCall → Bool
 admin_touches_file Kills = false
+admin_touches_file FailsOver = false
+admin_touches_file Attaches = false
 admin_touches_file call = true
 
 -- the calls that hand locks of a unit over to the update, end them, or take them back, and a restart

@@ -16,8 +16,8 @@ use Rattle.posting.specs.Posts.{entries_of}
 use Rattle.update_records.specs.Marks.{has_status, status_of}
 use Rattle.posting.specs.declared.prepared.Outcome.{Outcome}
 use Rattle.hall.specs.declared.command.Command.{Command}
-use Rattle.hall.specs.Calls.{AdminCall, Kills, Restarts, Cancels, Resubmits, Call, LogsOn, OfSession, OfWorker, OfAdmin, WorkerCall, Posts}
-use Rattle.hall.specs.Calls.{SessionCall, LogsOff, Frees, FreesAll, Draws, Reserves, Reads, Commits, RollsBack, admin_touches_store, call_of, restarts, session_touches_store, touches_store}
+use Rattle.hall.specs.Calls.{AdminCall, Kills, FailsOver, Restarts, Attaches, Cancels, Resubmits, Call, LogsOn, OfSession, OfWorker, OfAdmin, WorkerCall, Posts}
+use Rattle.hall.specs.Calls.{SessionCall, LogsOff, Frees, FreesAll, Draws, Reserves, Reads, Commits, RollsBack, admin_touches_store, call_of, restarts, ships, talks, session_touches_store, touches_store}
 use Rattle.hall.specs.declared.command.Session.{Session}
 use Rattle.hall.specs.Sessions.{session_at, unit_key}
 use Rattle.number_ranges.specs.Intervals.{is_buffered}
@@ -41,6 +41,8 @@ pub data Reading : Type 0 where
   Shows : Option (List ℕ) → Reading
   -- a restart read the store anew, and has found the change in flight, or not
   Reopens : Bool → Reading
+  -- the link handed this list over
+  Hands : List Entry → Reading
 
 -- why no lock server could be made anew, but for a failure of the disk
 pub data RemakeFault : Type 0 where
@@ -65,6 +67,8 @@ pub data Event : Type 0 where
   StoreFails : Event
   -- the disk of the backup file failed
   BackupFails : Event
+  -- the link failed in a call that speaks to it
+  LinkFails : Event
   -- no lock server could be made anew, for this reason
   NotRemade : RemakeFault → Event
 
@@ -73,6 +77,7 @@ is_store_failure AllWell = false
 is_store_failure Wanting = false
 is_store_failure StoreFails = true
 is_store_failure BackupFails = false
+is_store_failure LinkFails = false
 is_store_failure (NotRemade fault) = false
 
 abbrev pub is_file_failure : Event → Bool
@@ -80,17 +85,20 @@ is_file_failure AllWell = false
 is_file_failure Wanting = false
 is_file_failure StoreFails = false
 is_file_failure BackupFails = true
+is_file_failure LinkFails = false
 is_file_failure (NotRemade fault) = false
 
 pub record DeviceOutcome : Type 0 where
   pub event : Event
   pub reading : Reading
+  -- the replica that followed was lost
+  pub lost : Bool
 
 abbrev pub all_well : DeviceOutcome
-all_well = record { event = AllWell; reading = AsKnown }
+all_well = record { event = AllWell; reading = AsKnown; lost = false }
 
 abbrev pub only : Event → DeviceOutcome
-only event = record { event = event; reading = AsKnown }
+only event = record { event = event; reading = AsKnown; lost = false }
 
 -- what a call finds, by what the devices gave
 abbrev pub found_by : Reading → State → Found
@@ -98,6 +106,7 @@ found_by AsKnown s = found_in s
 found_by (Comes outcome) s = record (found_in s) { part = λ part unit. outcome }
 found_by (Shows text) s = record (found_in s) { row = λ table key. text }
 found_by (Reopens taken) s = record (found_in s) { anew = Some taken }
+found_by (Hands list) s = record (found_in s) { list = list }
 
 -- ---- what may have been read
 
@@ -125,6 +134,7 @@ MayRead AsKnown s call = Unit {0}
 MayRead (Comes outcome) s (OfWorker worker (Posts part)) = MayPost part outcome s worker
 MayRead (Shows text) s (OfSession session (Reads table key)) = IsTold s.told (text ≡ row_in s.stored table key)
 MayRead (Reopens taken) s (OfAdmin Restarts) = MayFind s taken
+MayRead (Hands list) s (OfAdmin FailsOver) = IsTold s.link_told (list ≡ s.locks)
 MayRead reading s call = ⊥
 
 -- ---- what may have gone wrong
@@ -203,6 +213,8 @@ refused_locks s unit =
 
 abbrev pub admin_uses_file : State → AdminCall → Bool
 admin_uses_file s Kills = false
+admin_uses_file s FailsOver = false
+admin_uses_file s Attaches = false
 admin_uses_file s Restarts = true
 admin_uses_file s (Cancels unit) = has_status status.Open (status_of s.stored.units s.stored.marks unit)
 admin_uses_file s (Resubmits unit) = nat_lt 0 (length (refused_locks s unit))
@@ -228,7 +240,9 @@ worker_may_want s worker call = false
 
 abbrev pub admin_may_want : State → Verdict → AdminCall → Bool
 admin_may_want s v Kills = false
+admin_may_want s v FailsOver = leaves v
 admin_may_want s v Restarts = leaves v
+admin_may_want s v Attaches = leaves v
 admin_may_want s v (Cancels unit) = leaves v
 admin_may_want s v (Resubmits unit) = is_ok (to_resubmit s.stored s.mark_limit unit)
 
@@ -245,12 +259,25 @@ MayHappen AllWell s call v = Unit {0}
 MayHappen Wanting s call v = (unavailable s call ≡ None) × IsTrue (may_want s v call)
 MayHappen StoreFails s call v = IsTrue (leaves v) × IsTrue (uses_store s call)
 MayHappen BackupFails s call v = IsTrue (leaves v) × IsTrue (uses_file s call)
+MayHappen LinkFails s call v = IsTrue (leaves v) × IsTrue (talks call)
 MayHappen (NotRemade fault) s call v = IsTrue (leaves v) × IsTrue (restarts call)
+
+-- a replica follows, and a call is served that ships what it changes
+pub record ShipsTo (s : State) (call : Call) : Type 0 where
+  pub served : unavailable s call ≡ None
+  pub attached : s.attached ≡ true
+  pub ships : ships call ≡ true
+
+-- it may be lost then
+abbrev pub MayLose : Bool → State → Call → Type 0
+MayLose false s call = Unit {0}
+MayLose true s call = ShipsTo s call
 
 -- the devices may have done this in a call
 pub record IsPossible (o : DeviceOutcome) (s : State) (c : Command) : Type 0 where
   pub reading : MayRead o.reading s (call_of c)
   pub event : MayHappen o.event s (call_of c) (call_verdict (found_by o.reading s) s (call_of c))
+  pub lost : MayLose o.lost s (call_of c)
 
 -- a call may be made, and may have this outcome
 pub record IsAllowed (o : DeviceOutcome) (s : State) (c : Command) : Type 0 where

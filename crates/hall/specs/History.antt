@@ -1,5 +1,5 @@
 -- A call with what the devices did in it, and the history that calls make.
-use Rattle.std.specs.Prelude.{◌≡◌, ◌⊎◌, ℕ, ◌+◌, ◌||◌, Bool, true, false, if◌then◌else◌, List, [], ◌∷◌, ◌++◌, length, Option, Some, None, IsTrue}
+use Rattle.std.specs.Prelude.{◌≡◌, ◌⊎◌, ℕ, ◌+◌, ◌||◌, ◌&&◌, not, Bool, true, false, if◌then◌else◌, List, [], ◌∷◌, ◌++◌, length, Option, Some, None, IsTrue}
 use Rattle.enq_base.specs.declared.condition.Condition.TheVariants as condition
 use Rattle.enq_base.specs.declared.refusal.Refusal.{Refusal}
 use Rattle.enq_base.specs.declared.refusal.Refusal.TheVariants as refusal
@@ -10,11 +10,11 @@ use Rattle.hall.specs.declared.command.PastEntry.{PastEntry}
 use Rattle.hall.specs.declared.command.Reply.{Reply}
 use Rattle.hall.specs.declared.command.Reply.TheVariants as reply
 use Rattle.hall.specs.Calls.{Call, OfSession, OfWorker, Commits, Posts, call_of, only_reads, who_of, writes_store_first}
-use Rattle.hall.specs.Devices.{DeviceOutcome, Event, AllWell, Wanting, StoreFails, BackupFails, NotRemade, IsAllowed, fault_told, found_by}
-use Rattle.hall.specs.Devices.{Reading, AsKnown, Comes, Shows, Reopens}
+use Rattle.hall.specs.Devices.{DeviceOutcome, Event, AllWell, Wanting, StoreFails, BackupFails, LinkFails, NotRemade, IsAllowed, fault_told, found_by}
+use Rattle.hall.specs.Devices.{Reading, AsKnown, Comes, Shows, Reopens, Hands}
 use Rattle.hall.specs.Numbers.{stocked}
 use Rattle.hall.specs.State.{State, unhanded}
-use Rattle.hall.specs.Step.{Verdict, Refuses, Leaves, call_verdict}
+use Rattle.hall.specs.Step.{Verdict, Refuses, Leaves, call_verdict, detached}
 use Rattle.update_records.specs.Ledger.{Ledger}
 
 -- the state after a call, and the answer
@@ -29,6 +29,10 @@ refused s r = record { state = s; reply = reply.Refused r }
 abbrev pub judged : State → Verdict → Served
 judged s (Refuses r) = refused s r
 judged s (Leaves after r) = record { state = after; reply = r }
+
+-- where the replica was lost in the call it follows no more
+abbrev pub losing : Bool → Served → Served
+losing lost done = record done { state = record done.state { attached = not lost && done.state.attached } }
 
 -- what the sessions had of the table, or where there was none any more of the one before
 abbrev pub gone_behind : State → List Entry
@@ -52,7 +56,7 @@ doubted s call read pending =
     record s {
       condition = condition.Doubt (length s.past + 1);
       locks = [];
-      copy = None;
+      attached = false;
       gone = gone_behind s;
       failed_caller = caller_behind s.failed_caller call;
       pending = pending;
@@ -96,10 +100,11 @@ ends_in Wanting reading s call v = refused s refusal.NoMemory
 ends_in StoreFails reading s call v =
     refused (doubted (without_stock call s) call None (pending_after reading s call v)) refusal.StoreFault
 ends_in BackupFails reading s call v = refused (unfiled s call (read_anew reading) (stored_before_file s call v)) refusal.BackupFault
+ends_in LinkFails reading s call v = refused (detached s) refusal.LinkFault
 ends_in (NotRemade fault) reading s call v = refused (doubted s call (read_anew reading) s.pending) (fault_told fault)
 
 abbrev pub served : DeviceOutcome → State → Command → Served
-served o s c = ends_in o.event o.reading s (call_of c) (call_verdict (found_by o.reading s) s (call_of c))
+served o s c = losing o.lost (ends_in o.event o.reading s (call_of c) (call_verdict (found_by o.reading s) s (call_of c)))
 
 -- a call that finds the history full is not in it, nor is one that finds no unit to take
 abbrev pub is_unrecorded : Reply → Bool
@@ -122,6 +127,7 @@ finds_flight AsKnown = false
 finds_flight (Comes outcome) = false
 finds_flight (Shows text) = false
 finds_flight (Reopens taken) = taken
+finds_flight (Hands list) = false
 
 -- and was done
 abbrev pub takes_flight : DeviceOutcome → Bool
@@ -130,12 +136,13 @@ takes_flight o = elim o.event [
   | Wanting ↦ false
   | StoreFails ↦ false
   | BackupFails ↦ false
+  | LinkFails ↦ false
   | NotRemade fault ↦ false
 ]
 
--- what stands after a call; there is no replica yet
+-- what stands after a call
 abbrev pub after_of : Bool → State → After
-after_of taken s = record { condition = s.condition; attached = false; taken = taken }
+after_of taken s = record { condition = s.condition; attached = s.attached; taken = taken }
 
 -- what the history keeps of a call
 abbrev pub entry_of : ℕ → Command → Reply → After → PastEntry

@@ -181,10 +181,10 @@ pub record IsSteady (s : State) : Type 0 where
   pub orders : OutsideDoubt s.condition (AreOrders s.stored s.orders)
   pub owned : IsOwned s.stored s.next_session s.sessions s.locks
 
--- While the server is up the handed locks of the table are just those of the open units; and these may stand together, so
+-- Outside doubt the handed locks of the table are just those of the open units; and these may stand together, so
 -- that the next start can take them over, with the change in flight or without it.
 pub record HasOpenUnits (s : State) : Type 0 where
-  pub held : WhileUp s.condition (HoldsOpenUnits s.locks s.stored)
+  pub held : OutsideDoubt s.condition (HoldsOpenUnits s.locks s.stored)
   pub stored : IsSound (open_entries s.stored)
   -- as a table of 32 bits holds them
   pub fit : length (open_entries s.stored) < 2 ^ 32

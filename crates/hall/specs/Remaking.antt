@@ -9,6 +9,8 @@ use Rattle.enq_base.specs.declared.owner.UnitKey.{UnitKey}
 use Rattle.enq_base.specs.declared.refusal.Refusal.{Refusal}
 use Rattle.enq_base.specs.declared.refusal.Refusal.TheVariants as refusal
 use Rattle.enq_server.specs.declared.fault.OpenFault.{OpenFault}
+use Rattle.enq_server.specs.declared.fault.OverFault.{OverFault}
+use Rattle.enq_server.specs.declared.fault.OverFault.TheVariants as over
 use Rattle.enq_server.specs.declared.fault.OpenFault.TheVariants as opening
 use Rattle.keeper_api.specs.Rows.{Rows}
 use Rattle.lock_entry.specs.Table.{Table}
@@ -18,7 +20,7 @@ use Rattle.posting.specs.Settling.{FoundAnew}
 use Rattle.posting.specs.Shelf.{IsUsable, Shelf}
 use Rattle.posting.specs.declared.settling.SettleFault.{SettleFault}
 use Rattle.posting.specs.declared.settling.SettleFault.TheVariants as settling
-use Rattle.update_records.specs.Ledger.{Ledger, StandFor}
+use Rattle.update_records.specs.Ledger.{Ledger}
 use Rattle.hall.specs.Calls.{OfAdmin, Restarts}
 use Rattle.hall.specs.Devices.{IsAsBefore, is_doubt}
 use Rattle.hall.specs.Filing.{AllRecover, HasOpenLists}
@@ -90,6 +92,7 @@ remade_state s sessions orders table ledger (Done taken) =
       orders = orders;
       locks = table.entries;
       limit = table.limit;
+      attached = false;
       stored = ledger;
       pending = None;
       found = None;
@@ -203,3 +206,11 @@ IsLeftReady tells reads may_leave before now failure old new (Done taken) = HasO
 IsLeftReady tells reads may_leave before now failure old new (Refused r) = new ≡ old
 IsLeftReady tells reads may_leave before now failure old new (InDoubt r read) =
     (calls : ℕ) → AllRecover tells may_leave (condition.Doubt (calls + 1)) before (flight_over before failure) (known_behind failure.found read) new
+
+-- why the list of a replica doesn't become the table
+abbrev pub over_refusal : OverFault → Refusal
+over_refusal over.NotAttached = refusal.NotAttached
+over_refusal over.Link = refusal.LinkFault
+over_refusal (over.Clash first second) = refusal.Unsound (bad.Replica first second)
+over_refusal over.Other = refusal.Unsound (bad.Replica 0 0)
+over_refusal over.NoMemory = refusal.NoMemory

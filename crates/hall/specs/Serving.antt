@@ -1,14 +1,18 @@
 -- A call that the server serves, apart from its place in the history.
 use Rattle.std.specs.Prelude.{◌≡◌, ℕ, Bool, true, false, List, Option, is_some}
 use Rattle.backup_file.specs.Backup.{BackupView}
+use Rattle.enq_base.specs.Causes.{Rose}
+use Rattle.enq_base.specs.declared.refusal.Refusal.TheVariants as refusal
 use Rattle.enq_server.specs.Following.{Following, IsLater, KeepsOn}
 use Rattle.keeper_api.specs.Keeping.{IsWithin}
 use Rattle.keeper_api.specs.Rows.{Rows}
+use Rattle.lock_entry.specs.declared.entry.Entry.{Entry}
 use Rattle.hall.specs.declared.command.Command.{Command}
 use Rattle.hall.specs.declared.command.PastEntry.{PastEntry}
 use Rattle.hall.specs.declared.command.Reply.{Reply}
+use Rattle.hall.specs.declared.command.Reply.TheVariants as reply
 use Rattle.hall.specs.Acts.{Admits, IsAct}
-use Rattle.hall.specs.Calls.{call_of, restarts, touches_file}
+use Rattle.hall.specs.Calls.{call_of, fails_over, renews_replica, restarts, touches_file}
 use Rattle.hall.specs.Devices.{reaches_store}
 use Rattle.hall.specs.Filing.{DoesFile, HasFileCause}
 use Rattle.hall.specs.Kept.{IsKept}
@@ -47,14 +51,27 @@ abbrev pub LeavesFile : {D : Type 0} → (D → ℕ) → (remakes touches : Bool
 LeavesFile faults true touches old new r = HasFileCause (faults old.disk) (faults new.disk) r
 LeavesFile faults false touches old new r = DoesFile faults touches old new r
 
--- no replica follows the table of a lock server that was made anew
-abbrev pub Follows : {L : Type 0} → (faults refusals : L → ℕ) → (remakes : Bool) → Following L → Following L → Type 0
-Follows faults refusals true old new = IsLater faults refusals old new
-Follows faults refusals false old new = KeepsOn faults refusals old new
+-- what followed is lost only where the link failed or found no memory, or where the call brings another replica or none
+abbrev pub Follows : {L : Type 0} → (L → Option (List Entry)) → (faults refusals : L → ℕ) → (renews : Bool) → Following L → Following L → Type 0
+Follows applied faults refusals true old new = IsLater applied faults refusals old new
+Follows applied faults refusals false old new = KeepsOn applied faults refusals old new
+
+-- that the link failed is answered only where its count of faults has risen
+abbrev pub HasLinkCause : ℕ → ℕ → Reply → Type 0
+HasLinkCause before now (reply.Refused refusal.LinkFault) = Rose before now
+HasLinkCause before now _ = Unit {0}
+
+-- a failover that is done leaves the list that the link gives
+abbrev pub IsOver : (fails_over : Bool) → (locks given : List Entry) → Reply → Type 0
+IsOver true locks given reply.Done = locks ≡ given
+IsOver true locks given r = Unit {0}
+IsOver false locks given r = Unit {0}
 
 -- what a call does to the state, to the store, to the backup file and to what follows the table
-pub record Serves {K D L : Type 0} (held : K → Option Rows) (may_leave : K → Rows → Type 0) (faults : K → ℕ) (disk_faults : D → ℕ) (link_faults refusals : L → ℕ) (old new : View K D L) (past : List PastEntry) (c : Command) (r : Reply) : Type 0 where
+pub record Serves {K D L : Type 0} (held : K → Option Rows) (may_leave : K → Rows → Type 0) (faults : K → ℕ) (disk_faults : D → ℕ) (gives : L → List Entry) (applied : L → Option (List Entry)) (link_faults refusals : L → ℕ) (old new : View K D L) (past : List PastEntry) (c : Command) (r : Reply) : Type 0 where
   pub call : IsAct (with_calls old.state past) c (with_calls new.state past) r
   pub store : DoesStore held may_leave faults (restarts (call_of c)) (reaches_store old.state (call_of c)) old.keeper new.keeper r
   pub file : LeavesFile disk_faults (restarts (call_of c)) (touches_file (call_of c)) old.file new.file r
-  pub follower : Follows link_faults refusals (restarts (call_of c)) old.follower new.follower
+  pub follower : Follows applied link_faults refusals (renews_replica (call_of c)) old.follower new.follower
+  pub over : IsOver (fails_over (call_of c)) new.state.locks (gives old.follower.link) r
+  pub link : HasLinkCause (link_faults old.follower.link) (link_faults new.follower.link) r

@@ -14,3 +14,8 @@ is_unsound_file r = false
 abbrev pub is_unsound_store : Reply → Bool
 is_unsound_store (reply.Refused (refusal.Unsound (bad.Store table row))) = true
 is_unsound_store r = false
+
+-- a replica has handed a list over that can't be the table
+abbrev pub is_unsound_replica : Reply → Bool
+is_unsound_replica (reply.Refused (refusal.Unsound (bad.Replica first second))) = true
+is_unsound_replica r = false

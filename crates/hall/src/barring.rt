@@ -32,7 +32,9 @@ pub(crate) fn caller_refusal(sessions: &Sessions, command: &Command) -> Option<R
         | Command::Do2 { .. }
         | Command::DropOrder { .. }
         | Command::Kill
+        | Command::FailOver
         | Command::Restart
+        | Command::Attach
         | Command::Cancel { .. }
         | Command::Resubmit { .. } => None,
     }
@@ -83,6 +85,7 @@ fn wants_server(command: &Command) -> bool
         | Command::Commit { .. }
         | Command::Do1 { .. }
         | Command::Kill
+        | Command::Attach
         | Command::Cancel { .. }
         | Command::Resubmit { .. } => true,
         Command::Logon { .. }
@@ -93,6 +96,7 @@ fn wants_server(command: &Command) -> bool
         | Command::Take2 { .. }
         | Command::Do2 { .. }
         | Command::DropOrder { .. }
+        | Command::FailOver
         | Command::Restart => false,
     }
 }

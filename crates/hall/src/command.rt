@@ -102,8 +102,12 @@ pub enum Command {
     },
     /// Ends the lock server.
     Kill,
+    /// Makes the list of the replica the table of a lock server that goes on.
+    FailOver,
     /// Makes a lock server anew, with the locks of the units that wait for their V1 part.
     Restart,
+    /// Has a replica follow the table.
+    Attach,
     Cancel {
         unit: UnitKey,
     },
@@ -134,8 +138,12 @@ impl Command {
             | Command::Take2 { worker }
             | Command::Do2 { worker }
             | Command::DropOrder { worker } => Who::Worker(*worker),
-            Command::Kill | Command::Restart | Command::Cancel { .. } | Command::Resubmit { .. } =>
-                Who::Admin,
+            Command::Kill
+            | Command::FailOver
+            | Command::Restart
+            | Command::Attach
+            | Command::Cancel { .. }
+            | Command::Resubmit { .. } => Who::Admin,
         }
     }
 }

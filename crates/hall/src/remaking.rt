@@ -87,7 +87,9 @@ pub(crate) fn remake<T: LockStore, K: Keeper, D: Disk, L: Link>(
     ensures left { LeavesRemade K.held K.may_leave books.new.keeper books.old.ledger books.new.ledger failure.now result }
     ensures file { IsLeftReady D.tells D.reads D.may_leave books.old.ledger books.new.ledger failure.now locks.old.file locks.new.file result }
     ensures cause { HasFileCause (D.faults locks.old.file.disk) (D.faults locks.new.file.disk) (remade_reply result) }
-    ensures follower { IsLater L.faults L.refusals locks.old.copy locks.new.copy }
+    ensures follower { IsLater L.applied L.faults L.refusals locks.old.copy locks.new.copy }
+    ensures detached { OnRemade result (locks.new.copy.attached ≡ false) }
+    ensures unshipped { OnRefusedFirst result (locks.new.copy ≡ locks.old.copy) }
     // A file whose images have the lists of the open units is good.
     ensures good_file { IsTrue D.tells → IsSound (open_entries books.old.ledger)
         → OfPending (flight_over books.old.ledger failure.now) (λ ledger. IsSound (open_entries ledger))

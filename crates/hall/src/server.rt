@@ -1,4 +1,5 @@
-ghost use Rattle.std.specs.Prelude.{◌≡◌, ◌⊎◌, [], true, false, length, replicate, None, IfOk, is_some, IsTrue};
+ghost use Rattle.hall.specs.Remaking.{over_refusal};
+ghost use Rattle.std.specs.Prelude.{◌≡◌, ◌⊎◌, [], true, false, length, replicate, None, IfOk, IfSome, is_some, IsTrue};
 ghost use Rattle.enq_server.specs.Following.{IsLater, KeepsOn};
 ghost use Rattle.enq_server.specs.Server.{recovered};
 ghost use Rattle.posting.specs.Views.{open_locks};
@@ -10,11 +11,11 @@ ghost use Rattle.std.specs.List.{AllByRecursion};
 ghost use Rattle.hall.specs.Filing.{HasFileCause, HasOpenLists, KeepsFile, LeavesLists};
 ghost use Rattle.hall.specs.Leaving.{HasStoreCause, KeepsStore, LeavesState};
 ghost use Rattle.keeper_api.specs.Keeping.{IsWithin};
-ghost use Rattle.hall.specs.Calls.{call_of, restarts, touches_file};
+ghost use Rattle.hall.specs.Calls.{call_of, fails_over, renews_replica, restarts, touches_file};
 ghost use Rattle.hall.specs.Devices.{reaches_store};
-ghost use Rattle.hall.specs.Serving.{IsDue, Serves, with_calls};
-ghost use Rattle.hall.specs.State.{opened};
-ghost use Rattle.hall.specs.Unsound.{is_unsound_file, is_unsound_store};
+ghost use Rattle.hall.specs.Serving.{HasLinkCause, IsDue, IsOver, Serves, with_calls};
+ghost use Rattle.hall.specs.State.{opened, seen_locks};
+ghost use Rattle.hall.specs.Unsound.{is_unsound_file, is_unsound_replica, is_unsound_store};
 ghost use Rattle.hall.specs.Stocks.{IsStockIn, MayCall};
 ghost use Rattle.hall.specs.History.{after_of, is_unrecorded};
 ghost use Rattle.hall.specs.Step.{barred, is_full, unavailable};
@@ -32,14 +33,14 @@ use crate::sessions::{Sessions, log_on};
 use crate::shown::shown_ranges;
 use crate::units::{Failure, Written, cancel, commit, post, read, resubmit};
 use bk_disk::Disk;
-use enq_base::{Condition, Items, Key, Name, NoMemory, Num, Parts, Refusal, UnitKey};
-use enq_server::EnqServer;
+use enq_base::{Bad, Condition, Items, Key, Name, NoMemory, Num, Parts, Refusal, UnitKey};
+use enq_server::{EnqServer, OverFault};
 use keeper_api::Keeper;
 use lock_entry::{Asked, Entry, LockStore, Request};
 use number_ranges::Range;
 use posting::Books;
 use range_list::Ranges;
-use replica_link::Link;
+use replica_link::{Link, LinkFault};
 use std::alloc::Global;
 use std::marker::Model;
 use update_records::UnitView;
@@ -77,7 +78,7 @@ impl<T: LockStore, K: Keeper, D: Disk, L: Link> Model for Server<T, K, D, L> {
     ghost use Rattle.hall.specs.Remaking.{flight_over};
 
     ghost view = { λ h. record {
-      state = state_of (is_some (K.held h.books.keeper)) h.condition h.sessions h.next_session h.orders.items h.locks.table h.max_locks h.max_marks h.ranges h.books.ledger
+      state = state_of (is_some (K.held h.books.keeper)) (is_some (L.applied h.locks.copy.link)) h.locks.copy.attached h.condition h.sessions h.next_session h.orders.items h.locks.table h.max_locks h.max_marks h.ranges h.books.ledger
           (flight_over h.books.ledger h.failure) h.failure.found h.failure.caller [];
       keeper = h.books.keeper;
       file = h.locks.file;
@@ -85,7 +86,7 @@ impl<T: LockStore, K: Keeper, D: Disk, L: Link> Model for Server<T, K, D, L> {
     } };
 
     ghost invariant = { λ h.
-        let s = state_of (is_some (K.held h.books.keeper)) h.condition h.sessions h.next_session h.orders.items h.locks.table h.max_locks h.max_marks h.ranges h.books.ledger
+        let s = state_of (is_some (K.held h.books.keeper)) (is_some (L.applied h.locks.copy.link)) h.locks.copy.attached h.condition h.sessions h.next_session h.orders.items h.locks.table h.max_locks h.max_marks h.ranges h.books.ledger
         (flight_over h.books.ledger h.failure) h.failure.found h.failure.caller [] in
         let v : View K D L = record { state = s; keeper = h.books.keeper; file = h.locks.file; follower = h.locks.copy } in
         OutsideDoubt h.condition (IsUsable K.held K.is_open h.books)
@@ -108,9 +109,10 @@ impl<T: LockStore, K: Keeper, D: Disk, L: Link> Server<T, K, D, L> {
         requires usable { IsUsable K.held K.is_open books }
         requires locks { locks.table ≡ recovered max_locks (open_locks books.ledger) }
         requires filed { HasOpenLists D.tells D.reads D.may_leave books.ledger locks.file }
+        requires detached { locks.copy.attached ≡ false }
         requires orders { orders.items ≡ replicate 256 None }
         requires levels { ranges ≡ first_ranges books.ledger.levels (intervals_of ranges) }
-        ensures state { result.state ≡ opened max_locks max_marks (intervals_of ranges) (is_some (K.held books.keeper)) books.ledger }
+        ensures state { result.state ≡ opened max_locks max_marks (intervals_of ranges) (is_some (K.held books.keeper)) (is_some (L.applied locks.copy.link)) books.ledger }
         ensures keeper { result.keeper ≡ books.keeper }
         ensures file { result.file ≡ locks.file }
         ensures follower { result.follower ≡ locks.copy }
@@ -138,6 +140,17 @@ impl<T: LockStore, K: Keeper, D: Disk, L: Link> Server<T, K, D, L> {
         self.condition
     }
 
+    /// Whether a replica follows the table, also where the lock server was ended. A doubt detaches it.
+    pub(crate) fn attached(&self) -> bool
+        ensures flag { result ≡ self.now.state.attached }
+        ensures copy { IsTrue result → IfSome (L.applied self.now.follower.link) (λ list. list ≡ self.now.state.locks) }
+    {
+        match self.condition {
+            Condition::Up | Condition::NoServer => self.locks.attached(),
+            Condition::Doubt(_) => false,
+        }
+    }
+
     /// What stands now, as the history keeps it of the last call, which as a restart that was done has found the change in
     /// flight in the store, or hasn't.
     pub(crate) fn after(&self, taken: bool) -> After
@@ -145,14 +158,14 @@ impl<T: LockStore, K: Keeper, D: Disk, L: Link> Server<T, K, D, L> {
     {
         After {
             condition: self.condition,
-            attached: false,
+            attached: self.attached(),
             taken,
         }
     }
 
     /// The locks in the order in which they were granted: none where the server isn't up.
     pub(crate) fn entries(&self, alloc: Global) -> Result<Vec<Entry>, NoMemory>
-        ensures { IfOk result (λ list. list.items ≡ self.now.state.locks) }
+        ensures { IfOk result (λ list. list.items ≡ seen_locks self.now.state) }
     {
         match self.condition {
             Condition::Up => self.locks.list(alloc),
@@ -216,10 +229,12 @@ impl<T: LockStore, K: Keeper, D: Disk, L: Link> Server<T, K, D, L> {
         (self.books.into_keeper(), disk, link)
     }
 
-    /// Tells what holds of every server: what a stop may leave in the store and in the backup file stands for the state.
+    /// Tells what holds of every server: what a stop may leave in the store and in the backup file stands for the state, which
+    /// has whether the link tells its list.
     pub(crate) fn read_invariant(&self)
         ensures left { LeavesState K.held K.may_leave self.now }
         ensures lists { LeavesLists D.tells D.may_leave self.now }
+        ensures link { self.now.state.link_told ≡ is_some (L.applied self.now.follower.link) }
     {
         let _ = &self.condition;
     }
@@ -265,12 +280,16 @@ impl<T: LockStore, K: Keeper, D: Disk, L: Link> Server<T, K, D, L> {
         ensures file_cause { HasFileCause (D.faults self.old.file.disk) (D.faults self.new.file.disk) result.reply }
         ensures file { restarts (call_of command.now) ≡ false → KeepsFile self.old.file self.new.file result.reply }
         ensures unfiled { touches_file (call_of command.now) ≡ false → self.new.file ≡ self.old.file }
-        ensures link { IsLater L.faults L.refusals self.old.follower self.new.follower }
-        ensures follower { restarts (call_of command.now) ≡ false → KeepsOn L.faults L.refusals self.old.follower self.new.follower }
+        ensures link { IsLater L.applied L.faults L.refusals self.old.follower self.new.follower }
+        ensures follower { renews_replica (call_of command.now) ≡ false → KeepsOn L.applied L.faults L.refusals self.old.follower self.new.follower }
+        ensures over { IsOver (fails_over (call_of command.now)) self.new.state.locks (L.gives self.old.follower.link) result.reply }
+        ensures link_cause { HasLinkCause (L.faults self.old.follower.link) (L.faults self.new.follower.link) result.reply }
         ensures room { is_unrecorded result.reply ≡ false → is_full (with_calls self.old.state past.now.items) ≡ false }
         ensures good_file { IsTrue D.tells → is_unsound_file result.reply ≡ false }
         ensures good_store { is_some (K.held self.old.keeper) ≡ true → is_unsound_store result.reply ≡ false }
+        ensures good_replica { is_some (L.applied self.old.follower.link) ≡ true → is_unsound_replica result.reply ≡ false }
     {
+        self.read_invariant();
         match self.unavailable(past, command) {
             Some(refusal) => Answer::of(Reply::Refused(refusal)),
             None => match command {
@@ -285,7 +304,7 @@ impl<T: LockStore, K: Keeper, D: Disk, L: Link> Server<T, K, D, L> {
         requires due { IsDue self.old.state past.now.items command.now }
         requires call { MayCall self.old.state (call_of command.now) }
         requires others { restarts (call_of command.now) ≡ false }
-        ensures { Serves K.held K.may_leave K.faults D.faults L.faults L.refusals self.old self.new past.now.items command.now result }
+        ensures { Serves K.held K.may_leave K.faults D.faults L.gives L.applied L.faults L.refusals self.old self.new past.now.items command.now result }
     {
         match command {
             Command::Logon { session, user } => self.log_on(alloc, past, *session, *user),
@@ -322,7 +341,9 @@ impl<T: LockStore, K: Keeper, D: Disk, L: Link> Server<T, K, D, L> {
             Command::Do2 { worker } => self.post(alloc, past, *worker, 2),
             Command::DropOrder { worker } => self.drop_order(past, *worker),
             Command::Kill => self.kill(past),
+            Command::FailOver => self.fail_over(alloc, past),
             Command::Restart => unreachable!(),
+            Command::Attach => self.attach(alloc, past),
             Command::Cancel { unit } => self.cancel(alloc, past, *unit),
             Command::Resubmit { unit } => self.resubmit(alloc, past, *unit),
         }
@@ -330,7 +351,7 @@ impl<T: LockStore, K: Keeper, D: Disk, L: Link> Server<T, K, D, L> {
 
     fn log_on(&mut self, alloc: Global, past: &Vec<PastEntry>, session: Name, user: Name) -> Reply
         requires { IsDue self.old.state past.now.items (command.Logon session user) }
-        ensures { Serves K.held K.may_leave K.faults D.faults L.faults L.refusals self.old self.new past.now.items (command.Logon session user) result }
+        ensures { Serves K.held K.may_leave K.faults D.faults L.gives L.applied L.faults L.refusals self.old self.new past.now.items (command.Logon session user) result }
     {
         Reply::of(log_on(
             alloc,
@@ -343,7 +364,7 @@ impl<T: LockStore, K: Keeper, D: Disk, L: Link> Server<T, K, D, L> {
 
     fn log_off(&mut self, past: &Vec<PastEntry>, session: &Name) -> Reply
         requires { IsDue self.old.state past.now.items (command.Logoff session.now) }
-        ensures { Serves K.held K.may_leave K.faults D.faults L.faults L.refusals self.old self.new past.now.items (command.Logoff session.now) result }
+        ensures { Serves K.held K.may_leave K.faults D.faults L.gives L.applied L.faults L.refusals self.old self.new past.now.items (command.Logoff session.now) result }
     {
         let start = self.books.start();
         Reply::of(log_off(start, &mut self.sessions, &mut self.locks, session))
@@ -357,7 +378,7 @@ impl<T: LockStore, K: Keeper, D: Disk, L: Link> Server<T, K, D, L> {
         requests: &Items<Request>,
     ) -> Reply
         requires { IsDue self.old.state past.now.items (command.Ask session.now requests.now) }
-        ensures { Serves K.held K.may_leave K.faults D.faults L.faults L.refusals self.old self.new past.now.items (command.Ask session.now requests.now) result }
+        ensures { Serves K.held K.may_leave K.faults D.faults L.gives L.applied L.faults L.refusals self.old self.new past.now.items (command.Ask session.now requests.now) result }
     {
         let start = self.books.start();
         Reply::of(ask(
@@ -372,7 +393,7 @@ impl<T: LockStore, K: Keeper, D: Disk, L: Link> Server<T, K, D, L> {
 
     fn free(&mut self, past: &Vec<PastEntry>, session: &Name, requests: &[Request]) -> Reply
         requires { IsDue self.old.state past.now.items (command.Free session.now requests.now) }
-        ensures { Serves K.held K.may_leave K.faults D.faults L.faults L.refusals self.old self.new past.now.items (command.Free session.now requests.now) result }
+        ensures { Serves K.held K.may_leave K.faults D.faults L.gives L.applied L.faults L.refusals self.old self.new past.now.items (command.Free session.now requests.now) result }
     {
         let start = self.books.start();
         Reply::of(free(start, &self.sessions, &mut self.locks, session, requests))
@@ -380,7 +401,7 @@ impl<T: LockStore, K: Keeper, D: Disk, L: Link> Server<T, K, D, L> {
 
     fn free_all(&mut self, past: &Vec<PastEntry>, session: &Name) -> Reply
         requires { IsDue self.old.state past.now.items (command.FreeAll session.now) }
-        ensures { Serves K.held K.may_leave K.faults D.faults L.faults L.refusals self.old self.new past.now.items (command.FreeAll session.now) result }
+        ensures { Serves K.held K.may_leave K.faults D.faults L.gives L.applied L.faults L.refusals self.old self.new past.now.items (command.FreeAll session.now) result }
     {
         let start = self.books.start();
         Reply::of(free_all(start, &self.sessions, &mut self.locks, session))
@@ -394,7 +415,7 @@ impl<T: LockStore, K: Keeper, D: Disk, L: Link> Server<T, K, D, L> {
         asked: &Items<Asked>,
     ) -> Reply
         requires { IsDue self.old.state past.now.items (command.Convert session.now asked.now) }
-        ensures { Serves K.held K.may_leave K.faults D.faults L.faults L.refusals self.old self.new past.now.items (command.Convert session.now asked.now) result }
+        ensures { Serves K.held K.may_leave K.faults D.faults L.gives L.applied L.faults L.refusals self.old self.new past.now.items (command.Convert session.now asked.now) result }
     {
         let start = self.books.start();
         Reply::of(convert(
@@ -409,7 +430,7 @@ impl<T: LockStore, K: Keeper, D: Disk, L: Link> Server<T, K, D, L> {
 
     fn roll_back(&mut self, alloc: Global, past: &Vec<PastEntry>, session: &Name) -> Reply
         requires { IsDue self.old.state past.now.items (command.Rollback session.now) }
-        ensures { Serves K.held K.may_leave K.faults D.faults L.faults L.refusals self.old self.new past.now.items (command.Rollback session.now) result }
+        ensures { Serves K.held K.may_leave K.faults D.faults L.gives L.applied L.faults L.refusals self.old self.new past.now.items (command.Rollback session.now) result }
     {
         let start = self.books.start();
         Reply::of(roll_back(alloc, start, &mut self.sessions, &mut self.locks, session))
@@ -425,7 +446,7 @@ impl<T: LockStore, K: Keeper, D: Disk, L: Link> Server<T, K, D, L> {
         key: &Key,
     ) -> Reply
         requires { IsDue self.old.state past.now.items (command.Read session.now table.now key.now) }
-        ensures { Serves K.held K.may_leave K.faults D.faults L.faults L.refusals self.old self.new past.now.items (command.Read session.now table.now key.now) result }
+        ensures { Serves K.held K.may_leave K.faults D.faults L.gives L.applied L.faults L.refusals self.old self.new past.now.items (command.Read session.now table.now key.now) result }
     {
         let written = read(alloc, &self.sessions, &mut self.books, session, table, key);
         ended(
@@ -447,7 +468,7 @@ impl<T: LockStore, K: Keeper, D: Disk, L: Link> Server<T, K, D, L> {
         nr: [u8; 2],
     ) -> Reply
         requires { IsDue self.old.state past.now.items (command.Number session.now object.now nr) }
-        ensures { Serves K.held K.may_leave K.faults D.faults L.faults L.refusals self.old self.new past.now.items (command.Number session.now object.now nr) result }
+        ensures { Serves K.held K.may_leave K.faults D.faults L.gives L.applied L.faults L.refusals self.old self.new past.now.items (command.Number session.now object.now nr) result }
     {
         let written = draw(
             alloc,
@@ -478,7 +499,7 @@ impl<T: LockStore, K: Keeper, D: Disk, L: Link> Server<T, K, D, L> {
         upto: u64,
     ) -> Reply
         requires { IsDue self.old.state past.now.items (command.Reserve session.now object.now nr upto) }
-        ensures { Serves K.held K.may_leave K.faults D.faults L.faults L.refusals self.old self.new past.now.items (command.Reserve session.now object.now nr upto) result }
+        ensures { Serves K.held K.may_leave K.faults D.faults L.gives L.applied L.faults L.refusals self.old self.new past.now.items (command.Reserve session.now object.now nr upto) result }
     {
         let written = reserve(
             alloc,
@@ -509,7 +530,7 @@ impl<T: LockStore, K: Keeper, D: Disk, L: Link> Server<T, K, D, L> {
     ) -> Reply
         requires due { IsDue self.old.state past.now.items (command.Commit session.now parts.now stock.now) }
         requires stock { IsStockIn self.old.state stock.now }
-        ensures { Serves K.held K.may_leave K.faults D.faults L.faults L.refusals self.old self.new past.now.items (command.Commit session.now parts.now stock.now) result }
+        ensures { Serves K.held K.may_leave K.faults D.faults L.gives L.applied L.faults L.refusals self.old self.new past.now.items (command.Commit session.now parts.now stock.now) result }
     {
         let written = commit(
             alloc,
@@ -535,7 +556,7 @@ impl<T: LockStore, K: Keeper, D: Disk, L: Link> Server<T, K, D, L> {
     fn take(&mut self, past: &Vec<PastEntry>, worker: u8, part: u8) -> Reply
         requires due { IsDue self.old.state past.now.items (take_of part worker) }
         requires part { (part ≡ 1) ⊎ (part ≡ 2) }
-        ensures { Serves K.held K.may_leave K.faults D.faults L.faults L.refusals self.old self.new past.now.items (take_of part worker) result }
+        ensures { Serves K.held K.may_leave K.faults D.faults L.gives L.applied L.faults L.refusals self.old self.new past.now.items (take_of part worker) result }
     {
         take(&mut self.orders, &self.books, worker, part)
     }
@@ -544,7 +565,7 @@ impl<T: LockStore, K: Keeper, D: Disk, L: Link> Server<T, K, D, L> {
     fn post(&mut self, alloc: Global, past: &Vec<PastEntry>, worker: u8, part: u8) -> Reply
         requires due { IsDue self.old.state past.now.items (post_of part worker) }
         requires part { (part ≡ 1) ⊎ (part ≡ 2) }
-        ensures { Serves K.held K.may_leave K.faults D.faults L.faults L.refusals self.old self.new past.now.items (post_of part worker) result }
+        ensures { Serves K.held K.may_leave K.faults D.faults L.gives L.applied L.faults L.refusals self.old self.new past.now.items (post_of part worker) result }
     {
         let written = post(
             alloc,
@@ -560,7 +581,7 @@ impl<T: LockStore, K: Keeper, D: Disk, L: Link> Server<T, K, D, L> {
 
     fn drop_order(&mut self, past: &Vec<PastEntry>, worker: u8) -> Reply
         requires { IsDue self.old.state past.now.items (command.DropOrder worker) }
-        ensures { Serves K.held K.may_leave K.faults D.faults L.faults L.refusals self.old self.new past.now.items (command.DropOrder worker) result }
+        ensures { Serves K.held K.may_leave K.faults D.faults L.gives L.applied L.faults L.refusals self.old self.new past.now.items (command.DropOrder worker) result }
     {
         drop_order(&mut self.orders, worker)
     }
@@ -568,16 +589,46 @@ impl<T: LockStore, K: Keeper, D: Disk, L: Link> Server<T, K, D, L> {
     /// Ends the lock server. Its table stays in memory, unseen, until another one is made.
     fn kill(&mut self, past: &Vec<PastEntry>) -> Reply
         requires { IsDue self.old.state past.now.items command.Kill }
-        ensures { Serves K.held K.may_leave K.faults D.faults L.faults L.refusals self.old self.new past.now.items command.Kill result }
+        ensures { Serves K.held K.may_leave K.faults D.faults L.gives L.applied L.faults L.refusals self.old self.new past.now.items command.Kill result }
     {
         self.condition = Condition::NoServer;
         Reply::Done
     }
 
+    /// Makes the list of the replica that followed the table.
+    fn fail_over(&mut self, alloc: Global, past: &Vec<PastEntry>) -> Reply
+        requires { IsDue self.old.state past.now.items command.FailOver }
+        ensures { Serves K.held K.may_leave K.faults D.faults L.gives L.applied L.faults L.refusals self.old self.new past.now.items command.FailOver result }
+    {
+        match self.condition {
+            Condition::Up => Reply::Refused(Refusal::ServerUp),
+            Condition::Doubt(call) => Reply::Refused(Refusal::Down(call)),
+            Condition::NoServer => match self.locks.fail_over(alloc, self.max_locks) {
+                Ok(()) => {
+                    self.condition = Condition::Up;
+                    Reply::Done
+                }
+                Err(fault) => Reply::Refused(over_refusal(fault)),
+            },
+        }
+    }
+
+    /// Has a replica follow the table.
+    fn attach(&mut self, alloc: Global, past: &Vec<PastEntry>) -> Reply
+        requires { IsDue self.old.state past.now.items command.Attach }
+        ensures { Serves K.held K.may_leave K.faults D.faults L.gives L.applied L.faults L.refusals self.old self.new past.now.items command.Attach result }
+    {
+        match self.locks.attach(alloc) {
+            Ok(()) => Reply::Done,
+            Err(LinkFault::Failed) => Reply::Refused(Refusal::LinkFault),
+            Err(LinkFault::NoMemory) => Reply::Refused(Refusal::NoMemory),
+        }
+    }
+
     /// Makes a lock server anew.
     fn restart(&mut self, alloc: Global, past: &Vec<PastEntry>) -> Answer
         requires { IsDue self.old.state past.now.items command.Restart }
-        ensures serves { Serves K.held K.may_leave K.faults D.faults L.faults L.refusals self.old self.new past.now.items command.Restart result.reply }
+        ensures serves { Serves K.held K.may_leave K.faults D.faults L.gives L.applied L.faults L.refusals self.old self.new past.now.items command.Restart result.reply }
         ensures taken { IsTelling (with_calls self.old.state past.now.items) command.Restart result.taken (with_calls self.new.state past.now.items) result.reply }
         ensures good_file { IsTrue D.tells → is_unsound_file result.reply ≡ false }
         ensures good_store { is_some (K.held self.old.keeper) ≡ true → is_unsound_store result.reply ≡ false }
@@ -597,7 +648,7 @@ impl<T: LockStore, K: Keeper, D: Disk, L: Link> Server<T, K, D, L> {
 
     fn cancel(&mut self, alloc: Global, past: &Vec<PastEntry>, unit: UnitKey) -> Reply
         requires { IsDue self.old.state past.now.items (command.Cancel unit) }
-        ensures { Serves K.held K.may_leave K.faults D.faults L.faults L.refusals self.old self.new past.now.items (command.Cancel unit) result }
+        ensures { Serves K.held K.may_leave K.faults D.faults L.gives L.applied L.faults L.refusals self.old self.new past.now.items (command.Cancel unit) result }
     {
         let written = cancel(
             alloc,
@@ -612,7 +663,7 @@ impl<T: LockStore, K: Keeper, D: Disk, L: Link> Server<T, K, D, L> {
 
     fn resubmit(&mut self, alloc: Global, past: &Vec<PastEntry>, unit: UnitKey) -> Reply
         requires { IsDue self.old.state past.now.items (command.Resubmit unit) }
-        ensures { Serves K.held K.may_leave K.faults D.faults L.faults L.refusals self.old self.new past.now.items (command.Resubmit unit) result }
+        ensures { Serves K.held K.may_leave K.faults D.faults L.gives L.applied L.faults L.refusals self.old self.new past.now.items (command.Resubmit unit) result }
     {
         let written = resubmit(
             alloc,
@@ -651,5 +702,21 @@ fn ended(
             failure.caller = caller;
             Reply::Refused(Refusal::BackupFault)
         }
+    }
+}
+
+/// Why the list of a replica doesn't become the table.
+fn over_refusal(fault: OverFault) -> Refusal
+    ensures { result ≡ over_refusal fault }
+{
+    match fault {
+        OverFault::NotAttached => Refusal::NotAttached,
+        OverFault::Other => Refusal::Unsound(Bad::Replica {
+            first: 0,
+            second: 0,
+        }),
+        OverFault::Link => Refusal::LinkFault,
+        OverFault::Clash { first, second } => Refusal::Unsound(Bad::Replica { first, second }),
+        OverFault::NoMemory => Refusal::NoMemory,
     }
 }

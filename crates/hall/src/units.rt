@@ -109,9 +109,10 @@ pub(crate) fn post<T: LockStore, K: Keeper, D: Disk, L: Link>(
     ensures limit { locks.new.table.limit ≡ locks.old.table.limit }
     ensures file { FilesAs D.tells D.reads D.may_leave D.faults books.new.ledger locks.old.file locks.new.file result }
     ensures unfiled { nat_eq part 1 ≡ false → locks.new.file ≡ locks.old.file }
+    ensures unshipped { nat_eq part 1 ≡ false → locks.new.copy ≡ locks.old.copy }
     ensures second { nat_eq part 1 ≡ false → locks.new.table.entries ≡ locks.old.table.entries }
     ensures table { OnFailure result (locks.new.table ≡ locks.old.table) }
-    ensures follower { KeepsOn L.faults L.refusals locks.old.copy locks.new.copy }
+    ensures follower { KeepsOn L.applied L.faults L.refusals locks.old.copy locks.new.copy }
     ensures orders { OnFailure result (orders.new.items ≡ orders.old.items) }
     ensures ledger { OnStoreFailure result (books.new.ledger ≡ books.old.ledger) }
     ensures usable { OnAnswer result (IsUsable K.held K.is_open books.new) }
@@ -156,10 +157,11 @@ fn end_locks<T: LockStore, D: Disk, L: Link>(
     requires usable { locks.old.file.failed ≡ false }
     ensures table { OnOk result (locks.new.table ≡ with_entries locks.old.table (locks_ended ends locks.old.table.entries unit.now)) }
     ensures apart { ends ≡ false → locks.new.table ≡ locks.old.table }
+    ensures unshipped { ends ≡ false → locks.new.copy ≡ locks.old.copy }
     ensures kept { OnErr result (locks.new.table ≡ locks.old.table) }
     ensures limit { locks.new.table.limit ≡ locks.old.table.limit }
     ensures file { FreesList D.tells D.reads D.may_leave D.faults ends unit.now locks.old.file locks.new.file result }
-    ensures follower { KeepsOn L.faults L.refusals locks.old.copy locks.new.copy }
+    ensures follower { KeepsOn L.applied L.faults L.refusals locks.old.copy locks.new.copy }
 {
     if ends {
         locks.end_unit(unit)?;
@@ -257,7 +259,7 @@ pub(crate) fn commit<T: LockStore, K: Keeper, D: Disk, L: Link>(
         result }
     ensures limit { locks.new.table.limit ≡ locks.old.table.limit }
     ensures file { FilesAs D.tells D.reads D.may_leave D.faults books.new.ledger locks.old.file locks.new.file result }
-    ensures follower { KeepsOn L.faults L.refusals locks.old.copy locks.new.copy }
+    ensures follower { KeepsOn L.applied L.faults L.refusals locks.old.copy locks.new.copy }
     ensures table { OnFailure result (locks.new.table ≡ locks.old.table) }
     ensures sessions { OnFailure result (sessions.new ≡ sessions.old) }
     ensures ranges { OnFailure result (ranges.new ≡ ranges_behind stock.now ranges.old result) }
@@ -310,7 +312,7 @@ fn record_commit<T: LockStore, K: Keeper, D: Disk, L: Link>(
         result }
     ensures limit { locks.new.table.limit ≡ locks.old.table.limit }
     ensures file { FilesAs D.tells D.reads D.may_leave D.faults books.new.ledger locks.old.file locks.new.file result }
-    ensures follower { KeepsOn L.faults L.refusals locks.old.copy locks.new.copy }
+    ensures follower { KeepsOn L.applied L.faults L.refusals locks.old.copy locks.new.copy }
     ensures table { OnFailure result (locks.new.table ≡ locks.old.table) }
     ensures sessions { OnFailure result (sessions.new ≡ sessions.old) }
     ensures store { EndsAs K.held K.is_open K.may_leave K.faults books.old books.new result }
@@ -376,7 +378,7 @@ fn record_unit<T: LockStore, K: Keeper, D: Disk, L: Link>(
         name.now unit levels.items result }
     ensures limit { locks.new.table.limit ≡ locks.old.table.limit }
     ensures file { FilesAs D.tells D.reads D.may_leave D.faults books.new.ledger locks.old.file locks.new.file result }
-    ensures follower { KeepsOn L.faults L.refusals locks.old.copy locks.new.copy }
+    ensures follower { KeepsOn L.applied L.faults L.refusals locks.old.copy locks.new.copy }
     ensures table { OnFailure result (locks.new.table ≡ locks.old.table) }
     ensures sessions { OnFailure result (sessions.new ≡ sessions.old) }
     ensures store { EndsAs K.held K.is_open K.may_leave K.faults books.old books.new result }
@@ -412,7 +414,7 @@ fn record_saved<T: LockStore, K: Keeper, D: Disk, L: Link>(
     ensures limit { locks.new.table.limit ≡ locks.old.table.limit }
     ensures file { FilesAs D.tells D.reads D.may_leave D.faults books.new.ledger locks.old.file locks.new.file result }
     ensures answered { IsUnrefused result }
-    ensures follower { KeepsOn L.faults L.refusals locks.old.copy locks.new.copy }
+    ensures follower { KeepsOn L.applied L.faults L.refusals locks.old.copy locks.new.copy }
     ensures table { OnFailure result (locks.new.table ≡ locks.old.table) }
     ensures sessions { OnFailure result (sessions.new ≡ sessions.old) }
     ensures store { EndsAs K.held K.is_open K.may_leave K.faults books.old books.new result }
@@ -514,7 +516,7 @@ pub(crate) fn cancel<T: LockStore, K: Keeper, D: Disk, L: Link>(
         result }
     ensures limit { locks.new.table.limit ≡ locks.old.table.limit }
     ensures file { FilesAs D.tells D.reads D.may_leave D.faults books.new.ledger locks.old.file locks.new.file result }
-    ensures follower { KeepsOn L.faults L.refusals locks.old.copy locks.new.copy }
+    ensures follower { KeepsOn L.applied L.faults L.refusals locks.old.copy locks.new.copy }
     ensures table { OnFailure result (locks.new.table ≡ locks.old.table) }
     ensures ledger { OnStoreFailure result (books.new.ledger ≡ books.old.ledger) }
     ensures usable { OnAnswer result (IsUsable K.held K.is_open books.new) }
@@ -602,7 +604,7 @@ pub(crate) fn resubmit<T: LockStore, K: Keeper, D: Disk, L: Link>(
         result }
     ensures limit { locks.new.table.limit ≡ locks.old.table.limit }
     ensures file { FilesAs D.tells D.reads D.may_leave D.faults books.new.ledger locks.old.file locks.new.file result }
-    ensures follower { KeepsOn L.faults L.refusals locks.old.copy locks.new.copy }
+    ensures follower { KeepsOn L.applied L.faults L.refusals locks.old.copy locks.new.copy }
     ensures table { OnFailure result ((locks.new.table ≡ locks.old.table) ⊎ IsRegained books.old.ledger unit locks.old.table locks.new.table.entries) }
     ensures ledger { OnStoreFailure result (books.new.ledger ≡ books.old.ledger) }
     ensures usable { OnAnswer result (IsUsable K.held K.is_open books.new) }
@@ -638,7 +640,7 @@ fn reopen<T: LockStore, K: Keeper, D: Disk, L: Link>(
         result }
     ensures limit { locks.new.table.limit ≡ locks.old.table.limit }
     ensures file { FilesAs D.tells D.reads D.may_leave D.faults books.new.ledger locks.old.file locks.new.file result }
-    ensures follower { KeepsOn L.faults L.refusals locks.old.copy locks.new.copy }
+    ensures follower { KeepsOn L.applied L.faults L.refusals locks.old.copy locks.new.copy }
     ensures table { OnFailure result ((locks.new.table ≡ locks.old.table) ⊎ IsRegained books.old.ledger unit locks.old.table locks.new.table.entries) }
     ensures ledger { OnStoreFailure result (books.new.ledger ≡ books.old.ledger) }
     ensures usable { OnAnswer result (IsUsable K.held K.is_open books.new) }

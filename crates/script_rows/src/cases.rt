@@ -1,3 +1,4 @@
+use crate::links::Hands;
 use enq_base::{Items, NoMemory};
 use keeper_mem::Stop;
 use std::alloc::Global;
@@ -64,6 +65,8 @@ pub(crate) struct PlannedFaults {
     pub(crate) store: StoreFaults,
     pub(crate) backup: Vec<u64>,
     pub(crate) link: Vec<u64>,
+    /// What the link hands over.
+    pub(crate) hands: Hands,
 }
 
 #[derive(Drop)]
@@ -101,6 +104,7 @@ impl PlannedFaults {
             },
             backup: Vec::new(alloc),
             link: Vec::new(alloc),
+            hands: Hands::All,
         }
     }
 }

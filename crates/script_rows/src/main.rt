@@ -20,6 +20,8 @@
 //! | `DEVICE fails at N` | call N of `landscape`, `script`, `sink`, `store`, `backup` or `link` fails, in the next start |
 //! | `store fails at N kept` | the same, and what it was to write is there all the same |
 //! | `store stops at N`, `store stops at N kept` | so do all calls behind it |
+//! | `link hands over all but the last` | in the next start the link leaves the last lock out |
+//! | `link hands over the first twice`, `.. backwards` | it hands over the first lock once more, or begins with the last |
 //! | `last N` | just the last N lines that the next start is answered are shown, and how many stand before |
 //! | `start`, its script, `end` | starts the program with this script, over what the last one left |
 //! | `start WORDS`, its script, `end` | the same, and shows this line first |
@@ -35,6 +37,7 @@
 mod cases;
 mod escapes;
 mod faults;
+mod links;
 mod orders;
 mod playing;
 mod reading;

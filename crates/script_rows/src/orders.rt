@@ -1,6 +1,7 @@
 use crate::cases::{Image, PlannedFaults, StoreRow};
 use crate::escapes::{decoded, read_count};
 use crate::faults::CaseFault;
+use crate::links::Hands;
 use enq_base::Items;
 use keeper_mem::Stop;
 use std::alloc::Global;
@@ -41,6 +42,16 @@ pub(crate) fn plan_stop(
     let (at, after) = read_call(call, number)?;
     faults.store.stop = Some(Stop { at, after });
     Ok(())
+}
+
+/// Reads what a link hands over that doesn't hand over what its replica has.
+pub(crate) fn read_hands(text: &str) -> Result<Hands, CaseFault> {
+    match text {
+        "all but the last" => Ok(Hands::Fewer),
+        "the first twice" => Ok(Hands::Twice),
+        "backwards" => Ok(Hands::Backwards),
+        _ => Err(CaseFault::NoForm),
+    }
 }
 
 /// Reads `N` or `N kept`: the number of a call, and whether what it was to write is there all the same.

@@ -1,5 +1,6 @@
 use crate::cases::{Case, Image, Start, Step, StoreFaults, StoreRow};
 use crate::faults::CaseFault;
+use crate::links::{Hands, TestLink};
 use crate::showing::{show_backup, show_end, show_replies, show_row};
 use bk_disk::MemDisk;
 use enq_base::Items;
@@ -7,14 +8,13 @@ use enq_cmd::{Site, enqueue_main};
 use io_edge::{MemSink, MemSource};
 use keeper_api::{Change, Keeper, Row};
 use keeper_mem::{MemKeeper, Stop};
-use replica_link::MemLink;
 use std::alloc::Global;
 
 // The most rows that are read in one call.
 const PAGE: u32 = 1000;
 
 /// What outlives a start, and the link that it was made with.
-type Place = Site<MemKeeper, MemDisk, MemLink>;
+type Place = Site<MemKeeper, MemDisk, TestLink>;
 
 /// Plays a case, and tells what it shows.
 pub(crate) fn play(alloc: Global, case: Case) -> Result<Vec<u8>, CaseFault> {
@@ -23,7 +23,7 @@ pub(crate) fn play(alloc: Global, case: Case) -> Result<Vec<u8>, CaseFault> {
     let mut site = Site {
         keeper: MemKeeper::new(alloc, Vec::new(alloc), Vec::new(alloc))?,
         disk: MemDisk::new(alloc, Vec::new(alloc), Vec::new(alloc))?,
-        link: MemLink::new(alloc, Vec::new(alloc))?,
+        link: TestLink::new(alloc, Vec::new(alloc), Hands::All)?,
     };
     for step in steps {
         site = do_step(alloc, step, site, &mut shown)?;
@@ -75,7 +75,7 @@ fn play_start(
     let site = Site {
         keeper: planned(site.keeper, faults.store),
         disk: left_disk(alloc, &site.disk, Image::Read, faults.backup)?,
-        link: MemLink::new(alloc, faults.link)?,
+        link: TestLink::new(alloc, faults.link, faults.hands)?,
     };
     let ended = enqueue_main(
         alloc,

@@ -2,8 +2,8 @@ use crate::cases::{Case, Start, Step};
 use crate::escapes::decoded;
 use crate::faults::{CaseFault, Refusal};
 use crate::orders::{
-    change_landscape, plan_failure, plan_stop, read_image, read_length, read_row, read_table,
-    read_words,
+    change_landscape, plan_failure, plan_stop, read_hands, read_image, read_length, read_row,
+    read_table, read_words,
 };
 use crate::scripts::{put_line, span_of};
 use std::alloc::Global;
@@ -251,6 +251,10 @@ fn take_order(
     }
     if let Some(call) = line.strip_prefix("store stops at ") {
         return plan_stop(call, number, &mut draft.start.faults);
+    }
+    if let Some(what) = line.strip_prefix("link hands over ") {
+        draft.start.faults.hands = read_hands(what)?;
+        return Ok(());
     }
     let (verb, rest) = line.split_once(' ').unwrap_or((line, ""));
     match verb {

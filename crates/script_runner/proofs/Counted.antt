@@ -1,10 +1,14 @@
 -- A device's count of faults, line by line.
 use Rattle.std.proofs.Common.{◌≡◌, ℕ, ◌≤◌, Bool, true, false, List, [], ◌∷◌, ◌++◌, refl, ◌∙◌, subst, arith}
-use Rattle.std.specs.Prelude.{◌||◌}
+use Rattle.std.specs.Prelude.{◌||◌, Option}
 use Rattle.std.specs.List.{list_any}
 use Rattle.enq_base.specs.Causes.{Rose}
-use Rattle.script_runner.specs.Run.{Turn}
+use Rattle.enq_server.specs.Following.{Following, IsLater}
 use Rattle.hall.specs.Leaving.{HasCounted}
+use Rattle.hall.specs.declared.command.PastEntry.{PastEntry}
+use Rattle.lock_entry.specs.declared.entry.Entry.{Entry}
+use Rattle.script_runner.specs.Faults.{TellsNoFault}
+use Rattle.script_runner.specs.Run.{Turn}
 use Rattle.script_runner.specs.Turns.{CountsEach}
 
 pub rose_from : (a b c : ℕ) → a ≤ b → Rose b c → Rose a c
@@ -32,3 +36,20 @@ all_counted fails (t ∷ ts) f g h = counted_on (fails t) (list_any fails ts) f 
 pub counted_more : (fails : Turn → Bool) (turns : List Turn) (turn : Turn) (f g h : ℕ) → CountsEach fails turns f g → HasCounted (fails turn) g h → CountsEach fails (turns ++ turn ∷ []) f h
 counted_more fails [] turn f g h none k = (h, (subst (λ n. HasCounted (fails turn) n h) none k, refl))
 counted_more fails (t ∷ ts) turn f g h each k = (each.0, (each.1.0, counted_more fails ts turn each.0 g h each.1.1 k))
+
+-- ---- the link
+
+-- a link that nothing was asked of
+pub same_link : {L : Type 0} (applied : L → Option (List Entry)) (faults refusals : L → ℕ) (f : Following L) → IsLater applied faults refusals f f
+same_link applied faults refusals f = record { faults_later = omega arith; refusals_later = omega arith; told = refl }
+
+-- one stretch behind another
+pub link_on : {L : Type 0} (applied : L → Option (List Entry)) (faults refusals : L → ℕ) (a b c : Following L) → IsLater applied faults refusals a b → IsLater applied faults refusals b c → IsLater applied faults refusals a c
+link_on applied faults refusals a b c h k = record {
+  faults_later = omega (arith, h.faults_later, k.faults_later);
+  refusals_later = omega (arith, h.refusals_later, k.refusals_later);
+  told = k.told ∙ h.told;
+}
+
+pub tells_on : (a b c : ℕ) (old mid new : List PastEntry) → a ≤ b → b ≤ c → TellsNoFault a b old mid → TellsNoFault b c mid new → TellsNoFault a c old new
+tells_on a b c old mid new first last h k quiet none = k (λ rose. quiet (rose_from a b c first rose)) (h (λ rose. quiet (rose_on a b c rose last)) none)

@@ -20,8 +20,8 @@ use Rattle.hall.specs.declared.command.Command.{Command}
 use Rattle.hall.specs.declared.command.PastEntry.{PastEntry}
 use Rattle.hall.specs.declared.command.Reply.{Reply}
 use Rattle.hall.specs.declared.command.Reply.TheVariants as reply
-use Rattle.hall.specs.Devices.{AllWell, BackupFails, DeviceOutcome, Event, FindsBad, FindsBadStore, MeetsWant, NotRemade, Reading, RemakeFault, StoreFails, Wanting, all_well, fault_told, found_by, is_file_failure, is_store_failure}
-use Rattle.hall.specs.History.{doubted, noted, pending_after, refused, step}
+use Rattle.hall.specs.Devices.{AllWell, BackupFails, DeviceOutcome, Event, FindsBad, FindsBadStore, LinkFails, MeetsWant, NotRemade, Reading, RemakeFault, StoreFails, Wanting, all_well, fault_told, found_by, is_file_failure, is_store_failure}
+use Rattle.hall.specs.History.{doubted, losing, noted, pending_after, refused, step}
 use Rattle.hall.specs.Leaving.{HasCounted}
 use Rattle.hall.specs.Recall.{HasBegun}
 use Rattle.hall.specs.State.{State, doubt_in}
@@ -65,6 +65,7 @@ is_unmade AllWell = false
 is_unmade Wanting = false
 is_unmade StoreFails = false
 is_unmade BackupFails = false
+is_unmade LinkFails = false
 is_unmade (NotRemade fault) = true
 
 abbrev pub unmade : LineOutcome → Bool
@@ -240,31 +241,31 @@ no_failure s t (inr (inl up)) = inr (ap doubt_in up)
 no_failure s t (inr (inr h)) = absurd (let wrong : false ≡ true = h.0 in cc)
 
 -- the store fails
-store_failed : (reading : Reading) (s : State) (n : ℕ) (c : Command) → IsFailed true false (length s.past) (step (record { event = StoreFails; reading = reading }) s n c).state
-store_failed reading s n c =
+store_failed : (reading : Reading) (lost : Bool) (s : State) (n : ℕ) (c : Command) → IsFailed true false (length s.past) (step (record { event = StoreFails; reading = reading; lost = lost }) s n c).state
+store_failed reading lost s n c =
     let pending = pending_after reading s (call_of c) (call_verdict (found_by reading s) s (call_of c)) in
-    by_stock (λ call t. IsFailed true false (length s.past) (noted n c false (refused (doubted t call None pending) refusal.StoreFault)).state) s
+    by_stock (λ call t. IsFailed true false (length s.past) (noted n c false (losing lost (refused (doubted t call None pending) refusal.StoreFault))).state) s
     (λ name parts stock. record { place = length s.past; doubt = refl; later = omega arith; within = longer s.past _; answer = inl (refl, last_call s.past _) })
     (λ call. record { place = length s.past; doubt = refl; later = omega arith; within = longer s.past _; answer = inl (refl, last_call s.past _) })
     (call_of c)
 
 -- no lock server could be made anew
-not_remade : (g : Reading) (s : State) (n : ℕ) (c : Command) (fault : RemakeFault) → IsFailed false false (length s.past) (step (record { event = NotRemade fault; reading = g }) s n c).state
-not_remade g s n c MeetsWant = record {
+not_remade : (g : Reading) (lost : Bool) (s : State) (n : ℕ) (c : Command) (fault : RemakeFault) → IsFailed false false (length s.past) (step (record { event = NotRemade fault; reading = g; lost = lost }) s n c).state
+not_remade g lost s n c MeetsWant = record {
   place = length s.past;
   doubt = refl;
   later = omega arith;
   within = longer s.past _;
   answer = inr (inr (MeetsWant, last_call s.past _));
 }
-not_remade g s n c (FindsBad place) = record {
+not_remade g lost s n c (FindsBad place) = record {
   place = length s.past;
   doubt = refl;
   later = omega arith;
   within = longer s.past _;
   answer = inr (inr (FindsBad place, last_call s.past _));
 }
-not_remade g s n c (FindsBadStore table row) = record {
+not_remade g lost s n c (FindsBadStore table row) = record {
   place = length s.past;
   doubt = refl;
   later = omega arith;
@@ -274,33 +275,36 @@ not_remade g s n c (FindsBadStore table row) = record {
 
 step_doubt : (o : DeviceOutcome) (s : State) (n : ℕ) (c : Command) → StaysOrFails (is_store_failure o.event) (is_file_failure o.event) s (step o s n c).state
 step_doubt o s n c =
-    let well : DeviceOutcome = record { event = AllWell; reading = o.reading } in
-    let wanting : DeviceOutcome = record { event = Wanting; reading = o.reading } in
-    elim o.event as (λ e. StaysOrFails (is_store_failure e) (is_file_failure e) s (step (record { event = e; reading = o.reading }) s n c).state) [
+    let well : DeviceOutcome = record { event = AllWell; reading = o.reading; lost = o.lost } in
+    let wanting : DeviceOutcome = record { event = Wanting; reading = o.reading; lost = o.lost } in
+    let unlinked : DeviceOutcome = record { event = LinkFails; reading = o.reading; lost = o.lost } in
+    elim o.event as (λ e. StaysOrFails (is_store_failure e) (is_file_failure e) s (step (record { event = e; reading = o.reading; lost = o.lost }) s n c).state) [
       | AllWell ↦ inl (no_failure s (step well s n c).state (step_becomes well s n c))
       | Wanting ↦ inl (no_failure s (step wanting s n c).state (step_becomes wanting s n c))
-      | StoreFails ↦ inr (store_failed o.reading s n c)
+      | StoreFails ↦ inr (store_failed o.reading o.lost s n c)
       | BackupFails ↦ inr (record { place = length s.past; doubt = refl; later = omega arith; within = longer s.past _; answer = inr (inl (refl, last_call s.past _)) })
-      | NotRemade fault ↦ inr (not_remade o.reading s n c fault)
+      | LinkFails ↦ inl (no_failure s (step unlinked s n c).state (step_becomes unlinked s n c))
+      | NotRemade fault ↦ inr (not_remade o.reading o.lost s n c fault)
     ]
 
 -- a run that goes on behind a lock server that couldn't be made anew didn't meet want of memory, so a device isn't good
-finds_bad : (w : World) (g : Reading) (s : State) (n : ℕ) (c : Command) (fault : RemakeFault) → (answered w n (step (record { event = NotRemade fault; reading = g }) s n c).reply).stop ≡ None
-    → MeetsBad s (step (record { event = NotRemade fault; reading = g }) s n c).state
-finds_bad w g s n c MeetsWant goes = absurd (let wrong : ◌≡◌ {A = Option Why} (Some NoMemory) None = goes in cc)
-finds_bad w g s n c (FindsBad place) goes =
+finds_bad : (w : World) (g : Reading) (lost : Bool) (s : State) (n : ℕ) (c : Command) (fault : RemakeFault) → (answered w n (step (record { event = NotRemade fault; reading = g; lost = lost }) s n c).reply).stop ≡ None
+    → MeetsBad s (step (record { event = NotRemade fault; reading = g; lost = lost }) s n c).state
+finds_bad w g lost s n c MeetsWant goes = absurd (let wrong : ◌≡◌ {A = Option Why} (Some NoMemory) None = goes in cc)
+finds_bad w g lost s n c (FindsBad place) goes =
     record { call = length s.past + 1; later = omega arith; answer = reply.Refused (refusal.Unsound (bad.Backup place)); answered = last_call s.past _; unsound = refl }
-finds_bad w g s n c (FindsBadStore table row) goes =
+finds_bad w g lost s n c (FindsBadStore table row) goes =
     record { call = length s.past + 1; later = omega arith; answer = reply.Refused (refusal.Unsound (bad.Store table row)); answered = last_call s.past _; unsound = refl }
 
 step_made : (w : World) (o : DeviceOutcome) (s : State) (n : ℕ) (c : Command) → (answered w n (step o s n c).reply).stop ≡ None → MadeOrBad (is_unmade o.event) s (step o s n c).state
 step_made w o s n c =
-    elim o.event as (λ e. (answered w n (step (record { event = e; reading = o.reading }) s n c).reply).stop ≡ None → MadeOrBad (is_unmade e) s (step (record { event = e; reading = o.reading }) s n c).state) [
+    elim o.event as (λ e. (answered w n (step (record { event = e; reading = o.reading; lost = o.lost }) s n c).reply).stop ≡ None → MadeOrBad (is_unmade e) s (step (record { event = e; reading = o.reading; lost = o.lost }) s n c).state) [
       | AllWell ↦ λ goes. inl refl
       | Wanting ↦ λ goes. inl refl
       | StoreFails ↦ λ goes. inl refl
       | BackupFails ↦ λ goes. inl refl
-      | NotRemade fault ↦ λ goes. inr (finds_bad w o.reading s n c fault goes)
+      | LinkFails ↦ λ goes. inl refl
+      | NotRemade fault ↦ λ goes. inr (finds_bad w o.reading o.lost s n c fault goes)
     ]
 
 -- where the run goes on behind it

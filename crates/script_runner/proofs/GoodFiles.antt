@@ -4,6 +4,8 @@ use Rattle.std.specs.Prelude.{◌||◌, IsTrue, Option, Some, None}
 use Rattle.std.specs.List.{list_any, slice_get}
 use Rattle.std.specs.Option.{option_map}
 use Rattle.std.proofs.lemmas.List.Folds.{list_any-append}
+use Rattle.enq_base.specs.Causes.{Rose}
+use Rattle.enq_base.specs.declared.refusal.Refusal.TheVariants as refusal
 use Rattle.hall.proofs.Frames.{by_noting, served-past}
 use Rattle.hall.specs.Devices.{DeviceOutcome}
 use Rattle.hall.specs.History.{IsStep, Served, past_entry, served, step, takes_flight}
@@ -11,8 +13,10 @@ use Rattle.hall.specs.State.{State}
 use Rattle.hall.specs.declared.command.Command.{Command}
 use Rattle.hall.specs.declared.command.PastEntry.{PastEntry}
 use Rattle.hall.specs.declared.command.Reply.{Reply}
+use Rattle.hall.specs.declared.command.Reply.TheVariants as reply
+use Rattle.hall.specs.Serving.{HasLinkCause}
 use Rattle.hall.specs.Unsound.{is_unsound_file, is_unsound_store}
-use Rattle.script_runner.specs.Faults.{NoneTells, NoneUnsound, NoneUnsoundStore, answer_at}
+use Rattle.script_runner.specs.Faults.{NoneTells, NoneUnsound, NoneUnsoundStore, answer_at, is_link_fault}
 use Rattle.script_runner.specs.Replay.{MeetsBad}
 
 neither : (a b : Bool) → a ≡ false → b ≡ false → (a || (b || false)) ≡ false
@@ -77,3 +81,8 @@ neither_so false false off none on = cc
 pub never_met : (before now : State) → NoneUnsound now.past → NoneUnsoundStore now.past → MeetsBad before now → ⊥
 never_met before now files stores h =
     neither_so (is_unsound_file h.answer) (is_unsound_store h.answer) (answer_sound is_unsound_file now.past h.call h.answer files h.answered) (answer_sound is_unsound_store now.past h.call h.answer stores h.answered) h.unsound
+
+-- that the link failed isn't answered where its count stood still
+pub no_link_fault : (f g : ℕ) (r : Reply) → HasLinkCause f g r → (Rose f g → ⊥) → is_link_fault r ≡ false
+no_link_fault f g (reply.Refused refusal.LinkFault) rose quiet = absurd (quiet rose)
+no_link_fault f g _ rose quiet = refl

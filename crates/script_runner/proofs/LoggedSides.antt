@@ -172,6 +172,10 @@ meaning_logged w (line.DropOrder worker) h =
     λ d n. settled_logged (line.DropOrder worker) (step d w.hall n (command.DropOrder worker)).reply w.hall.sessions _ w.sides (λ m off. step_keeps d w.hall n (command.DropOrder worker) m refl) tt h
 meaning_logged w line.Kill h =
     λ d n. settled_logged line.Kill (step d w.hall n command.Kill).reply w.hall.sessions _ w.sides (λ m off. step_keeps d w.hall n command.Kill m refl) tt h
+meaning_logged w line.FailOver h =
+    λ d n. settled_logged line.FailOver (step d w.hall n command.FailOver).reply w.hall.sessions _ w.sides (λ m off. step_keeps d w.hall n command.FailOver m refl) tt h
+meaning_logged w line.Attach h =
+    λ d n. settled_logged line.Attach (step d w.hall n command.Attach).reply w.hall.sessions _ w.sides (λ m off. step_keeps d w.hall n command.Attach m refl) tt h
 meaning_logged w line.Restart h =
     λ d n. settled_logged line.Restart (step d w.hall n command.Restart).reply w.hall.sessions _ w.sides (λ m off. step_keeps d w.hall n command.Restart m refl) tt h
 meaning_logged w (line.Cancel unit) h =

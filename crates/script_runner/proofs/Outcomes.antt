@@ -4,7 +4,7 @@ use Rattle.std.specs.Prelude.{Option, Some, None, is_some, IsTrue}
 use Rattle.enq_base.specs.declared.refusal.Refusal.TheVariants as refusal
 use Rattle.hall.specs.declared.command.Reply.{Reply}
 use Rattle.hall.specs.declared.command.Reply.TheVariants as reply
-use Rattle.hall.specs.Devices.{DeviceOutcome, Event, AllWell, NotRemade, Wanting, StoreFails, BackupFails, Reading, all_well, is_file_failure, is_store_failure}
+use Rattle.hall.specs.Devices.{DeviceOutcome, Event, AllWell, LinkFails, NotRemade, Wanting, StoreFails, BackupFails, Reading, all_well, is_file_failure, is_store_failure}
 use Rattle.script_lang.specs.declared.script_line.ScriptLine.{ScriptLine}
 use Rattle.script_runner.specs.declared.runner.Why.{Why}
 use Rattle.script_runner.specs.declared.runner.Why.TheVariants.{NoMemory}
@@ -39,33 +39,36 @@ pub line_fine : (w : World) (n : ℕ) (bytes : List ℕ) (outcome : LineOutcome)
 line_fine w n bytes outcome h = said_fine w n (line_in bytes) outcome h
 
 -- the same but for a want that changed nothing
-abbrev calmed_by : Event → Reading → DeviceOutcome
-calmed_by AllWell reading = record { event = AllWell; reading = reading }
-calmed_by Wanting reading = all_well
-calmed_by StoreFails reading = record { event = StoreFails; reading = reading }
-calmed_by BackupFails reading = record { event = BackupFails; reading = reading }
-calmed_by (NotRemade fault) reading = record { event = NotRemade fault; reading = reading }
+abbrev calmed_by : Event → Reading → Bool → DeviceOutcome
+calmed_by AllWell reading lost = record { event = AllWell; reading = reading; lost = lost }
+calmed_by Wanting reading lost = all_well
+calmed_by StoreFails reading lost = record { event = StoreFails; reading = reading; lost = lost }
+calmed_by BackupFails reading lost = record { event = BackupFails; reading = reading; lost = lost }
+calmed_by LinkFails reading lost = record { event = LinkFails; reading = reading; lost = lost }
+calmed_by (NotRemade fault) reading lost = record { event = NotRemade fault; reading = reading; lost = lost }
 
 abbrev pub calmed : LineOutcome → LineOutcome
 calmed NoRoom = Called all_well
-calmed (Called outcome) = Called (calmed_by outcome.event outcome.reading)
+calmed (Called outcome) = Called (calmed_by outcome.event outcome.reading outcome.lost)
 
-calm_event : (e : Event) (g : Reading) → is_store_failure e ≡ false → is_file_failure e ≡ false → is_unmade e ≡ false → (calmed_by e g).event ≡ AllWell
-calm_event AllWell g off unfiled made = refl
-calm_event Wanting g off unfiled made = refl
-calm_event StoreFails g off unfiled made = absurd (cc)
-calm_event BackupFails g off unfiled made = absurd (cc)
-calm_event (NotRemade fault) g off unfiled made = absurd (cc)
+calm_event : (e : Event) (g : Reading) (lost : Bool) → is_store_failure e ≡ false → is_file_failure e ≡ false → is_unmade e ≡ false
+    → ((calmed_by e g lost).event ≡ AllWell) ⊎ ((calmed_by e g lost).event ≡ LinkFails)
+calm_event AllWell g lost off unfiled made = inl refl
+calm_event Wanting g lost off unfiled made = inl refl
+calm_event StoreFails g lost off unfiled made = absurd (cc)
+calm_event BackupFails g lost off unfiled made = absurd (cc)
+calm_event LinkFails g lost off unfiled made = inr refl
+calm_event (NotRemade fault) g lost off unfiled made = absurd (cc)
 
 pub calmed_calm : (o : LineOutcome) → store_fails o ≡ false → file_fails o ≡ false → unmade o ≡ false → IsCalm (calmed o)
-calmed_calm NoRoom off unfiled made = refl
-calmed_calm (Called o) off unfiled made = calm_event o.event o.reading off unfiled made
+calmed_calm NoRoom off unfiled made = inl refl
+calmed_calm (Called o) off unfiled made = calm_event o.event o.reading o.lost off unfiled made
 
 -- where the devices do nothing out of the common the line may have it
 well_may : (w : World) (m : Meaning) → MayMake w.hall m → CallMayHave w all_well m
 well_may w Silent may = refl
 well_may w (Shows m) may = refl
-well_may w (Calls c) may = record { call = may; possible = record { reading = tt; event = tt } }
+well_may w (Calls c) may = record { call = may; possible = record { reading = tt; event = tt; lost = tt } }
 well_may w (Declines r) may = refl
 well_may w (Changes sides) may = refl
 
@@ -73,35 +76,39 @@ all_well_may : (w : World) (lists : Bool) (known : Option ScriptLine) → MayHav
 all_well_may w lists None = refl
 all_well_may w lists (Some l) = well_may w (meaning w l) (line_may w l w.hall)
 
-event_may : (w : World) (lists : Bool) (known : Option ScriptLine) (e : Event) (g : Reading) → MayHave w lists known (Called (record { event = e; reading = g })) → MayHave w lists known (Called (calmed_by e g))
-event_may w lists known AllWell g h = h
-event_may w lists known Wanting g h = all_well_may w lists known
-event_may w lists known StoreFails g h = h
-event_may w lists known BackupFails g h = h
-event_may w lists known (NotRemade fault) g h = h
+event_may : (w : World) (lists : Bool) (known : Option ScriptLine) (e : Event) (g : Reading) (lost : Bool) → MayHave w lists known (Called (record { event = e; reading = g; lost = lost })) → MayHave w lists known (Called (calmed_by e g lost))
+event_may w lists known AllWell g lost h = h
+event_may w lists known Wanting g lost h = all_well_may w lists known
+event_may w lists known StoreFails g lost h = h
+event_may w lists known BackupFails g lost h = h
+event_may w lists known LinkFails g lost h = h
+event_may w lists known (NotRemade fault) g lost h = h
 
 pub calmed_may : (w : World) (lists : Bool) (known : Option ScriptLine) (o : LineOutcome) → MayHave w lists known o → MayHave w lists known (calmed o)
 calmed_may w lists known NoRoom h = all_well_may w lists known
-calmed_may w lists known (Called o) h = event_may w lists known o.event o.reading h
+calmed_may w lists known (Called o) h = event_may w lists known o.event o.reading o.lost h
 
-wanting_stops : (w : World) (n : ℕ) (l : ScriptLine) (g : Reading) (m : Meaning) → (does w n l (record { event = Wanting; reading = g }) m).stop ≡ None → does w n l (record { event = Wanting; reading = g }) m ≡ does w n l all_well m
-wanting_stops w n l g Silent h = refl
-wanting_stops w n l g (Shows m) h = refl
-wanting_stops w n l g (Calls c) h = cc
-wanting_stops w n l g (Declines r) h = refl
-wanting_stops w n l g (Changes sides) h = refl
+wanting_stops : (w : World) (n : ℕ) (l : ScriptLine) (g : Reading) (lost : Bool) (m : Meaning) → (does w n l (record { event = Wanting; reading = g; lost = lost }) m).stop ≡ None
+    → does w n l (record { event = Wanting; reading = g; lost = lost }) m ≡ does w n l all_well m
+wanting_stops w n l g lost Silent h = refl
+wanting_stops w n l g lost (Shows m) h = refl
+wanting_stops w n l g lost (Calls c) h = cc
+wanting_stops w n l g lost (Declines r) h = refl
+wanting_stops w n l g lost (Changes sides) h = refl
 
-event_well : (w : World) (n : ℕ) (l : ScriptLine) (e : Event) (g : Reading) → (done w n l (record { event = e; reading = g })).stop ≡ None → done w n l (record { event = e; reading = g }) ≡ done w n l (calmed_by e g)
-event_well w n l AllWell g h = refl
-event_well w n l Wanting g h = wanting_stops w n l g (meaning w l) h
-event_well w n l StoreFails g h = refl
-event_well w n l BackupFails g h = refl
-event_well w n l (NotRemade fault) g h = refl
+event_well : (w : World) (n : ℕ) (l : ScriptLine) (e : Event) (g : Reading) (lost : Bool) → (done w n l (record { event = e; reading = g; lost = lost })).stop ≡ None
+    → done w n l (record { event = e; reading = g; lost = lost }) ≡ done w n l (calmed_by e g lost)
+event_well w n l AllWell g lost h = refl
+event_well w n l Wanting g lost h = wanting_stops w n l g lost (meaning w l) h
+event_well w n l StoreFails g lost h = refl
+event_well w n l BackupFails g lost h = refl
+event_well w n l LinkFails g lost h = refl
+event_well w n l (NotRemade fault) g lost h = refl
 
 said_well : (w : World) (n : ℕ) (known : Option ScriptLine) (outcome : LineOutcome) → (said w n known outcome).stop ≡ None → said w n known outcome ≡ said w n known (calmed outcome)
 said_well w n known NoRoom h = cc
 said_well w n None (Called o) h = refl
-said_well w n (Some l) (Called o) h = event_well w n l o.event o.reading h
+said_well w n (Some l) (Called o) h = event_well w n l o.event o.reading o.lost h
 
 -- a line after which the run goes on wanted nothing
 pub line_well : (w : World) (n : ℕ) (bytes : List ℕ) (outcome : LineOutcome) → (line_does w n bytes outcome).stop ≡ None → line_does w n bytes outcome ≡ line_does w n bytes (calmed outcome)

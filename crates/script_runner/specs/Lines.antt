@@ -1,5 +1,5 @@
 -- What a line of a script comes to.
-use Rattle.std.specs.Prelude.{ℕ, ℤ, ◌+◌, Bool, true, false, ◌&&◌, ◌||◌, nat_eq, nat_le, nat_lt, List, [], ◌∷◌, map, length, decimal, cond, if◌then◌else◌, Option, Some, None, is_some, option_and_then, Result, Ok, Err}
+use Rattle.std.specs.Prelude.{ℕ, ℤ, ◌+◌, Bool, true, false, ◌&&◌, nat_le, nat_lt, List, [], ◌∷◌, map, length, decimal, cond, if◌then◌else◌, Option, Some, None, is_some, Result, Ok, Err}
 use Rattle.std.specs.List.{find, list_all}
 use Rattle.std.specs.Str.{bytes_eq}
 use Rattle.enq_base.specs.Grammar.{is_key_byte, is_short, is_text_byte}
@@ -46,51 +46,9 @@ use Rattle.script_runner.specs.declared.monitor.LineKind.TheVariants as kind
 use Rattle.script_runner.specs.Sides.{container_of, parts_of, side_of, variables_of, with_new_side, with_side, without_side}
 use Rattle.script_runner.specs.World.{World}
 
--- part 1, V1, or part 2, V2
-abbrev pub is_part : ℕ → Bool
-is_part part = nat_eq part 1 || nat_eq part 2
-
--- the lines that have a meaning so far
-abbrev pub is_built : ScriptLine → Bool
-is_built line.Blank = true
-is_built line.Sm12 = true
-is_built line.Sm13 = true
-is_built line.Snro = true
-is_built line.Audit = true
-is_built (line.Logon s user) = true
-is_built (line.Logoff s) = true
-is_built (line.DeqAll s) = true
-is_built (line.Flush s) = true
-is_built (line.Reset s) = true
-is_built (line.Rollback s) = true
-is_built (line.Enq s object m scope values) = true
-is_built (line.Deq s object m scope values) = true
-is_built (line.Collect s object m scope values) = true
-is_built (line.Convert s object values) = true
-is_built (line.Num s object nr variable) = true
-is_built (line.Read s table key variable) = true
-is_built (line.Put s part table key text) = is_part part
-is_built (line.Ins s part table key text) = is_part part
-is_built (line.Del s part table key) = is_part part
-is_built (line.Add s part table key number) = is_part part
-is_built (line.Commit s) = true
-is_built (line.Take1 worker) = true
-is_built (line.Do1 worker) = true
-is_built (line.Take2 worker) = true
-is_built (line.Do2 worker) = true
-is_built (line.DropOrder worker) = true
-is_built line.Kill = true
-is_built line.Restart = true
-is_built (line.Cancel unit) = true
-is_built (line.Resubmit unit) = true
-is_built _ = false
-
-abbrev pub if_built : ScriptLine → Option ScriptLine
-if_built l = if is_built l then Some l else None
-
 -- the line of these bytes; none is a bad line
 unfoldable pub line_in : List ℕ → Option ScriptLine
-line_in bytes = option_and_then if_built (line_of bytes)
+line_in bytes = line_of bytes
 
 -- what comes next, where nothing was refused
 abbrev pub and_next : {X Y : Type 0} → Result X Refusal → (X → Result Y Refusal) → Result Y Refusal
@@ -317,10 +275,11 @@ meaning w (line.Take2 worker) = Calls (command.Take2 worker)
 meaning w (line.Do2 worker) = Calls (command.Do2 worker)
 meaning w (line.DropOrder worker) = Calls (command.DropOrder worker)
 meaning w line.Kill = Calls command.Kill
+meaning w line.FailOver = Calls command.FailOver
 meaning w line.Restart = Calls command.Restart
+meaning w line.Attach = Calls command.Attach
 meaning w (line.Cancel unit) = Calls (command.Cancel unit)
 meaning w (line.Resubmit unit) = Calls (command.Resubmit unit)
-meaning w _ = Declines refusal.UnknownSession
 
 -- the private sides after a call that a line made, by its answer
 abbrev pub settled : ScriptLine → Reply → List Private → List Private

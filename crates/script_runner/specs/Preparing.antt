@@ -1,5 +1,5 @@
 -- What a line comes to before any call, and how the private sides follow the answer of a call.
-use Rattle.std.specs.Prelude.{◌≡◌, ◌≤◌, Bool, true, false, List, Result, Ok, Err, Some, is_some}
+use Rattle.std.specs.Prelude.{◌≡◌, ◌≤◌, ℕ, Bool, true, false, ◌||◌, nat_eq, List, Result, Ok, Err, Some, is_some}
 use Rattle.enq_base.specs.declared.refusal.Refusal.{Refusal}
 use Rattle.enq_base.specs.declared.refusal.Refusal.TheVariants as refusal
 use Rattle.dialogue_session.specs.Private.{Private}
@@ -7,10 +7,22 @@ use Rattle.hall.specs.declared.command.Reply.{Reply}
 use Rattle.hall.specs.declared.command.Reply.TheVariants as reply
 use Rattle.script_lang.specs.declared.script_line.ScriptLine.{ScriptLine}
 use Rattle.script_lang.specs.declared.script_line.ScriptLine.TheVariants as line
-use Rattle.script_runner.specs.Lines.{Meaning, Calls, Declines, Changes, is_part}
+use Rattle.script_runner.specs.Lines.{Meaning, Calls, Declines, Changes}
 use Rattle.script_runner.specs.Sides.{SidesView, side_of, variable_room}
 use Rattle.script_runner.specs.declared.preparing.Prepared.{Prepared}
 use Rattle.script_runner.specs.declared.preparing.Prepared.TheVariants.{Call, Changed}
+
+-- part 1, V1, or part 2, V2
+abbrev pub is_part : ℕ → Bool
+is_part part = nat_eq part 1 || nat_eq part 2
+
+-- the part of a line of an effect is one of these
+abbrev pub has_part : ScriptLine → Bool
+has_part (line.Put s part table key text) = is_part part
+has_part (line.Ins s part table key text) = is_part part
+has_part (line.Del s part table key) = is_part part
+has_part (line.Add s part table key number) = is_part part
+has_part _ = true
 
 -- A line of this meaning is prepared so, or refused, or memory is wanting where it may. Of the private sides only those of
 -- a line that comes to no call are changed.

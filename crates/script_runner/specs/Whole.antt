@@ -2,7 +2,7 @@
 use Rattle.std.specs.Prelude.{◌≡◌, ◌⊎◌, ℕ, ◌≤◌, List, map, length, Option, Some, is_some, All, IsTrue}
 use Rattle.std.specs.List.{AllByRecursion}
 use Rattle.std.specs.Io.KnownBytes.{Appends}
-use Rattle.hall.specs.Devices.{AllWell}
+use Rattle.hall.specs.Devices.{AllWell, LinkFails}
 use Rattle.hall.specs.State.{State}
 use Rattle.io_edge.specs.Lines.{lines_of, IsLine}
 use Rattle.script_runner.specs.declared.runner.Why.{Why}
@@ -23,10 +23,10 @@ pub record IsScript (bytes : List ℕ) : Type 0 where
   pub each : All IsGood (lines_of bytes)
   pub few : length (lines_of bytes) ≤ 200000
 
--- nothing was wanting in a line, and nothing failed
+-- nothing was wanting in a line, and nothing failed, but for the link to a replica, which the line is answered then
 abbrev pub IsCalm : LineOutcome → Type 0
 IsCalm NoRoom = ⊥
-IsCalm (Called outcome) = outcome.event ≡ AllWell
+IsCalm (Called outcome) = (outcome.event ≡ AllWell) ⊎ (outcome.event ≡ LinkFails)
 
 -- the run went through all lines of the bytes, each done with nothing wanting, and wrote their whole text
 pub record IsAllDone (before : World) (after : State) (bytes : List ℕ) (old new : Option (List ℕ)) : Type 0 where

@@ -2,8 +2,8 @@ ghost use Rattle.std.specs.Prelude.{◌≡◌, ◌⊎◌, ◌≤◌, [], List, O
 ghost use Rattle.hall.specs.State.{State};
 ghost use Rattle.lock_objects.specs.Objects.{Object};
 ghost use Rattle.script_lang.specs.declared.script_line.ScriptLine.TheVariants as line;
-ghost use Rattle.script_runner.specs.Lines.{effect_line, grows, is_built, line_kind, meaning, numbering, reading, settled};
-ghost use Rattle.script_runner.specs.Preparing.{HasRoomFor, IsPrepared, MayEnter, is_other_effect_line, is_other_lock_line, is_request_line, is_text_line};
+ghost use Rattle.script_runner.specs.Lines.{effect_line, grows, line_kind, meaning, numbering, reading, settled};
+ghost use Rattle.script_runner.specs.Preparing.{HasRoomFor, IsPrepared, MayEnter, has_part, is_other_effect_line, is_other_lock_line, is_request_line, is_text_line};
 ghost use Rattle.script_runner.specs.Sides.{variable_room};
 ghost use Rattle.script_runner.specs.World.{world};
 
@@ -35,7 +35,7 @@ pub(crate) fn prepare(
     line: &ScriptLine,
     sides: &mut Sides,
 ) -> Result<Prepared, Refusal>
-    requires built { is_built line.now ≡ true }
+    requires part { has_part line.now ≡ true }
     requires replied { line_kind line.now ≡ LineKind.Replied }
     ensures prepared { (hall : State) → IsPrepared (meaning (world objects.now hall sides.old.items) line.now) (grows line.now) sides.old.items sides.new.items result }
     ensures room { HasRoomFor line.now result sides.new }
@@ -74,7 +74,9 @@ pub(crate) fn prepare(
         ScriptLine::Do2 { worker } => call(Command::Do2 { worker: *worker }),
         ScriptLine::DropOrder { worker } => call(Command::DropOrder { worker: *worker }),
         ScriptLine::Kill => call(Command::Kill),
+        ScriptLine::FailOver => call(Command::FailOver),
         ScriptLine::Restart => call(Command::Restart),
+        ScriptLine::Attach => call(Command::Attach),
         ScriptLine::Cancel { unit } => call(Command::Cancel { unit: *unit }),
         ScriptLine::Resubmit { unit } => call(Command::Resubmit { unit: *unit }),
         _ => unreachable!(),

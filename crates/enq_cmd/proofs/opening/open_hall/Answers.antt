@@ -41,11 +41,12 @@ pub returns-in-Ok-open-clause-opened : goal.returns-in-Ok-open-clause-opened
 returns-in-Ok-open-clause-opened g c =
     let land : Landscape = c.in-Ok.land in
     let t = is_some (g.K.Keeper.held c.args.site.keeper) in
+    let linked = is_some (g.L.Link.applied c.args.site.link) in
     record {
       land = land;
       read = landed_read _ _ _ _ land c.in-Ok.ensures.reads c.in-Ok.ensures.exact;
       known = refl;
-      first = c.in-Ok-open.ensures.state ∙ ap (λ is. opened land.max_locks land.max_marks is t c.in-Ok-open.hall.state.stored) c.into_vec.ensures;
+      first = c.in-Ok-open.ensures.state ∙ ap (λ is. opened land.max_locks land.max_marks is t linked c.in-Ok-open.hall.state.stored) c.into_vec.ensures;
       sound = c.in-Ok-open.ensures.sound;
       stored = c.in-Ok-open.ensures.stored;
       fits = subst (λ is. FitRows is c.in-Ok-open.hall.state.stored.levels) c.into_vec.ensures c.in-Ok-open.ensures.fits;
@@ -54,6 +55,7 @@ returns-in-Ok-open-clause-opened g c =
       told = c.in-Ok-open.ensures.told;
       counts = c.in-Ok-open.ensures.counts;
       file_counts = c.in-Ok-open.ensures.file_counts;
+      linked = c.in-Ok-open.ensures.link;
     }
 
 pub returns-in-Err-open-clause-unserved : goal.returns-in-Err-open-clause-unserved

@@ -1,9 +1,10 @@
-use Rattle.std.proofs.Common.{◌≡◌, inl, refl, sym, ap, ◌∙◌}
-use Rattle.std.specs.Prelude.{is_some}
+use Rattle.std.proofs.Common.{◌≡◌, true, inl, refl, sym, ap, ◌∙◌, subst}
+use Rattle.std.specs.Prelude.{IfSome, is_some}
 use Rattle.enq_base.specs.declared.condition.Bad.TheVariants as bad
 use Rattle.hall.specs.Unsound.{is_unsound_file, is_unsound_store}
 use Rattle.script_runner.specs.Replay.{seen}
-use Rattle.enq_cmd.proofs.Served.{run_kind, run_place, served_by, still_by, unserved}
+use Rattle.script_runner.specs.Faults.{is_link_fault}
+use Rattle.enq_cmd.proofs.Served.{link_quiet, none_answered, run_kind, run_place, served_by, still_by, unserved}
 use Rattle.enq_cmd.proofs.Tellings.{HasRun, completes_as, first_sound, never_bad, served_seen}
 use Rattle.enq_cmd.proofs.replaying.replay_site.Goals as goal
 
@@ -19,7 +20,8 @@ returns-in-Ok-clause-served g c =
     let kept = c.make_ended.ensures.keeper ∙ c.into_site-keeper.ensures.keeper in
     let kept_disk = c.make_ended.ensures.disk ∙ c.into_site-keeper.ensures.disk in
     let t = is_some (held c.args.site.keeper) in
-    let run : HasRun o.land t _ _ _ _ _ _ _ _ = record {
+    let linked = is_some (g.L.Link.applied c.args.site.link) in
+    let run : HasRun o.land t linked _ _ _ _ _ _ _ _ = record {
       first = o.first;
       known = c.as_slice.ensures ∙ o.known;
       history = c.make_ended.ensures.past ∙ c.into_site-keeper.ensures.past;
@@ -30,18 +32,20 @@ returns-in-Ok-clause-served g c =
     (λ i. seen (source.left c.args.script.now) (sink.written c.args.sink.now) (source.faults c.args.script.now) (sink.faults c.args.sink.now) (o.counts i) (o.file_counts i)) in
     let to : seen _ _ _ _ (faults c.replay-why.new.hall.keeper) (disk_faults c.replay-why.new.hall.file.disk) ≡ seen _ _ _ _ (faults c.make_ended.result.site.keeper) (disk_faults c.make_ended.result.site.disk) =
     (λ i. seen (source.left c.replay-why.new.source) (sink.written c.replay-why.new.sink) (source.faults c.replay-why.new.source) (sink.faults c.replay-why.new.sink) (faults (sym kept i)) (disk_faults (sym kept_disk i))) in
-    let served = served_by held may_leave faults g.D.Disk.tells g.D.Disk.reads g.D.Disk.may_leave disk_faults _ c.args.site.keeper c.args.site.disk c.in-Ok.hall c.in-Ok.objects o
+    let served = served_by held may_leave faults g.D.Disk.tells g.D.Disk.reads g.D.Disk.may_leave disk_faults g.L.Link.applied _ c.args.site.keeper c.args.site.disk c.args.site.link c.in-Ok.hall c.in-Ok.objects o
     c.replay-why.new.hall c.make_ended.result.site.keeper c.make_ended.result.site.disk kept kept_disk c.replay-why.ensures.told
-    c.into_site-keeper.ensures.left c.into_site-keeper.ensures.lists c.into_site-keeper.ensures.open_units c.replay-why.ensures.good_file c.replay-why.ensures.good_store _ _ _ _ _ run in
+    c.into_site-keeper.ensures.left c.into_site-keeper.ensures.lists c.into_site-keeper.ensures.open_units
+    (g.L.Link.applied c.make_ended.result.site.link) (subst (λ l. c.replay-why.new.hall.state.attached ≡ true → IfSome (g.L.Link.applied l) (λ list. list ≡ c.replay-why.new.hall.state.locks)) (sym c.make_ended.ensures.link) c.into_site-keeper.ensures.copy)
+    c.replay-why.ensures.good_file c.replay-why.ensures.good_store _ _ _ _ _ run in
     inl (record {
       land = o.land;
       read = o.read;
-      serves = inl (served_seen o.land t (may_leave c.args.site.keeper) (may_leave c.make_ended.result.site.keeper) g.D.Disk.tells (g.D.Disk.reads c.args.site.disk) (g.D.Disk.may_leave c.make_ended.result.site.disk) _ _ _ _ _ _ _ from to (sym c.make_ended.ensures.why) served.0);
+      serves = inl (served_seen o.land t linked (may_leave c.args.site.keeper) (may_leave c.make_ended.result.site.keeper) g.D.Disk.tells (g.D.Disk.reads c.args.site.disk) (g.D.Disk.may_leave c.make_ended.result.site.disk) (g.L.Link.applied c.make_ended.result.site.link) _ _ _ _ _ _ _ from to (sym c.make_ended.ensures.why) served.0);
     })
 
 pub returns-in-Err-clause-served : goal.returns-in-Err-clause-served
 returns-in-Err-clause-served g c =
-    unserved g.K.Keeper.held g.K.Keeper.may_leave g.K.Keeper.faults g.D.Disk.tells (g.D.Disk.reads c.args.site.disk) g.D.Disk.may_leave g.D.Disk.faults _ _ _ c.args.script.now c.args.sink.now
+    unserved g.K.Keeper.held g.K.Keeper.may_leave g.K.Keeper.faults g.D.Disk.tells (g.D.Disk.reads c.args.site.disk) g.D.Disk.may_leave g.D.Disk.faults (is_some (g.L.Link.applied c.args.site.link)) (g.L.Link.applied c.in-Err.ended.site.link) _ _ _ c.args.script.now c.args.sink.now
     c.args.site.keeper c.in-Err.ended.site.keeper c.args.site.disk c.in-Err.ended.site.disk _ _ _ _ _ _ c.in-Err.ensures.past c.in-Err.ensures.unserved
 
 pub returns-in-Err-clause-complete : goal.returns-in-Err-clause-complete
@@ -55,9 +59,10 @@ returns-in-Ok-clause-complete g c bytes left script document told_document other
     let disk_faults = g.D.Disk.faults in
     let o = c.in-Ok.ensures.opened in
     let t = is_some (held c.args.site.keeper) in
-    completes_as (g.K.Keeper.may_leave c.args.site.keeper) o.land t c.in-Ok.hall.state.stored _ c.in-Ok.hall.state c.replay-why.new.hall.state bytes _ _ c.replay-why.result c.make_ended.result.why o.first (sym c.make_ended.ensures.why)
-    (c.replay-why.ensures.good_file tells (first_sound is_unsound_file o.land t c.in-Ok.hall.state.stored c.in-Ok.hall.state o.first))
-    (c.replay-why.ensures.good_store (o.told ∙ told) (first_sound is_unsound_store o.land t c.in-Ok.hall.state.stored c.in-Ok.hall.state o.first))
+    let linked = is_some (g.L.Link.applied c.args.site.link) in
+    completes_as (g.K.Keeper.may_leave c.args.site.keeper) o.land t linked c.in-Ok.hall.state.stored _ c.in-Ok.hall.state c.replay-why.new.hall.state bytes _ _ c.replay-why.result c.make_ended.result.why o.first (sym c.make_ended.ensures.why)
+    (c.replay-why.ensures.good_file tells (first_sound is_unsound_file o.land t linked c.in-Ok.hall.state.stored c.in-Ok.hall.state o.first))
+    (c.replay-why.ensures.good_store (o.told ∙ told) (first_sound is_unsound_store o.land t linked c.in-Ok.hall.state.stored c.in-Ok.hall.state o.first))
     (c.replay-why.ensures.complete bytes left script calm quiet
     (still_by (faults c.in-Ok.hall.keeper) (faults c.replay-why.new.hall.keeper) (faults c.args.site.keeper) (faults c.make_ended.result.site.keeper) o.counts (ap faults (sym (c.make_ended.ensures.keeper ∙ c.into_site-keeper.ensures.keeper))) kept)
     (still_by (disk_faults c.in-Ok.hall.file.disk) (disk_faults c.replay-why.new.hall.file.disk) (disk_faults c.args.site.disk) (disk_faults c.make_ended.result.site.disk) o.file_counts (ap disk_faults (sym (c.make_ended.ensures.disk ∙ c.into_site-keeper.ensures.disk))) still))
@@ -68,17 +73,40 @@ returns-in-Ok-clause-bad_store g c =
     let o = c.in-Ok.ensures.opened in
     let before = c.in-Ok.hall.state in
     let t = is_some (held c.args.site.keeper) in
+    let linked = is_some (g.L.Link.applied c.args.site.link) in
     run_place _ c.make_ended.result.why
     (run_kind before c.replay-why.new.hall.state _ _ _ c.replay-why.result c.make_ended.result.why c.make_ended.ensures.why c.replay-why.ensures.run)
     (λ yes table row is.
     let told = sym c.replay-why.ensures.told ∙ ap (λ k. is_some (held k)) (sym (c.make_ended.ensures.keeper ∙ c.into_site-keeper.ensures.keeper)) ∙ yes in
-    never_bad is_unsound_store o.land t before.stored before c.replay-why.new.hall.state (bad.Store table row) refl o.first
-    (c.replay-why.ensures.good_store told (first_sound is_unsound_store o.land t before.stored before o.first)) (c.replay-why.ensures.bad_store table row (sym c.make_ended.ensures.why ∙ is)))
+    never_bad is_unsound_store o.land t linked before.stored before c.replay-why.new.hall.state (bad.Store table row) refl o.first
+    (c.replay-why.ensures.good_store told (first_sound is_unsound_store o.land t linked before.stored before o.first)) (c.replay-why.ensures.bad_store table row (sym c.make_ended.ensures.why ∙ is)))
 
 pub returns-in-Ok-clause-bad_backup : goal.returns-in-Ok-clause-bad_backup
 returns-in-Ok-clause-bad_backup g c is_told place is =
     let o = c.in-Ok.ensures.opened in
     let before = c.in-Ok.hall.state in
     let t = is_some (g.K.Keeper.held c.args.site.keeper) in
-    absurd (never_bad is_unsound_file o.land t before.stored before c.replay-why.new.hall.state (bad.Backup place) refl o.first
-    (c.replay-why.ensures.good_file is_told (first_sound is_unsound_file o.land t before.stored before o.first)) (c.replay-why.ensures.bad_backup place (sym c.make_ended.ensures.why ∙ is)))
+    let linked = is_some (g.L.Link.applied c.args.site.link) in
+    absurd (never_bad is_unsound_file o.land t linked before.stored before c.replay-why.new.hall.state (bad.Backup place) refl o.first
+    (c.replay-why.ensures.good_file is_told (first_sound is_unsound_file o.land t linked before.stored before o.first)) (c.replay-why.ensures.bad_backup place (sym c.make_ended.ensures.why ∙ is)))
+
+pub returns-in-Ok-clause-link_told : goal.returns-in-Ok-clause-link_told
+returns-in-Ok-clause-link_told g c =
+    ap (λ l. is_some (g.L.Link.applied l)) (c.make_ended.ensures.link ∙ c.into_site-keeper.ensures.link) ∙ c.replay-why.ensures.link.told
+    ∙ ap (λ l. is_some (g.L.Link.applied l)) c.in-Ok.ensures.opened.linked
+
+pub returns-in-Err-clause-link_told : goal.returns-in-Err-clause-link_told
+returns-in-Err-clause-link_told g c = ap (λ l. is_some (g.L.Link.applied l)) c.in-Err.ensures.linked
+
+pub returns-in-Ok-clause-link_fault : goal.returns-in-Ok-clause-link_fault
+returns-in-Ok-clause-link_fault g c =
+    let faults = g.L.Link.faults in
+    let o = c.in-Ok.ensures.opened in
+    link_quiet o.land (is_some (g.K.Keeper.held c.args.site.keeper)) (is_some (g.L.Link.applied c.args.site.link)) c.in-Ok.hall.state.stored
+    c.in-Ok.hall.state c.replay-why.new.hall.state c.make_ended.result.past
+    (faults c.in-Ok.hall.follower.link) (faults c.replay-why.new.hall.follower.link) (faults c.args.site.link) (faults c.make_ended.result.site.link)
+    o.first (c.make_ended.ensures.past ∙ c.into_site-keeper.ensures.past) (ap faults o.linked) (ap faults (sym (c.make_ended.ensures.link ∙ c.into_site-keeper.ensures.link)))
+    c.replay-why.ensures.link_fault
+
+pub returns-in-Err-clause-link_fault : goal.returns-in-Err-clause-link_fault
+returns-in-Err-clause-link_fault g c quiet = none_answered is_link_fault c.in-Err.ended.past c.in-Err.ensures.past

@@ -1,5 +1,4 @@
-use Rattle.std.proofs.Common.{◌≡◌, List, take, map}
-use Rattle.std.specs.Prelude.{is_some}
+use Rattle.std.proofs.Common.{List, take, map}
 use Rattle.replica_link.specs.Shipping.{drop_of}
 use Rattle.lock_entry.specs.declared.entry.Entry.{Entry}
 use Rattle.replica_link.specs.Operations.{replica}
@@ -9,6 +8,5 @@ use Rattle.enq_server.proofs.shipping.ship_drops.Given as goal
 abbrev pub invariant-loop-entry : goal.invariant-loop-entry
 invariant-loop-entry g l = record {
   at : (list : List Entry) → IsAt g.L.Link.applied l.fn.follower list → IsAt g.L.Link.applied l.follower (replica list (map drop_of (take l.entry-index l.entries)));
-  told : is_some (g.L.Link.applied l.follower.link) ≡ is_some (g.L.Link.applied l.fn.follower.link);
-  keeps : KeepsOn g.L.Link.faults g.L.Link.refusals l.fn.follower l.follower;
+  keeps : KeepsOn g.L.Link.applied g.L.Link.faults g.L.Link.refusals l.fn.follower l.follower;
 }

@@ -1,5 +1,4 @@
-use Rattle.std.proofs.Common.{◌≡◌, List, take}
-use Rattle.std.specs.Prelude.{is_some}
+use Rattle.std.proofs.Common.{List, take}
 use Rattle.lock_entry.specs.Names.{halves}
 use Rattle.replica_link.specs.Shipping.{granted_ops}
 use Rattle.lock_entry.specs.declared.entry.Entry.{Entry}
@@ -10,6 +9,5 @@ use Rattle.enq_server.proofs.shipping.ship_granted.Given as goal
 abbrev pub invariant-loop-request : goal.invariant-loop-request
 invariant-loop-request g l = record {
   at : (list : List Entry) → IsAt g.L.Link.applied l.fn.follower list → IsAt g.L.Link.applied l.follower (replica list (granted_ops (g.T.LockStore.table l.table).entries (halves l.asker (take l.request-index l.requests))));
-  told : is_some (g.L.Link.applied l.follower.link) ≡ is_some (g.L.Link.applied l.fn.follower.link);
-  keeps : KeepsOn g.L.Link.faults g.L.Link.refusals l.fn.follower l.follower;
+  keeps : KeepsOn g.L.Link.applied g.L.Link.faults g.L.Link.refusals l.fn.follower l.follower;
 }

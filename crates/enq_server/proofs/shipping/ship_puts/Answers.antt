@@ -1,4 +1,4 @@
-use Rattle.std.proofs.Common.{[], ◌∷◌, ◌+◌, map, take, ◌∙◌}
+use Rattle.std.proofs.Common.{[], ◌∷◌, ◌+◌, map, take}
 use Rattle.replica_link.specs.Operations.{replica}
 use Rattle.replica_link.specs.declared.operation.TableOp.TheVariants.{Put}
 use Rattle.enq_server.proofs.Following.{at_more, keeps_both, mapped_more}
@@ -13,6 +13,5 @@ loop-entry-preserved g c =
       at = λ list before.
           at_more g.L.Link.applied c.ship.new.self list (map Put (take i es)) (Put e ∷ []) (map Put (take (i + 1) es)) (mapped_more Put es i e c.loop-entry-test.true c.entry-item.is)
           (c.ship.ensures.at (replica list (map Put (take i es))) (c.loop-entry.invariant.at list before));
-      told = c.ship.ensures.told ∙ c.loop-entry.invariant.told;
-      keeps = keeps_both g.L.Link.faults g.L.Link.refusals c.args.follower.now c.loop-entry.follower c.ship.new.self c.loop-entry.invariant.keeps c.ship.ensures.keeps;
+      keeps = keeps_both g.L.Link.applied g.L.Link.faults g.L.Link.refusals c.args.follower.now c.loop-entry.follower c.ship.new.self c.loop-entry.invariant.keeps c.ship.ensures.keeps;
     }

@@ -1,4 +1,4 @@
-use Rattle.std.proofs.Common.{◌+◌, take, ◌∙◌}
+use Rattle.std.proofs.Common.{◌+◌, take}
 use Rattle.std.specs.List.{flat_map}
 use Rattle.replica_link.specs.Operations.{replica}
 use Rattle.replica_link.specs.Shipping.{turn_ops}
@@ -15,6 +15,5 @@ loop-one-preserved g c =
       at = λ list before.
           at_more g.L.Link.applied c.ship_turn.new.follower list (flat_map f (take i xs)) (f x) (flat_map f (take (i + 1) xs)) (joined_more f xs i x c.loop-one-test.true c.one-item.is)
           (c.ship_turn.ensures.at (replica list (flat_map f (take i xs))) (c.loop-one.invariant.at list before));
-      told = c.ship_turn.ensures.told ∙ c.loop-one.invariant.told;
-      keeps = keeps_both g.L.Link.faults g.L.Link.refusals c.args.follower.now c.loop-one.follower c.ship_turn.new.follower c.loop-one.invariant.keeps c.ship_turn.ensures.keeps;
+      keeps = keeps_both g.L.Link.applied g.L.Link.faults g.L.Link.refusals c.args.follower.now c.loop-one.follower c.ship_turn.new.follower c.loop-one.invariant.keeps c.ship_turn.ensures.keeps;
     }

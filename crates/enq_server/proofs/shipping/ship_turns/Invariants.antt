@@ -1,5 +1,4 @@
-use Rattle.std.proofs.Common.{◌≡◌, List, take}
-use Rattle.std.specs.Prelude.{is_some}
+use Rattle.std.proofs.Common.{List, take}
 use Rattle.std.specs.List.{flat_map}
 use Rattle.replica_link.specs.Shipping.{turn_ops}
 use Rattle.lock_entry.specs.declared.entry.Entry.{Entry}
@@ -10,6 +9,5 @@ use Rattle.enq_server.proofs.shipping.ship_turns.Given as goal
 abbrev pub invariant-loop-one : goal.invariant-loop-one
 invariant-loop-one g l = record {
   at : (list : List Entry) → IsAt g.L.Link.applied l.fn.follower list → IsAt g.L.Link.applied l.follower (replica list (flat_map (turn_ops l.asker) (take l.one-index l.asked)));
-  told : is_some (g.L.Link.applied l.follower.link) ≡ is_some (g.L.Link.applied l.fn.follower.link);
-  keeps : KeepsOn g.L.Link.faults g.L.Link.refusals l.fn.follower l.follower;
+  keeps : KeepsOn g.L.Link.applied g.L.Link.faults g.L.Link.refusals l.fn.follower l.follower;
 }

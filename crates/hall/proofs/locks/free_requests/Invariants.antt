@@ -9,5 +9,5 @@ invariant-loop-request g l = record {
   rest : fold freed l.locks.table.entries (halves l.pair (drop l.request-index l.requests)) ≡ fold freed l.initial.locks.table.entries (halves l.pair l.requests);
   limit : l.locks.table.limit ≡ l.initial.locks.table.limit;
   file : l.locks.file ≡ l.initial.locks.file;
-  follower : KeepsOn g.L.Link.faults g.L.Link.refusals l.initial.locks.copy l.locks.copy;
+  follower : KeepsOn g.L.Link.applied g.L.Link.faults g.L.Link.refusals l.initial.locks.copy l.locks.copy;
 }

@@ -1,4 +1,4 @@
-use Rattle.std.proofs.Common.{◌≡◌, true, false, not, Some, IsTrue, IfSome, OnOk, refl, sym, ap, ◌∙◌, subst}
+use Rattle.std.proofs.Common.{◌≡◌, true, false, Some, IsTrue, IfSome, refl, sym, subst}
 use Rattle.posting.specs.Settling.{IsSettled, OnOther, StandForOther}
 use Rattle.hall.specs.Devices.{IsAsBefore}
 use Rattle.hall.specs.Kept.{IsInFlight}

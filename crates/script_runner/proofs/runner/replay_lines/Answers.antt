@@ -3,13 +3,14 @@ use Rattle.script_runner.specs.Faults.{end_of}
 use Rattle.script_runner.specs.Run.{begun}
 use Rattle.script_runner.specs.Sides.{AreLoggedOn}
 use Rattle.script_runner.specs.World.{World}
+use Rattle.script_runner.proofs.Counted.{link_on, same_link, tells_on}
 use Rattle.script_runner.proofs.Loop.{begins, goes_on, ends_done, ends_fault, ends_turn}
 use Rattle.script_runner.proofs.LoggedSides.{run_logged}
 use Rattle.script_runner.proofs.TurnLemmas.{taken_at}
 use Rattle.script_runner.proofs.runner.replay_lines.Goals as goal
 
 pub lines-init : goal.lines-init
-lines-init g c = (begins _ _ _ c.new-reader.ensures.number c.new-reader.ensures.reading, refl, λ yes none. none, λ yes none. none)
+lines-init g c = (begins _ _ _ c.new-reader.ensures.number c.new-reader.ensures.reading, refl, λ yes none. none, λ yes none. none, same_link _ _ _ _, λ quiet none. none)
 
 pub take_turn-requires : goal.take_turn-requires
 take_turn-requires g c =
@@ -29,6 +30,8 @@ lines-preserved g c = (
   c.in_default.ensures.turn.devices.told ∙ c.lines.invariant.1,
   λ yes none. c.take_turn.ensures.good_file yes (c.lines.invariant.2 yes none),
   λ yes none. c.take_turn.ensures.good_store (c.lines.invariant.1 ∙ yes) (c.lines.invariant.3 yes none),
+  link_on _ _ _ _ _ _ c.lines.invariant.4 c.take_turn.ensures.link,
+  tells_on _ _ _ c.args.hall.now.state.past c.lines.hall.state.past c.take_turn.new.hall.state.past c.lines.invariant.4.faults_later c.take_turn.ensures.link.faults_later c.lines.invariant.5 c.take_turn.ensures.good_link,
 )
 
 pub returns-in-Ok-false-clause-run : goal.returns-in-Ok-false-clause-run
@@ -70,3 +73,22 @@ returns-in-Err-clause-good_store g c = c.lines.invariant.3
 
 pub returns-in-Err-take_turn-clause-good_store : goal.returns-in-Err-take_turn-clause-good_store
 returns-in-Err-take_turn-clause-good_store g c = λ yes none. c.take_turn.ensures.good_store (c.lines.invariant.1 ∙ yes) (c.lines.invariant.3 yes none)
+
+pub returns-in-Ok-false-clause-link : goal.returns-in-Ok-false-clause-link
+returns-in-Ok-false-clause-link g c = c.lines.invariant.4
+
+pub returns-in-Err-clause-link : goal.returns-in-Err-clause-link
+returns-in-Err-clause-link g c = c.lines.invariant.4
+
+pub returns-in-Err-take_turn-clause-link : goal.returns-in-Err-take_turn-clause-link
+returns-in-Err-take_turn-clause-link g c = link_on _ _ _ _ _ _ c.lines.invariant.4 c.take_turn.ensures.link
+
+pub returns-in-Ok-false-clause-link_fault : goal.returns-in-Ok-false-clause-link_fault
+returns-in-Ok-false-clause-link_fault g c = c.lines.invariant.5
+
+pub returns-in-Err-clause-link_fault : goal.returns-in-Err-clause-link_fault
+returns-in-Err-clause-link_fault g c = c.lines.invariant.5
+
+pub returns-in-Err-take_turn-clause-link_fault : goal.returns-in-Err-take_turn-clause-link_fault
+returns-in-Err-take_turn-clause-link_fault g c =
+    tells_on _ _ _ c.args.hall.now.state.past c.lines.hall.state.past c.take_turn.new.hall.state.past c.lines.invariant.4.faults_later c.take_turn.ensures.link.faults_later c.lines.invariant.5 c.take_turn.ensures.good_link

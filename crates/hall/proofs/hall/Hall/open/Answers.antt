@@ -15,12 +15,13 @@ returns-in-Ok-open-clause-state g c =
     let marks = c.args.max_marks in
     let intervals = c.args.intervals.items in
     let told = is_some (g.K.Keeper.held c.args.keeper) in
+    let link = is_some (g.L.Link.applied c.args.link) in
     let books = c.in-Ok-open.books in
     let are : intervals_of c.in-Ok-new.ranges ≡ intervals = c.in-Ok-new.ensures ∙ c.as_slice.ensures.value in
     ok_more c.over.result _ _
     (λ hall h.
-    let is : hall.state ≡ opened locks marks intervals told books.ledger = h ∙ (λ i. opened locks marks (are i) (c.in-Ok-open.ensures.told i) books.ledger) in
-    is ∙ ap (λ (s : State). opened locks marks intervals told s.stored) (sym is))
+    let is : hall.state ≡ opened locks marks intervals told link books.ledger = h ∙ (λ i. opened locks marks (are i) (c.in-Ok-open.ensures.told i) link books.ledger) in
+    is ∙ ap (λ (s : State). opened locks marks intervals told link s.stored) (sym is))
     c.over.ensures.state
 
 pub returns-in-Ok-open-clause-stored : goal.returns-in-Ok-open-clause-stored

@@ -1,4 +1,4 @@
-use Rattle.std.proofs.Common.{inl, refl, ap, subst, ◌∙◌, is_some}
+use Rattle.std.proofs.Common.{inl, refl, subst, ◌∙◌, is_some}
 use Rattle.enq_server.specs.Server.{IsRecovered}
 use Rattle.range_list.specs.Levels.{intervals_of}
 use Rattle.hall.proofs.OpenLists.{recovered_lists}
@@ -41,4 +41,5 @@ first-requires-clause-filed g c =
 pub returns-in-Ok-first_locks-clause-state : goal.returns-in-Ok-first_locks-clause-state
 returns-in-Ok-first_locks-clause-state g c =
     c.first.ensures.state
-    ∙ ap (λ is. opened c.args.max_locks c.args.max_marks is (is_some (g.K.Keeper.held c.args.books.keeper)) c.args.books.ledger) c.take_levels.ensures.intervals
+    ∙ (λ i. opened c.args.max_locks c.args.max_marks (c.take_levels.ensures.intervals i) (is_some (g.K.Keeper.held c.args.books.keeper))
+    (is_some (g.L.Link.applied (c.in-Ok-first_locks.ensures.link i))) c.args.books.ledger)

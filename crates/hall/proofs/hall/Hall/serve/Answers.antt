@@ -1,7 +1,7 @@
-use Rattle.std.proofs.Common.{[], ◌∷◌, ◌++◌, refl, sym, ◌∙◌, subst, rules}
-use Rattle.hall.proofs.Endings.{given_cause, given_keeps, given_noted, unrecorded_same}
+use Rattle.std.proofs.Common.{◌≡◌, [], ◌∷◌, ◌++◌, true, false, is_some, refl, sym, ◌∙◌, subst, rules}
+use Rattle.hall.proofs.Endings.{given_noted, unrecorded_same}
 use Rattle.hall.proofs.Landings.{kept_call}
-use Rattle.hall.proofs.Frames.{noted_step, unnoted_step}
+use Rattle.hall.proofs.Frames.{noted_step}
 use Rattle.hall.proofs.GoodFiles.{given_sound}
 use Rattle.hall.proofs.Replies.{given_telling}
 use Rattle.hall.specs.History.{IsStep, entry_of}
@@ -10,7 +10,7 @@ use Rattle.hall.specs.Calls.{call_of}
 use Rattle.hall.specs.Serving.{with_calls}
 use Rattle.hall.specs.State.{View}
 use Rattle.hall.specs.Stocks.{MayCall}
-use Rattle.hall.specs.Unsound.{is_unsound_file, is_unsound_store}
+use Rattle.hall.specs.Unsound.{is_unsound_file, is_unsound_replica}
 use Rattle.hall.proofs.hall.Hall.serve.Goals as goal
 
 pub invariant_of-self : goal.invariant_of-self
@@ -53,3 +53,8 @@ returns-clause-step g c =
 pub returns-clause-good_file : goal.returns-clause-good_file
 returns-clause-good_file g c = λ yes.
     given_sound is_unsound_file c.serve-answer.result.reply c.told_twice-noted.result.1 refl c.told_twice-noted.ensures.given (c.serve-answer.ensures.good_file yes)
+
+pub returns-clause-good_replica : goal.returns-clause-good_replica
+returns-clause-good_replica g c =
+    subst (λ (v : View g.row.K.Denot g.row.D.Denot g.row.L.Denot). is_some (g.L.Link.applied v.follower.link) ≡ true → is_unsound_replica c.told_twice-noted.result.1 ≡ false) c.self.view_is
+    (λ yes. given_sound is_unsound_replica c.serve-answer.result.reply c.told_twice-noted.result.1 refl c.told_twice-noted.ensures.given (c.serve-answer.ensures.good_replica yes))

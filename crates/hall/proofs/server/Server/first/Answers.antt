@@ -1,4 +1,4 @@
-use Rattle.std.proofs.Common.{sym, subst, [], None, Some, is_some, IfSome}
+use Rattle.std.proofs.Common.{sym, subst, [], is_some}
 use Rattle.enq_base.specs.declared.condition.Condition.TheVariants.{Up}
 use Rattle.hall.proofs.Beginning.{first_leaves}
 use Rattle.hall.proofs.Filing.{first_recovers}
@@ -22,7 +22,7 @@ invariant_of-result g c = (
 
 pub returns-clause-state : goal.returns-clause-state
 returns-clause-state g c =
-    λ i. state_of (is_some (g.K.Keeper.held c.args.books.keeper)) Up (c.new.ensures i) 1 (c.requires.orders i) (c.requires.locks i) c.args.max_locks c.args.max_marks
+    λ i. state_of (is_some (g.K.Keeper.held c.args.books.keeper)) (is_some (g.L.Link.applied c.args.locks.copy.link)) (c.requires.detached i) Up (c.new.ensures i) 1 (c.requires.orders i) (c.requires.locks i) c.args.max_locks c.args.max_marks
     (c.requires.levels i) c.args.books.ledger (flight_over c.args.books.ledger (c.none.ensures i)) (c.none.ensures i).found (c.none.ensures i).caller []
 
 pub returns-clause-left : goal.returns-clause-left

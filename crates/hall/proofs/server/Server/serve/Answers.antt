@@ -1,17 +1,18 @@
-use Rattle.std.proofs.Common.{◌≡◌, true, false, IsTrue, refl, sym, ap, ◌∙◌, subst}
-use Rattle.keeper_api.specs.Keeping.{IsWithin}
-use Rattle.hall.proofs.Endings.{any_link, file_cause, file_kept, never_restarts, not_barred, refused_file, refused_room, refused_store, refused_telling, same_as_filed, same_keeper, store_caused, store_kept, store_told, store_within}
+use Rattle.std.proofs.Common.{◌≡◌, false, sym, ◌∙◌, subst}
+use Rattle.hall.proofs.Endings.{file_cause, file_kept, never_restarts, not_barred, refused_file, refused_room, refused_store, refused_telling, shut_plain, same_as_filed, same_keeper, store_caused, store_kept, store_told, store_within}
 use Rattle.hall.proofs.Few.{has_room}
 use Rattle.hall.proofs.Frames.{tells_none}
 use Rattle.hall.proofs.GoodFiles.{file_sound, others_sound, refused_sound, store_sound}
+use Rattle.hall.proofs.Linking.{any_link, plain_link, refused_over}
+use Rattle.hall.proofs.Overs.{good_replica}
 use Rattle.hall.specs.Acts.{IsTelling}
-use Rattle.hall.specs.Calls.{call_of, restarts}
+use Rattle.hall.specs.Calls.{call_of, fails_over, renews_replica}
 use Rattle.hall.specs.Filing.{HasFileCause, KeepsFile}
 use Rattle.hall.specs.History.{is_unrecorded}
 use Rattle.hall.specs.Leaving.{HasStoreCause, KeepsStore}
-use Rattle.hall.specs.Serving.{Follows, with_calls}
+use Rattle.hall.specs.Serving.{Follows, HasLinkCause, IsOver, with_calls}
 use Rattle.hall.specs.Step.{is_full}
-use Rattle.hall.specs.Unsound.{is_unsound_file, is_unsound_store}
+use Rattle.hall.specs.Unsound.{is_unsound_file, is_unsound_replica, is_unsound_store}
 use Rattle.hall.specs.declared.command.Answer.{Answer}
 use Rattle.hall.specs.declared.command.Command.TheVariants as command
 use Rattle.hall.specs.declared.command.Reply.TheVariants as reply
@@ -63,7 +64,31 @@ returns-in-Some-clause-good_store g c = λ yes.
     subst (λ (a : Answer). is_unsound_store a.reply ≡ false) (sym c.of.ensures)
     (store_sound (reply.Refused c.in-Some.refusal) (refused_sound (with_calls c.args.self.now.state c.args.past.now.items) (call_of c.args.command.now) c.in-Some.refusal (sym c.unavailable.ensures ∙ c.in-Some.is)))
 
+pub returns-in-Some-clause-over : goal.returns-in-Some-clause-over
+returns-in-Some-clause-over g c =
+    let v = c.args.self.now in
+    subst (λ (a : Answer). IsOver (fails_over (call_of c.args.command.now)) v.state.locks (g.L.Link.gives v.follower.link) a.reply) (sym c.of.ensures)
+    (refused_over (fails_over (call_of c.args.command.now)) v.state.locks (g.L.Link.gives v.follower.link) c.in-Some.refusal)
+
+pub returns-in-Some-clause-link_cause : goal.returns-in-Some-clause-link_cause
+returns-in-Some-clause-link_cause g c =
+    let faults = g.L.Link.faults c.args.self.now.follower.link in
+    subst (λ (a : Answer). HasLinkCause faults faults a.reply) (sym c.of.ensures)
+    (plain_link c.in-Some.refusal faults faults (shut_plain (with_calls c.args.self.now.state c.args.past.now.items) (call_of c.args.command.now) c.in-Some.refusal (sym c.unavailable.ensures ∙ c.in-Some.is)))
+
+pub returns-in-Some-clause-good_replica : goal.returns-in-Some-clause-good_replica
+returns-in-Some-clause-good_replica g c = λ yes.
+    let s = with_calls c.args.self.now.state c.args.past.now.items in
+    subst (λ (a : Answer). is_unsound_replica a.reply ≡ false) (sym c.of.ensures)
+    (good_replica s c.args.command.now s (reply.Refused c.in-Some.refusal) c.requires.kept.sound.table (c.read_invariant.ensures.link ∙ yes)
+    (refused_telling s c.args.command.now c.in-Some.refusal (sym c.unavailable.ensures ∙ c.in-Some.is)).act)
+
 -- ---- a restart
+
+pub returns-in-Restart-clause-good_replica : goal.returns-in-Restart-clause-good_replica
+returns-in-Restart-clause-good_replica g c = λ yes.
+    good_replica (with_calls c.args.self.now.state c.args.past.now.items) command.Restart (with_calls c.restart.new.self.state c.args.past.now.items) c.restart.result.reply
+    c.requires.kept.sound.table (c.read_invariant.ensures.link ∙ yes) c.restart.ensures.serves.call
 
 pub returns-in-Restart-clause-store_cause : goal.returns-in-Restart-clause-store_cause
 returns-in-Restart-clause-store_cause g c =
@@ -113,10 +138,10 @@ pub returns-in_default-clause-unfiled : goal.returns-in_default-clause-unfiled
 returns-in_default-clause-unfiled g c = same_as_filed g.D.Disk.faults c.args.self.now.file c.act.new.self.file c.args.command.now c.act.result c.act.ensures.file
 
 pub returns-in_default-clause-link : goal.returns-in_default-clause-link
-returns-in_default-clause-link g c = any_link g.L.Link.faults g.L.Link.refusals c.args.self.now.follower c.act.new.self.follower (restarts (call_of c.args.command.now)) c.act.ensures.follower
+returns-in_default-clause-link g c = any_link g.L.Link.applied g.L.Link.faults g.L.Link.refusals c.args.self.now.follower c.act.new.self.follower (renews_replica (call_of c.args.command.now)) c.act.ensures.follower
 
 pub returns-in_default-clause-follower : goal.returns-in_default-clause-follower
-returns-in_default-clause-follower g c = λ off. subst (λ b. Follows g.L.Link.faults g.L.Link.refusals b c.args.self.now.follower c.act.new.self.follower) off c.act.ensures.follower
+returns-in_default-clause-follower g c = λ off. subst (λ b. Follows g.L.Link.applied g.L.Link.faults g.L.Link.refusals b c.args.self.now.follower c.act.new.self.follower) off c.act.ensures.follower
 
 pub returns-in_default-clause-room : goal.returns-in_default-clause-room
 returns-in_default-clause-room g c = λ noted.
@@ -131,3 +156,19 @@ pub returns-in_default-clause-good_store : goal.returns-in_default-clause-good_s
 returns-in_default-clause-good_store g c = λ yes.
     subst (λ (a : Answer). is_unsound_store a.reply ≡ false) (sym c.of-in_default.ensures)
     (store_sound c.act.result (others_sound (with_calls c.args.self.now.state c.args.past.now.items) c.args.command.now (with_calls c.act.new.self.state c.args.past.now.items) c.act.result c.act.ensures.call (never_restarts c.args.command.now c.in_default.not-Restart)))
+
+pub returns-in_default-clause-over : goal.returns-in_default-clause-over
+returns-in_default-clause-over g c =
+    subst (λ (a : Answer). IsOver (fails_over (call_of c.args.command.now)) c.act.new.self.state.locks (g.L.Link.gives c.args.self.now.follower.link) a.reply) (sym c.of-in_default.ensures)
+    c.act.ensures.over
+
+pub returns-in_default-clause-link_cause : goal.returns-in_default-clause-link_cause
+returns-in_default-clause-link_cause g c =
+    subst (λ (a : Answer). HasLinkCause (g.L.Link.faults c.args.self.now.follower.link) (g.L.Link.faults c.act.new.self.follower.link) a.reply) (sym c.of-in_default.ensures)
+    c.act.ensures.link
+
+pub returns-in_default-clause-good_replica : goal.returns-in_default-clause-good_replica
+returns-in_default-clause-good_replica g c = λ yes.
+    subst (λ (a : Answer). is_unsound_replica a.reply ≡ false) (sym c.of-in_default.ensures)
+    (good_replica (with_calls c.args.self.now.state c.args.past.now.items) c.args.command.now (with_calls c.act.new.self.state c.args.past.now.items) c.act.result
+    c.requires.kept.sound.table (c.read_invariant.ensures.link ∙ yes) c.act.ensures.call)
