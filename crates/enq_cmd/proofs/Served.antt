@@ -16,8 +16,8 @@ use Rattle.landscape.specs.declared.landscape.Landscape.{Landscape}
 use Rattle.lock_entry.specs.declared.entry.Entry.{Entry}
 use Rattle.lock_objects.specs.Objects.{Object}
 use Rattle.update_records.specs.Ledger.{Ledger}
-use Rattle.hall.specs.Unsound.{is_unsound_file, is_unsound_store}
-use Rattle.script_runner.specs.Faults.{NoneTells, NoneUnsound, NoneUnsoundStore, TellsNoFault, is_link_fault}
+use Rattle.hall.specs.Unsound.{is_unsound_file, is_unsound_replica, is_unsound_store}
+use Rattle.script_runner.specs.Faults.{NoneTells, NoneUnsound, NoneUnsoundReplica, NoneUnsoundStore, TellsNoFault, is_link_fault}
 use Rattle.script_runner.specs.Replay.{RunsScript, Seen, seen}
 use Rattle.script_runner.specs.Shown.{audit_shown}
 use Rattle.script_runner.specs.declared.runner.Why.{Why}
@@ -36,10 +36,11 @@ pub served_by : {K D L : Type 0} (held : K → Option Rows) (may_leave : K → R
     → (copy : Option (List Entry)) → (after.state.attached ≡ true → IfSome copy (λ list. list ≡ after.state.locks))
     → (IsTrue tells → NoneUnsound hall.state.past → NoneUnsound after.state.past)
     → (is_some (held hall.keeper) ≡ true → NoneUnsoundStore hall.state.past → NoneUnsoundStore after.state.past)
+    → (is_some (applied hall.follower.link) ≡ true → NoneUnsoundReplica hall.state.past → NoneUnsoundReplica after.state.past)
     → (known : List Object) (old new : Seen) (past : List PastEntry) (why : Why) → HasRun o.land (is_some (held keeper)) (is_some (applied link)) hall.state.stored hall.state after.state known old new past why
     → (s : IsServed o.land (is_some (held keeper)) (is_some (applied link)) (may_leave keeper) (may_leave keeper_now) tells (reads disk) (images disk_now) copy old new past why)
     × (after.state ≡ state_after (first_state o.land (is_some (held keeper)) (is_some (applied link)) s.stored) s.made)
-served_by held may_leave faults tells reads images file_faults applied left keeper disk link hall objects o after keeper_now disk_now kept kept_disk told leaves lists units copy follows files stores known old new past why run =
+served_by held may_leave faults tells reads images file_faults applied left keeper disk link hall objects o after keeper_now disk_now kept kept_disk told leaves lists units copy follows files stores replicas known old new past why run =
     served_with o.land (is_some (held keeper)) (is_some (applied link)) hall.state.stored (may_leave keeper) (may_leave keeper_now) tells (reads disk) (images disk_now) copy hall.state after.state known old new past why
     (read_limits o.read.bytes o.land o.read.gives)
     o.sound
@@ -50,6 +51,7 @@ served_by held may_leave faults tells reads images file_faults applied left keep
     units follows
     (λ yes. subst NoneUnsound (sym run.history) (files yes (first_sound is_unsound_file o.land (is_some (held keeper)) (is_some (applied link)) hall.state.stored hall.state o.first)))
     (λ yes. subst NoneUnsoundStore (sym run.history) (stores (o.told ∙ yes) (first_sound is_unsound_store o.land (is_some (held keeper)) (is_some (applied link)) hall.state.stored hall.state o.first)))
+    (λ yes. subst NoneUnsoundReplica (sym run.history) (replicas (ap (λ l. is_some (applied l)) o.linked ∙ yes) (first_sound is_unsound_replica o.land (is_some (held keeper)) (is_some (applied link)) hall.state.stored hall.state o.first)))
 
 -- a run of a script in memory, with the devices as they were given and as they are given back
 pub load_run : {K D L : Type 0} (held : K → Option Rows) (may_leave : K → Rows → Type 0) (faults : K → ℕ) (tells : Bool) (reads : D → List ℕ) (file_faults : D → ℕ)

@@ -31,7 +31,7 @@ use Rattle.script_runner.specs.Run.{AreAllowed, CallMayHave, Called, LineMayHave
 use Rattle.script_runner.proofs.TurnLemmas.{answered-world}
 use Rattle.script_runner.specs.World.{World, first_world, world}
 use Rattle.script_runner.proofs.GoodFiles.{answer_sound, never_met}
-use Rattle.script_runner.specs.Faults.{NoneTells, NoneUnsound, NoneUnsoundStore}
+use Rattle.script_runner.specs.Faults.{NoneTells, NoneUnsound, NoneUnsoundReplica, NoneUnsoundStore}
 use Rattle.script_runner.specs.Replay.{HasBadCause, IsFoundBad, doubt_of}
 use Rattle.script_runner.specs.Whole.{IsComplete, IsScript}
 use Rattle.enq_cmd.specs.Main.{EndsComplete, HadHanded, HasHanded, IsFaultless, IsGoodFile, IsLedgerBy, IsLedgerOf, IsNextOf, IsServed, Ran, SurvivesStop, first_state}
@@ -234,9 +234,9 @@ pub served_with : (land : Landscape) (t linked : Bool) (l : Ledger) (may_be may_
     → (IsTrue t → (rows : Rows) → may_leave rows → StandForState rows after)
     → (IsTrue tells → (image : List ℕ) → images image → RecoversFrom after.condition after.stored after.pending after.found image) → HasOpenUnits after
     → (after.attached ≡ true → IfSome copy (λ list. list ≡ after.locks))
-    → (IsTrue tells → NoneUnsound past) → (IsTrue t → NoneUnsoundStore past)
+    → (IsTrue tells → NoneUnsound past) → (IsTrue t → NoneUnsoundStore past) → (IsTrue linked → NoneUnsoundReplica past)
     → (s : IsServed land t linked may_be may_leave tells bytes images copy old new past why) × (after ≡ state_after (first_state land t linked s.stored) s.made)
-served_with land t linked l may_be may_leave tells bytes images copy before after objects old new past why limits good found fit table filed h left lists units follows files stores =
+served_with land t linked l may_be may_leave tells bytes images copy before after objects old new past why limits good found fit table filed h left lists units follows files stores replicas =
     let first = first_state land t linked l in
     let told = told_by land t linked l before after objects old new past why h in
     let made : List Made = told.made in
@@ -267,6 +267,7 @@ served_with land t linked l may_be may_leave tells bytes images copy before afte
         replica = subst (λ (s : State). s.attached ≡ true → IfSome copy (λ list. list ≡ s.locks)) told.state follows;
         good_file = files;
         good_store = stores;
+        good_replica = replicas;
         opens = λ yes tells image may. good_next may_leave (state_after first made) image (left_after yes) (subst (HasHanded image) told.state (handed_in image after units (lists tells image may)));
         next = λ yes. follows_on may_leave (state_after first made) (left_after yes);
       },

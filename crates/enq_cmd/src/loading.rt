@@ -10,7 +10,7 @@ ghost use Rattle.landscape.specs.Landscape.{landscape_of};
 ghost use Rattle.landscape.specs.declared.landscape.Landscape.{Landscape};
 ghost use Rattle.load_gen.specs.Script.{script_of};
 ghost use Rattle.script_runner.specs.LineFaults.{IsToBlame};
-ghost use Rattle.script_runner.specs.Faults.{NoneTells, NoneUnsound, NoneUnsoundStore, TellsNoFault, is_link_fault};
+ghost use Rattle.script_runner.specs.Faults.{NoneTells, NoneUnsound, NoneUnsoundReplica, NoneUnsoundStore, TellsNoFault, is_link_fault};
 ghost use Rattle.script_runner.specs.Replay.{HasBadCause, HasDoubtCause, seen};
 ghost use Rattle.update_records.specs.Ledger.{IsGood};
 
@@ -118,6 +118,7 @@ fn load<T: Sink, K: Keeper, D: Disk, L: Link>(
     ensures bad_backup { (place : BackupBad) → result ≡ Why.BadBackup place → HasBadCause hall.old.state hall.new.state (bad.Backup place) }
     ensures good_file { IsTrue D.tells → NoneUnsound hall.old.state.past → NoneUnsound hall.new.state.past }
     ensures good_store { is_some (K.held hall.old.keeper) ≡ true → NoneUnsoundStore hall.old.state.past → NoneUnsoundStore hall.new.state.past }
+    ensures good_replica { is_some (L.applied hall.old.follower.link) ≡ true → NoneUnsoundReplica hall.old.state.past → NoneUnsoundReplica hall.new.state.past }
     ensures told { is_some (K.held hall.new.keeper) ≡ is_some (K.held hall.old.keeper) }
     ensures link { IsLater L.applied L.faults L.refusals hall.old.follower hall.new.follower }
     ensures link_fault { TellsNoFault (L.faults hall.old.follower.link) (L.faults hall.new.follower.link) hall.old.state.past hall.new.state.past }

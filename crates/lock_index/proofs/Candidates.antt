@@ -4,8 +4,6 @@ use Rattle.std.specs.List.{list_any, position}
 use Rattle.std.specs.Str.{bytes_eq}
 use denote.Ref.{Bor}
 use Rattle.std.proofs.lemmas.Bool.{cases_Bool, and_parts, and_from, or_left, or_right, eqb-true, eq-eqb, leb-true, le-ltb}
-use Rattle.indexmap.specs.IndexMap.{IndexMap}
-use Rattle.indexmap.specs.IndexSet.{IndexSet}
 use Rattle.mode_rules.specs.Modes.{same_mode, modes_clash}
 use Rattle.enq_base.specs.Owners.{same_owner}
 use Rattle.lock_entry.specs.declared.entry.Asked.{Asked}
@@ -18,7 +16,7 @@ use Rattle.lock_entry.specs.Pairs.{in_pair, are_related}
 use Rattle.lock_entry.specs.Sound.{in_conflict}
 use Rattle.lock_entry.proofs.Naming.{bytes_eq-refl, bytes_eq-same}
 use Rattle.lock_entry.proofs.Lists.{list_any-weaken}
-use Rattle.lock_index.specs.declared.key.Key.{Key}
+use Rattle.lock_index.specs.declared.members.NumberMap.{NumberMap}
 use Rattle.lock_index.specs.declared.search.Search.{Search}
 use Rattle.lock_index.specs.declared.search.Search.TheVariants.{Bars, Withstands, GivesWay, Against, Named}
 use Rattle.lock_index.specs.Keys.{literal, is_generic, digest, has_key, same_key, owner_key, spot_at, spot_key, stretch_at, stretch_key, lengths_key}
@@ -69,7 +67,7 @@ finds-meets (Against r) e h =
 any-equal : (g : ℕ → Bool) (n : ℕ) (ns : List ℕ) → g n ≡ true → list_any (nat_eq n) ns ≡ true → list_any g ns ≡ true
 any-equal g n ns h t = list_any-weaken (nat_eq n) g (λ k e. subst (λ i. g i ≡ true) (eqb-true n k e) h) ns t
 
-module _ {S T : Type 0} (slots : List (Option Entry)) (m : IndexMap Key (IndexSet ℕ S) T) (shown : IsShown slots m) where
+module _ (slots : List (Option Entry)) (m : NumberMap) (shown : IsShown slots m) where
   -- an entry that meets the argument stands under the key for its number of literal bytes
   among : (a : Asked) (e : Entry) (j : ℕ) → slot_at slots j ≡ Some e → places_meet (asked_of e) a ≡ true → (s : Search) → is_under m (candidates a (literal e.pattern)) j ≡ true
   among a e j at h s =

@@ -4,10 +4,9 @@ use Rattle.std.specs.Prelude.{min, option_map}
 use Rattle.std.specs.List.{list_any, position, position_or_len}
 use Rattle.std.proofs.lemmas.Bool.{cases_Bool, or_cases, or_left, or_right, eqb-true, eq-eqb, leb-true, leb-false, lt-ltb}
 use Rattle.std.proofs.lemmas.Bool.Decides.{nat_tests}
-use Rattle.indexmap.specs.IndexMap.{IndexMap}
-use Rattle.indexmap.specs.IndexSet.{IndexSet}
 use Rattle.lock_entry.specs.declared.entry.Entry.{Entry}
 use Rattle.lock_index.specs.declared.key.Key.{Key}
+use Rattle.lock_index.specs.declared.members.NumberMap.{NumberMap}
 use Rattle.lock_index.specs.declared.search.Search.{Search}
 use Rattle.lock_index.specs.Members.{is_under}
 use Rattle.lock_index.specs.Searches.{finds, place_of, candidates, earlier, oldest_of, oldest_under, oldest_over}
@@ -100,7 +99,7 @@ module _ (slots : List (Option Entry)) (s : Search) where
           ∙ with-other (hit j) (found i) (found j) (list_any (nat_eq j) is)
           ∙ ap (λ b. hit j || ((b || list_any (nat_eq j) is) && found j)) (sym e)
 
-  module _ {S T : Type 0} (m : IndexMap Key (IndexSet ℕ S) T) where
+  module _ (m : NumberMap) where
     oldest-under : (k : Option Key) (hit : ℕ → Bool) (best : Option ℕ) → IsOldest hit best → IsOldest (λ j. hit j || (is_under m k j && found j)) (oldest_under slots m s best k)
     oldest-under None hit best h = oldest-same hit (λ j. hit j || (false && found j)) (λ j. or-nothing (hit j)) best h
     oldest-under (Some k) hit best h = oldest-of (Rattle.lock_index.specs.Members.members m k) hit best h

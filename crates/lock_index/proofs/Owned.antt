@@ -20,12 +20,11 @@ use Rattle.lock_entry.specs.Names.{is_of}
 use Rattle.lock_entry.specs.Freeing.{flagged}
 use Rattle.lock_entry.proofs.Lists.{count_by-none}
 use Rattle.lock_index.specs.declared.key.Key.{Key}
+use Rattle.lock_index.specs.declared.members.NumberMap.{NumberMap}
 use Rattle.lock_index.specs.declared.key.Key.TheVariants.{Optimistic}
 use Rattle.lock_index.specs.Keys.{literal, has_key, same_key, owner_key, optimistic_key, spot_key, stretch_key, lengths_key}
 use Rattle.lock_index.specs.Slots.{slot_at, live, on_some, handed, flag_slot, is_lengths, IsShown}
 use Rattle.lock_index.specs.Members.{has}
-use Rattle.indexmap.specs.IndexMap.{IndexMap}
-use Rattle.indexmap.specs.IndexSet.{IndexSet}
 use Rattle.lock_index.proofs.Live.{live-split, live-set}
 use Rattle.lock_index.proofs.Slots.{slot-set, slot-within}
 use Rattle.lock_index.proofs.Changed.{any-none}
@@ -172,7 +171,7 @@ on-flagged k q (Some e) = go (has_key k e)
     go false = refl
 
 -- flags change no key
-pub shown-flagged : {M N : Type 0} (k : Key) (ss : List (Option Entry)) (m : IndexMap Key (IndexSet ℕ M) N) → IsShown ss m → IsShown (map (flag_slot k) ss) m
+pub shown-flagged : (k : Key) (ss : List (Option Entry)) (m : NumberMap) → IsShown ss m → IsShown (map (flag_slot k) ss) m
 shown-flagged k ss m shown = record {
   exact = λ q j h. shown.exact q j h ∙ sym (ap (on_some (has_key q)) (slot-flagged k ss j) ∙ on-flagged k q (slot_at ss j));
   lengths = λ j f h. known j f (slot_at ss j) refl (sym (slot-flagged k ss j) ∙ h);
@@ -246,6 +245,3 @@ flag-more old mid new ps i below so_far step j =
     joined true false o = refl
     joined false true o = refl
     joined false false o = refl
-
-pub none-count : (q : Entry → Bool) (ss : List (Option Entry)) → ((j : ℕ) → on_some q (slot_at ss j) ≡ false) → count_by q (live ss) ≡ 0
-none-count q ss h = count_by-none q (live ss) (any-none q ss h)

@@ -9,10 +9,10 @@ ghost use Rattle.lock_index.specs.Members.{is_under};
 ghost use Rattle.indexmap.specs.IndexSet.{contains};
 
 use crate::key::{Key, lengths_key, literal, spot_key, stretch_key};
-use crate::members::members;
+use crate::members::{NumberMap, members};
 use crate::search::Search;
 use enq_base::NoMemory;
-use indexmap::{IndexMap, IndexSet};
+use indexmap::IndexSet;
 use lock_entry::{Entry, LockName};
 
 /// The entry at the place.
@@ -37,11 +37,7 @@ pub fn standing(slots: &[Option<Entry>], place: usize) -> Option<&Entry>
 
 /// The place of the oldest entry that is looked for. It goes over the numbers of literal bytes that arguments of the
 /// table have, and looks up the entries under each.
-pub fn oldest(
-    slots: &[Option<Entry>],
-    map: &IndexMap<Key, IndexSet<usize>>,
-    search: &Search,
-) -> Option<usize>
+pub fn oldest(slots: &[Option<Entry>], map: &NumberMap, search: &Search) -> Option<usize>
     ensures { IsShown slots.now map.now → result ≡ position (on_some (searches.finds search.now)) slots.now }
 {
     let lengths = members(map, &lengths_key(search.table()));
@@ -49,11 +45,7 @@ pub fn oldest(
 }
 
 /// The place of the entry of this name. It goes over the entries of the table with the same literal bytes.
-pub fn place_of(
-    slots: &[Option<Entry>],
-    map: &IndexMap<Key, IndexSet<usize>>,
-    name: &LockName,
-) -> Option<usize>
+pub fn place_of(slots: &[Option<Entry>], map: &NumberMap, name: &LockName) -> Option<usize>
     ensures { IsShown slots.now map.now → result ≡ position (on_some (names.has_name name.now)) slots.now }
 {
     let pattern = &name.asked.pattern;
@@ -63,7 +55,7 @@ pub fn place_of(
 
 fn oldest_over(
     slots: &[Option<Entry>],
-    map: &IndexMap<Key, IndexSet<usize>>,
+    map: &NumberMap,
     search: &Search,
     lengths: &[usize],
 ) -> Option<usize>
@@ -78,7 +70,7 @@ fn oldest_over(
 
 fn oldest_under(
     slots: &[Option<Entry>],
-    map: &IndexMap<Key, IndexSet<usize>>,
+    map: &NumberMap,
     search: &Search,
     count: usize,
     best: Option<usize>,
@@ -144,7 +136,7 @@ fn earlier(best: Option<usize>, found: bool, place: usize) -> Option<usize>
 /// Puts the places of all entries that are looked for among those found.
 pub fn add_found(
     slots: &[Option<Entry>],
-    map: &IndexMap<Key, IndexSet<usize>>,
+    map: &NumberMap,
     search: &Search,
     found: &mut IndexSet<usize>,
 ) -> Result<(), NoMemory>
@@ -156,7 +148,7 @@ pub fn add_found(
 
 fn add_found_over(
     slots: &[Option<Entry>],
-    map: &IndexMap<Key, IndexSet<usize>>,
+    map: &NumberMap,
     search: &Search,
     lengths: &[usize],
     found: &mut IndexSet<usize>,
@@ -171,7 +163,7 @@ fn add_found_over(
 
 fn add_found_under(
     slots: &[Option<Entry>],
-    map: &IndexMap<Key, IndexSet<usize>>,
+    map: &NumberMap,
     search: &Search,
     count: usize,
     found: &mut IndexSet<usize>,
@@ -210,11 +202,7 @@ fn add_if(found: &mut IndexSet<usize>, place: usize, is_wanted: bool) -> Result<
 }
 
 /// Some entry with the key, and its place.
-pub fn any_of(
-    slots: &[Option<Entry>],
-    map: &IndexMap<Key, IndexSet<usize>>,
-    key: &Key,
-) -> Option<(usize, Entry)>
+pub fn any_of(slots: &[Option<Entry>], map: &NumberMap, key: &Key) -> Option<(usize, Entry)>
     ensures none { IfNone result (IsShown slots.now map.now → is_lengths key.now ≡ false → (i : ℕ) → on_some (has_key key.now) (slot_at slots.now i) ≡ false) }
     ensures stands { IfSome result (λ p. slot_at slots.now p.0 ≡ Some p.1) }
     ensures passes { IfSome result (λ p. IsShown slots.now map.now → is_lengths key.now ≡ false → has_key key.now p.1 ≡ true) }

@@ -10,12 +10,12 @@ ghost use Rattle.lock_index.specs.Keys.{has_key};
 
 use crate::key::Key;
 use crate::looking;
-use crate::members::members;
+use crate::members::{NumberMap, members, no_numbers};
 use crate::notes::{forget, forget_optimistic, note};
 use crate::places::entries_at;
 use crate::search::Search;
 use enq_base::NoMemory;
-use indexmap::{IndexMap, IndexSet};
+use indexmap::IndexSet;
 use lock_entry::{Entry, LockName, Mode};
 use std::alloc::Global;
 use std::marker::Model;
@@ -24,7 +24,7 @@ use std::marker::Model;
 #[derive(Drop)]
 pub struct Shelf {
     slots: Vec<Option<Entry>>,
-    map: IndexMap<Key, IndexSet<usize>>,
+    map: NumberMap,
     len: usize,
 }
 
@@ -47,7 +47,7 @@ impl Shelf {
     {
         Shelf {
             slots: Vec::new(alloc),
-            map: IndexMap::new(alloc),
+            map: no_numbers(alloc),
             len: 0,
         }
     }
@@ -116,10 +116,7 @@ impl Shelf {
         requires { is_lengths key.now ≡ false }
         ensures { result ≡ count_by (has_key key.now) (live self.now) }
     {
-        match self.map.get(key) {
-            Some(set) => set.len(),
-            None => 0,
-        }
+        members(&self.map, key).len()
     }
 
     /// Where the entries with the key stand, in no certain order.

@@ -1,4 +1,4 @@
-ghost use Rattle.std.specs.Prelude.{◌≤◌, IfSome};
+ghost use Rattle.std.specs.Prelude.{◌≤◌, ◌<◌, IfSome};
 ghost use Rattle.lock_entry.specs.Pairs.{IsPair};
 
 use crate::orders::{Load, Order};
@@ -11,14 +11,14 @@ use std::alloc::Global;
 #[derive(Clone, Copy)]
 pub struct Tally {
     pub granted: u32,
-    /// How many asks were refused since the last lock stands for another owner.
+    /// How many asks were refused since the lock stands for another owner.
     pub refused: u32,
     pub freed: u32,
     /// How many locks stand at the end.
     pub left: u32,
 }
 
-// Frees go this far from one lock to the next. It divides no number of locks but its multiples.
+// Asks and frees go this far from one lock to the next. It divides no number of locks but its multiples.
 const STRIDE: u64 = 7_919;
 
 /// Does a load over a table of its own. None where memory is wanting.
@@ -101,20 +101,49 @@ fn dialogue_request(asked: Asked) -> Request {
     }
 }
 
-/// Another session asks for the lock on the last order, so many times.
-fn ask_again(alloc: Global, table: &mut IndexTable, last: u32, asks: u32) -> Option<u32> {
+/// Another session asks for the locks, every 7,919th in turn, so many times in all. The requests are made before the first ask.
+fn ask_again(alloc: Global, table: &mut IndexTable, locks: u32, asks: u32) -> Option<u32>
+    requires { locks ≤ 1000000 }
+{
     let asker = owners_of(2);
     let user = user()?;
-    let request = dialogue_request(lock_on(last)?);
+    let requests = requests_for(alloc, locks)?;
+    let mut next: usize = 0;
     let mut refused: u32 = 0;
     for _ in 0..asks {
-        match table.ask(alloc, &asker, &user, &[request]) {
+        if next >= requests.len() {
+            next = 0;
+        }
+        let request = requests.as_slice().get(next..next + 1)?;
+        match table.ask(alloc, &asker, &user, request) {
             Err(AskFault::Foreign(_)) => refused = refused.saturating_add(1),
             Err(AskFault::NoMemory) => return None,
             _ => {}
         }
+        next += 1;
     }
     Some(refused)
+}
+
+/// A request for each lock, every 7,919th in turn.
+fn requests_for(alloc: Global, locks: u32) -> Option<Vec<Request>>
+    requires { locks ≤ 1000000 }
+{
+    let mut requests = Vec::new(alloc);
+    for turn in 0..locks {
+        requests
+            .push(dialogue_request(lock_on(place_of(turn, locks) + 1)?))
+            .ok()?;
+    }
+    Some(requests)
+}
+
+/// Where the lock of this turn stands, counted from 0.
+fn place_of(turn: u32, locks: u32) -> u32
+    requires { turn < locks }
+    ensures { result < locks }
+{
+    (u64::from(turn) * STRIDE % u64::from(locks)) as u32
 }
 
 /// Each lock is freed, every 7,919th in turn.
@@ -124,8 +153,7 @@ fn free_all(table: &mut IndexTable, locks: u32) -> Option<u32>
     let owner = owners_of(1).dialogue;
     let mut freed: u32 = 0;
     for turn in 0..locks {
-        let place = u64::from(turn) * STRIDE % u64::from(locks);
-        if table.free_one(&owner, &lock_on(place as u32 + 1)?) {
+        if table.free_one(&owner, &lock_on(place_of(turn, locks) + 1)?) {
             freed = freed.saturating_add(1);
         }
     }

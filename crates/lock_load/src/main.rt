@@ -1,4 +1,4 @@
-//! A load on the lock index, for measuring: so many locks are granted, and then refused asks meet the last of them, or all are
+//! A load on the lock index, for measuring: so many locks are granted, and then another session asks for them, or all are
 //! freed.
 #![tactic(auto)]
 

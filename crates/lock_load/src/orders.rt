@@ -5,7 +5,7 @@ ghost use Rattle.std.specs.Prelude.{◌≤◌, IfSome};
 pub enum Load {
     /// Nothing.
     Grants,
-    /// Another session asks for the last of them, again and again.
+    /// Another session asks for them in an order of their own, again and again.
     Asks,
     /// All are freed, in an order of their own.
     Frees,
@@ -19,8 +19,9 @@ pub struct Order {
     pub asks: u32,
 }
 
-// The most locks and the most asks.
-const MOST: u32 = 1_000_000;
+const MOST_LOCKS: u32 = 1_000_000;
+
+const MOST_ASKS: u32 = 100_000_000;
 
 fn load_of(word: &str) -> Option<Load> {
     match word {
@@ -33,7 +34,7 @@ fn load_of(word: &str) -> Option<Load> {
 
 /// Reads the three words of an order. None where they aren't one.
 pub fn order_of(words: &[String]) -> Option<Order>
-    ensures { IfSome result (λ o. (o.locks ≤ 1000000) × (o.asks ≤ 1000000)) }
+    ensures { IfSome result (λ o. (o.locks ≤ 1000000) × (o.asks ≤ 100000000)) }
 {
     let [load, locks, asks] = words else {
         return None;
@@ -41,7 +42,7 @@ pub fn order_of(words: &[String]) -> Option<Order>
     let load = load_of(load.as_str())?;
     let locks = locks.parse::<u32>().ok()?;
     let asks = asks.parse::<u32>().ok()?;
-    if locks > MOST || asks > MOST {
+    if locks > MOST_LOCKS || asks > MOST_ASKS {
         return None;
     }
     Some(Order { load, locks, asks })

@@ -1,5 +1,5 @@
 -- The calls that lines make may be made, as none of them has numbers of a stock.
-use Rattle.std.proofs.Common.{◌≡◌, Bool, true, false, List, ℕ, [], subst}
+use Rattle.std.proofs.Common.{◌≡◌, true, false, List, ℕ, [], subst}
 use Rattle.std.specs.Prelude.{Result, Ok, Err, if◌then◌else◌, is_some}
 use Rattle.enq_base.specs.declared.refusal.Refusal.{Refusal}
 use Rattle.enq_base.specs.declared.refusal.Refusal.TheVariants as refusal

@@ -48,6 +48,21 @@ MayEnter (line.Num s object nr variable) (reply.Number number code) sides = 1 �
 MayEnter (line.Read s table key variable) (reply.Row (Some text)) sides = 1 ≤ variable_room sides s
 MayEnter _ _ sides = Unit {0}
 
+-- the lines with a reply that name no session: those of a worker and of the administrator
+abbrev pub is_sessionless_line : ScriptLine → Bool
+is_sessionless_line (line.Take1 worker) = true
+is_sessionless_line (line.Do1 worker) = true
+is_sessionless_line (line.Take2 worker) = true
+is_sessionless_line (line.Do2 worker) = true
+is_sessionless_line (line.DropOrder worker) = true
+is_sessionless_line line.Kill = true
+is_sessionless_line line.FailOver = true
+is_sessionless_line line.Restart = true
+is_sessionless_line line.Attach = true
+is_sessionless_line (line.Cancel unit) = true
+is_sessionless_line (line.Resubmit unit) = true
+is_sessionless_line _ = false
+
 -- the lines that ask for locks of an object, or give some back
 abbrev pub is_request_line : ScriptLine → Bool
 is_request_line (line.Enq s object m scope values) = true

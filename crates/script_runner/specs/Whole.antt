@@ -23,7 +23,7 @@ pub record IsScript (bytes : List ℕ) : Type 0 where
   pub each : All IsGood (lines_of bytes)
   pub few : length (lines_of bytes) ≤ 200000
 
--- nothing was wanting in a line, and nothing failed, but for the link to a replica, which the line is answered then
+-- nothing was wanting in a line, and nothing failed but the link to a replica, of which the line's answer tells
 abbrev pub IsCalm : LineOutcome → Type 0
 IsCalm NoRoom = ⊥
 IsCalm (Called outcome) = (outcome.event ≡ AllWell) ⊎ (outcome.event ≡ LinkFails)

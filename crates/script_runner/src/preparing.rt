@@ -1,11 +1,11 @@
-ghost use Rattle.std.specs.Prelude.{◌≡◌, ◌⊎◌, ◌≤◌, [], List, Ok, OnOk, false, true};
+ghost use Rattle.std.specs.Prelude.{◌≡◌, ◌⊎◌, ◌≤◌, [], List, OnOk, false, true};
 ghost use Rattle.hall.specs.State.{State};
 ghost use Rattle.lock_objects.specs.Objects.{Object};
 ghost use Rattle.script_lang.specs.declared.script_line.ScriptLine.TheVariants as line;
-ghost use Rattle.script_runner.specs.Lines.{effect_line, grows, line_kind, meaning, numbering, reading, settled};
-ghost use Rattle.script_runner.specs.Preparing.{HasRoomFor, IsPrepared, MayEnter, has_part, is_other_effect_line, is_other_lock_line, is_request_line, is_text_line};
+ghost use Rattle.script_runner.specs.Lines.{Calls, effect_line, grows, line_kind, meaning, numbering, reading, settled};
+ghost use Rattle.script_runner.specs.Preparing.{HasRoomFor, IsPrepared, MayEnter, has_part, is_other_effect_line, is_other_lock_line, is_request_line, is_sessionless_line, is_text_line};
 ghost use Rattle.script_runner.specs.Sides.{variable_room};
-ghost use Rattle.script_runner.specs.World.{world};
+ghost use Rattle.script_runner.specs.World.{World, world};
 
 use crate::effects::{Verb, effect_with, key_with};
 use crate::monitor::LineKind;
@@ -68,26 +68,29 @@ pub(crate) fn prepare(
         } => read(alloc, sides, *session, *table, key.as_slice()),
         ScriptLine::Put { .. } | ScriptLine::Ins { .. } => prepare_text(alloc, line, sides),
         ScriptLine::Del { .. } | ScriptLine::Add { .. } => prepare_other_effect(alloc, line, sides),
-        ScriptLine::Take1 { worker } => call(Command::Take1 { worker: *worker }),
-        ScriptLine::Do1 { worker } => call(Command::Do1 { worker: *worker }),
-        ScriptLine::Take2 { worker } => call(Command::Take2 { worker: *worker }),
-        ScriptLine::Do2 { worker } => call(Command::Do2 { worker: *worker }),
-        ScriptLine::DropOrder { worker } => call(Command::DropOrder { worker: *worker }),
-        ScriptLine::Kill => call(Command::Kill),
-        ScriptLine::FailOver => call(Command::FailOver),
-        ScriptLine::Restart => call(Command::Restart),
-        ScriptLine::Attach => call(Command::Attach),
-        ScriptLine::Cancel { unit } => call(Command::Cancel { unit: *unit }),
-        ScriptLine::Resubmit { unit } => call(Command::Resubmit { unit: *unit }),
-        _ => unreachable!(),
+        _ => Ok(Prepared::Call(sessionless_call(line))),
     }
 }
 
-/// A line that comes to this call whatever the private side is.
-fn call(command: Command) -> Result<Prepared, Refusal>
-    ensures { result ≡ Ok (Prepared.Call command) }
+/// The call of a line that names no session: it is the same whatever the private sides are.
+fn sessionless_call(line: &ScriptLine) -> Command
+    requires { is_sessionless_line line.now ≡ true }
+    ensures { (w : World) → meaning w line.now ≡ Calls result }
 {
-    Ok(Prepared::Call(command))
+    match line {
+        ScriptLine::Take1 { worker } => Command::Take1 { worker: *worker },
+        ScriptLine::Do1 { worker } => Command::Do1 { worker: *worker },
+        ScriptLine::Take2 { worker } => Command::Take2 { worker: *worker },
+        ScriptLine::Do2 { worker } => Command::Do2 { worker: *worker },
+        ScriptLine::DropOrder { worker } => Command::DropOrder { worker: *worker },
+        ScriptLine::Kill => Command::Kill,
+        ScriptLine::FailOver => Command::FailOver,
+        ScriptLine::Restart => Command::Restart,
+        ScriptLine::Attach => Command::Attach,
+        ScriptLine::Cancel { unit } => Command::Cancel { unit: *unit },
+        ScriptLine::Resubmit { unit } => Command::Resubmit { unit: *unit },
+        _ => unreachable!(),
+    }
 }
 
 /// A line that asks for locks of an object, or gives some back.

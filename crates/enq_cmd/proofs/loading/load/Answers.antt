@@ -1,4 +1,4 @@
-use Rattle.std.proofs.Common.{rules, sym, subst, refl}
+use Rattle.std.proofs.Common.{rules}
 use Rattle.script_runner.specs.declared.runner.Why.TheVariants.{Done}
 use Rattle.enq_cmd.proofs.loading.load.Goals as goal
 

@@ -29,7 +29,7 @@ returns-in-Ok-open_hall-clause-loaded g c =
     c.load-why.new.hall c.make_ended.result.site.keeper c.make_ended.result.site.disk kept kept_disk c.load-why.ensures.told
     c.into_site-keeper.ensures.left c.into_site-keeper.ensures.lists c.into_site-keeper.ensures.open_units
     (g.L.Link.applied c.make_ended.result.site.link) (subst (λ l. c.load-why.new.hall.state.attached ≡ true → IfSome (g.L.Link.applied l) (λ list. list ≡ c.load-why.new.hall.state.locks)) (sym c.make_ended.ensures.link) c.into_site-keeper.ensures.copy)
-    c.load-why.ensures.good_file c.load-why.ensures.good_store known _ _ c.make_ended.result.past r.end run in
+    c.load-why.ensures.good_file c.load-why.ensures.good_store c.load-why.ensures.good_replica known _ _ c.make_ended.result.past r.end run in
     inl (record {
       land = o.land;
       read = o.read;

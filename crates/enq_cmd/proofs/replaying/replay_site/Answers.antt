@@ -36,7 +36,7 @@ returns-in-Ok-clause-served g c =
     c.replay-why.new.hall c.make_ended.result.site.keeper c.make_ended.result.site.disk kept kept_disk c.replay-why.ensures.told
     c.into_site-keeper.ensures.left c.into_site-keeper.ensures.lists c.into_site-keeper.ensures.open_units
     (g.L.Link.applied c.make_ended.result.site.link) (subst (λ l. c.replay-why.new.hall.state.attached ≡ true → IfSome (g.L.Link.applied l) (λ list. list ≡ c.replay-why.new.hall.state.locks)) (sym c.make_ended.ensures.link) c.into_site-keeper.ensures.copy)
-    c.replay-why.ensures.good_file c.replay-why.ensures.good_store _ _ _ _ _ run in
+    c.replay-why.ensures.good_file c.replay-why.ensures.good_store c.replay-why.ensures.good_replica _ _ _ _ _ run in
     inl (record {
       land = o.land;
       read = o.read;

@@ -1,7 +1,7 @@
 use Rattle.std.proofs.Common.{◌≡◌, ◌-◌}
 use Rattle.std.specs.Prelude.{true, is_some, IsTrue}
 use Rattle.enq_server.specs.Following.{IsLater}
-use Rattle.script_runner.specs.Faults.{NoneUnsound, NoneUnsoundStore, TellsNoFault}
+use Rattle.script_runner.specs.Faults.{NoneUnsound, NoneUnsoundReplica, NoneUnsoundStore, TellsNoFault}
 use Rattle.script_runner.specs.Replay.{seen}
 use Rattle.script_runner.specs.World.{world}
 use Rattle.script_runner.proofs.Loop.{GoesOn}
@@ -18,6 +18,7 @@ invariant-lines g l =
     × (is_some (g.K.Keeper.held l.initial.hall.keeper) ≡ true → NoneUnsoundStore l.initial.hall.state.past → NoneUnsoundStore l.hall.state.past)
     × IsLater g.L.Link.applied g.L.Link.faults g.L.Link.refusals l.initial.hall.follower l.hall.follower
     × TellsNoFault (g.L.Link.faults l.initial.hall.follower.link) (g.L.Link.faults l.hall.follower.link) l.initial.hall.state.past l.hall.state.past
+    × (is_some (g.L.Link.applied l.initial.hall.follower.link) ≡ true → NoneUnsoundReplica l.initial.hall.state.past → NoneUnsoundReplica l.hall.state.past)
 
 abbrev pub decreases-lines : goal.decreases-lines
 decreases-lines g l = 200000 - l.reader.number
