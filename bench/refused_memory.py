@@ -9,6 +9,8 @@ A run in which allocations were refused ends in one of these ways, with the line
   behind the first of those replies, and the calls behind it are answered DOWN, for as long as there is memory for them;
 - with status 0 behind such a call, where the script's RESTART comes behind it and is answered OK. What the lines behind that are
   answered isn't compared, as a session may have lost its unit.
+- as any of these by the replies of the same script without a replica, where one follows: a change of the table that finds no memory
+  on its way to it detaches it, which no answer tells.
 
 The next start, to which none is refused, ends with status 0. It shows the locks, units, number ranges and counts that stand where a
 script ends behind the line that was answered last. Behind a fault in a call it may be that line or the one before; behind a RESTART
@@ -25,8 +27,30 @@ import sys
 
 ROOT = pathlib.Path(__file__).resolve().parent.parent
 ROWS = ROOT / "demo" / "rows"
-# An order with all that belongs to it; a part refused and tried again; a lock server ended and made anew; a start over a unit that waits.
-NAMES = ["order_entry", "refused_part_tried_again", "lock_server_ended", "next_start_goes_on_2"]
+# An order with all that belongs to it; a part refused and tried again; a lock server ended and made anew; a start over a unit that waits; a
+# replica that takes a lock server's place.
+NAMES = ["order_entry", "refused_part_tried_again", "lock_server_ended", "next_start_goes_on_2", "replica_takes_over"]
+# What the lines of the last one are answered where the replica was lost before the lock server was ended: there is none from then on.
+LOST = {"replica_takes_over": b"""1 OK
+2 OK
+3 OK
+4 OK
+5 OK
+6 OK
+7 OK
+8 OK
+9 SERVER NONE REPLICA DETACHED
+9 END
+10 SYSTEM_FAILURE
+11 NOT_ATTACHED
+12 SYSTEM_FAILURE
+13 SYSTEM_FAILURE
+14 SYSTEM_FAILURE
+15 SYSTEM_FAILURE
+16 NOT_ATTACHED
+17 SERVER NONE REPLICA DETACHED
+17 END
+"""}
 MONITORS = b"? SM12\n? SM13\n? SNRO\n? AUDIT\n"
 ENDS = {0: rb"", 5: rb"enqd: cannot read\n", 7: rb"enqd: store fault in command \d+\n", 8: rb"enqd: backup fault in command \d+\n",
         12: rb"enqd: no memory\n"}
@@ -42,19 +66,14 @@ def number(reply):
     return int(reply.split()[0])
 
 
-class Row:
-    def __init__(self, enqd, name, folder):
-        self.name, self.base = name, folder / name
-        script = (ROWS / f"{name}.txt").read_bytes().splitlines(keepends=True)
+class Course:
+    """A script with its replies, and what the next start shows where it ends behind so many lines."""
+
+    def __init__(self, enqd, name, base, script, replies, copy):
         self.restarts = [place for place, line in enumerate(script, 1) if line == b"! RESTART\n"]
-        self.script, self.replies = b"".join(script), (ROWS / f"{name}.out").read_bytes().splitlines(keepends=True)
-        self.base.mkdir()
-        shutil.copy(ROOT / "demo" / "landscape.toml", self.base)
-        if name.endswith("_2"):
-            start(enqd, self.base, (ROWS / f"{name[:-1]}1.txt").read_bytes())
-        self.shown = []  # by the next start, where the script ends behind so many lines
+        self.replies, self.shown = replies.splitlines(keepends=True), []
         for lines in range(len(script) + 1):
-            copy = shutil.copytree(self.base, folder / "copy")
+            shutil.copytree(base, copy)
             whole = start(enqd, copy, b"".join(script[:lines]))
             self.shown.append(start(enqd, copy, MONITORS))
             shutil.rmtree(copy)
@@ -89,6 +108,28 @@ class Row:
         if shown[0] != 0:
             return f"the next start has shown {shown!r}"
         return None
+
+
+class Row:
+    """A script of demo/rows in the folder that it begins in, with each course that it may take."""
+
+    def __init__(self, enqd, name, folder):
+        self.name, self.base = name, folder / name
+        script = (ROWS / f"{name}.txt").read_bytes().splitlines(keepends=True)
+        self.script = b"".join(script)
+        self.base.mkdir()
+        shutil.copy(ROOT / "demo" / "landscape.toml", self.base)
+        if name.endswith("_2"):
+            start(enqd, self.base, (ROWS / f"{name[:-1]}1.txt").read_bytes())
+        self.courses = [Course(enqd, name, self.base, script, (ROWS / f"{name}.out").read_bytes(), folder / "copy")]
+        if name in LOST:
+            bare = [b"\n" if line == b"! ATTACH\n" else line for line in script]
+            self.courses.append(Course(enqd, name, self.base, bare, LOST[name], folder / "copy"))
+
+    def problem(self, *seen):
+        """What is wrong by the first course, where something is by each."""
+        problems = [course.problem(*seen) for course in self.courses]
+        return problems[0] if all(problems) else None
 
 
 def refuse(enqd, library, step, folder, row, behind):

@@ -1,5 +1,5 @@
 -- What a program does whose site was opened, and what it does whose site wasn't.
-use Rattle.std.proofs.Common.{◌≡◌, ◌⊎◌, inl, inr, Bool, true, ℕ, List, [], Option, Some, None, refl, sym, ap, ◌∙◌, subst, arith}
+use Rattle.std.proofs.Common.{◌≡◌, ◌⊎◌, inl, inr, Bool, true, false, ℕ, List, [], Option, Some, None, refl, sym, ap, ◌∙◌, subst, arith}
 use Rattle.std.specs.Prelude.{is_some, IfSome, IsTrue}
 use Rattle.enq_base.specs.Causes.{Rose}
 use Rattle.hall.specs.Filing.{AllRecover, LeavesLists}
@@ -17,8 +17,10 @@ use Rattle.lock_entry.specs.declared.entry.Entry.{Entry}
 use Rattle.lock_objects.specs.Objects.{Object}
 use Rattle.update_records.specs.Ledger.{Ledger}
 use Rattle.hall.specs.Unsound.{is_unsound_file, is_unsound_replica, is_unsound_store}
+use Rattle.script_runner.proofs.Kept.{same_counts}
 use Rattle.script_runner.specs.Faults.{NoneTells, NoneUnsound, NoneUnsoundReplica, NoneUnsoundStore, TellsNoFault, is_link_fault}
 use Rattle.script_runner.specs.Replay.{RunsScript, Seen, seen}
+use Rattle.script_runner.specs.Replicas.{AreLater, CountsLinkEach, GoesOnLinked, HasLinked, LinkCounts, link_counts}
 use Rattle.script_runner.specs.Shown.{audit_shown}
 use Rattle.script_runner.specs.declared.runner.Why.{Why}
 use Rattle.script_runner.specs.declared.runner.Why.TheVariants.{Done, BadWords, BadLandscape, BadLine, SourceFault, SinkFault, LongLine, ManyLines, StoreFault, BackupFault, BadStore, BadBackup, NoStart, NoMemory}
@@ -106,16 +108,16 @@ load_ends may_be end why after old new before now (inr (inr last)) shown quiet =
     let silent : IsSilent NoStart old new before now why = subst (λ e. ShowsCounts e after old new before now why) last.0 shown in inr (inr (silent.0, last.1))
 
 -- a site of which no server came, beside a script and a sink that nobody touched
-pub unserved : {S T K D : Type 0} (held : K → Option Rows) (may_leave : K → Rows → Type 0) (faults : K → ℕ) (tells : Bool) (bytes : List ℕ) (images : D → List ℕ → Type 0) (file_faults : D → ℕ)
-    (linked : Bool) (copy : Option (List Entry)) (left : Option (List ℕ)) (before now : ℕ) (script : S) (sink : T) (keeper keeper_now : K) (disk disk_now : D) (rest written : Option (List ℕ)) (source_faults sink_faults : ℕ) (past : List PastEntry) (why : Why)
-    → past ≡ []
+pub unserved : {S T K D L : Type 0} (held : K → Option Rows) (may_leave : K → Rows → Type 0) (faults : K → ℕ) (tells : Bool) (bytes : List ℕ) (images : D → List ℕ → Type 0) (file_faults : D → ℕ)
+    (linked : Bool) (copy : Option (List Entry)) (left : Option (List ℕ)) (before now : ℕ) (script : S) (sink : T) (keeper keeper_now : K) (disk disk_now : D) (link link_now : L) (rest written : Option (List ℕ)) (source_faults sink_faults : ℕ) (past : List PastEntry) (why : Why)
+    → past ≡ [] → link_now ≡ link
     → IsUnlanded before now keeper keeper_now disk disk_now why ⊎ IsLandedAlone held may_leave faults tells images file_faults left keeper keeper_now disk disk_now why
     → HasLandscape left (is_some (held keeper)) linked (may_leave keeper) (may_leave keeper_now) tells bytes images disk disk_now copy
     (seen rest written source_faults sink_faults (faults keeper) (file_faults disk)) (seen rest written source_faults sink_faults (faults keeper_now) (file_faults disk_now)) past why
-    ⊎ (IsLandEnd before now why × IsUntouched script script sink sink keeper keeper_now disk disk_now past)
-unserved held may_leave faults tells bytes images file_faults linked copy left before now script sink keeper keeper_now disk disk_now rest written source_faults sink_faults past why none (inl u) =
-    inr (u.end, record { reading = refl; writing = refl; storing = u.storing; filing = u.filing; none = none })
-unserved held may_leave faults tells bytes images file_faults linked copy left before now script sink keeper keeper_now disk disk_now rest written source_faults sink_faults past why none (inr a) =
+    ⊎ (IsLandEnd before now why × IsUntouched script script sink sink keeper keeper_now disk disk_now link link_now past)
+unserved held may_leave faults tells bytes images file_faults linked copy left before now script sink keeper keeper_now disk disk_now link link_now rest written source_faults sink_faults past why none same (inl u) =
+    inr (u.end, record { reading = refl; writing = refl; storing = u.storing; filing = u.filing; linking = same; none = none })
+unserved held may_leave faults tells bytes images file_faults linked copy left before now script sink keeper keeper_now disk disk_now link link_now rest written source_faults sink_faults past why none same (inr a) =
     inl (record {
       land = a.land;
       read = a.read;
@@ -125,16 +127,16 @@ unserved held may_leave faults tells bytes images file_faults linked copy left b
     })
 
 -- the same of one whose script is made from a number
-pub unloaded : {T K D : Type 0} (held : K → Option Rows) (may_leave : K → Rows → Type 0) (faults : K → ℕ) (tells : Bool) (bytes : List ℕ) (images : D → List ℕ → Type 0) (file_faults : D → ℕ)
-    (linked : Bool) (copy : Option (List Entry)) (units : ℕ) (left : Option (List ℕ)) (before now : ℕ) (sink : T) (keeper keeper_now : K) (disk disk_now : D) (written : Option (List ℕ)) (sink_faults : ℕ) (past : List PastEntry) (why : Why)
-    → past ≡ []
+pub unloaded : {T K D L : Type 0} (held : K → Option Rows) (may_leave : K → Rows → Type 0) (faults : K → ℕ) (tells : Bool) (bytes : List ℕ) (images : D → List ℕ → Type 0) (file_faults : D → ℕ)
+    (linked : Bool) (copy : Option (List Entry)) (units : ℕ) (left : Option (List ℕ)) (before now : ℕ) (sink : T) (keeper keeper_now : K) (disk disk_now : D) (link link_now : L) (written : Option (List ℕ)) (sink_faults : ℕ) (past : List PastEntry) (why : Why)
+    → past ≡ [] → link_now ≡ link
     → IsUnlanded before now keeper keeper_now disk disk_now why ⊎ IsLandedAlone held may_leave faults tells images file_faults left keeper keeper_now disk disk_now why
     → HasLoaded units left (is_some (held keeper)) linked (may_leave keeper) (may_leave keeper_now) tells bytes images disk disk_now copy
     (seen None written 0 sink_faults (faults keeper) (file_faults disk)) (seen None written 0 sink_faults (faults keeper_now) (file_faults disk_now)) past why
-    ⊎ (IsLandEnd before now why × (sink ≡ sink) × (keeper_now ≡ keeper) × (disk_now ≡ disk) × (past ≡ []))
-unloaded held may_leave faults tells bytes images file_faults linked copy units left before now sink keeper keeper_now disk disk_now written sink_faults past why none (inl u) =
-    inr (u.end, refl, u.storing, u.filing, none)
-unloaded held may_leave faults tells bytes images file_faults linked copy units left before now sink keeper keeper_now disk disk_now written sink_faults past why none (inr a) =
+    ⊎ (IsLandEnd before now why × (sink ≡ sink) × (keeper_now ≡ keeper) × (disk_now ≡ disk) × (link_now ≡ link) × (past ≡ []))
+unloaded held may_leave faults tells bytes images file_faults linked copy units left before now sink keeper keeper_now disk disk_now link link_now written sink_faults past why none same (inl u) =
+    inr (u.end, refl, u.storing, u.filing, same, none)
+unloaded held may_leave faults tells bytes images file_faults linked copy units left before now sink keeper keeper_now disk disk_now link link_now written sink_faults past why none same (inr a) =
     inl (record {
       land = a.land;
       read = a.read;
@@ -144,14 +146,14 @@ unloaded held may_leave faults tells bytes images file_faults linked copy units 
     })
 
 -- the same of the number that the words name, and of a script that nobody touched
-pub loaded_as : {S T K D : Type 0} (m n : ℕ) → m ≡ n → (left : Option (List ℕ)) (told linked : Bool) (before after : Rows → Type 0) (tells : Bool) (bytes : List ℕ) (images : D → List ℕ → Type 0) (disk disk_now : D) (copy : Option (List Entry)) (old new : Seen)
-    (faults faults_now : ℕ) (script script_now : S) (sink sink_now : T) (keeper keeper_now : K) (past : List PastEntry) (why : Why) → script_now ≡ script
-    → HasLoaded m left told linked before after tells bytes images disk disk_now copy old new past why ⊎ (IsLandEnd faults faults_now why × (sink_now ≡ sink) × (keeper_now ≡ keeper) × (disk_now ≡ disk) × (past ≡ []))
-    → HasLoaded n left told linked before after tells bytes images disk disk_now copy old new past why ⊎ (IsLandEnd faults faults_now why × IsUntouched script script_now sink sink_now keeper keeper_now disk disk_now past)
-loaded_as m n same left told linked before after tells bytes images disk disk_now copy old new faults faults_now script script_now sink sink_now keeper keeper_now past why still (inl h) =
+pub loaded_as : {S T K D L : Type 0} (m n : ℕ) → m ≡ n → (left : Option (List ℕ)) (told linked : Bool) (before after : Rows → Type 0) (tells : Bool) (bytes : List ℕ) (images : D → List ℕ → Type 0) (disk disk_now : D) (copy : Option (List Entry)) (old new : Seen)
+    (faults faults_now : ℕ) (script script_now : S) (sink sink_now : T) (keeper keeper_now : K) (link link_now : L) (past : List PastEntry) (why : Why) → script_now ≡ script
+    → HasLoaded m left told linked before after tells bytes images disk disk_now copy old new past why ⊎ (IsLandEnd faults faults_now why × (sink_now ≡ sink) × (keeper_now ≡ keeper) × (disk_now ≡ disk) × (link_now ≡ link) × (past ≡ []))
+    → HasLoaded n left told linked before after tells bytes images disk disk_now copy old new past why ⊎ (IsLandEnd faults faults_now why × IsUntouched script script_now sink sink_now keeper keeper_now disk disk_now link link_now past)
+loaded_as m n same left told linked before after tells bytes images disk disk_now copy old new faults faults_now script script_now sink sink_now keeper keeper_now link link_now past why still (inl h) =
     inl (subst (λ k. HasLoaded k left told linked before after tells bytes images disk disk_now copy old new past why) same h)
-loaded_as m n same left told linked before after tells bytes images disk disk_now copy old new faults faults_now script script_now sink sink_now keeper keeper_now past why still (inr h) =
-    inr (h.0, record { reading = still; writing = h.1; storing = h.2; filing = h.3; none = h.4 })
+loaded_as m n same left told linked before after tells bytes images disk disk_now copy old new faults faults_now script script_now sink sink_now keeper keeper_now link link_now past why still (inr h) =
+    inr (h.0, record { reading = still; writing = h.1; storing = h.2; filing = h.3; linking = h.4; none = h.5 })
 
 -- ---- the ends of a run
 
@@ -225,3 +227,27 @@ pub link_quiet : (land : Landscape) (t linked : Bool) (l : Ledger) (before after
     → TellsNoFault a b before.past after.past → (Rose c d → ⊥) → NoneTells is_link_fault past
 link_quiet land t linked l before after past a b c d first history from to tells still =
     subst (NoneTells is_link_fault) (sym history) (tells (still_by a b c d from to still) (first_sound is_link_fault land t linked l before first))
+
+-- ---- the counts of the link, call by call
+
+-- where no call was made they stand still
+pub none_linked : {L : Type 0} (faults refusals : L → ℕ) (old new : L) (past : List PastEntry) → new ≡ old → past ≡ []
+    → CountsLinkEach false past (link_counts faults refusals old) (link_counts faults refusals new)
+none_linked faults refusals old new past same none =
+    subst (λ p. CountsLinkEach false p (link_counts faults refusals old) (link_counts faults refusals new)) (sym none)
+    (subst (λ l. AreLater (link_counts faults refusals old) (link_counts faults refusals l)) (sym same) (same_counts (link_counts faults refusals old)))
+
+-- and else they are those of the calls of a run from a first state, over this link
+pub run_linked : {L : Type 0} (faults refusals : L → ℕ) (land : Landscape) (t linked : Bool) (l : Ledger) (before after : State) (past : List PastEntry)
+    (site old new ended : L) → before ≡ first_state land t linked l → past ≡ after.past → old ≡ site → ended ≡ new
+    → GoesOnLinked before after (link_counts faults refusals old) (link_counts faults refusals new)
+    → CountsLinkEach false past (link_counts faults refusals site) (link_counts faults refusals ended)
+run_linked faults refusals land t linked l before after past site old new ended first history from to goes =
+    let counts : _ → LinkCounts = link_counts faults refusals in
+    let start : HasLinked false (counts site) (first_state land t linked l) (counts site) = record { counted = same_counts (counts site); follows = refl } in
+    let begun : HasLinked false (counts site) before (counts old) =
+    subst (λ s. HasLinked false (counts site) s (counts old)) (sym first)
+    (subst (λ k. HasLinked false (counts site) (first_state land t linked l) (counts k)) (sym from) start) in
+    let behind : HasLinked false (counts site) after (counts new) = goes false (counts site) begun in
+    subst (λ p. CountsLinkEach false p (counts site) (counts ended)) (sym history)
+    (subst (λ k. CountsLinkEach false after.past (counts site) (counts k)) (sym to) behind.counted)

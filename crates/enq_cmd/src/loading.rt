@@ -1,4 +1,4 @@
-ghost use Rattle.std.specs.Prelude.{◌≡◌, ◌≢◌, ◌⊎◌, ◌≤◌, ℕ, true, List, [], None, Some, Ok, IfOk, IfSome, is_some, IsTrue};
+ghost use Rattle.std.specs.Prelude.{◌≡◌, ◌≢◌, ◌⊎◌, ◌≤◌, ℕ, false, true, List, [], None, Some, Ok, IfOk, IfSome, is_some, IsTrue};
 ghost use Rattle.enq_base.specs.Causes.{Rose};
 ghost use Rattle.enq_base.specs.declared.condition.Bad.TheVariants as bad;
 ghost use Rattle.enq_base.specs.declared.condition.BackupBad.{BackupBad};
@@ -11,6 +11,7 @@ ghost use Rattle.landscape.specs.declared.landscape.Landscape.{Landscape};
 ghost use Rattle.load_gen.specs.Script.{script_of};
 ghost use Rattle.script_runner.specs.LineFaults.{IsToBlame};
 ghost use Rattle.script_runner.specs.Faults.{NoneTells, NoneUnsound, NoneUnsoundReplica, NoneUnsoundStore, TellsNoFault, is_link_fault};
+ghost use Rattle.script_runner.specs.Replicas.{CountsLinkEach, GoesOnLinked, link_counts};
 ghost use Rattle.script_runner.specs.Replay.{HasBadCause, HasDoubtCause, seen};
 ghost use Rattle.update_records.specs.Ledger.{IsGood};
 
@@ -47,14 +48,14 @@ pub(crate) fn load_site<A: Source, T: Sink, K: Keeper, D: Disk, L: Link>(
         (seen None (T.written sink.new) 0 (T.faults sink.new) (K.faults result.site.keeper) (D.faults result.site.disk))
         result.past result.why
         ⊎ (IsLandEnd (A.faults landscape.old) (A.faults landscape.new) result.why × (sink.new ≡ sink.old)
-        × (result.site.keeper ≡ site.keeper) × (result.site.disk ≡ site.disk) × (result.past ≡ [])) }
+        × (result.site.keeper ≡ site.keeper) × (result.site.disk ≡ site.disk) × (result.site.link ≡ site.link) × (result.past ≡ [])) }
     ensures told { is_some (K.held result.site.keeper) ≡ is_some (K.held site.keeper) }
     ensures link_told { is_some (L.applied result.site.link) ≡ is_some (L.applied site.link) }
     ensures broken_rule { (bytes : List ℕ) → A.left landscape.old ≡ Some bytes → IsFirstBroken bytes result.why }
     ensures unfit_interval { IfSome (K.held result.site.keeper)
         (λ _. IsUnfitEnd (A.left landscape.old) (K.may_leave site.keeper) result.why) }
     ensures no_landing { (A.faults landscape.new ≢ A.faults landscape.old) ⊎ IsBadDocument result.why
-        → (sink.new ≡ sink.old) × (result.site.keeper ≡ site.keeper) × (result.site.disk ≡ site.disk) × (result.past ≡ []) }
+        → (sink.new ≡ sink.old) × (result.site.keeper ≡ site.keeper) × (result.site.disk ≡ site.disk) × (result.site.link ≡ site.link) × (result.past ≡ []) }
     // No line of the script is to blame.
     ensures line_fault { (bytes : List ℕ) → IsToBlame result.why bytes }
     ensures complete { (document : List ℕ) → A.left landscape.old ≡ Some document → (land : Landscape) → landscape_of document ≡ Ok land
@@ -70,6 +71,7 @@ pub(crate) fn load_site<A: Source, T: Sink, K: Keeper, D: Disk, L: Link>(
     ensures store_fault { (call : ℕ) → result.why ≡ Why.StoreFault call → Rose (K.faults site.keeper) (K.faults result.site.keeper) }
     ensures backup_fault { (call : ℕ) → result.why ≡ Why.BackupFault call → Rose (D.faults site.disk) (D.faults result.site.disk) }
     ensures link_fault { ¬ Rose (L.faults site.link) (L.faults result.site.link) → NoneTells is_link_fault result.past }
+    ensures link_counts { CountsLinkEach false result.past (link_counts L.faults L.refusals site.link) (link_counts L.faults L.refusals result.site.link) }
     ensures bad_store { IfSome (K.held result.site.keeper) (λ rows. IsBadStore rows result.why) }
     ensures bad_backup { IsTrue D.tells → (place : BackupBad) → result.why ≡ Why.BadBackup place → result.past ≡ [] }
     ensures no_start { IfSome (K.held result.site.keeper) (λ rows. HasNoStart rows result.why) }
@@ -122,6 +124,7 @@ fn load<T: Sink, K: Keeper, D: Disk, L: Link>(
     ensures told { is_some (K.held hall.new.keeper) ≡ is_some (K.held hall.old.keeper) }
     ensures link { IsLater L.applied L.faults L.refusals hall.old.follower hall.new.follower }
     ensures link_fault { TellsNoFault (L.faults hall.old.follower.link) (L.faults hall.new.follower.link) hall.old.state.past hall.new.state.past }
+    ensures link_counts { GoesOnLinked hall.old.state hall.new.state (link_counts L.faults L.refusals hall.old.follower.link) (link_counts L.faults L.refusals hall.new.follower.link) }
 {
     match replay(alloc, source, &mut BlindSink, hall, objects) {
         Why::Done => end_of(write_audit(alloc, 0, hall, sink)),

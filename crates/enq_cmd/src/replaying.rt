@@ -1,4 +1,4 @@
-ghost use Rattle.std.specs.Prelude.{◌≡◌, ◌≢◌, ◌⊎◌, ℕ, List, [], Some, Ok, Err, IfSome, is_some, IsTrue};
+ghost use Rattle.std.specs.Prelude.{◌≡◌, ◌≢◌, ◌⊎◌, ℕ, List, [], Some, Ok, Err, IfSome, is_some, IsTrue, false};
 ghost use Rattle.enq_base.specs.Causes.{Rose};
 ghost use Rattle.enq_base.specs.declared.condition.BackupBad.{BackupBad};
 ghost use Rattle.enq_cmd.specs.Main.{EndsComplete, FitAll, HasLandscape, HasNoStart, IsBadDocument, IsBadStore, IsFirstBroken, IsGoodFile, IsLandEnd, IsUnfitEnd, IsUntouched, TellsBroken, status_of};
@@ -8,6 +8,7 @@ ghost use Rattle.landscape.specs.Landscape.{landscape_of};
 ghost use Rattle.landscape.specs.declared.landscape.Landscape.{Landscape};
 ghost use Rattle.script_runner.specs.Faults.{NoneTells, is_link_fault};
 ghost use Rattle.script_runner.specs.LineFaults.{IsToBlame};
+ghost use Rattle.script_runner.specs.Replicas.{CountsLinkEach, link_counts};
 ghost use Rattle.script_runner.specs.Replay.{seen};
 ghost use Rattle.script_runner.specs.Whole.{IsScript};
 ghost use Rattle.update_records.specs.Ledger.{IsGood};
@@ -38,7 +39,7 @@ pub(crate) fn replay_site<A: Source, S: Source, T: Sink, K: Keeper, D: Disk, L: 
         (seen (S.left script.new) (T.written sink.new) (S.faults script.new) (T.faults sink.new) (K.faults result.site.keeper) (D.faults result.site.disk))
         result.past result.why
         ⊎ (IsLandEnd (A.faults landscape.old) (A.faults landscape.new) result.why
-        × IsUntouched script.old script.new sink.old sink.new site.keeper result.site.keeper site.disk result.site.disk result.past) }
+        × IsUntouched script.old script.new sink.old sink.new site.keeper result.site.keeper site.disk result.site.disk site.link result.site.link result.past) }
     ensures told { is_some (K.held result.site.keeper) ≡ is_some (K.held site.keeper) }
     ensures link_told { is_some (L.applied result.site.link) ≡ is_some (L.applied site.link) }
     ensures bad_landscape { (bytes : List ℕ) → A.left landscape.old ≡ Some bytes
@@ -48,7 +49,7 @@ pub(crate) fn replay_site<A: Source, S: Source, T: Sink, K: Keeper, D: Disk, L: 
     ensures unfit_interval { IfSome (K.held result.site.keeper)
         (λ _. IsUnfitEnd (A.left landscape.old) (K.may_leave site.keeper) result.why) }
     ensures no_landing { (A.faults landscape.new ≢ A.faults landscape.old) ⊎ IsBadDocument result.why
-        → IsUntouched script.old script.new sink.old sink.new site.keeper result.site.keeper site.disk result.site.disk result.past }
+        → IsUntouched script.old script.new sink.old sink.new site.keeper result.site.keeper site.disk result.site.disk site.link result.site.link result.past }
     ensures line_fault { (bytes : List ℕ) → S.left script.old ≡ Some bytes → IsToBlame result.why bytes }
     ensures complete { (bytes : List ℕ) → S.left script.old ≡ Some bytes → IsScript bytes
         → (document : List ℕ) → A.left landscape.old ≡ Some document → (land : Landscape) → landscape_of document ≡ Ok land
@@ -66,6 +67,7 @@ pub(crate) fn replay_site<A: Source, S: Source, T: Sink, K: Keeper, D: Disk, L: 
     ensures store_fault { (call : ℕ) → result.why ≡ Why.StoreFault call → Rose (K.faults site.keeper) (K.faults result.site.keeper) }
     ensures backup_fault { (call : ℕ) → result.why ≡ Why.BackupFault call → Rose (D.faults site.disk) (D.faults result.site.disk) }
     ensures link_fault { ¬ Rose (L.faults site.link) (L.faults result.site.link) → NoneTells is_link_fault result.past }
+    ensures link_counts { CountsLinkEach false result.past (link_counts L.faults L.refusals site.link) (link_counts L.faults L.refusals result.site.link) }
     ensures bad_store { IfSome (K.held result.site.keeper) (λ rows. IsBadStore rows result.why) }
     ensures bad_backup { IsTrue D.tells → (place : BackupBad) → result.why ≡ Why.BadBackup place → result.past ≡ [] }
     ensures no_start { IfSome (K.held result.site.keeper) (λ rows. HasNoStart rows result.why) }

@@ -13,7 +13,7 @@ use Rattle.lock_entry.specs.Sound.{IsSound, first_clash}
 use Rattle.lock_entry.specs.declared.entry.Entry.{Entry}
 use Rattle.hall.specs.Acts.{Admits, IsAct}
 use Rattle.hall.specs.Calls.{OfAdmin, Attaches, FailsOver}
-use Rattle.hall.specs.Devices.{AllWell, Hands, IsTold, LinkFails, found_by, only}
+use Rattle.hall.specs.Devices.{AllWell, AsKnown, Hands, IsTold, LinkFails, MayHappen, Wanting, found_by, only}
 use Rattle.hall.specs.History.{judged}
 use Rattle.hall.specs.Remaking.{over_refusal}
 use Rattle.hall.specs.Serving.{HasLinkCause}
@@ -24,7 +24,6 @@ use Rattle.hall.specs.declared.command.Command.TheVariants as command
 use Rattle.hall.specs.declared.command.Reply.{Reply}
 use Rattle.hall.specs.declared.command.Reply.TheVariants as reply
 use Rattle.hall.proofs.Calls.{admitted, at_state, is_done, is_wanting, refuses}
-use Rattle.hall.proofs.Shipping.{Stays, shipped}
 use Rattle.hall.proofs.Soundness.{not_sound, sound_of}
 
 -- ---- the list of a replica
@@ -157,12 +156,9 @@ over_cause faults gives applied table old new over.NoMemory r is h =
 
 -- ---- a replica that is attached
 
-false_not_true : false ≡ true → ⊥
-false_not_true e = cc
-
--- it has gone, whether one followed before or not
-attaching : (before : Bool) → Stays (OfAdmin Attaches) before false
-attaching before = record { kept = λ on. absurd (false_not_true on); apart = λ off. absurd (false_not_true (sym off)) }
+either : (P : Type 0) (b : Bool) → (b ≡ true → P) → (b ≡ false → P) → P
+either P true f g = f refl
+either P false f g = g refl
 
 module _ (s : State) (room : Admits s command.Attach) where
   pub attaches : IsAct s command.Attach (attached s) reply.Done
@@ -174,7 +170,22 @@ module _ (s : State) (room : Admits s command.Attach) where
   pub attach_fails : IsAct s command.Attach (detached s) (reply.Refused refusal.LinkFault)
   attach_fails = record { outcome = only LinkFails; possible = record { reading = tt; event = (leaves_attached, refl); lost = tt }; same = refl }
 
-  pub attach_wanting : IsAct s command.Attach (detached s) (reply.Refused refusal.NoMemory)
-  attach_wanting =
-      shipped s command.Attach s (reply.Refused refusal.NoMemory) false (attaching s.attached) room refl
+  wants : MayHappen Wanting s (OfAdmin Attaches) (call_verdict (found_in s) s (OfAdmin Attaches))
+  wants = (room.served, leaves_attached)
+
+  -- one that followed is lost
+  lost_wanting : s.attached ≡ true → IsAct s command.Attach (detached s) (reply.Refused refusal.NoMemory)
+  lost_wanting on = record {
+    outcome = record { event = Wanting; reading = AsKnown; lost = true };
+    possible = record { reading = tt; event = wants; lost = record { served = room.served; attached = on; may = refl } };
+    same = refl;
+  }
+
+  -- and where none did none does
+  none_wanting : s.attached ≡ false → IsAct s command.Attach (detached s) (reply.Refused refusal.NoMemory)
+  none_wanting off =
+      subst (λ b. IsAct s command.Attach (record s { attached = b }) (reply.Refused refusal.NoMemory)) off
       (is_wanting s command.Attach room.served leaves_attached)
+
+  pub attach_wanting : IsAct s command.Attach (detached s) (reply.Refused refusal.NoMemory)
+  attach_wanting = either _ s.attached lost_wanting none_wanting

@@ -58,7 +58,7 @@ told_noted first s o line c h allowed on =
       state = sym leads;
     }
 
-told_unnoted : (first s : State) (o : DeviceOutcome) (line : ℕ) (c : Command) → IsTold first s → MayLose o.lost s (call_of c)
+told_unnoted : (first s : State) (o : DeviceOutcome) (line : ℕ) (c : Command) → IsTold first s → MayLose o.lost o.event s (call_of c)
     → is_unrecorded (served o s c).reply ≡ true → IsTold first (step o s line c).state
 told_unnoted first s o line c h lost off =
     let r : Served = served o s c in

@@ -9,7 +9,7 @@ use Rattle.posting.specs.declared.prepared.Outcome.{Outcome}
 use Rattle.posting.specs.declared.prepared.Outcome.TheVariants as outcome
 use Rattle.hall.specs.Acts.{IsAct, IsTelling}
 use Rattle.hall.specs.Calls.{Call, call_of, restarts}
-use Rattle.hall.specs.Devices.{DeviceOutcome, Event, AllWell, Wanting, StoreFails, BackupFails, LinkFails, NotRemade, RemakeFault, MeetsWant, FindsBad, FindsBadStore, MayHappen, fault_told, found_by, is_file_failure, is_store_failure, may_want, MayLose, ShipsTo, uses_file, uses_store}
+use Rattle.hall.specs.Devices.{DeviceOutcome, Event, AllWell, Wanting, StoreFails, BackupFails, LinkFails, NotRemade, RemakeFault, MeetsWant, FindsBad, FindsBadStore, MayHappen, fault_told, found_by, is_file_failure, is_store_failure, may_want, LosesReplica, MayLose, uses_file, uses_store}
 use Rattle.hall.specs.Filing.{HasFileCause}
 use Rattle.hall.specs.History.{IsGiven, Served, ends_in, is_row, is_unrecorded, judged, losing, served, step, takes_flight}
 use Rattle.hall.specs.Leaving.{HasCounted, HasStoreCause}
@@ -22,6 +22,7 @@ use Rattle.hall.proofs.ByCall.{OfEach, by_call}
 use Rattle.hall.proofs.Frames.{by_noting, finds_none}
 use Rattle.hall.proofs.Noted.{ships_noted}
 use Rattle.hall.proofs.Plain.{IsPlain, is_fault}
+use Rattle.hall.proofs.Shipping.{lost_wanting, well_ships}
 
 -- a failure of store or disk is told, or what they have, or want of memory
 abbrev pub is_fault_reply : Reply → Bool
@@ -129,23 +130,24 @@ unlost_same o s c =
     ]
 
 -- and one that may lose the replica is noted
-ships_on : (o : DeviceOutcome) (s : State) (c : Command) → ShipsTo s (call_of c) → is_unrecorded (ending o s c).reply ≡ false
-ships_on o s c may =
-    elim o.event as (λ e. is_unrecorded (ends_in e o.reading s (call_of c) (call_verdict (found_by o.reading s) s (call_of c))).reply ≡ false) [
-      | AllWell ↦ ships_noted (found_by o.reading s) s (call_of c) may.served may.ships
-      | Wanting ↦ refl
-      | StoreFails ↦ refl
-      | BackupFails ↦ refl
-      | LinkFails ↦ refl
-      | NotRemade fault ↦ told_noted fault
+loses_on : (o : DeviceOutcome) (s : State) (c : Command) → LosesReplica o.event s (call_of c) → is_unrecorded (ending o s c).reply ≡ false
+loses_on o s c =
+    elim o.event as (λ e. LosesReplica e s (call_of c)
+    → is_unrecorded (ends_in e o.reading s (call_of c) (call_verdict (found_by o.reading s) s (call_of c))).reply ≡ false) [
+      | AllWell ↦ λ may. ships_noted (found_by o.reading s) s (call_of c) may.served (well_ships (call_of c) may.may)
+      | Wanting ↦ λ may. refl
+      | StoreFails ↦ λ may. refl
+      | BackupFails ↦ λ may. refl
+      | LinkFails ↦ λ may. refl
+      | NotRemade fault ↦ λ may. told_noted fault
     ]
 
-lost_same : (lost : Bool) (o : DeviceOutcome) (s : State) (c : Command) → MayLose lost s (call_of c) → is_unrecorded (ending o s c).reply ≡ true
+lost_same : (lost : Bool) (o : DeviceOutcome) (s : State) (c : Command) → MayLose lost o.event s (call_of c) → is_unrecorded (ending o s c).reply ≡ true
     → (losing lost (ending o s c)).state ≡ s
-lost_same true o s c may e = absurd (never _ (ships_on o s c may) e)
+lost_same true o s c may e = absurd (never _ (loses_on o s c may) e)
 lost_same false o s c may e = unlost_same o s c e
 
-pub unnoted_same : (o : DeviceOutcome) (s : State) (c : Command) → MayLose o.lost s (call_of c) → is_unrecorded (served o s c).reply ≡ true → (served o s c).state ≡ s
+pub unnoted_same : (o : DeviceOutcome) (s : State) (c : Command) → MayLose o.lost o.event s (call_of c) → is_unrecorded (served o s c).reply ≡ true → (served o s c).state ≡ s
 unnoted_same o s c may e = lost_same o.lost o s c may e
 
 abbrev IsStoreFault : Reply → Type 0
@@ -292,8 +294,9 @@ row_wanting s c taken after r row h =
     let o = act.outcome in
     let wanting = reply.Refused refusal.NoMemory in
     let by : Event → DeviceOutcome = λ e. record { event = e; reading = o.reading; lost = o.lost } in
-    elim o.event as (λ e. takes_flight (by e) ≡ taken → served (by e) s c ≡ record { state = after; reply = r } → IsTelling s c taken after wanting) [
-      | AllWell ↦ λ takes same.
+    elim o.event as (λ e. MayLose o.lost e s (call_of c) → takes_flight (by e) ≡ taken → served (by e) s c ≡ record { state = after; reply = r }
+    → IsTelling s c taken after wanting) [
+      | AllWell ↦ λ may takes same.
           let found = found_by o.reading s in
           let is : is_row (judged s (verdict found s c)).reply ≡ true = row_of _ _ same row in
           let told = (verdict_answered found s (call_of c)).row is in
@@ -303,17 +306,17 @@ row_wanting s c taken after r row h =
           subst (λ t. IsTelling s c taken t wanting) stays (record {
             act = record {
               outcome = record { event = Wanting; reading = o.reading; lost = o.lost };
-              possible = record { reading = act.possible.reading; event = (served_so, told.1); lost = act.possible.lost };
+              possible = record { reading = act.possible.reading; event = (served_so, told.1); lost = lost_wanting o.lost s (call_of c) may };
               same = refl;
             };
             taken = sym (finds_none o.reading s (call_of c) told.2 act.possible.reading) ∙ takes;
           })
-      | Wanting ↦ λ takes same. absurd (never false refl (row_of _ _ same row))
-      | StoreFails ↦ λ takes same. absurd (never false refl (row_of _ _ same row))
-      | BackupFails ↦ λ takes same. absurd (never false refl (row_of _ _ same row))
-      | LinkFails ↦ λ takes same. absurd (never false refl (row_of _ _ same row))
-      | NotRemade fault ↦ λ takes same. absurd (never false refl (row_of _ _ same row))
-    ] h.taken act.same
+      | Wanting ↦ λ may takes same. absurd (never false refl (row_of _ _ same row))
+      | StoreFails ↦ λ may takes same. absurd (never false refl (row_of _ _ same row))
+      | BackupFails ↦ λ may takes same. absurd (never false refl (row_of _ _ same row))
+      | LinkFails ↦ λ may takes same. absurd (never false refl (row_of _ _ same row))
+      | NotRemade fault ↦ λ may takes same. absurd (never false refl (row_of _ _ same row))
+    ] act.possible.lost h.taken act.same
 
 -- the answer as it is given
 pub given_telling : (s : State) (c : Command) (taken : Bool) (after : State) (made given : Reply) → IsGiven made given → IsTelling s c taken after made

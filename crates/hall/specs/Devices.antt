@@ -262,22 +262,31 @@ MayHappen BackupFails s call v = IsTrue (leaves v) × IsTrue (uses_file s call)
 MayHappen LinkFails s call v = IsTrue (leaves v) × IsTrue (talks call)
 MayHappen (NotRemade fault) s call v = IsTrue (leaves v) × IsTrue (restarts call)
 
--- a replica follows, and a call is served that ships what it changes
-pub record ShipsTo (s : State) (call : Call) : Type 0 where
+abbrev pub is_want : Event → Bool
+is_want Wanting = true
+is_want event = false
+
+-- the calls in which a replica may be lost: those that ship what they change, and one that brings another for which memory was
+-- wanting
+abbrev pub may_lose : Event → Call → Bool
+may_lose event (OfAdmin Attaches) = is_want event
+may_lose event call = ships call
+
+-- a replica follows, and a call is served in which it may be lost
+pub record LosesReplica (event : Event) (s : State) (call : Call) : Type 0 where
   pub served : unavailable s call ≡ None
   pub attached : s.attached ≡ true
-  pub ships : ships call ≡ true
+  pub may : may_lose event call ≡ true
 
--- it may be lost then
-abbrev pub MayLose : Bool → State → Call → Type 0
-MayLose false s call = Unit {0}
-MayLose true s call = ShipsTo s call
+abbrev pub MayLose : Bool → Event → State → Call → Type 0
+MayLose false event s call = Unit {0}
+MayLose true event s call = LosesReplica event s call
 
 -- the devices may have done this in a call
 pub record IsPossible (o : DeviceOutcome) (s : State) (c : Command) : Type 0 where
   pub reading : MayRead o.reading s (call_of c)
   pub event : MayHappen o.event s (call_of c) (call_verdict (found_by o.reading s) s (call_of c))
-  pub lost : MayLose o.lost s (call_of c)
+  pub lost : MayLose o.lost o.event s (call_of c)
 
 -- a call may be made, and may have this outcome
 pub record IsAllowed (o : DeviceOutcome) (s : State) (c : Command) : Type 0 where

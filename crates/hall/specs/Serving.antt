@@ -1,5 +1,5 @@
 -- A call that the server serves, apart from its place in the history.
-use Rattle.std.specs.Prelude.{◌≡◌, ℕ, Bool, true, false, List, Option, is_some}
+use Rattle.std.specs.Prelude.{◌≡◌, ◌⊎◌, ℕ, Bool, true, false, List, Option, is_some}
 use Rattle.backup_file.specs.Backup.{BackupView}
 use Rattle.enq_base.specs.Causes.{Rose}
 use Rattle.enq_base.specs.declared.refusal.Refusal.TheVariants as refusal
@@ -13,7 +13,7 @@ use Rattle.hall.specs.declared.command.Reply.{Reply}
 use Rattle.hall.specs.declared.command.Reply.TheVariants as reply
 use Rattle.hall.specs.Acts.{Admits, IsAct}
 use Rattle.hall.specs.Calls.{call_of, fails_over, renews_replica, restarts, touches_file}
-use Rattle.hall.specs.Devices.{reaches_store}
+use Rattle.hall.specs.Devices.{is_doubt, reaches_store}
 use Rattle.hall.specs.Filing.{DoesFile, HasFileCause}
 use Rattle.hall.specs.Kept.{IsKept}
 use Rattle.hall.specs.Leaving.{HasStoreCause, KeepsStore}
@@ -60,6 +60,12 @@ Follows applied faults refusals false old new = KeepsOn applied faults refusals 
 abbrev pub HasLinkCause : ℕ → ℕ → Reply → Type 0
 HasLinkCause before now (reply.Refused refusal.LinkFault) = Rose before now
 HasLinkCause before now _ = Unit {0}
+
+-- a replica that followed is lost only where one of the link's counts rose, or where the server is in doubt then
+abbrev pub LosesOnly : (faults faults_now refusals refusals_now : ℕ) → State → State → Type 0
+LosesOnly faults faults_now refusals refusals_now old new =
+    old.attached ≡ true → new.attached ≡ false → is_doubt new.condition ≡ false
+    → Rose faults faults_now ⊎ Rose refusals refusals_now
 
 -- a failover that is done leaves the list that the link gives
 abbrev pub IsOver : (fails_over : Bool) → (locks given : List Entry) → Reply → Type 0

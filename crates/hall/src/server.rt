@@ -1,5 +1,5 @@
 ghost use Rattle.hall.specs.Remaking.{over_refusal};
-ghost use Rattle.std.specs.Prelude.{◌≡◌, ◌⊎◌, [], true, false, length, replicate, None, IfOk, IfSome, is_some, IsTrue};
+ghost use Rattle.std.specs.Prelude.{◌≡◌, ◌≢◌, ◌⊎◌, [], true, false, length, replicate, None, IfOk, IfSome, is_some, IsTrue};
 ghost use Rattle.enq_server.specs.Following.{IsLater, KeepsOn};
 ghost use Rattle.enq_server.specs.Server.{recovered};
 ghost use Rattle.posting.specs.Views.{open_locks};
@@ -14,7 +14,7 @@ ghost use Rattle.keeper_api.specs.Keeping.{IsWithin};
 ghost use Rattle.hall.specs.Calls.{call_of, fails_over, renews_replica, restarts, touches_file};
 ghost use Rattle.hall.specs.Devices.{reaches_store};
 ghost use Rattle.hall.specs.Serving.{HasLinkCause, IsDue, IsOver, Serves, with_calls};
-ghost use Rattle.hall.specs.State.{opened, seen_locks};
+ghost use Rattle.hall.specs.State.{attached_in, opened, seen_locks};
 ghost use Rattle.hall.specs.Unsound.{is_unsound_file, is_unsound_replica, is_unsound_store};
 ghost use Rattle.hall.specs.Stocks.{IsStockIn, MayCall};
 ghost use Rattle.hall.specs.History.{after_of, is_unrecorded};
@@ -235,6 +235,7 @@ impl<T: LockStore, K: Keeper, D: Disk, L: Link> Server<T, K, D, L> {
         ensures left { LeavesState K.held K.may_leave self.now }
         ensures lists { LeavesLists D.tells D.may_leave self.now }
         ensures link { self.now.state.link_told ≡ is_some (L.applied self.now.follower.link) }
+        ensures attached { self.now.state.attached ≡ attached_in self.now.state.condition self.now.follower.attached }
     {
         let _ = &self.condition;
     }
@@ -303,7 +304,25 @@ impl<T: LockStore, K: Keeper, D: Disk, L: Link> Server<T, K, D, L> {
     fn act(&mut self, alloc: Global, past: &Vec<PastEntry>, command: &Command) -> Reply
         requires due { IsDue self.old.state past.now.items command.now }
         requires call { MayCall self.old.state (call_of command.now) }
-        requires others { restarts (call_of command.now) ≡ false }
+        requires other { command.now ≢ Command.Restart }
+        ensures { Serves K.held K.may_leave K.faults D.faults L.gives L.applied L.faults L.refusals self.old self.new past.now.items command.now result }
+    {
+        match command {
+            Command::Kill => self.kill(past),
+            Command::FailOver => self.fail_over(alloc, past),
+            Command::Attach => self.attach(alloc, past),
+            command => self.attend(alloc, past, command),
+        }
+    }
+
+    /// Does a call of a session or of a worker, or one about a unit.
+    fn attend(&mut self, alloc: Global, past: &Vec<PastEntry>, command: &Command) -> Reply
+        requires due { IsDue self.old.state past.now.items command.now }
+        requires call { MayCall self.old.state (call_of command.now) }
+        requires no_kill { command.now ≢ Command.Kill }
+        requires no_failover { command.now ≢ Command.FailOver }
+        requires no_restart { command.now ≢ Command.Restart }
+        requires no_attach { command.now ≢ Command.Attach }
         ensures { Serves K.held K.may_leave K.faults D.faults L.gives L.applied L.faults L.refusals self.old self.new past.now.items command.now result }
     {
         match command {
@@ -340,12 +359,10 @@ impl<T: LockStore, K: Keeper, D: Disk, L: Link> Server<T, K, D, L> {
             Command::Take2 { worker } => self.take(past, *worker, 2),
             Command::Do2 { worker } => self.post(alloc, past, *worker, 2),
             Command::DropOrder { worker } => self.drop_order(past, *worker),
-            Command::Kill => self.kill(past),
-            Command::FailOver => self.fail_over(alloc, past),
-            Command::Restart => unreachable!(),
-            Command::Attach => self.attach(alloc, past),
             Command::Cancel { unit } => self.cancel(alloc, past, *unit),
             Command::Resubmit { unit } => self.resubmit(alloc, past, *unit),
+            Command::Kill | Command::FailOver | Command::Restart | Command::Attach =>
+                unreachable!(),
         }
     }
 

@@ -14,7 +14,7 @@ use Rattle.script_runner.specs.Turns.{CountsEach}
 pub rose_from : (a b c : ℕ) → a ≤ b → Rose b c → Rose a c
 rose_from a b c h r = omega arith
 
-rose_on : (a b c : ℕ) → Rose a b → b ≤ c → Rose a c
+pub rose_on : (a b c : ℕ) → Rose a b → b ≤ c → Rose a c
 rose_on a b c r h = omega arith
 
 or_none : (b : Bool) → (b || false) ≡ b

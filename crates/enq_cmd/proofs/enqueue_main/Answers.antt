@@ -31,7 +31,7 @@ returns-in-Some-Generates-clause-generated g c n names =
 
 pub returns-in-Some-Loads-clause-loaded : goal.returns-in-Some-Loads-clause-loaded
 returns-in-Some-Loads-clause-loaded g c n names =
-    loaded_as c.in-Some-Loads.units n (same_load c.args.words.now c.in-Some-Loads.units n (rw c.in-Some-Loads.field-0-is at c.in-Some-Loads.ensures.named) names) _ _ _ _ _ _ _ _ _ _ _ _ _ _ _ _ _ _ _ _ _ _ _ refl c.load_site.ensures.loaded
+    loaded_as c.in-Some-Loads.units n (same_load c.args.words.now c.in-Some-Loads.units n (rw c.in-Some-Loads.field-0-is at c.in-Some-Loads.ensures.named) names) _ _ _ _ _ _ _ _ _ _ _ _ _ _ _ _ _ _ _ _ _ _ _ _ _ refl c.load_site.ensures.loaded
 
 pub returns-in-None-clause-load_complete : goal.returns-in-None-clause-load_complete
 returns-in-None-clause-load_complete g c n names = absurd (c.in-None.ensures.none (Loads n) names)

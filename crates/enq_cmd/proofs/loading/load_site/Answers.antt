@@ -4,7 +4,7 @@ use Rattle.load_gen.specs.Script.{script_of}
 use Rattle.script_runner.specs.LineFaults.{IsToBlame}
 use Rattle.enq_cmd.proofs.Generated.{blameless, is_script}
 use Rattle.script_runner.specs.Faults.{is_link_fault}
-use Rattle.enq_cmd.proofs.Served.{calm_load, link_quiet, load_ends, load_run, none_answered, run_document, run_place, run_unfit, served_by, unloaded}
+use Rattle.enq_cmd.proofs.Served.{calm_load, link_quiet, load_ends, load_run, none_answered, none_linked, run_document, run_linked, run_place, run_unfit, served_by, unloaded}
 use Rattle.enq_base.specs.declared.condition.Bad.TheVariants as bad
 use Rattle.hall.specs.Unsound.{is_unsound_file, is_unsound_store}
 use Rattle.enq_cmd.proofs.Tellings.{completes_as, first_sound, never_bad}
@@ -45,7 +45,8 @@ returns-in-Ok-open_hall-clause-loaded g c =
 pub returns-clause-loaded : goal.returns-clause-loaded
 returns-clause-loaded g c =
     unloaded g.K.Keeper.held g.K.Keeper.may_leave g.K.Keeper.faults g.D.Disk.tells (g.D.Disk.reads c.args.site.disk) g.D.Disk.may_leave g.D.Disk.faults (is_some (g.L.Link.applied c.args.site.link)) (g.L.Link.applied c.in-Err.ended.site.link) c.args.units _ _ _ c.args.sink.now
-    c.args.site.keeper c.in-Err.ended.site.keeper c.args.site.disk c.in-Err.ended.site.disk _ _ _ _ c.in-Err.ensures.past c.in-Err.ensures.unserved
+    c.args.site.keeper c.in-Err.ended.site.keeper c.args.site.disk c.in-Err.ended.site.disk c.args.site.link c.in-Err.ended.site.link _ _ _ _
+    c.in-Err.ensures.past c.in-Err.ensures.linked c.in-Err.ensures.unserved
 
 pub returns-in-Ok-open_hall-clause-unfit_interval : goal.returns-in-Ok-open_hall-clause-unfit_interval
 returns-in-Ok-open_hall-clause-unfit_interval g c = run_unfit _ _ _ c.make_ended.result.why (subst IsRunEnd (sym c.make_ended.ensures.why) c.load-why.ensures.kind)
@@ -124,3 +125,17 @@ returns-in-Ok-open_hall-clause-link_fault g c =
 
 pub returns-clause-link_fault : goal.returns-clause-link_fault
 returns-clause-link_fault g c quiet = none_answered is_link_fault c.in-Err.ended.past c.in-Err.ensures.past
+
+pub returns-in-Ok-open_hall-clause-link_counts : goal.returns-in-Ok-open_hall-clause-link_counts
+returns-in-Ok-open_hall-clause-link_counts g c =
+    let o = c.in-Ok-open_hall.ensures.opened in
+    let old = c.in-Ok-open_hall.hall in
+    let new = c.load-why.new.hall in
+    run_linked g.L.Link.faults g.L.Link.refusals o.land (is_some (g.K.Keeper.held c.args.site.keeper)) (is_some (g.L.Link.applied c.args.site.link)) old.state.stored old.state new.state
+    c.make_ended.result.past c.args.site.link old.follower.link new.follower.link c.make_ended.result.site.link
+    o.first (c.make_ended.ensures.past ∙ c.into_site-keeper.ensures.past) o.linked (c.make_ended.ensures.link ∙ c.into_site-keeper.ensures.link)
+    c.load-why.ensures.link_counts
+
+pub returns-clause-link_counts : goal.returns-clause-link_counts
+returns-clause-link_counts g c =
+    none_linked g.L.Link.faults g.L.Link.refusals c.args.site.link c.in-Err.ended.site.link c.in-Err.ended.past c.in-Err.ensures.linked c.in-Err.ensures.past

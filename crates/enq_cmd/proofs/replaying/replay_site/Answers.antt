@@ -4,7 +4,7 @@ use Rattle.enq_base.specs.declared.condition.Bad.TheVariants as bad
 use Rattle.hall.specs.Unsound.{is_unsound_file, is_unsound_store}
 use Rattle.script_runner.specs.Replay.{seen}
 use Rattle.script_runner.specs.Faults.{is_link_fault}
-use Rattle.enq_cmd.proofs.Served.{link_quiet, none_answered, run_kind, run_place, served_by, still_by, unserved}
+use Rattle.enq_cmd.proofs.Served.{link_quiet, none_answered, none_linked, run_kind, run_linked, run_place, served_by, still_by, unserved}
 use Rattle.enq_cmd.proofs.Tellings.{HasRun, completes_as, first_sound, never_bad, served_seen}
 use Rattle.enq_cmd.proofs.replaying.replay_site.Goals as goal
 
@@ -46,7 +46,8 @@ returns-in-Ok-clause-served g c =
 pub returns-in-Err-clause-served : goal.returns-in-Err-clause-served
 returns-in-Err-clause-served g c =
     unserved g.K.Keeper.held g.K.Keeper.may_leave g.K.Keeper.faults g.D.Disk.tells (g.D.Disk.reads c.args.site.disk) g.D.Disk.may_leave g.D.Disk.faults (is_some (g.L.Link.applied c.args.site.link)) (g.L.Link.applied c.in-Err.ended.site.link) _ _ _ c.args.script.now c.args.sink.now
-    c.args.site.keeper c.in-Err.ended.site.keeper c.args.site.disk c.in-Err.ended.site.disk _ _ _ _ _ _ c.in-Err.ensures.past c.in-Err.ensures.unserved
+    c.args.site.keeper c.in-Err.ended.site.keeper c.args.site.disk c.in-Err.ended.site.disk c.args.site.link c.in-Err.ended.site.link _ _ _ _ _ _
+    c.in-Err.ensures.past c.in-Err.ensures.linked c.in-Err.ensures.unserved
 
 pub returns-in-Err-clause-complete : goal.returns-in-Err-clause-complete
 returns-in-Err-clause-complete g c bytes left script document told_document other gives told good fit tells file steady calm quiet kept still =
@@ -110,3 +111,17 @@ returns-in-Ok-clause-link_fault g c =
 
 pub returns-in-Err-clause-link_fault : goal.returns-in-Err-clause-link_fault
 returns-in-Err-clause-link_fault g c quiet = none_answered is_link_fault c.in-Err.ended.past c.in-Err.ensures.past
+
+pub returns-in-Ok-clause-link_counts : goal.returns-in-Ok-clause-link_counts
+returns-in-Ok-clause-link_counts g c =
+    let o = c.in-Ok.ensures.opened in
+    let old = c.in-Ok.hall in
+    let new = c.replay-why.new.hall in
+    run_linked g.L.Link.faults g.L.Link.refusals o.land (is_some (g.K.Keeper.held c.args.site.keeper)) (is_some (g.L.Link.applied c.args.site.link)) old.state.stored old.state new.state
+    c.make_ended.result.past c.args.site.link old.follower.link new.follower.link c.make_ended.result.site.link
+    o.first (c.make_ended.ensures.past ∙ c.into_site-keeper.ensures.past) o.linked (c.make_ended.ensures.link ∙ c.into_site-keeper.ensures.link)
+    c.replay-why.ensures.link_counts
+
+pub returns-in-Err-clause-link_counts : goal.returns-in-Err-clause-link_counts
+returns-in-Err-clause-link_counts g c =
+    none_linked g.L.Link.faults g.L.Link.refusals c.args.site.link c.in-Err.ended.site.link c.in-Err.ended.past c.in-Err.ensures.linked c.in-Err.ensures.past

@@ -10,7 +10,7 @@ use Rattle.script_runner.proofs.TurnLemmas.{taken_at}
 use Rattle.script_runner.proofs.runner.replay_lines.Goals as goal
 
 pub lines-init : goal.lines-init
-lines-init g c = (begins _ _ _ c.new-reader.ensures.number c.new-reader.ensures.reading, refl, λ yes none. none, λ yes none. none, same_link _ _ _ _, λ quiet none. none, λ yes none. none)
+lines-init g c = (begins _ _ _ c.new-reader.ensures.number c.new-reader.ensures.reading, refl, λ yes none. none, λ yes none. none, same_link _ _ _ _, λ quiet none. none, λ yes none. none, λ attached first h. h)
 
 pub take_turn-requires : goal.take_turn-requires
 take_turn-requires g c =
@@ -33,6 +33,7 @@ lines-preserved g c = (
   link_on _ _ _ _ _ _ c.lines.invariant.4 c.take_turn.ensures.link,
   tells_on _ _ _ c.args.hall.now.state.past c.lines.hall.state.past c.take_turn.new.hall.state.past c.lines.invariant.4.faults_later c.take_turn.ensures.link.faults_later c.lines.invariant.5 c.take_turn.ensures.good_link,
   λ yes none. c.take_turn.ensures.good_replica (c.lines.invariant.4.told ∙ yes) (c.lines.invariant.6 yes none),
+  λ attached first h. c.take_turn.ensures.link_counts attached first (c.lines.invariant.7 attached first h),
 )
 
 pub returns-in-Ok-false-clause-run : goal.returns-in-Ok-false-clause-run
@@ -102,3 +103,12 @@ returns-in-Err-clause-good_replica g c = c.lines.invariant.6
 
 pub returns-in-Err-take_turn-clause-good_replica : goal.returns-in-Err-take_turn-clause-good_replica
 returns-in-Err-take_turn-clause-good_replica g c = λ yes none. c.take_turn.ensures.good_replica (c.lines.invariant.4.told ∙ yes) (c.lines.invariant.6 yes none)
+
+pub returns-in-Ok-false-clause-link_counts : goal.returns-in-Ok-false-clause-link_counts
+returns-in-Ok-false-clause-link_counts g c = c.lines.invariant.7
+
+pub returns-in-Err-clause-link_counts : goal.returns-in-Err-clause-link_counts
+returns-in-Err-clause-link_counts g c = c.lines.invariant.7
+
+pub returns-in-Err-take_turn-clause-link_counts : goal.returns-in-Err-take_turn-clause-link_counts
+returns-in-Err-take_turn-clause-link_counts g c = λ attached first h. c.take_turn.ensures.link_counts attached first (c.lines.invariant.7 attached first h)

@@ -3,6 +3,7 @@ use Rattle.std.specs.Prelude.{true, is_some, IsTrue}
 use Rattle.enq_server.specs.Following.{IsLater}
 use Rattle.script_runner.specs.Faults.{NoneUnsound, NoneUnsoundReplica, NoneUnsoundStore, TellsNoFault}
 use Rattle.script_runner.specs.Replay.{seen}
+use Rattle.script_runner.specs.Replicas.{GoesOnLinked, link_counts}
 use Rattle.script_runner.specs.World.{world}
 use Rattle.script_runner.proofs.Loop.{GoesOn}
 use Rattle.script_runner.proofs.runner.replay_lines.Given as goal
@@ -19,6 +20,7 @@ invariant-lines g l =
     × IsLater g.L.Link.applied g.L.Link.faults g.L.Link.refusals l.initial.hall.follower l.hall.follower
     × TellsNoFault (g.L.Link.faults l.initial.hall.follower.link) (g.L.Link.faults l.hall.follower.link) l.initial.hall.state.past l.hall.state.past
     × (is_some (g.L.Link.applied l.initial.hall.follower.link) ≡ true → NoneUnsoundReplica l.initial.hall.state.past → NoneUnsoundReplica l.hall.state.past)
+    × GoesOnLinked l.initial.hall.state l.hall.state (link_counts g.L.Link.faults g.L.Link.refusals l.initial.hall.follower.link) (link_counts g.L.Link.faults g.L.Link.refusals l.hall.follower.link)
 
 abbrev pub decreases-lines : goal.decreases-lines
 decreases-lines g l = 200000 - l.reader.number

@@ -3,11 +3,12 @@ use Rattle.hall.proofs.Endings.{given_noted, unrecorded_same}
 use Rattle.hall.proofs.Landings.{kept_call}
 use Rattle.hall.proofs.Frames.{noted_step}
 use Rattle.hall.proofs.GoodFiles.{given_sound}
+use Rattle.hall.proofs.KeptReplicas.{loses_only}
 use Rattle.hall.proofs.Replies.{given_telling}
 use Rattle.hall.specs.History.{IsStep, entry_of}
 use Rattle.hall.specs.Kept.{IsKept}
-use Rattle.hall.specs.Calls.{call_of}
-use Rattle.hall.specs.Serving.{with_calls}
+use Rattle.hall.specs.Calls.{call_of, renews_replica}
+use Rattle.hall.specs.Serving.{LosesOnly, with_calls}
 use Rattle.hall.specs.State.{View}
 use Rattle.hall.specs.Stocks.{MayCall}
 use Rattle.hall.specs.Unsound.{is_unsound_file, is_unsound_replica}
@@ -58,3 +59,13 @@ pub returns-clause-good_replica : goal.returns-clause-good_replica
 returns-clause-good_replica g c =
     subst (λ (v : View g.row.K.Denot g.row.D.Denot g.row.L.Denot). is_some (g.L.Link.applied v.follower.link) ≡ true → is_unsound_replica c.told_twice-noted.result.1 ≡ false) c.self.view_is
     (λ yes. given_sound is_unsound_replica c.serve-answer.result.reply c.told_twice-noted.result.1 refl c.told_twice-noted.ensures.given (c.serve-answer.ensures.good_replica yes))
+
+pub returns-clause-lost : goal.returns-clause-lost
+returns-clause-lost g c =
+    let faults = g.L.Link.faults in
+    let refusals = g.L.Link.refusals in
+    let now = c.serve-answer.new.self in
+    let after = with_calls now.state c.note.new.past.items in
+    subst (λ (v : View g.row.K.Denot g.row.D.Denot g.row.L.Denot). renews_replica (call_of c.args.command) ≡ false → LosesOnly (faults v.follower.link) (faults now.follower.link) (refusals v.follower.link) (refusals now.follower.link) v.state after) c.self.view_is
+    (λ other. loses_only g.L.Link.applied faults refusals c.self.inside.server.follower now.follower (with_calls c.self.inside.server.state c.self.inside.past.items) after
+    c.read_invariant.ensures.attached c.read_invariant-2.ensures.attached (c.serve-answer.ensures.follower other))
