@@ -13,8 +13,8 @@ use std::marker::Model;
 
 const EFFECTS_LIMIT: usize = 200;
 
-/// The private side of a session: its variables, at most 200 effects (Updates in the SAP System, update function modules
-/// of a unit of work), and a container of at most 64 lock requests (The SAP Lock Concept, lock container).
+/// The private side of a session: its variables, at most 200 effects (Updates in the SAP System, update function
+/// modules of a unit of work), and a container of at most 64 lock requests (The SAP Lock Concept, lock container).
 #[derive(Drop)]
 pub struct Dialogue {
     session: Name,
@@ -73,8 +73,8 @@ impl Dialogue {
         self.variables.make_room()
     }
 
-    /// Lets a text stand for the name of a variable. There is room for it, so that it can't fail. The cost is a walk over
-    /// the variables.
+    /// Lets a text stand for the name of a variable. There is room for it, so that it can't fail. The cost is a walk
+    /// over the variables.
     pub fn set_variable(&mut self, name: Name, text: &[u8])
         requires room { 1 ≤ self.old.room }
         requires text { length text.now ≤ 512 }
@@ -83,8 +83,8 @@ impl Dialogue {
         self.variables.set(name, text);
     }
 
-    /// A part of a line with texts in place of the names of variables. The cost is one look at each byte, and a walk over
-    /// the variables for each name.
+    /// A part of a line with texts in place of the names of variables. The cost is one look at each byte, and a walk
+    /// over the variables for each name.
     pub fn resolve<'a>(&self, alloc: Global, part: &'a [u8]) -> Result<Resolved<'a>, Refusal>
         ensures filled { IfOk result (λ text. filled self.now.side.variables part.now ≡ Ok text) }
         ensures refused { IfErr result (IsRefusedAs (filled self.now.side.variables part.now)) }
@@ -114,7 +114,8 @@ impl Dialogue {
     pub fn collect(&mut self, requests: &[Request]) -> Result<(), Refusal>
         ensures collected { OnOk result (self.new.side ≡ with_requests requests.now self.old.side) }
         ensures unchanged { OnErr result (self.new ≡ self.old) }
-        ensures full { (64 < length self.old.side.container + length requests.now) ↔ IsErrOf result Refusal.ContainerFull }
+        ensures full { (64 < length self.old.side.container + length requests.now)
+            ↔ IsErrOf result Refusal.ContainerFull }
         ensures refused { IfErr result (λ r. (r ≡ Refusal.ContainerFull) ⊎ (r ≡ Refusal.NoMemory)) }
     {
         refused(self.collector.add(requests))

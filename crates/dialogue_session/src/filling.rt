@@ -87,7 +87,9 @@ fn put_next(
     first: u8,
     after: &[u8],
 ) -> Result<usize, Refusal>
-    ensures put { IfOk result (λ passed. joined (Ok text.new.items) (filled_from variables.now.items passed after.now) ≡ joined (Ok text.old.items) (filled variables.now.items (first ∷ after.now))) }
+    ensures put { IfOk result
+        (λ passed. joined (Ok text.new.items) (filled_from variables.now.items passed after.now) ≡ joined
+        (Ok text.old.items) (filled variables.now.items (first ∷ after.now))) }
     ensures within { IfOk result (λ passed. passed ≤ length after.now) }
     ensures refused { IfErr result (IsRefusedAs (filled variables.now.items (first ∷ after.now))) }
 {

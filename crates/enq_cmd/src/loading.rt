@@ -42,23 +42,27 @@ pub(crate) fn load_site<A: Source, T: Sink, K: Keeper, D: Disk, L: Link>(
     requires count { units ≤ 10000 }
     ensures status { result.status ≡ status_of result.why }
     ensures words { result.why ≢ Why.BadWords }
-    ensures loaded { HasLoaded units (A.left landscape.old) (is_some (K.held site.keeper)) (is_some (L.applied site.link)) (K.may_leave site.keeper) (K.may_leave result.site.keeper)
+    ensures loaded { HasLoaded units (A.left landscape.old) (is_some (K.held site.keeper))
+        (is_some (L.applied site.link)) (K.may_leave site.keeper) (K.may_leave result.site.keeper)
         D.tells (D.reads site.disk) D.may_leave site.disk result.site.disk (L.applied result.site.link)
         (seen None (T.written sink.old) 0 (T.faults sink.old) (K.faults site.keeper) (D.faults site.disk))
         (seen None (T.written sink.new) 0 (T.faults sink.new) (K.faults result.site.keeper) (D.faults result.site.disk))
         result.past result.why
         ⊎ (IsLandEnd (A.faults landscape.old) (A.faults landscape.new) result.why × (sink.new ≡ sink.old)
-        × (result.site.keeper ≡ site.keeper) × (result.site.disk ≡ site.disk) × (result.site.link ≡ site.link) × (result.past ≡ [])) }
+        × (result.site.keeper ≡ site.keeper) × (result.site.disk ≡ site.disk) × (result.site.link ≡ site.link)
+        × (result.past ≡ [])) }
     ensures told { is_some (K.held result.site.keeper) ≡ is_some (K.held site.keeper) }
     ensures link_told { is_some (L.applied result.site.link) ≡ is_some (L.applied site.link) }
     ensures broken_rule { (bytes : List ℕ) → A.left landscape.old ≡ Some bytes → IsFirstBroken bytes result.why }
     ensures unfit_interval { IfSome (K.held result.site.keeper)
         (λ _. IsUnfitEnd (A.left landscape.old) (K.may_leave site.keeper) result.why) }
     ensures no_landing { (A.faults landscape.new ≢ A.faults landscape.old) ⊎ IsBadDocument result.why
-        → (sink.new ≡ sink.old) × (result.site.keeper ≡ site.keeper) × (result.site.disk ≡ site.disk) × (result.site.link ≡ site.link) × (result.past ≡ []) }
+        → (sink.new ≡ sink.old) × (result.site.keeper ≡ site.keeper) × (result.site.disk ≡ site.disk)
+        × (result.site.link ≡ site.link) × (result.past ≡ []) }
     // No line of the script is to blame.
     ensures line_fault { (bytes : List ℕ) → IsToBlame result.why bytes }
-    ensures complete { (document : List ℕ) → A.left landscape.old ≡ Some document → (land : Landscape) → landscape_of document ≡ Ok land
+    ensures complete { (document : List ℕ) → A.left landscape.old ≡ Some document → (land : Landscape)
+        → landscape_of document ≡ Ok land
         → IsTrue (is_some (K.held site.keeper)) → ((rows : Rows) → K.may_leave site.keeper rows → IsGood rows)
         → FitAll land (K.may_leave site.keeper)
         → IsTrue D.tells → IsGoodFile (K.may_leave site.keeper) (D.reads site.disk)
@@ -68,10 +72,13 @@ pub(crate) fn load_site<A: Source, T: Sink, K: Keeper, D: Disk, L: Link>(
         → EndsComplete (K.may_leave site.keeper) result.why }
     ensures source_fault { result.why ≡ Why.SourceFault → Rose (A.faults landscape.old) (A.faults landscape.new) }
     ensures sink_fault { result.why ≡ Why.SinkFault → Rose (T.faults sink.old) (T.faults sink.new) }
-    ensures store_fault { (call : ℕ) → result.why ≡ Why.StoreFault call → Rose (K.faults site.keeper) (K.faults result.site.keeper) }
-    ensures backup_fault { (call : ℕ) → result.why ≡ Why.BackupFault call → Rose (D.faults site.disk) (D.faults result.site.disk) }
+    ensures store_fault { (call : ℕ) → result.why ≡ Why.StoreFault call
+        → Rose (K.faults site.keeper) (K.faults result.site.keeper) }
+    ensures backup_fault { (call : ℕ) → result.why ≡ Why.BackupFault call
+        → Rose (D.faults site.disk) (D.faults result.site.disk) }
     ensures link_fault { ¬ Rose (L.faults site.link) (L.faults result.site.link) → NoneTells is_link_fault result.past }
-    ensures link_counts { CountsLinkEach false result.past (link_counts L.faults L.refusals site.link) (link_counts L.faults L.refusals result.site.link) }
+    ensures link_counts { CountsLinkEach false result.past (link_counts L.faults L.refusals site.link)
+        (link_counts L.faults L.refusals result.site.link) }
     ensures bad_store { IfSome (K.held result.site.keeper) (λ rows. IsBadStore rows result.why) }
     ensures bad_backup { IsTrue D.tells → (place : BackupBad) → result.why ≡ Why.BadBackup place → result.past ≡ [] }
     ensures no_start { IfSome (K.held result.site.keeper) (λ rows. HasNoStart rows result.why) }
@@ -96,8 +103,8 @@ fn source_of(alloc: Global, units: u32) -> Result<SureSource, NoMemory>
     SureSource::new(script_of(alloc, units)?)
 }
 
-/// Does a script in memory, whose replies nobody reads. Where it was done to its end the counts of the server are written, as
-/// the answer of line 0.
+/// Does a script in memory, whose replies nobody reads. Where it was done to its end the counts of the server are
+/// written, as the answer of line 0.
 fn load<T: Sink, K: Keeper, D: Disk, L: Link>(
     alloc: Global,
     source: &mut SureSource,
@@ -105,7 +112,8 @@ fn load<T: Sink, K: Keeper, D: Disk, L: Link>(
     hall: &mut Hall<IndexTable, K, D, L>,
     objects: &[LockObject],
 ) -> Why
-    ensures run { RunsLoad objects.now source.old hall.old.state hall.new.state (K.faults hall.old.keeper) (K.faults hall.new.keeper)
+    ensures run { RunsLoad objects.now source.old hall.old.state hall.new.state (K.faults hall.old.keeper)
+        (K.faults hall.new.keeper)
         (D.faults hall.old.file.disk) (D.faults hall.new.file.disk)
         (T.written sink.old) (T.written sink.new) (T.faults sink.old) (T.faults sink.new) result }
     ensures kind { IsRunEnd result }
@@ -116,15 +124,22 @@ fn load<T: Sink, K: Keeper, D: Disk, L: Link>(
         → HasDoubtCause hall.old.state k (K.faults hall.old.keeper) (K.faults hall.new.keeper) }
     ensures backup_fault { (k : ℕ) → result ≡ Why.BackupFault k
         → HasDoubtCause hall.old.state k (D.faults hall.old.file.disk) (D.faults hall.new.file.disk) }
-    ensures bad_store { (table row : ℕ) → result ≡ Why.BadStore table row → HasBadCause hall.old.state hall.new.state (bad.Store table row) }
-    ensures bad_backup { (place : BackupBad) → result ≡ Why.BadBackup place → HasBadCause hall.old.state hall.new.state (bad.Backup place) }
+    ensures bad_store { (table row : ℕ) → result ≡ Why.BadStore table row
+        → HasBadCause hall.old.state hall.new.state (bad.Store table row) }
+    ensures bad_backup { (place : BackupBad) → result ≡ Why.BadBackup place
+        → HasBadCause hall.old.state hall.new.state (bad.Backup place) }
     ensures good_file { IsTrue D.tells → NoneUnsound hall.old.state.past → NoneUnsound hall.new.state.past }
-    ensures good_store { is_some (K.held hall.old.keeper) ≡ true → NoneUnsoundStore hall.old.state.past → NoneUnsoundStore hall.new.state.past }
-    ensures good_replica { is_some (L.applied hall.old.follower.link) ≡ true → NoneUnsoundReplica hall.old.state.past → NoneUnsoundReplica hall.new.state.past }
+    ensures good_store { is_some (K.held hall.old.keeper) ≡ true → NoneUnsoundStore hall.old.state.past
+        → NoneUnsoundStore hall.new.state.past }
+    ensures good_replica { is_some (L.applied hall.old.follower.link) ≡ true → NoneUnsoundReplica hall.old.state.past
+        → NoneUnsoundReplica hall.new.state.past }
     ensures told { is_some (K.held hall.new.keeper) ≡ is_some (K.held hall.old.keeper) }
     ensures link { IsLater L.applied L.faults L.refusals hall.old.follower hall.new.follower }
-    ensures link_fault { TellsNoFault (L.faults hall.old.follower.link) (L.faults hall.new.follower.link) hall.old.state.past hall.new.state.past }
-    ensures link_counts { GoesOnLinked hall.old.state hall.new.state (link_counts L.faults L.refusals hall.old.follower.link) (link_counts L.faults L.refusals hall.new.follower.link) }
+    ensures link_fault { TellsNoFault (L.faults hall.old.follower.link) (L.faults hall.new.follower.link)
+        hall.old.state.past hall.new.state.past }
+    ensures link_counts { GoesOnLinked hall.old.state hall.new.state
+        (link_counts L.faults L.refusals hall.old.follower.link)
+        (link_counts L.faults L.refusals hall.new.follower.link) }
 {
     match replay(alloc, source, &mut BlindSink, hall, objects) {
         Why::Done => end_of(write_audit(alloc, 0, hall, sink)),

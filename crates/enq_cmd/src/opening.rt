@@ -23,8 +23,8 @@ use replica_link::Link;
 use script_runner::Why;
 use std::alloc::Global;
 
-/// Reads the landscape whole, and opens the store and the backup file with its limits and intervals. It gives the server
-/// and the landscape's lock objects, or the end of a program that comes to no server.
+/// Reads the landscape whole, and opens the store and the backup file with its limits and intervals. It gives the
+/// server and the landscape's lock objects, or the end of a program that comes to no server.
 pub(crate) fn open_hall<A: Source, K: Keeper, D: Disk, L: Link>(
     alloc: Global,
     landscape: &mut A,
@@ -36,7 +36,8 @@ pub(crate) fn open_hall<A: Source, K: Keeper, D: Disk, L: Link>(
     ensures status { IfErr result (λ e. e.status ≡ status_of e.why) }
     ensures past { IfErr result (λ e. e.past ≡ []) }
     ensures unserved { IfErr result (λ e.
-        IsUnlanded (A.faults landscape.old) (A.faults landscape.new) site.keeper e.site.keeper site.disk e.site.disk e.why
+        IsUnlanded (A.faults landscape.old) (A.faults landscape.new) site.keeper e.site.keeper site.disk e.site.disk
+        e.why
         ⊎ IsLandedAlone K.held K.may_leave K.faults D.tells D.may_leave D.faults (A.left landscape.old)
         site.keeper e.site.keeper site.disk e.site.disk e.why) }
     ensures told { IfErr result (λ e. is_some (K.held e.site.keeper) ≡ is_some (K.held site.keeper)) }
@@ -44,7 +45,8 @@ pub(crate) fn open_hall<A: Source, K: Keeper, D: Disk, L: Link>(
     ensures bad_landscape { IfErr result (λ e. (bytes : List ℕ) → A.left landscape.old ≡ Some bytes
         → (broken : Broken) → landscape_of bytes ≡ Err broken
         → TellsBroken broken (A.faults landscape.old) (A.faults landscape.new) e.why) }
-    ensures broken_rule { IfErr result (λ e. (bytes : List ℕ) → A.left landscape.old ≡ Some bytes → IsFirstBroken bytes e.why) }
+    ensures broken_rule { IfErr result
+        (λ e. (bytes : List ℕ) → A.left landscape.old ≡ Some bytes → IsFirstBroken bytes e.why) }
     ensures unfit_interval { IfErr result (λ e. IfSome (K.held e.site.keeper)
         (λ _. IsUnfitEnd (A.left landscape.old) (K.may_leave site.keeper) e.why)) }
     ensures no_landing { IfErr result (λ e. (A.faults landscape.new ≢ A.faults landscape.old) ⊎ IsBadDocument e.why
@@ -59,10 +61,13 @@ pub(crate) fn open_hall<A: Source, K: Keeper, D: Disk, L: Link>(
         → ¬ Rose (K.faults site.keeper) (K.faults e.site.keeper) → ¬ Rose (D.faults site.disk) (D.faults e.site.disk)
         → EndsComplete (K.may_leave site.keeper) e.why) }
     ensures words { IfErr result (λ e. e.why ≢ Why.BadWords) }
-    ensures source_fault { IfErr result (λ e. e.why ≡ Why.SourceFault → Rose (A.faults landscape.old) (A.faults landscape.new)) }
+    ensures source_fault { IfErr result
+        (λ e. e.why ≡ Why.SourceFault → Rose (A.faults landscape.old) (A.faults landscape.new)) }
     ensures sink_fault { IfErr result (λ e. e.why ≢ Why.SinkFault) }
-    ensures store_fault { IfErr result (λ e. (call : ℕ) → e.why ≡ Why.StoreFault call → Rose (K.faults site.keeper) (K.faults e.site.keeper)) }
-    ensures backup_fault { IfErr result (λ e. (call : ℕ) → e.why ≡ Why.BackupFault call → Rose (D.faults site.disk) (D.faults e.site.disk)) }
+    ensures store_fault { IfErr result
+        (λ e. (call : ℕ) → e.why ≡ Why.StoreFault call → Rose (K.faults site.keeper) (K.faults e.site.keeper)) }
+    ensures backup_fault { IfErr result
+        (λ e. (call : ℕ) → e.why ≡ Why.BackupFault call → Rose (D.faults site.disk) (D.faults e.site.disk)) }
     ensures bad_store { IfErr result (λ e. IfSome (K.held e.site.keeper) (λ rows. IsBadStore rows e.why)) }
     ensures no_start { IfErr result (λ e. IfSome (K.held e.site.keeper) (λ rows. HasNoStart rows e.why)) }
 {

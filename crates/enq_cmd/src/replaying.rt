@@ -33,13 +33,17 @@ pub(crate) fn replay_site<A: Source, S: Source, T: Sink, K: Keeper, D: Disk, L: 
 ) -> Ended<K, D, L>
     ensures status { result.status ≡ status_of result.why }
     ensures words { result.why ≢ Why.BadWords }
-    ensures served { HasLandscape (A.left landscape.old) (is_some (K.held site.keeper)) (is_some (L.applied site.link)) (K.may_leave site.keeper) (K.may_leave result.site.keeper)
+    ensures served { HasLandscape (A.left landscape.old) (is_some (K.held site.keeper)) (is_some (L.applied site.link))
+        (K.may_leave site.keeper) (K.may_leave result.site.keeper)
         D.tells (D.reads site.disk) D.may_leave site.disk result.site.disk (L.applied result.site.link)
-        (seen (S.left script.old) (T.written sink.old) (S.faults script.old) (T.faults sink.old) (K.faults site.keeper) (D.faults site.disk))
-        (seen (S.left script.new) (T.written sink.new) (S.faults script.new) (T.faults sink.new) (K.faults result.site.keeper) (D.faults result.site.disk))
+        (seen (S.left script.old) (T.written sink.old) (S.faults script.old) (T.faults sink.old) (K.faults site.keeper)
+        (D.faults site.disk))
+        (seen (S.left script.new) (T.written sink.new) (S.faults script.new) (T.faults sink.new)
+        (K.faults result.site.keeper) (D.faults result.site.disk))
         result.past result.why
         ⊎ (IsLandEnd (A.faults landscape.old) (A.faults landscape.new) result.why
-        × IsUntouched script.old script.new sink.old sink.new site.keeper result.site.keeper site.disk result.site.disk site.link result.site.link result.past) }
+        × IsUntouched script.old script.new sink.old sink.new site.keeper result.site.keeper site.disk result.site.disk
+        site.link result.site.link result.past) }
     ensures told { is_some (K.held result.site.keeper) ≡ is_some (K.held site.keeper) }
     ensures link_told { is_some (L.applied result.site.link) ≡ is_some (L.applied site.link) }
     ensures bad_landscape { (bytes : List ℕ) → A.left landscape.old ≡ Some bytes
@@ -49,10 +53,12 @@ pub(crate) fn replay_site<A: Source, S: Source, T: Sink, K: Keeper, D: Disk, L: 
     ensures unfit_interval { IfSome (K.held result.site.keeper)
         (λ _. IsUnfitEnd (A.left landscape.old) (K.may_leave site.keeper) result.why) }
     ensures no_landing { (A.faults landscape.new ≢ A.faults landscape.old) ⊎ IsBadDocument result.why
-        → IsUntouched script.old script.new sink.old sink.new site.keeper result.site.keeper site.disk result.site.disk site.link result.site.link result.past }
+        → IsUntouched script.old script.new sink.old sink.new site.keeper result.site.keeper site.disk result.site.disk
+        site.link result.site.link result.past }
     ensures line_fault { (bytes : List ℕ) → S.left script.old ≡ Some bytes → IsToBlame result.why bytes }
     ensures complete { (bytes : List ℕ) → S.left script.old ≡ Some bytes → IsScript bytes
-        → (document : List ℕ) → A.left landscape.old ≡ Some document → (land : Landscape) → landscape_of document ≡ Ok land
+        → (document : List ℕ) → A.left landscape.old ≡ Some document → (land : Landscape)
+        → landscape_of document ≡ Ok land
         → IsTrue (is_some (K.held site.keeper)) → ((rows : Rows) → K.may_leave site.keeper rows → IsGood rows)
         → FitAll land (K.may_leave site.keeper)
         → IsTrue D.tells → IsGoodFile (K.may_leave site.keeper) (D.reads site.disk)
@@ -64,10 +70,13 @@ pub(crate) fn replay_site<A: Source, S: Source, T: Sink, K: Keeper, D: Disk, L: 
     ensures source_fault { result.why ≡ Why.SourceFault
         → Rose (A.faults landscape.old) (A.faults landscape.new) ⊎ Rose (S.faults script.old) (S.faults script.new) }
     ensures sink_fault { result.why ≡ Why.SinkFault → Rose (T.faults sink.old) (T.faults sink.new) }
-    ensures store_fault { (call : ℕ) → result.why ≡ Why.StoreFault call → Rose (K.faults site.keeper) (K.faults result.site.keeper) }
-    ensures backup_fault { (call : ℕ) → result.why ≡ Why.BackupFault call → Rose (D.faults site.disk) (D.faults result.site.disk) }
+    ensures store_fault { (call : ℕ) → result.why ≡ Why.StoreFault call
+        → Rose (K.faults site.keeper) (K.faults result.site.keeper) }
+    ensures backup_fault { (call : ℕ) → result.why ≡ Why.BackupFault call
+        → Rose (D.faults site.disk) (D.faults result.site.disk) }
     ensures link_fault { ¬ Rose (L.faults site.link) (L.faults result.site.link) → NoneTells is_link_fault result.past }
-    ensures link_counts { CountsLinkEach false result.past (link_counts L.faults L.refusals site.link) (link_counts L.faults L.refusals result.site.link) }
+    ensures link_counts { CountsLinkEach false result.past (link_counts L.faults L.refusals site.link)
+        (link_counts L.faults L.refusals result.site.link) }
     ensures bad_store { IfSome (K.held result.site.keeper) (λ rows. IsBadStore rows result.why) }
     ensures bad_backup { IsTrue D.tells → (place : BackupBad) → result.why ≡ Why.BadBackup place → result.past ≡ [] }
     ensures no_start { IfSome (K.held result.site.keeper) (λ rows. HasNoStart rows result.why) }

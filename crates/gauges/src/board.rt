@@ -23,7 +23,8 @@ const CONDITION: usize = 5;
 // How often a look tries to read the words while none is written.
 const TRIES: u32 = 64;
 
-/// Readings that one thread publishes and others look at: a sequence lock with one writer, whose sequence number is odd while the words change. Nobody waits. After 2^63 publishes they stand still.
+/// Readings that one thread publishes and others look at: a sequence lock with one writer, whose sequence number is odd
+/// while the words change. Nobody waits. After 2^63 publishes they stand still.
 #[derive(Drop)]
 pub struct Gauges {
     table: Table<u8, Watch, Readings, Board, Global>,
@@ -65,7 +66,8 @@ impl Gauges {
         requires rests { seat.old.me.0.halfway ≡ false }
         requires next { (length seat.old.me.0.words + 1 ≡ word) × (word ≤ 5) }
         ensures own { seat.new.table_id ≡ seat.old.table_id }
-        ensures read { seat.new.me ≡ (found_so_far seat.old.me.0.sequence (seat.old.me.0.words ++ result ∷ []) seat.old.me.0, seat.old.me.1) }
+        ensures read { seat.new.me
+            ≡ (found_so_far seat.old.me.0.sequence (seat.old.me.0.words ++ result ∷ []) seat.old.me.0, seat.old.me.1) }
     {
         self.table.shared.load::<Reads>(seat, word)
     }
@@ -76,7 +78,8 @@ impl Gauges {
         requires rests { seat.old.me.0.halfway ≡ false }
         requires none_yet { seat.old.me.0.words ≡ [] }
         ensures own { seat.new.table_id ≡ seat.old.table_id }
-        ensures read { seat.new.me ≡ (found_so_far seat.old.me.0.sequence (words_of result) seat.old.me.0, seat.old.me.1) }
+        ensures read { seat.new.me
+            ≡ (found_so_far seat.old.me.0.sequence (words_of result) seat.old.me.0, seat.old.me.1) }
     {
         let past = self.read(seat, PAST);
         let waiting = self.read(seat, WAITING);
@@ -95,10 +98,15 @@ impl Gauges {
     // One try to read the words of one publish: none were written while they were read.
     fn try_look(&self, seat: &mut Seat<u8, Watch>) -> Option<Readings>
         requires own { seat.old.table_id ≡ self.now.table.shared.table_id }
-        requires looks { (seat.old.me.0.looks ≡ true) × (seat.old.me.0.writes ≡ false) × (seat.old.me.0.halfway ≡ false) }
+        requires looks { (seat.old.me.0.looks ≡ true) × (seat.old.me.0.writes ≡ false)
+            × (seat.old.me.0.halfway ≡ false) }
         ensures own { seat.new.table_id ≡ seat.old.table_id }
-        ensures some { IfSome result (λ r. (n place : ℕ) × (ws : List ℕ) × (seat.new.me ≡ (looked r place (found_so_far n ws seat.old.me.0), seat.old.me.1)) × All (λ x. x.past ≤ r.past) seat.old.me.0.seen) }
-        ensures none { IfNone result ((n : ℕ) × (ws : List ℕ) × (seat.new.me ≡ (found_so_far n ws seat.old.me.0, seat.old.me.1))) }
+        ensures some { IfSome result
+            (λ r. (n place : ℕ) × (ws : List ℕ)
+            × (seat.new.me ≡ (looked r place (found_so_far n ws seat.old.me.0), seat.old.me.1))
+            × All (λ x. x.past ≤ r.past) seat.old.me.0.seen) }
+        ensures none { IfNone result
+            ((n : ℕ) × (ws : List ℕ) × (seat.new.me ≡ (found_so_far n ws seat.old.me.0, seat.old.me.1))) }
     {
         let before = self.table.shared.load::<Starts>(seat, SEQUENCE);
         if before % 2 == 1 {
@@ -112,9 +120,11 @@ impl Gauges {
     // Gives what is at hand once more.
     fn repeat(&self, seat: &mut Seat<u8, Watch>)
         requires own { seat.old.table_id ≡ self.now.table.shared.table_id }
-        requires looks { (seat.old.me.0.looks ≡ true) × (seat.old.me.0.writes ≡ false) × (seat.old.me.0.halfway ≡ false) }
+        requires looks { (seat.old.me.0.looks ≡ true) × (seat.old.me.0.writes ≡ false)
+            × (seat.old.me.0.halfway ≡ false) }
         ensures own { seat.new.table_id ≡ seat.old.table_id }
-        ensures repeated { seat.new.me ≡ (looked seat.old.me.0.latest seat.old.me.0.place seat.old.me.0, seat.old.me.1) }
+        ensures repeated { seat.new.me
+            ≡ (looked seat.old.me.0.latest seat.old.me.0.place seat.old.me.0, seat.old.me.1) }
         ensures later { All (λ x. x.past ≤ seat.old.me.0.latest.past) seat.old.me.0.seen }
     {
         self.table.shared.load::<Repeats>(seat, SEQUENCE);
@@ -123,10 +133,12 @@ impl Gauges {
     // The present readings, or the last at hand where others were written at each try.
     fn look_from(&self, seat: &mut Seat<u8, Watch>, last: Readings) -> Readings
         requires own { seat.old.table_id ≡ self.now.table.shared.table_id }
-        requires looks { (seat.old.me.0.looks ≡ true) × (seat.old.me.0.writes ≡ false) × (seat.old.me.0.halfway ≡ false) }
+        requires looks { (seat.old.me.0.looks ≡ true) × (seat.old.me.0.writes ≡ false)
+            × (seat.old.me.0.halfway ≡ false) }
         requires last { last ≡ seat.old.me.0.latest }
         ensures own { seat.new.table_id ≡ seat.old.table_id }
-        ensures looked { (n place : ℕ) × (ws : List ℕ) × (seat.new.me ≡ (looked result place (found_so_far n ws seat.old.me.0), seat.old.me.1)) }
+        ensures looked { (n place : ℕ) × (ws : List ℕ)
+            × (seat.new.me ≡ (looked result place (found_so_far n ws seat.old.me.0), seat.old.me.1)) }
         ensures later { All (λ x. x.past ≤ result.past) seat.old.me.0.seen }
     {
         for _ in 0..TRIES {
@@ -167,7 +179,8 @@ impl Gauges {
         requires writes { (seat.old.me.0.writes ≡ true) × (seat.old.me.0.halfway ≡ true) }
         requires next { (length seat.old.me.0.words + 1 ≡ word) × (word ≤ 5) }
         ensures own { seat.new.table_id ≡ seat.old.table_id }
-        ensures written { seat.new.me ≡ (found_so_far seat.old.me.0.sequence (seat.old.me.0.words ++ new ∷ []) seat.old.me.0, seat.old.me.1) }
+        ensures written { seat.new.me
+            ≡ (found_so_far seat.old.me.0.sequence (seat.old.me.0.words ++ new ∷ []) seat.old.me.0, seat.old.me.1) }
     {
         self.table.shared.store::<Writes>(seat, word, new);
     }
@@ -177,7 +190,8 @@ impl Gauges {
         requires writes { (seat.old.me.0.writes ≡ true) × (seat.old.me.0.halfway ≡ true) }
         requires none_yet { seat.old.me.0.words ≡ [] }
         ensures own { seat.new.table_id ≡ seat.old.table_id }
-        ensures written { seat.new.me ≡ (found_so_far seat.old.me.0.sequence (words_of now.now) seat.old.me.0, seat.old.me.1) }
+        ensures written { seat.new.me
+            ≡ (found_so_far seat.old.me.0.sequence (words_of now.now) seat.old.me.0, seat.old.me.1) }
     {
         self.write(seat, PAST, now.past);
         self.write(seat, WAITING, now.waiting);
@@ -189,7 +203,8 @@ impl Gauges {
     // Makes the sequence number even, and gives it. At the highest it stays.
     fn end(&self, seat: &mut Seat<u8, Watch>, sequence: u64, now: &Readings) -> u64
         requires own { seat.old.table_id ≡ self.now.table.shared.table_id }
-        requires writes { (seat.old.me.0.writes ≡ true) × (seat.old.me.0.halfway ≡ true) × (seat.old.me.0.looks ≡ false) }
+        requires writes { (seat.old.me.0.writes ≡ true) × (seat.old.me.0.halfway ≡ true)
+            × (seat.old.me.0.looks ≡ false) }
         requires counted { (sequence ≡ seat.old.me.0.sequence) × (sequence % 2 ≡ 1) }
         requires written { seat.old.me.0.words ≡ words_of now.now }
         requires risen { seat.old.me.0.latest.past ≤ now.now.past }
@@ -212,7 +227,8 @@ impl Gauges {
     ghost use Rattle.seat_sums.specs.Entries.{entries_at};
     ghost use Rattle.gauges.specs.Boards.{told, latest, seen, IsWriterOf, IsReaderOf};
 
-    /// The gauges with the first readings, which count as published, their writer and a pass that has seen nothing. An Err is want of memory.
+    /// The gauges with the first readings, which count as published, their writer and a pass that has seen nothing. An
+    /// Err is want of memory.
     pub fn new(alloc: Global, first: Readings) -> Result<(Gauges, GaugeWriter, GaugePass), NoMemory>
         ensures own { IfOk result (λ r. IsWriterOf r.0 r.1 × IsReaderOf r.0 r.2) }
         ensures told { IfOk result (λ r. (told r.1 ≡ first ∷ []) × (latest r.1 ≡ first)) }
@@ -238,7 +254,8 @@ impl Gauges {
         ))
     }
 
-    /// Readings of one publish, which are no older than what the pass had seen. Where each of 64 tries met a publish, they are those that the pass had last: how fresh they are isn't promised. Takes no memory.
+    /// Readings of one publish, which are no older than what the pass had seen. Where each of 64 tries met a publish,
+    /// they are those that the pass had last: how fresh they are isn't promised. Takes no memory.
     pub fn look(&self, pass: &mut GaugePass) -> Readings
         requires own { IsReaderOf self.now pass.old }
         ensures own { IsReaderOf self.now pass.new }
@@ -249,7 +266,8 @@ impl Gauges {
         pass.last
     }
 
-    /// Publishes the readings, between two steps of the sequence number: a look shows all five or none of them. After 2^63 publishes it only adds to the writer's list. Takes no memory.
+    /// Publishes the readings, between two steps of the sequence number: a look shows all five or none of them. After
+    /// 2^63 publishes it only adds to the writer's list. Takes no memory.
     pub fn publish(&self, writer: &mut GaugeWriter, now: &Readings)
         requires own { IsWriterOf self.now writer.old }
         requires risen { (latest writer.old).past ≤ now.now.past }
@@ -273,7 +291,8 @@ impl Gauges {
         (GaugePass { last, seat }, GaugePass { last, seat: second })
     }
 
-    /// Ends a pass, and so learns that what it saw stands in what was published, at places that never fall from one look to the next. Takes no memory.
+    /// Ends a pass, and so learns that what it saw stands in what was published, at places that never fall from one
+    /// look to the next. Takes no memory.
     pub fn join(&self, writer: &mut GaugeWriter, pass: GaugePass)
         requires own { IsWriterOf self.now writer.old × IsReaderOf self.now pass }
         ensures own { IsWriterOf self.now writer.new }

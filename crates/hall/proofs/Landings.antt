@@ -1,17 +1,15 @@
 -- With a change in flight there is a state in order; and so all that calls keep is kept by each of them.
 use Rattle.std.proofs.Common.{◌≡◌, ℕ, ◌+◌, ◌≤◌, Bool, true, false, cond, List, [], ◌∷◌, ◌++◌, length, refl, sym, ap, ◌∙◌, subst, arith}
-use Rattle.std.specs.Prelude.{◌&&◌, ◌||◌, if◌then◌else◌, nat_le, not, IsTrue, Option, Some, None}
+use Rattle.std.specs.Prelude.{◌&&◌, ◌||◌, if◌then◌else◌, not, IsTrue, Option, Some, None}
 use Rattle.std.specs.List.{AllByRecursion}
 use Rattle.std.proofs.lemmas.Bool.{false≢true}
 use Rattle.std.proofs.lemmas.List.{length-append}
 use Rattle.enq_base.specs.declared.unit.Num.{Num}
 use Rattle.enq_base.specs.declared.unit.Parts.{Parts}
 use Rattle.lock_entry.proofs.Naming.{bytes_eq-same}
-use Rattle.number_ranges.specs.Intervals.{block_level, is_buffered, with_level}
-use Rattle.number_ranges.specs.declared.interval.Interval.{Interval}
-use Rattle.posting.specs.Intervals.{with_intervals}
+use Rattle.number_ranges.specs.Intervals.{is_buffered}
 use Rattle.posting.specs.Posts.{kind_for}
-use Rattle.range_list.specs.Drawn.{handed_out, num_of, stored_as}
+use Rattle.range_list.specs.Drawn.{handed_out, num_of}
 use Rattle.range_list.specs.Levels.{present}
 use Rattle.range_list.specs.declared.range.NumberRange.{NumberRange}
 use Rattle.update_records.specs.Ledger.{Ledger}
@@ -65,11 +63,6 @@ numbers_move y = record { name = refl; user = refl; number = refl; low = omega a
 
 -- ---- the change that a call makes
 
-raised_start : (i : Interval) (upto : ℕ) (ledger : Ledger) → (raised_to i upto ledger).start ≡ ledger.start
-raised_start i upto ledger =
-    let behind : Bool → Ledger = λ b. if b then ledger else with_intervals (stored_as (with_level (block_level i upto) i) ∷ []) ledger in
-    elim (nat_le upto i.level) as (λ b. (behind b).start ≡ ledger.start) [ true ↦ refl | false ↦ refl ]
-
 -- the locks of its open units may stand together, and so may those of each unit
 record IsFair (changed : Ledger) : Type 0 where
   together : StandTogether changed
@@ -80,7 +73,6 @@ same_lands : (n : ℕ) (s : State) (call : Call) (pending : Option Ledger) → H
 same_lands n s call pending h fair = record {
   state = s;
   stored = refl;
-  start = refl;
   ranges = refl;
   next = refl;
   sessions = same_sessions (caller_behind s.failed_caller call) s.sessions;
@@ -91,13 +83,12 @@ same_lands n s call pending h fair = record {
 }
 
 -- a state that the call would have led to, with the same sessions
-other_lands : (n : ℕ) (s t : State) (call : Call) (pending : Option Ledger) → t.stored.start ≡ s.stored.start → t.ranges ≡ s.ranges
+other_lands : (n : ℕ) (s t : State) (call : Call) (pending : Option Ledger) → t.ranges ≡ s.ranges
     → t.next_session ≡ s.next_session → t.sessions ≡ s.sessions → Holds n t → IsFair t.stored
     → HasLanding (doubted s call None pending) t.stored
-other_lands n s t call pending start ranges next sessions h fair = record {
+other_lands n s t call pending ranges next sessions h fair = record {
   state = t;
   stored = refl;
-  start = start;
   ranges = ranges;
   next = next;
   sessions = subst (AreSameButCaller (caller_behind s.failed_caller call) s.sessions) (sym sessions)
@@ -109,13 +100,12 @@ other_lands n s t call pending start ranges next sessions h fair = record {
 }
 
 -- one with another session that calls, and with memory behind a stock
-commit_lands : (n : ℕ) (s t : State) (name : List ℕ) (parts : Parts) (stock : List Num) (pending : Option Ledger) → t.stored.start ≡ s.stored.start
+commit_lands : (n : ℕ) (s t : State) (name : List ℕ) (parts : Parts) (stock : List Num) (pending : Option Ledger)
     → t.ranges ≡ (stocked stock s).ranges → t.next_session ≡ s.next_session → AreSameButCaller (Some name) s.sessions t.sessions
     → Holds n t → IsFair t.stored → HasLanding (doubted (stocked stock s) (OfSession name (Commits parts stock)) None pending) t.stored
-commit_lands n s t name parts stock pending start ranges next sessions h fair = record {
+commit_lands n s t name parts stock pending ranges next sessions h fair = record {
   state = t;
   stored = refl;
-  start = start;
   ranges = ranges;
   next = next;
   sessions = sessions;
@@ -137,7 +127,7 @@ drawn_lands n s x object nr call r pending can unread h =
     let behind : Bool → Ledger = λ b. (if b then record t { ranges = handed_out i t.ranges; stored = raised_to i number t.stored } else t).stored in
     elim (is_buffered i) as (λ b. is_buffered r.interval ≡ b → IsFair (behind b) → HasLanding (doubted s call None pending) (behind b)) [
       | true ↦ λ is fair.
-          other_lands (n + 1) s (record s { stored = raised_to i number s.stored }) call pending (raised_start i number s.stored) refl refl refl
+          other_lands (n + 1) s (record s { stored = raised_to i number s.stored }) call pending refl refl refl
           (raises-holds n s object nr number r can.range is can.within unread h) fair
       | false ↦ λ is fair. same_lands n s call pending h fair
     ] refl
@@ -158,7 +148,6 @@ anew_doubted : (s : State) (pending : Option Ledger) (changed : Ledger) → HasL
 anew_doubted s pending changed h = record {
   state = h.state;
   stored = h.stored;
-  start = h.start;
   ranges = h.ranges;
   next = h.next;
   sessions = h.sessions;
@@ -185,22 +174,22 @@ landings n found s sound anew unread h =
       reserves = λ name x object nr upto r at can may is fair pending.
           let i = present s.stored.levels r.interval in
           other_lands (n + 1) s (record s { stored = raised_to i upto s.stored }) (OfSession name (Reserves object nr upto)) pending
-          (raised_start i upto s.stored) refl refl refl (each.reserves name x object nr upto r at can may) fair;
+          refl refl refl (each.reserves name x object nr upto r at can may) fair;
       reads = λ name x table key at may is fair pending. same_lands n s (OfSession name (Reads table key)) pending h fair;
       commits_nothing = λ name x parts stock at may is fair pending.
-          commit_lands n s (stocked stock s) name parts stock pending refl refl refl (same_sessions (Some name) s.sessions)
+          commit_lands n s (stocked stock s) name parts stock pending refl refl (same_sessions (Some name) s.sessions)
           (stocked-holds n s stock may h) fair;
       commits_numbers = λ name x parts stock at may is fair pending.
-          commit_lands (n + 1) s (stocked stock (numbered s x (x.draws ++ stock))) name parts stock pending refl refl refl
+          commit_lands (n + 1) s (stocked stock (numbered s x (x.draws ++ stock))) name parts stock pending refl refl
           (changed_caller s name x without_draws numbers_move at) (each.commits_numbers name x parts stock at may) fair;
       commits = λ name x parts stock at may is fair pending.
-          commit_lands (n + 1) s (stocked stock (committed s x parts (x.draws ++ stock))) name parts stock pending refl refl refl
+          commit_lands (n + 1) s (stocked stock (committed s x parts (x.draws ++ stock))) name parts stock pending refl refl
           (changed_caller s name x with_next_unit next_moves at) (each.commits name x parts stock at may) fair;
       rolls_back = λ name x at may is fair pending. same_lands n s (OfSession name RollsBack) pending h fair;
       takes = λ worker part unit free e may is fair pending. same_lands n s (OfWorker worker (Takes part)) pending h fair;
       posts = λ worker part unit e may is fair pending.
           other_lands (n + 1) s (marked part s worker unit (kind_for part (found.part part unit))) (OfWorker worker (Posts part)) pending
-          refl refl refl refl (each.posts worker part unit e may) fair;
+          refl refl refl (each.posts worker part unit e may) fair;
       drops = λ worker unit e may is fair pending. same_lands n s (OfWorker worker Drops) pending h fair;
       kills = λ up may is fair pending. same_lands n s (OfAdmin Kills) pending h fair;
       fails_over = λ list can may is fair pending. same_lands n s (OfAdmin FailsOver) pending h fair;
@@ -208,11 +197,11 @@ landings n found s sound anew unread h =
       attaches = λ up may is fair pending. same_lands n s (OfAdmin Attaches) pending h fair;
       restarts = λ off may is fair pending. anew_doubted s pending (stored_anew (is_taken found.anew) s.stored s.pending) anew;
       cancels = λ unit status can may is fair pending.
-          other_lands (n + 1) s (cancelled s unit status) (OfAdmin (Cancels unit)) pending refl refl refl refl (each.cancels unit status can may) fair;
+          other_lands (n + 1) s (cancelled s unit status) (OfAdmin (Cancels unit)) pending refl refl refl (each.cancels unit status can may) fair;
       reopens = λ unit es here stand may is fair pending.
-          other_lands (n + 1) s (reopened s unit es) (OfAdmin (Resubmits unit)) pending refl refl refl refl (each.reopens unit es here stand may) fair;
+          other_lands (n + 1) s (reopened s unit es) (OfAdmin (Resubmits unit)) pending refl refl refl (each.reopens unit es here stand may) fair;
       reposts = λ unit here may is fair pending.
-          other_lands (n + 1) s (reposted s unit) (OfAdmin (Resubmits unit)) pending refl refl refl refl (each.reposts unit here may) fair;
+          other_lands (n + 1) s (reposted s unit) (OfAdmin (Resubmits unit)) pending refl refl refl (each.reposts unit here may) fair;
     }
 
 -- nothing is in flight
@@ -244,7 +233,6 @@ reland : (s : State) (read : Option Bool) (changed : Ledger) → HasLanding s ch
 reland s read changed h = record {
   state = h.state;
   stored = h.stored;
-  start = h.start;
   ranges = h.ranges;
   next = h.next;
   sessions = h.sessions;
@@ -263,7 +251,6 @@ relink : (s : State) (follows : Bool) (changed : Ledger) → HasLanding s change
 relink s follows changed h = record {
   state = h.state;
   stored = h.stored;
-  start = h.start;
   ranges = h.ranges;
   next = h.next;
   sessions = h.sessions;
@@ -356,7 +343,6 @@ past_lands : (s : State) (past : List PastEntry) (changed : Ledger) → HasLandi
 past_lands s past changed h = record {
   state = h.state;
   stored = h.stored;
-  start = h.start;
   ranges = h.ranges;
   next = h.next;
   sessions = h.sessions;

@@ -205,7 +205,6 @@ own_landing : (s : State) → AllByRecursion HasGoodLocks s.stored.units → IsS
 own_landing s good steady units = record {
   state = s;
   stored = refl;
-  start = refl;
   ranges = refl;
   next = refl;
   sessions = same_sessions s.failed_caller s.sessions;

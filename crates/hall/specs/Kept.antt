@@ -216,7 +216,6 @@ AreSameButCaller caller xs ys = ⊥
 pub record HasLanding (s : State) (changed : Ledger) : Type 0 where
   pub state : State
   pub stored : state.stored ≡ changed
-  pub start : changed.start ≡ s.stored.start
   pub ranges : state.ranges ≡ s.ranges
   pub next : state.next_session ≡ s.next_session
   pub sessions : AreSameButCaller s.failed_caller s.sessions state.sessions

@@ -8,8 +8,8 @@ use crate::command::Command;
 use crate::sessions::Sessions;
 use enq_base::{Condition, Name, Refusal};
 
-/// Why the caller may not call: its session isn't logged on, or has lost a lock with a lock server and may only roll back or
-/// log off.
+/// Why the caller may not call: its session isn't logged on, or has lost a lock with a lock server and may only roll
+/// back or log off.
 pub(crate) fn caller_refusal(sessions: &Sessions, command: &Command) -> Option<Refusal>
     ensures { result ≡ caller_refusal sessions.now (call_of command.now) }
 {
@@ -41,7 +41,8 @@ pub(crate) fn caller_refusal(sessions: &Sessions, command: &Command) -> Option<R
 }
 
 fn session_refusal(sessions: &Sessions, name: &Name, ends_unit: bool) -> Option<Refusal>
-    ensures { (call : SessionCall) → calls.ends_unit call ≡ ends_unit → result ≡ session_refusal call (session_at sessions.now name.now) }
+    ensures { (call : SessionCall) → calls.ends_unit call ≡ ends_unit
+        → result ≡ session_refusal call (session_at sessions.now name.now) }
 {
     match sessions.find(name) {
         None => Some(Refusal::UnknownSession),
@@ -70,8 +71,8 @@ pub(crate) fn server_refusal(condition: Condition, command: &Command) -> Option<
     }
 }
 
-/// Whether a call wants a lock server: all but those for numbers and rows, of workers the posts of V1 parts, and all of the
-/// administrator but the restart.
+/// Whether a call wants a lock server: all but those for numbers and rows, of workers the posts of V1 parts, and all of
+/// the administrator but the restart.
 fn wants_server(command: &Command) -> bool
     ensures { result ≡ wants_server (call_of command.now) }
 {

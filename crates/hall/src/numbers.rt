@@ -56,15 +56,18 @@ pub(crate) fn draw<K: Keeper>(
 ) -> Written
     requires usable { IsUsable K.held K.is_open books.old }
     requires started { 1 ≤ books.old.ledger.start }
-    requires drawn { AreDrawnRight ranges.old books.old.ledger.levels (draws_in sessions.old) (numbers_of books.old.ledger.units books.old.ledger.marks) }
-    ensures act { (s : State) → s.sessions ≡ sessions.old → s.ranges ≡ ranges.old → s.stored ≡ books.old.ledger → Admits s (command.Number name.now object.now nr)
+    requires drawn { AreDrawnRight ranges.old books.old.ledger.levels (draws_in sessions.old)
+        (numbers_of books.old.ledger.units books.old.ledger.marks) }
+    ensures act { (s : State) → s.sessions ≡ sessions.old → s.ranges ≡ ranges.old → s.stored ≡ books.old.ledger
+        → Admits s (command.Number name.now object.now nr)
         → IsWritten s (command.Number name.now object.now nr)
         (record s { sessions = sessions.new; ranges = ranges.new; stored = books.new.ledger })
         result }
     ensures sessions { OnFailure result (sessions.new ≡ sessions.old) }
     ensures ranges { OnFailure result (ranges.new ≡ ranges.old) }
     ensures levels { ChangesLevels books.old.ledger books.new.ledger result }
-    ensures keeper { (s : State) → s.ranges ≡ ranges.old → s.stored ≡ books.old.ledger → raises_level s (Draws object.now nr) ≡ false → books.new.keeper ≡ books.old.keeper }
+    ensures keeper { (s : State) → s.ranges ≡ ranges.old → s.stored ≡ books.old.ledger
+        → raises_level s (Draws object.now nr) ≡ false → books.new.keeper ≡ books.old.keeper }
     ensures store { EndsAs K.held K.is_open K.may_leave K.faults books.old books.new result }
 {
     let draw = match to_draw(alloc, sessions, ranges, books, name, object, nr) {
@@ -98,11 +101,14 @@ pub(crate) fn reserve<K: Keeper>(
 ) -> Written
     requires usable { IsUsable K.held K.is_open books.old }
     requires started { 1 ≤ books.old.ledger.start }
-    requires drawn { AreDrawnRight ranges.now books.old.ledger.levels (draws_in sessions.now) (numbers_of books.old.ledger.units books.old.ledger.marks) }
-    ensures act { (s : State) → s.sessions ≡ sessions.now → s.ranges ≡ ranges.now → s.stored ≡ books.old.ledger → Admits s (command.Reserve name.now object.now nr upto)
+    requires drawn { AreDrawnRight ranges.now books.old.ledger.levels (draws_in sessions.now)
+        (numbers_of books.old.ledger.units books.old.ledger.marks) }
+    ensures act { (s : State) → s.sessions ≡ sessions.now → s.ranges ≡ ranges.now → s.stored ≡ books.old.ledger
+        → Admits s (command.Reserve name.now object.now nr upto)
         → IsWritten s (command.Reserve name.now object.now nr upto) (record s { stored = books.new.ledger }) result }
     ensures levels { ChangesLevels books.old.ledger books.new.ledger result }
-    ensures keeper { (s : State) → s.ranges ≡ ranges.now → s.stored ≡ books.old.ledger → raises_level s (Reserves object.now nr upto) ≡ false → books.new.keeper ≡ books.old.keeper }
+    ensures keeper { (s : State) → s.ranges ≡ ranges.now → s.stored ≡ books.old.ledger
+        → raises_level s (Reserves object.now nr upto) ≡ false → books.new.keeper ≡ books.old.keeper }
     ensures store { EndsAs K.held K.is_open K.may_leave K.faults books.old books.new result }
 {
     let (interval, level) = match to_reserve(sessions, ranges, books, name, object, nr, upto) {
@@ -126,10 +132,12 @@ fn raise<K: Keeper>(
     requires started { 1 ≤ books.old.ledger.start }
     requires store { MayStore books.old.ledger (stored_as (with_level level interval.now) ∷ []) [] }
     ensures ledger { OnOk result (books.new.ledger ≡ raised_by interval.now level books.old.ledger) }
-    ensures done { OnOk result (EndsAs K.held K.is_open K.may_leave K.faults books.old books.new (Answered Reply.Done)) }
+    ensures done { OnOk result
+        (EndsAs K.held K.is_open K.may_leave K.faults books.old books.new (Answered Reply.Done)) }
     ensures fault { IfErr result (IsRaiseFault interval.now level) }
     ensures kept { OnErr result (books.new.ledger ≡ books.old.ledger) }
-    ensures levels { MatchResult result (λ done. KeepsUnits books.old.ledger books.new.ledger) (ChangesLevels books.old.ledger books.new.ledger) }
+    ensures levels { MatchResult result
+        (λ done. KeepsUnits books.old.ledger books.new.ledger) (ChangesLevels books.old.ledger books.new.ledger) }
     ensures failed { IfErr result (EndsAs K.held K.is_open K.may_leave K.faults books.old books.new) }
     ensures still { level ≡ interval.now.level → books.new.keeper ≡ books.old.keeper }
 {
@@ -168,9 +176,14 @@ fn to_draw<K: Keeper>(
     object: &Name,
     nr: [u8; 2],
 ) -> Result<NextDraw, Refusal>
-    requires drawn { AreDrawnRight ranges.now books.now.ledger.levels (draws_in sessions.now) (numbers_of books.now.ledger.units books.now.ledger.marks) }
-    ensures draw { IfOk result (λ d. IsNextDraw sessions.now ranges.now books.now.ledger.levels name.now object.now nr d.interval d.number d.level d.draws.items) }
-    ensures refused { IfErr result (λ r. (s : State) → s.sessions ≡ sessions.now → s.ranges ≡ ranges.now → s.stored ≡ books.now.ledger → Admits s (command.Number name.now object.now nr)
+    requires drawn { AreDrawnRight ranges.now books.now.ledger.levels (draws_in sessions.now)
+        (numbers_of books.now.ledger.units books.now.ledger.marks) }
+    ensures draw { IfOk result
+        (λ d. IsNextDraw sessions.now ranges.now books.now.ledger.levels name.now object.now nr d.interval d.number
+        d.level d.draws.items) }
+    ensures refused { IfErr result
+        (λ r. (s : State) → s.sessions ≡ sessions.now → s.ranges ≡ ranges.now → s.stored ≡ books.now.ledger
+        → Admits s (command.Number name.now object.now nr)
         → IsAct s (command.Number name.now object.now nr) s (Reply.Refused r)) }
     ensures quiet { IfErr result (λ r. (n : ℕ) → HasStoreCause n n (Reply.Refused r)) }
 {
@@ -205,7 +218,8 @@ fn to_draw<K: Keeper>(
     })
 }
 
-/// The interval whose numbers up to this one a session may reserve with the level that reserves them, or why it may not.
+/// The interval whose numbers up to this one a session may reserve with the level that reserves them, or why it may
+/// not.
 fn to_reserve<K: Keeper>(
     sessions: &Sessions,
     ranges: &Ranges,
@@ -215,9 +229,13 @@ fn to_reserve<K: Keeper>(
     nr: [u8; 2],
     upto: u64,
 ) -> Result<(Interval, u64), Refusal>
-    requires drawn { AreDrawnRight ranges.now books.now.ledger.levels (draws_in sessions.now) (numbers_of books.now.ledger.units books.now.ledger.marks) }
-    ensures interval { IfOk result (λ f. IsNextReserve sessions.now ranges.now books.now.ledger.levels name.now object.now nr upto f.0 f.1) }
-    ensures refused { IfErr result (λ r. (s : State) → s.sessions ≡ sessions.now → s.ranges ≡ ranges.now → s.stored ≡ books.now.ledger → Admits s (command.Reserve name.now object.now nr upto)
+    requires drawn { AreDrawnRight ranges.now books.now.ledger.levels (draws_in sessions.now)
+        (numbers_of books.now.ledger.units books.now.ledger.marks) }
+    ensures interval { IfOk result
+        (λ f. IsNextReserve sessions.now ranges.now books.now.ledger.levels name.now object.now nr upto f.0 f.1) }
+    ensures refused { IfErr result
+        (λ r. (s : State) → s.sessions ≡ sessions.now → s.ranges ≡ ranges.now → s.stored ≡ books.now.ledger
+        → Admits s (command.Reserve name.now object.now nr upto)
         → IsAct s (command.Reserve name.now object.now nr upto) s (Reply.Refused r)) }
     ensures quiet { IfErr result (λ r. (n : ℕ) → HasStoreCause n n (Reply.Refused r)) }
 {
@@ -293,8 +311,8 @@ fn draws_with(alloc: Global, session: &Session, num: Num) -> Result<Vec<Num>, No
     Ok(draws)
 }
 
-/// The rows of the intervals without a buffer of which there are numbers, their levels at the last of them, in the order
-/// of the landscape. Only the intervals of the numbers are looked at.
+/// The rows of the intervals without a buffer of which there are numbers, their levels at the last of them, in the
+/// order of the landscape. Only the intervals of the numbers are looked at.
 pub(crate) fn settled_rows<K: Keeper>(
     alloc: Global,
     ranges: &Ranges,
@@ -302,7 +320,8 @@ pub(crate) fn settled_rows<K: Keeper>(
     numbers: &[Num],
 ) -> Result<Vec<StoredInterval>, NoMemory>
     requires fit { (r : NumberRange) → Contains ranges.now r → is_buffered r.interval ≡ false
-        → level_in books.now.ledger.levels r.interval + drawn_of (present books.now.ledger.levels r.interval) numbers.now ≤ r.interval.to }
+        → level_in books.now.ledger.levels r.interval + drawn_of (present books.now.ledger.levels r.interval)
+        numbers.now ≤ r.interval.to }
     ensures { IfOk result (λ rows. rows.items ≡ settled_rows books.now.ledger.levels ranges.now numbers.now) }
 {
     let mut rows = Vec::new(alloc);

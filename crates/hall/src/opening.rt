@@ -33,7 +33,8 @@ pub enum HallFault {
     /// The store's start number is the last that there is.
     NoStart,
     /// The stored interval in this row of the intervals, counted from 1 in the order of their keys, isn't one of the
-    /// landscape: no interval has its name, or it has another first number or another buffering, or a level past the end.
+    /// landscape: no interval has its name, or it has another first number or another buffering, or a level past the
+    /// end.
     Interval { row: u64 },
     NoMemory,
 }
@@ -80,16 +81,17 @@ pub(crate) fn fault_of(fault: BooksFault) -> HallFault
 
 /// Why the levels of the store weren't taken over.
 pub(crate) fn ranges_fault_of(fault: LevelFault) -> HallFault
-    ensures { (intervals : List Interval) (levels : Levels) → IsLevelFault intervals (in_row_order levels) fault → IsRangesFault intervals levels result }
+    ensures { (intervals : List Interval) (levels : Levels) → IsLevelFault intervals (in_row_order levels) fault
+        → IsRangesFault intervals levels result }
 {
     match fault {
         LevelFault::Unfit { row } => HallFault::Interval { row },
     }
 }
 
-/// The lock server of a start, which takes the locks of these units over from the backup file: they are the first locks, and
-/// lists of other units go. At most `max_locks` locks may come to stand, or as many as were taken over. An error gives disk
-/// and link back.
+/// The lock server of a start, which takes the locks of these units over from the backup file: they are the first
+/// locks, and lists of other units go. At most `max_locks` locks may come to stand, or as many as were taken over. An
+/// error gives disk and link back.
 pub(crate) fn first_locks<T: LockStore, D: Disk, L: Link>(
     alloc: Global,
     max_locks: u32,
@@ -107,7 +109,8 @@ pub(crate) fn first_locks<T: LockStore, D: Disk, L: Link>(
     ensures counts { IfOk result (λ locks. D.faults locks.file.disk ≡ D.faults disk) }
     ensures fault { IfErr result (λ e. IsFileFault D.tells (D.reads disk) units.now e.0) }
     // What is left of the file then.
-    ensures images { IsTrue D.tells → IfErr result (λ e. LeavesFile units.now e.0 (D.may_leave disk) (D.may_leave e.1)) }
+    ensures images { IsTrue D.tells
+        → IfErr result (λ e. LeavesFile units.now e.0 (D.may_leave disk) (D.may_leave e.1)) }
     ensures cause { IfErr result (λ e. CountsFileFault e.0 (D.faults disk) (D.faults e.1)) }
 {
     match EnqServer::open(alloc, disk, link, max_locks, units) {

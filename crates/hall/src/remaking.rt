@@ -39,8 +39,8 @@ pub(crate) enum Remade {
     Done(bool),
     /// Nothing was done, for this reason. No device was called.
     Refused(Refusal),
-    /// A device failed; or behind its first call memory was wanting, or what it has isn't good. With what was read of the
-    /// change in flight, if the store was read.
+    /// A device failed; or behind its first call memory was wanting, or what it has isn't good. With what was read of
+    /// the change in flight, if the store was read.
     InDoubt(Refusal, Option<bool>),
 }
 
@@ -52,8 +52,8 @@ struct Waiting {
 }
 
 /// Makes the lock server anew, with the locks of the units that wait for their V1 part. In doubt the store is read anew
-/// first, and tells what became of the change in flight. The sessions lose what they had of the table before, one in whose
-/// call a device failed too, and no order stands.
+/// first, and tells what became of the change in flight. The sessions lose what they had of the table before, one in
+/// whose call a device failed too, and no order stands.
 pub(crate) fn remake<T: LockStore, K: Keeper, D: Disk, L: Link>(
     alloc: Global,
     condition: Condition,
@@ -70,10 +70,13 @@ pub(crate) fn remake<T: LockStore, K: Keeper, D: Disk, L: Link>(
     requires unknown { OutsideDoubt condition (failure.now.found ≡ None) }
     requires settled { OutsideDoubt condition (failure.now.pending ≡ None) }
     requires known { IsKnownRight failure.now.found books.old.ledger (flight_over books.old.ledger failure.now) }
-    requires left { LeavesKnown K.held K.may_leave books.old.keeper failure.now.found books.old.ledger (flight_over books.old.ledger failure.now) }
-    requires lists { AllRecover D.tells D.may_leave condition books.old.ledger (flight_over books.old.ledger failure.now) failure.now.found locks.old.file }
+    requires left { LeavesKnown K.held K.may_leave books.old.keeper failure.now.found books.old.ledger
+        (flight_over books.old.ledger failure.now) }
+    requires lists { AllRecover D.tells D.may_leave condition books.old.ledger
+        (flight_over books.old.ledger failure.now) failure.now.found locks.old.file }
     ensures act { (s : State) → s.condition ≡ condition → s.sessions ≡ sessions.old → s.stored ≡ books.old.ledger
-        → s.pending ≡ flight_over books.old.ledger failure.now → s.found ≡ failure.now.found → s.failed_caller ≡ failure.now.caller
+        → s.pending ≡ flight_over books.old.ledger failure.now → s.found ≡ failure.now.found
+        → s.failed_caller ≡ failure.now.caller
         → s.max_locks ≡ max_locks → s.gone ≡ gone_in condition locks.old.table.entries → Admits s command.Restart
         → IsTelling s command.Restart (remade_taken result)
         (remade_state s sessions.new orders.new.items locks.new.table books.new.ledger result) (remade_reply result) }
@@ -83,9 +86,12 @@ pub(crate) fn remake<T: LockStore, K: Keeper, D: Disk, L: Link>(
     ensures ledger { OnNotRemade result (books.new.ledger ≡ books.old.ledger) }
     ensures usable { OnRemade result (IsUsable K.held K.is_open books.new) }
     ensures apart { OnRefusedFirst result (books.new ≡ books.old) }
-    ensures store { DoesStore K.held K.may_leave K.faults true (is_doubt condition) books.old.keeper books.new.keeper (remade_reply result) }
-    ensures left { LeavesRemade K.held K.may_leave books.new.keeper books.old.ledger books.new.ledger failure.now result }
-    ensures file { IsLeftReady D.tells D.reads D.may_leave books.old.ledger books.new.ledger failure.now locks.old.file locks.new.file result }
+    ensures store { DoesStore K.held K.may_leave K.faults true (is_doubt condition) books.old.keeper books.new.keeper
+        (remade_reply result) }
+    ensures left { LeavesRemade K.held K.may_leave books.new.keeper books.old.ledger books.new.ledger failure.now
+        result }
+    ensures file { IsLeftReady D.tells D.reads D.may_leave books.old.ledger books.new.ledger failure.now locks.old.file
+        locks.new.file result }
     ensures cause { HasFileCause (D.faults locks.old.file.disk) (D.faults locks.new.file.disk) (remade_reply result) }
     ensures follower { IsLater L.applied L.faults L.refusals locks.old.copy locks.new.copy }
     ensures detached { OnRemade result (locks.new.copy.attached ≡ false) }
@@ -125,14 +131,18 @@ fn read_waiting<K: Keeper>(
     failure: &Failure,
 ) -> Result<Waiting, Remade>
     requires known { IsKnownRight failure.now.found books.old.ledger (flight_over books.old.ledger failure.now) }
-    requires left { LeavesKnown K.held K.may_leave books.old.keeper failure.now.found books.old.ledger (flight_over books.old.ledger failure.now) }
+    requires left { LeavesKnown K.held K.may_leave books.old.keeper failure.now.found books.old.ledger
+        (flight_over books.old.ledger failure.now) }
     ensures units { IfOk result (λ w. w.units.items ≡ open_locks (ledger_read books.old.ledger w.reread)) }
     ensures read { IfOk result (λ w. IsReadAs condition books.old.ledger failure.now w.reread) }
     ensures usable { IfOk result (λ w. IsUsableAs K.held K.is_open books.new w.reread) }
     ensures counts { OnOk result (K.faults books.new.keeper ≡ K.faults books.old.keeper) }
-    ensures left { IfOk result (λ w. LeavesKnown K.held K.may_leave books.new.keeper (known_behind failure.now.found (taken_in w.reread)) books.old.ledger (flight_over books.old.ledger failure.now)) }
+    ensures left { IfOk result
+        (λ w. LeavesKnown K.held K.may_leave books.new.keeper (known_behind failure.now.found (taken_in w.reread))
+        books.old.ledger (flight_over books.old.ledger failure.now)) }
     ensures unread { IfErr result (IsUnread K.held K.may_leave K.faults condition failure.now books.old books.new) }
-    ensures good_store { is_some (K.held books.old.keeper) ≡ true → IfErr result (λ remade. is_unsound_store (remade_reply remade) ≡ false) }
+    ensures good_store { is_some (K.held books.old.keeper) ≡ true
+        → IfErr result (λ remade. is_unsound_store (remade_reply remade) ≡ false) }
     ensures ledger { books.new.ledger ≡ books.old.ledger }
     ensures apart { is_doubt condition ≡ false → books.new ≡ books.old }
     ensures told { is_some (K.held books.new.keeper) ≡ is_some (K.held books.old.keeper) }
@@ -157,14 +167,19 @@ fn reread<K: Keeper>(
     failure: &Failure,
 ) -> Result<Waiting, Remade>
     requires known { IsKnownRight failure.now.found books.old.ledger (flight_over books.old.ledger failure.now) }
-    requires left { LeavesKnown K.held K.may_leave books.old.keeper failure.now.found books.old.ledger (flight_over books.old.ledger failure.now) }
+    requires left { LeavesKnown K.held K.may_leave books.old.keeper failure.now.found books.old.ledger
+        (flight_over books.old.ledger failure.now) }
     ensures units { IfOk result (λ w. w.units.items ≡ open_locks (ledger_read books.old.ledger w.reread)) }
     ensures read { IfOk result (λ w. IsSomeAnd w.reread (IsFoundRight books.old.ledger failure.now)) }
     ensures usable { IfOk result (λ w. IsUsableAs K.held K.is_open books.new w.reread) }
     ensures counts { OnOk result (K.faults books.new.keeper ≡ K.faults books.old.keeper) }
-    ensures left { IfOk result (λ w. LeavesKnown K.held K.may_leave books.new.keeper (known_behind failure.now.found (taken_in w.reread)) books.old.ledger (flight_over books.old.ledger failure.now)) }
-    ensures unread { IfErr result (λ remade. IsUnreadInDoubt K.held K.may_leave K.faults failure.now books.old books.new remade) }
-    ensures good_store { is_some (K.held books.old.keeper) ≡ true → IfErr result (λ remade. is_unsound_store (remade_reply remade) ≡ false) }
+    ensures left { IfOk result
+        (λ w. LeavesKnown K.held K.may_leave books.new.keeper (known_behind failure.now.found (taken_in w.reread))
+        books.old.ledger (flight_over books.old.ledger failure.now)) }
+    ensures unread { IfErr result
+        (λ remade. IsUnreadInDoubt K.held K.may_leave K.faults failure.now books.old books.new remade) }
+    ensures good_store { is_some (K.held books.old.keeper) ≡ true
+        → IfErr result (λ remade. is_unsound_store (remade_reply remade) ≡ false) }
     ensures ledger { books.new.ledger ≡ books.old.ledger }
     ensures told { is_some (K.held books.new.keeper) ≡ is_some (K.held books.old.keeper) }
     ensures within { IsWithin (K.may_leave books.new.keeper) (K.may_leave books.old.keeper) }

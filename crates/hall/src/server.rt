@@ -78,7 +78,9 @@ impl<T: LockStore, K: Keeper, D: Disk, L: Link> Model for Server<T, K, D, L> {
     ghost use Rattle.hall.specs.Remaking.{flight_over};
 
     ghost view = { λ h. record {
-      state = state_of (is_some (K.held h.books.keeper)) (is_some (L.applied h.locks.copy.link)) h.locks.copy.attached h.condition h.sessions h.next_session h.orders.items h.locks.table h.max_locks h.max_marks h.ranges h.books.ledger
+      state = state_of (is_some (K.held h.books.keeper)) (is_some (L.applied h.locks.copy.link)) h.locks.copy.attached
+          h.condition h.sessions h.next_session h.orders.items h.locks.table h.max_locks h.max_marks h.ranges
+          h.books.ledger
           (flight_over h.books.ledger h.failure) h.failure.found h.failure.caller [];
       keeper = h.books.keeper;
       file = h.locks.file;
@@ -86,9 +88,16 @@ impl<T: LockStore, K: Keeper, D: Disk, L: Link> Model for Server<T, K, D, L> {
     } };
 
     ghost invariant = { λ h.
-        let s = state_of (is_some (K.held h.books.keeper)) (is_some (L.applied h.locks.copy.link)) h.locks.copy.attached h.condition h.sessions h.next_session h.orders.items h.locks.table h.max_locks h.max_marks h.ranges h.books.ledger
+        let s = state_of (is_some (K.held h.books.keeper)) (is_some (L.applied h.locks.copy.link)) h.locks.copy.attached
+        h.condition h.sessions h.next_session h.orders.items h.locks.table h.max_locks h.max_marks h.ranges
+        h.books.ledger
         (flight_over h.books.ledger h.failure) h.failure.found h.failure.caller [] in
-        let v : View K D L = record { state = s; keeper = h.books.keeper; file = h.locks.file; follower = h.locks.copy } in
+        let v : View K D L = record {
+          state = s;
+          keeper = h.books.keeper;
+          file = h.locks.file;
+          follower = h.locks.copy;
+        } in
         OutsideDoubt h.condition (IsUsable K.held K.is_open h.books)
         × LeavesState K.held K.may_leave v
         × OutsideDoubt h.condition (HasOpenLists D.tells D.reads D.may_leave h.books.ledger h.locks.file)
@@ -112,7 +121,8 @@ impl<T: LockStore, K: Keeper, D: Disk, L: Link> Server<T, K, D, L> {
         requires detached { locks.copy.attached ≡ false }
         requires orders { orders.items ≡ replicate 256 None }
         requires levels { ranges ≡ first_ranges books.ledger.levels (intervals_of ranges) }
-        ensures state { result.state ≡ opened max_locks max_marks (intervals_of ranges) (is_some (K.held books.keeper)) (is_some (L.applied locks.copy.link)) books.ledger }
+        ensures state { result.state ≡ opened max_locks max_marks (intervals_of ranges) (is_some (K.held books.keeper))
+            (is_some (L.applied locks.copy.link)) books.ledger }
         ensures keeper { result.keeper ≡ books.keeper }
         ensures file { result.file ≡ locks.file }
         ensures follower { result.follower ≡ locks.copy }
@@ -151,8 +161,8 @@ impl<T: LockStore, K: Keeper, D: Disk, L: Link> Server<T, K, D, L> {
         }
     }
 
-    /// What stands now, as the history keeps it of the last call, which as a restart that was done has found the change in
-    /// flight in the store, or hasn't.
+    /// What stands now, as the history keeps it of the last call, which as a restart that was done has found the change
+    /// in flight in the store, or hasn't.
     pub(crate) fn after(&self, taken: bool) -> After
         ensures { result ≡ after_of taken self.now.state }
     {
@@ -229,8 +239,8 @@ impl<T: LockStore, K: Keeper, D: Disk, L: Link> Server<T, K, D, L> {
         (self.books.into_keeper(), disk, link)
     }
 
-    /// Tells what holds of every server: what a stop may leave in the store and in the backup file stands for the state, which
-    /// has whether the link tells its list.
+    /// Tells what holds of every server: what a stop may leave in the store and in the backup file stands for the
+    /// state, which has whether the link tells its list.
     pub(crate) fn read_invariant(&self)
         ensures left { LeavesState K.held K.may_leave self.now }
         ensures lists { LeavesLists D.tells D.may_leave self.now }
@@ -272,23 +282,31 @@ impl<T: LockStore, K: Keeper, D: Disk, L: Link> Server<T, K, D, L> {
     ) -> Answer
         requires kept { IsKept (with_calls self.old.state past.now.items) }
         requires call { MayCall self.old.state (call_of command.now) }
-        ensures call { IsTelling (with_calls self.old.state past.now.items) command.now result.taken (with_calls self.new.state past.now.items) result.reply }
+        ensures call { IsTelling (with_calls self.old.state past.now.items) command.now result.taken
+            (with_calls self.new.state past.now.items) result.reply }
         ensures told { is_some (K.held self.new.keeper) ≡ is_some (K.held self.old.keeper) }
         ensures store_cause { HasStoreCause (K.faults self.old.keeper) (K.faults self.new.keeper) result.reply }
-        ensures store { restarts (call_of command.now) ≡ false → KeepsStore K.held K.may_leave self.old.keeper self.new.keeper result.reply }
-        ensures reread { restarts (call_of command.now) ≡ true → IsWithin (K.may_leave self.new.keeper) (K.may_leave self.old.keeper) }
-        ensures keeper { reaches_store self.old.state (call_of command.now) ≡ false → self.new.keeper ≡ self.old.keeper }
+        ensures store { restarts (call_of command.now) ≡ false
+            → KeepsStore K.held K.may_leave self.old.keeper self.new.keeper result.reply }
+        ensures reread { restarts (call_of command.now) ≡ true
+            → IsWithin (K.may_leave self.new.keeper) (K.may_leave self.old.keeper) }
+        ensures keeper { reaches_store self.old.state (call_of command.now) ≡ false
+            → self.new.keeper ≡ self.old.keeper }
         ensures file_cause { HasFileCause (D.faults self.old.file.disk) (D.faults self.new.file.disk) result.reply }
         ensures file { restarts (call_of command.now) ≡ false → KeepsFile self.old.file self.new.file result.reply }
         ensures unfiled { touches_file (call_of command.now) ≡ false → self.new.file ≡ self.old.file }
         ensures link { IsLater L.applied L.faults L.refusals self.old.follower self.new.follower }
-        ensures follower { renews_replica (call_of command.now) ≡ false → KeepsOn L.applied L.faults L.refusals self.old.follower self.new.follower }
-        ensures over { IsOver (fails_over (call_of command.now)) self.new.state.locks (L.gives self.old.follower.link) result.reply }
-        ensures link_cause { HasLinkCause (L.faults self.old.follower.link) (L.faults self.new.follower.link) result.reply }
+        ensures follower { renews_replica (call_of command.now) ≡ false
+            → KeepsOn L.applied L.faults L.refusals self.old.follower self.new.follower }
+        ensures over { IsOver (fails_over (call_of command.now)) self.new.state.locks (L.gives self.old.follower.link)
+            result.reply }
+        ensures link_cause { HasLinkCause (L.faults self.old.follower.link) (L.faults self.new.follower.link)
+            result.reply }
         ensures room { is_unrecorded result.reply ≡ false → is_full (with_calls self.old.state past.now.items) ≡ false }
         ensures good_file { IsTrue D.tells → is_unsound_file result.reply ≡ false }
         ensures good_store { is_some (K.held self.old.keeper) ≡ true → is_unsound_store result.reply ≡ false }
-        ensures good_replica { is_some (L.applied self.old.follower.link) ≡ true → is_unsound_replica result.reply ≡ false }
+        ensures good_replica { is_some (L.applied self.old.follower.link) ≡ true
+            → is_unsound_replica result.reply ≡ false }
     {
         self.read_invariant();
         match self.unavailable(past, command) {
@@ -305,7 +323,8 @@ impl<T: LockStore, K: Keeper, D: Disk, L: Link> Server<T, K, D, L> {
         requires due { IsDue self.old.state past.now.items command.now }
         requires call { MayCall self.old.state (call_of command.now) }
         requires other { command.now ≢ Command.Restart }
-        ensures { Serves K.held K.may_leave K.faults D.faults L.gives L.applied L.faults L.refusals self.old self.new past.now.items command.now result }
+        ensures { Serves K.held K.may_leave K.faults D.faults L.gives L.applied L.faults L.refusals self.old self.new
+            past.now.items command.now result }
     {
         match command {
             Command::Kill => self.kill(past),
@@ -323,7 +342,8 @@ impl<T: LockStore, K: Keeper, D: Disk, L: Link> Server<T, K, D, L> {
         requires no_failover { command.now ≢ Command.FailOver }
         requires no_restart { command.now ≢ Command.Restart }
         requires no_attach { command.now ≢ Command.Attach }
-        ensures { Serves K.held K.may_leave K.faults D.faults L.gives L.applied L.faults L.refusals self.old self.new past.now.items command.now result }
+        ensures { Serves K.held K.may_leave K.faults D.faults L.gives L.applied L.faults L.refusals self.old self.new
+            past.now.items command.now result }
     {
         match command {
             Command::Logon { session, user } => self.log_on(alloc, past, *session, *user),
@@ -368,7 +388,8 @@ impl<T: LockStore, K: Keeper, D: Disk, L: Link> Server<T, K, D, L> {
 
     fn log_on(&mut self, alloc: Global, past: &Vec<PastEntry>, session: Name, user: Name) -> Reply
         requires { IsDue self.old.state past.now.items (command.Logon session user) }
-        ensures { Serves K.held K.may_leave K.faults D.faults L.gives L.applied L.faults L.refusals self.old self.new past.now.items (command.Logon session user) result }
+        ensures { Serves K.held K.may_leave K.faults D.faults L.gives L.applied L.faults L.refusals self.old self.new
+            past.now.items (command.Logon session user) result }
     {
         Reply::of(log_on(
             alloc,
@@ -381,7 +402,8 @@ impl<T: LockStore, K: Keeper, D: Disk, L: Link> Server<T, K, D, L> {
 
     fn log_off(&mut self, past: &Vec<PastEntry>, session: &Name) -> Reply
         requires { IsDue self.old.state past.now.items (command.Logoff session.now) }
-        ensures { Serves K.held K.may_leave K.faults D.faults L.gives L.applied L.faults L.refusals self.old self.new past.now.items (command.Logoff session.now) result }
+        ensures { Serves K.held K.may_leave K.faults D.faults L.gives L.applied L.faults L.refusals self.old self.new
+            past.now.items (command.Logoff session.now) result }
     {
         let start = self.books.start();
         Reply::of(log_off(start, &mut self.sessions, &mut self.locks, session))
@@ -395,7 +417,8 @@ impl<T: LockStore, K: Keeper, D: Disk, L: Link> Server<T, K, D, L> {
         requests: &Items<Request>,
     ) -> Reply
         requires { IsDue self.old.state past.now.items (command.Ask session.now requests.now) }
-        ensures { Serves K.held K.may_leave K.faults D.faults L.gives L.applied L.faults L.refusals self.old self.new past.now.items (command.Ask session.now requests.now) result }
+        ensures { Serves K.held K.may_leave K.faults D.faults L.gives L.applied L.faults L.refusals self.old self.new
+            past.now.items (command.Ask session.now requests.now) result }
     {
         let start = self.books.start();
         Reply::of(ask(
@@ -410,7 +433,8 @@ impl<T: LockStore, K: Keeper, D: Disk, L: Link> Server<T, K, D, L> {
 
     fn free(&mut self, past: &Vec<PastEntry>, session: &Name, requests: &[Request]) -> Reply
         requires { IsDue self.old.state past.now.items (command.Free session.now requests.now) }
-        ensures { Serves K.held K.may_leave K.faults D.faults L.gives L.applied L.faults L.refusals self.old self.new past.now.items (command.Free session.now requests.now) result }
+        ensures { Serves K.held K.may_leave K.faults D.faults L.gives L.applied L.faults L.refusals self.old self.new
+            past.now.items (command.Free session.now requests.now) result }
     {
         let start = self.books.start();
         Reply::of(free(start, &self.sessions, &mut self.locks, session, requests))
@@ -418,7 +442,8 @@ impl<T: LockStore, K: Keeper, D: Disk, L: Link> Server<T, K, D, L> {
 
     fn free_all(&mut self, past: &Vec<PastEntry>, session: &Name) -> Reply
         requires { IsDue self.old.state past.now.items (command.FreeAll session.now) }
-        ensures { Serves K.held K.may_leave K.faults D.faults L.gives L.applied L.faults L.refusals self.old self.new past.now.items (command.FreeAll session.now) result }
+        ensures { Serves K.held K.may_leave K.faults D.faults L.gives L.applied L.faults L.refusals self.old self.new
+            past.now.items (command.FreeAll session.now) result }
     {
         let start = self.books.start();
         Reply::of(free_all(start, &self.sessions, &mut self.locks, session))
@@ -432,7 +457,8 @@ impl<T: LockStore, K: Keeper, D: Disk, L: Link> Server<T, K, D, L> {
         asked: &Items<Asked>,
     ) -> Reply
         requires { IsDue self.old.state past.now.items (command.Convert session.now asked.now) }
-        ensures { Serves K.held K.may_leave K.faults D.faults L.gives L.applied L.faults L.refusals self.old self.new past.now.items (command.Convert session.now asked.now) result }
+        ensures { Serves K.held K.may_leave K.faults D.faults L.gives L.applied L.faults L.refusals self.old self.new
+            past.now.items (command.Convert session.now asked.now) result }
     {
         let start = self.books.start();
         Reply::of(convert(
@@ -447,7 +473,8 @@ impl<T: LockStore, K: Keeper, D: Disk, L: Link> Server<T, K, D, L> {
 
     fn roll_back(&mut self, alloc: Global, past: &Vec<PastEntry>, session: &Name) -> Reply
         requires { IsDue self.old.state past.now.items (command.Rollback session.now) }
-        ensures { Serves K.held K.may_leave K.faults D.faults L.gives L.applied L.faults L.refusals self.old self.new past.now.items (command.Rollback session.now) result }
+        ensures { Serves K.held K.may_leave K.faults D.faults L.gives L.applied L.faults L.refusals self.old self.new
+            past.now.items (command.Rollback session.now) result }
     {
         let start = self.books.start();
         Reply::of(roll_back(alloc, start, &mut self.sessions, &mut self.locks, session))
@@ -463,7 +490,8 @@ impl<T: LockStore, K: Keeper, D: Disk, L: Link> Server<T, K, D, L> {
         key: &Key,
     ) -> Reply
         requires { IsDue self.old.state past.now.items (command.Read session.now table.now key.now) }
-        ensures { Serves K.held K.may_leave K.faults D.faults L.gives L.applied L.faults L.refusals self.old self.new past.now.items (command.Read session.now table.now key.now) result }
+        ensures { Serves K.held K.may_leave K.faults D.faults L.gives L.applied L.faults L.refusals self.old self.new
+            past.now.items (command.Read session.now table.now key.now) result }
     {
         let written = read(alloc, &self.sessions, &mut self.books, session, table, key);
         ended(
@@ -485,7 +513,8 @@ impl<T: LockStore, K: Keeper, D: Disk, L: Link> Server<T, K, D, L> {
         nr: [u8; 2],
     ) -> Reply
         requires { IsDue self.old.state past.now.items (command.Number session.now object.now nr) }
-        ensures { Serves K.held K.may_leave K.faults D.faults L.gives L.applied L.faults L.refusals self.old self.new past.now.items (command.Number session.now object.now nr) result }
+        ensures { Serves K.held K.may_leave K.faults D.faults L.gives L.applied L.faults L.refusals self.old self.new
+            past.now.items (command.Number session.now object.now nr) result }
     {
         let written = draw(
             alloc,
@@ -516,7 +545,8 @@ impl<T: LockStore, K: Keeper, D: Disk, L: Link> Server<T, K, D, L> {
         upto: u64,
     ) -> Reply
         requires { IsDue self.old.state past.now.items (command.Reserve session.now object.now nr upto) }
-        ensures { Serves K.held K.may_leave K.faults D.faults L.gives L.applied L.faults L.refusals self.old self.new past.now.items (command.Reserve session.now object.now nr upto) result }
+        ensures { Serves K.held K.may_leave K.faults D.faults L.gives L.applied L.faults L.refusals self.old self.new
+            past.now.items (command.Reserve session.now object.now nr upto) result }
     {
         let written = reserve(
             alloc,
@@ -547,7 +577,8 @@ impl<T: LockStore, K: Keeper, D: Disk, L: Link> Server<T, K, D, L> {
     ) -> Reply
         requires due { IsDue self.old.state past.now.items (command.Commit session.now parts.now stock.now) }
         requires stock { IsStockIn self.old.state stock.now }
-        ensures { Serves K.held K.may_leave K.faults D.faults L.gives L.applied L.faults L.refusals self.old self.new past.now.items (command.Commit session.now parts.now stock.now) result }
+        ensures { Serves K.held K.may_leave K.faults D.faults L.gives L.applied L.faults L.refusals self.old self.new
+            past.now.items (command.Commit session.now parts.now stock.now) result }
     {
         let written = commit(
             alloc,
@@ -573,7 +604,8 @@ impl<T: LockStore, K: Keeper, D: Disk, L: Link> Server<T, K, D, L> {
     fn take(&mut self, past: &Vec<PastEntry>, worker: u8, part: u8) -> Reply
         requires due { IsDue self.old.state past.now.items (take_of part worker) }
         requires part { (part ≡ 1) ⊎ (part ≡ 2) }
-        ensures { Serves K.held K.may_leave K.faults D.faults L.gives L.applied L.faults L.refusals self.old self.new past.now.items (take_of part worker) result }
+        ensures { Serves K.held K.may_leave K.faults D.faults L.gives L.applied L.faults L.refusals self.old self.new
+            past.now.items (take_of part worker) result }
     {
         take(&mut self.orders, &self.books, worker, part)
     }
@@ -582,7 +614,8 @@ impl<T: LockStore, K: Keeper, D: Disk, L: Link> Server<T, K, D, L> {
     fn post(&mut self, alloc: Global, past: &Vec<PastEntry>, worker: u8, part: u8) -> Reply
         requires due { IsDue self.old.state past.now.items (post_of part worker) }
         requires part { (part ≡ 1) ⊎ (part ≡ 2) }
-        ensures { Serves K.held K.may_leave K.faults D.faults L.gives L.applied L.faults L.refusals self.old self.new past.now.items (post_of part worker) result }
+        ensures { Serves K.held K.may_leave K.faults D.faults L.gives L.applied L.faults L.refusals self.old self.new
+            past.now.items (post_of part worker) result }
     {
         let written = post(
             alloc,
@@ -598,7 +631,8 @@ impl<T: LockStore, K: Keeper, D: Disk, L: Link> Server<T, K, D, L> {
 
     fn drop_order(&mut self, past: &Vec<PastEntry>, worker: u8) -> Reply
         requires { IsDue self.old.state past.now.items (command.DropOrder worker) }
-        ensures { Serves K.held K.may_leave K.faults D.faults L.gives L.applied L.faults L.refusals self.old self.new past.now.items (command.DropOrder worker) result }
+        ensures { Serves K.held K.may_leave K.faults D.faults L.gives L.applied L.faults L.refusals self.old self.new
+            past.now.items (command.DropOrder worker) result }
     {
         drop_order(&mut self.orders, worker)
     }
@@ -606,7 +640,8 @@ impl<T: LockStore, K: Keeper, D: Disk, L: Link> Server<T, K, D, L> {
     /// Ends the lock server. Its table stays in memory, unseen, until another one is made.
     fn kill(&mut self, past: &Vec<PastEntry>) -> Reply
         requires { IsDue self.old.state past.now.items command.Kill }
-        ensures { Serves K.held K.may_leave K.faults D.faults L.gives L.applied L.faults L.refusals self.old self.new past.now.items command.Kill result }
+        ensures { Serves K.held K.may_leave K.faults D.faults L.gives L.applied L.faults L.refusals self.old self.new
+            past.now.items command.Kill result }
     {
         self.condition = Condition::NoServer;
         Reply::Done
@@ -615,7 +650,8 @@ impl<T: LockStore, K: Keeper, D: Disk, L: Link> Server<T, K, D, L> {
     /// Makes the list of the replica that followed the table.
     fn fail_over(&mut self, alloc: Global, past: &Vec<PastEntry>) -> Reply
         requires { IsDue self.old.state past.now.items command.FailOver }
-        ensures { Serves K.held K.may_leave K.faults D.faults L.gives L.applied L.faults L.refusals self.old self.new past.now.items command.FailOver result }
+        ensures { Serves K.held K.may_leave K.faults D.faults L.gives L.applied L.faults L.refusals self.old self.new
+            past.now.items command.FailOver result }
     {
         match self.condition {
             Condition::Up => Reply::Refused(Refusal::ServerUp),
@@ -633,7 +669,8 @@ impl<T: LockStore, K: Keeper, D: Disk, L: Link> Server<T, K, D, L> {
     /// Has a replica follow the table.
     fn attach(&mut self, alloc: Global, past: &Vec<PastEntry>) -> Reply
         requires { IsDue self.old.state past.now.items command.Attach }
-        ensures { Serves K.held K.may_leave K.faults D.faults L.gives L.applied L.faults L.refusals self.old self.new past.now.items command.Attach result }
+        ensures { Serves K.held K.may_leave K.faults D.faults L.gives L.applied L.faults L.refusals self.old self.new
+            past.now.items command.Attach result }
     {
         match self.locks.attach(alloc) {
             Ok(()) => Reply::Done,
@@ -645,8 +682,10 @@ impl<T: LockStore, K: Keeper, D: Disk, L: Link> Server<T, K, D, L> {
     /// Makes a lock server anew.
     fn restart(&mut self, alloc: Global, past: &Vec<PastEntry>) -> Answer
         requires { IsDue self.old.state past.now.items command.Restart }
-        ensures serves { Serves K.held K.may_leave K.faults D.faults L.gives L.applied L.faults L.refusals self.old self.new past.now.items command.Restart result.reply }
-        ensures taken { IsTelling (with_calls self.old.state past.now.items) command.Restart result.taken (with_calls self.new.state past.now.items) result.reply }
+        ensures serves { Serves K.held K.may_leave K.faults D.faults L.gives L.applied L.faults L.refusals self.old
+            self.new past.now.items command.Restart result.reply }
+        ensures taken { IsTelling (with_calls self.old.state past.now.items) command.Restart result.taken
+            (with_calls self.new.state past.now.items) result.reply }
         ensures good_file { IsTrue D.tells → is_unsound_file result.reply ≡ false }
         ensures good_store { is_some (K.held self.old.keeper) ≡ true → is_unsound_store result.reply ≡ false }
     {
@@ -665,7 +704,8 @@ impl<T: LockStore, K: Keeper, D: Disk, L: Link> Server<T, K, D, L> {
 
     fn cancel(&mut self, alloc: Global, past: &Vec<PastEntry>, unit: UnitKey) -> Reply
         requires { IsDue self.old.state past.now.items (command.Cancel unit) }
-        ensures { Serves K.held K.may_leave K.faults D.faults L.gives L.applied L.faults L.refusals self.old self.new past.now.items (command.Cancel unit) result }
+        ensures { Serves K.held K.may_leave K.faults D.faults L.gives L.applied L.faults L.refusals self.old self.new
+            past.now.items (command.Cancel unit) result }
     {
         let written = cancel(
             alloc,
@@ -680,7 +720,8 @@ impl<T: LockStore, K: Keeper, D: Disk, L: Link> Server<T, K, D, L> {
 
     fn resubmit(&mut self, alloc: Global, past: &Vec<PastEntry>, unit: UnitKey) -> Reply
         requires { IsDue self.old.state past.now.items (command.Resubmit unit) }
-        ensures { Serves K.held K.may_leave K.faults D.faults L.gives L.applied L.faults L.refusals self.old self.new past.now.items (command.Resubmit unit) result }
+        ensures { Serves K.held K.may_leave K.faults D.faults L.gives L.applied L.faults L.refusals self.old self.new
+            past.now.items (command.Resubmit unit) result }
     {
         let written = resubmit(
             alloc,
@@ -693,8 +734,8 @@ impl<T: LockStore, K: Keeper, D: Disk, L: Link> Server<T, K, D, L> {
     }
 }
 
-/// What a call that uses store and backup file is answered. Where one of them fails the server is in doubt since this call, of
-/// this session if a session made it.
+/// What a call that uses store and backup file is answered. Where one of them fails the server is in doubt since this
+/// call, of this session if a session made it.
 fn ended(
     condition: &mut Condition,
     failure: &mut Failure,

@@ -25,7 +25,8 @@ pub(crate) fn shown_ranges<K: Keeper>(
     ranges: &[NumberRange],
     books: &Books<K>,
 ) -> Result<Vec<Range>, NoMemory>
-    requires { AreDrawnRight ranges.now books.now.ledger.levels (draws_in sessions.now) (numbers_of books.now.ledger.units books.now.ledger.marks) }
+    requires { AreDrawnRight ranges.now books.now.ledger.levels (draws_in sessions.now)
+        (numbers_of books.now.ledger.units books.now.ledger.marks) }
     ensures { IfOk result (λ shown. shown.items ≡ map (range_shown sessions.now books.now.ledger.levels) ranges.now) }
 {
     let mut shown = Vec::new(alloc);

@@ -104,7 +104,11 @@ pub(crate) fn post<T: LockStore, K: Keeper, D: Disk, L: Link>(
         → (nat_eq part 1 ≡ true → s.locks ≡ locks.old.table.entries)
         → s.stored ≡ books.old.ledger → s.mark_limit ≡ max_marks → s.pending ≡ None → Admits s (post_of part worker)
         → IsWritten s (post_of part worker)
-        (record s { orders = orders.new.items; locks = locks_posted part s.locks locks.new.table.entries; stored = books.new.ledger })
+        (record s {
+          orders = orders.new.items;
+          locks = locks_posted part s.locks locks.new.table.entries;
+          stored = books.new.ledger;
+        })
         result }
     ensures limit { locks.new.table.limit ≡ locks.old.table.limit }
     ensures file { FilesAs D.tells D.reads D.may_leave D.faults books.new.ledger locks.old.file locks.new.file result }
@@ -155,7 +159,8 @@ fn end_locks<T: LockStore, D: Disk, L: Link>(
     ends: bool,
 ) -> Result<(), Failed>
     requires usable { locks.old.file.failed ≡ false }
-    ensures table { OnOk result (locks.new.table ≡ with_entries locks.old.table (locks_ended ends locks.old.table.entries unit.now)) }
+    ensures table { OnOk result
+        (locks.new.table ≡ with_entries locks.old.table (locks_ended ends locks.old.table.entries unit.now)) }
     ensures apart { ends ≡ false → locks.new.table ≡ locks.old.table }
     ensures unshipped { ends ≡ false → locks.new.copy ≡ locks.old.copy }
     ensures kept { OnErr result (locks.new.table ≡ locks.old.table) }
@@ -181,7 +186,10 @@ fn prepare<K: Keeper>(
     requires waits { WaitsFor part books.old.ledger unit.now }
     ensures ready { IfOk result (λ r. IsReady K.held K.has_room books.new r.0) }
     ensures step { IfOk result (λ r. r.0.step ≡ Note unit.now (kind_for part r.1)) }
-    ensures outcome { IfOk result (λ r. IfSome (K.held books.old.keeper) (λ _. IsOutcome (applied (effects_of part books.old.ledger.units unit.now) (tables_of books.old.ledger.units books.old.ledger.marks)) r.1)) }
+    ensures outcome { IfOk result
+        (λ r. IfSome (K.held books.old.keeper)
+        (λ _. IsOutcome (applied (effects_of part books.old.ledger.units unit.now)
+        (tables_of books.old.ledger.units books.old.ledger.marks)) r.1)) }
     ensures possible { IfOk result (λ r. MayCome (effects_of part books.old.ledger.units unit.now) r.1) }
     ensures usable { UnlessFailed result (IsUsable K.held K.is_open books.new) }
     ensures unmoved { UnlessFailed result (IsUnmoved K.held K.may_leave K.faults books.old books.new) }
@@ -229,8 +237,8 @@ fn posted(unit: UnitKey, part: u8, outcome: Outcome) -> Reply
 }
 
 /// Records a unit of a session with the effects of its two parts, the numbers that the session has drawn and those of a
-/// stock, or such numbers alone. A unit's locks are handed over to the update, and the session's next unit is open. Memory
-/// hands out what is behind the numbers of the stock then. Without effects and numbers nothing changes.
+/// stock, or such numbers alone. A unit's locks are handed over to the update, and the session's next unit is open.
+/// Memory hands out what is behind the numbers of the stock then. Without effects and numbers nothing changes.
 pub(crate) fn commit<T: LockStore, K: Keeper, D: Disk, L: Link>(
     alloc: Global,
     sessions: &mut Sessions,
@@ -249,13 +257,21 @@ pub(crate) fn commit<T: LockStore, K: Keeper, D: Disk, L: Link>(
     requires fresh { AllByRecursion (IsAhead books.old.ledger) sessions.old }
     requires marked { HaveMarks books.old.ledger }
     requires users { AllByRecursion (OfLock (HasItsUser books.old.ledger.start sessions.old)) locks.old.table.entries }
-    requires drawn { AreDrawnRight ranges.old books.old.ledger.levels (draws_in sessions.old) (numbers_of books.old.ledger.units books.old.ledger.marks) }
+    requires drawn { AreDrawnRight ranges.old books.old.ledger.levels (draws_in sessions.old)
+        (numbers_of books.old.ledger.units books.old.ledger.marks) }
     requires filed { HasOpenLists D.tells D.reads D.may_leave books.old.ledger locks.old.file }
-    requires stock { IsStock (intervals_of ranges.old) books.old.ledger.levels (draws_in sessions.old) (numbers_of books.old.ledger.units books.old.ledger.marks) stock.now }
+    requires stock { IsStock (intervals_of ranges.old) books.old.ledger.levels (draws_in sessions.old)
+        (numbers_of books.old.ledger.units books.old.ledger.marks) stock.now }
     ensures act { (s : State) → s.sessions ≡ sessions.old → s.ranges ≡ ranges.old → s.locks ≡ locks.old.table.entries
-        → s.stored ≡ books.old.ledger → s.mark_limit ≡ max_marks → Admits s (command.Commit name.now parts.now stock.now)
+        → s.stored ≡ books.old.ledger → s.mark_limit ≡ max_marks
+        → Admits s (command.Commit name.now parts.now stock.now)
         → IsWritten s (command.Commit name.now parts.now stock.now)
-        (record s { sessions = sessions.new; ranges = ranges.new; locks = locks.new.table.entries; stored = books.new.ledger })
+        (record s {
+          sessions = sessions.new;
+          ranges = ranges.new;
+          locks = locks.new.table.entries;
+          stored = books.new.ledger;
+        })
         result }
     ensures limit { locks.new.table.limit ≡ locks.old.table.limit }
     ensures file { FilesAs D.tells D.reads D.may_leave D.faults books.new.ledger locks.old.file locks.new.file result }
@@ -302,13 +318,21 @@ fn record_commit<T: LockStore, K: Keeper, D: Disk, L: Link>(
     requires fresh { AllByRecursion (IsAhead books.old.ledger) sessions.old }
     requires marked { HaveMarks books.old.ledger }
     requires users { AllByRecursion (OfLock (HasItsUser books.old.ledger.start sessions.old)) locks.old.table.entries }
-    requires drawn { AreDrawnRight ranges.now books.old.ledger.levels (draws_in sessions.old) (numbers_of books.old.ledger.units books.old.ledger.marks) }
+    requires drawn { AreDrawnRight ranges.now books.old.ledger.levels (draws_in sessions.old)
+        (numbers_of books.old.ledger.units books.old.ledger.marks) }
     requires filed { HasOpenLists D.tells D.reads D.may_leave books.old.ledger locks.old.file }
-    requires stock { IsStock (intervals_of ranges.now) books.old.ledger.levels (draws_in sessions.old) (numbers_of books.old.ledger.units books.old.ledger.marks) stock.now }
+    requires stock { IsStock (intervals_of ranges.now) books.old.ledger.levels (draws_in sessions.old)
+        (numbers_of books.old.ledger.units books.old.ledger.marks) stock.now }
     ensures act { (s : State) → s.sessions ≡ sessions.old → s.ranges ≡ ranges.now → s.locks ≡ locks.old.table.entries
-        → s.stored ≡ books.old.ledger → s.mark_limit ≡ max_marks → Admits s (command.Commit name.now parts.now stock.now)
+        → s.stored ≡ books.old.ledger → s.mark_limit ≡ max_marks
+        → Admits s (command.Commit name.now parts.now stock.now)
         → IsWritten s (command.Commit name.now parts.now stock.now)
-        (record s { sessions = sessions.new; ranges = ranges_behind stock.now ranges.now result; locks = locks.new.table.entries; stored = books.new.ledger })
+        (record s {
+          sessions = sessions.new;
+          ranges = ranges_behind stock.now ranges.now result;
+          locks = locks.new.table.entries;
+          stored = books.new.ledger;
+        })
         result }
     ensures limit { locks.new.table.limit ≡ locks.old.table.limit }
     ensures file { FilesAs D.tells D.reads D.may_leave D.faults books.new.ledger locks.old.file locks.new.file result }
@@ -357,7 +381,8 @@ fn draws_and(alloc: Global, session: &Session, stock: &[Num]) -> Result<Vec<Num>
     Ok(numbers)
 }
 
-/// Records a unit whose locks are handed over: its list goes into the backup file first, and then the unit into the store.
+/// Records a unit whose locks are handed over: its list goes into the backup file first, and then the unit into the
+/// store.
 fn record_unit<T: LockStore, K: Keeper, D: Disk, L: Link>(
     alloc: Global,
     sessions: &mut Sessions,
@@ -374,7 +399,8 @@ fn record_unit<T: LockStore, K: Keeper, D: Disk, L: Link>(
     requires young { AllByRecursion (IsYoung 262145) sessions.old }
     requires commits { IsOfCommit books.old.ledger unit locks.old.table.entries }
     requires filed { HasOpenLists D.tells D.reads D.may_leave books.old.ledger locks.old.file }
-    ensures outcome { RecordsUnit sessions.old sessions.new locks.old.table.entries locks.new.table.entries books.old.ledger books.new.ledger
+    ensures outcome { RecordsUnit sessions.old sessions.new locks.old.table.entries locks.new.table.entries
+        books.old.ledger books.new.ledger
         name.now unit levels.items result }
     ensures limit { locks.new.table.limit ≡ locks.old.table.limit }
     ensures file { FilesAs D.tells D.reads D.may_leave D.faults books.new.ledger locks.old.file locks.new.file result }
@@ -408,8 +434,10 @@ fn record_saved<T: LockStore, K: Keeper, D: Disk, L: Link>(
     requires ready { IsReady K.held K.has_room books.old prepared }
     requires step { prepared.step ≡ Record unit levels.items }
     requires young { AllByRecursion (IsYoung 262145) sessions.old }
-    requires saved { IsSaved D.tells D.reads D.may_leave books.old.ledger (with_intervals levels.items (with_unit books.old.ledger unit)) locks.old.file }
-    ensures outcome { RecordsUnit sessions.old sessions.new locks.old.table.entries locks.new.table.entries books.old.ledger books.new.ledger
+    requires saved { IsSaved D.tells D.reads D.may_leave books.old.ledger
+        (with_intervals levels.items (with_unit books.old.ledger unit)) locks.old.file }
+    ensures outcome { RecordsUnit sessions.old sessions.new locks.old.table.entries locks.new.table.entries
+        books.old.ledger books.new.ledger
         name.now unit levels.items result }
     ensures limit { locks.new.table.limit ≡ locks.old.table.limit }
     ensures file { FilesAs D.tells D.reads D.may_leave D.faults books.new.ledger locks.old.file locks.new.file result }
@@ -446,7 +474,8 @@ fn record_numbers<K: Keeper>(
     requires marks { HasMarksLeft books.old.ledger }
     requires drawing { IsDrawing books.old.ledger unit numbers.items }
     requires store { MayStore books.old.ledger levels.items numbers.items }
-    ensures outcome { RecordsNumbers sessions.old sessions.new books.old.ledger books.new.ledger name.now unit numbers.items levels.items result }
+    ensures outcome { RecordsNumbers sessions.old sessions.new books.old.ledger books.new.ledger name.now unit
+        numbers.items levels.items result }
     ensures sessions { OnFailure result (sessions.new ≡ sessions.old) }
     ensures store { EndsAs K.held K.is_open K.may_leave K.faults books.old books.new result }
 {
@@ -495,8 +524,8 @@ pub(crate) fn read<K: Keeper>(
     }
 }
 
-/// Cancels a unit that waits for its V1 part, or of which a part was refused. The locks of one that waits end, in the backup
-/// file and then in the table.
+/// Cancels a unit that waits for its V1 part, or of which a part was refused. The locks of one that waits end, in the
+/// backup file and then in the table.
 pub(crate) fn cancel<T: LockStore, K: Keeper, D: Disk, L: Link>(
     alloc: Global,
     orders: &[Option<UnitKey>],
@@ -605,7 +634,9 @@ pub(crate) fn resubmit<T: LockStore, K: Keeper, D: Disk, L: Link>(
     ensures limit { locks.new.table.limit ≡ locks.old.table.limit }
     ensures file { FilesAs D.tells D.reads D.may_leave D.faults books.new.ledger locks.old.file locks.new.file result }
     ensures follower { KeepsOn L.applied L.faults L.refusals locks.old.copy locks.new.copy }
-    ensures table { OnFailure result ((locks.new.table ≡ locks.old.table) ⊎ IsRegained books.old.ledger unit locks.old.table locks.new.table.entries) }
+    ensures table { OnFailure result
+        ((locks.new.table ≡ locks.old.table) ⊎ IsRegained books.old.ledger unit locks.old.table
+        locks.new.table.entries) }
     ensures ledger { OnStoreFailure result (books.new.ledger ≡ books.old.ledger) }
     ensures usable { OnAnswer result (IsUsable K.held K.is_open books.new) }
     ensures told { is_some (K.held books.new.keeper) ≡ is_some (K.held books.old.keeper) }
@@ -641,7 +672,9 @@ fn reopen<T: LockStore, K: Keeper, D: Disk, L: Link>(
     ensures limit { locks.new.table.limit ≡ locks.old.table.limit }
     ensures file { FilesAs D.tells D.reads D.may_leave D.faults books.new.ledger locks.old.file locks.new.file result }
     ensures follower { KeepsOn L.applied L.faults L.refusals locks.old.copy locks.new.copy }
-    ensures table { OnFailure result ((locks.new.table ≡ locks.old.table) ⊎ IsRegained books.old.ledger unit locks.old.table locks.new.table.entries) }
+    ensures table { OnFailure result
+        ((locks.new.table ≡ locks.old.table) ⊎ IsRegained books.old.ledger unit locks.old.table
+        locks.new.table.entries) }
     ensures ledger { OnStoreFailure result (books.new.ledger ≡ books.old.ledger) }
     ensures usable { OnAnswer result (IsUsable K.held K.is_open books.new) }
     ensures told { is_some (K.held books.new.keeper) ≡ is_some (K.held books.old.keeper) }
@@ -772,7 +805,8 @@ fn unit_of<T: LockStore, D: Disk, L: Link>(
     parts: &Parts,
     numbers: Vec<Num>,
 ) -> Result<Unit, NoMemory>
-    ensures unit { IfOk result (λ unit. unit ≡ step.unit_of start locks.now.table.entries session.now parts.now numbers.items) }
+    ensures unit { IfOk result
+        (λ unit. unit ≡ step.unit_of start locks.now.table.entries session.now parts.now numbers.items) }
     ensures good { IfOk result (λ _. IsTable locks.now.table) }
 {
     let key = unit_key(start, session);

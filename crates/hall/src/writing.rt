@@ -43,7 +43,8 @@ pub(crate) fn write_numbers<K: Keeper>(
     requires marks { HasMarksLeft books.old.ledger }
     requires drawing { IsDrawing books.old.ledger unit.now numbers.now }
     requires store { MayStore books.old.ledger levels.now numbers.now }
-    ensures { TriesStep K.held K.is_open K.may_leave K.faults books.old books.new (Draw unit.now numbers.now levels.now) result }
+    ensures { TriesStep K.held K.is_open K.may_leave K.faults books.old books.new (Draw unit.now numbers.now levels.now)
+        result }
 {
     let prepared = books.prepare_numbers(alloc, unit, numbers, levels)?;
     write(books, prepared)

@@ -539,8 +539,8 @@ fn a_row_is_read_as_it_was_posted(rt: HostRuntime) -> Result<(), Fail> {
     follow(alloc, 1, 2, no_intervals(alloc), &steps)
 }
 
-// Blocks of ten: a number or a reservation past the level raises it by whole blocks, and one that it reaches leaves it. A
-// store that takes no mark leaves the numbers that are drawn with the session.
+// Blocks of ten: a number or a reservation past the level raises it by whole blocks, and one that it reaches leaves it.
+// A store that takes no mark leaves the numbers that are drawn with the session.
 #[test]
 fn numbers_come_in_blocks(rt: HostRuntime) -> Result<(), Fail> {
     let alloc = rt.alloc();

@@ -10,8 +10,8 @@ use std::io::Read;
 use std::marker::Model;
 use std::rt::Runtime;
 
-/// A source over a file, which is opened at the first read. A file that can't be opened, or read, counts as a fault. What
-/// is left of it isn't told.
+/// A source over a file, which is opened at the first read. A file that can't be opened, or read, counts as a fault.
+/// What is left of it isn't told.
 #[derive(Drop)]
 pub struct FileSource<R: Runtime> {
     rt: R,

@@ -28,8 +28,8 @@ pub struct Stop {
 }
 
 /// A keeper in memory. It fails at just the calls whose numbers, counted from 1, stand in a list; `room` isn't counted.
-/// A commit that fails falls on the side after where its number stands in a second list, else on the side before. It can
-/// be made to stop at a call: that one and all later ones fail too.
+/// A commit that fails falls on the side after where its number stands in a second list, else on the side before. It
+/// can be made to stop at a call: that one and all later ones fail too.
 #[derive(Drop)]
 pub struct MemKeeper {
     rows: SortedRows,
@@ -191,7 +191,8 @@ impl Keeper for MemKeeper {
     fn get(&mut self, alloc: Global, table: u8, key: &[u8]) -> Result<Option<Bytes>, KeepFault>
         requires { IsSettled self.old }
         // As every keeper.
-        ensures value { IfOk result (λ value. IfSome (held_rows self.old) (λ rows. value ≡ value_at rows table key.now)) }
+        ensures value { IfOk result
+            (λ value. IfSome (held_rows self.old) (λ rows. value ≡ value_at rows table key.now)) }
         ensures stays { UnlessFailed result (Stays held_rows IsSettled HasMade self.old self.new) }
         ensures told { is_some (held_rows self.new) ≡ is_some (held_rows self.old) }
         ensures crash { IsWithin (Leaves self.new) (Leaves self.old) }
@@ -218,7 +219,8 @@ impl Keeper for MemKeeper {
         requires some { 1 ≤ n }
         requires few { n ≤ 1000 }
         // As every keeper.
-        ensures rows { IfOk result (λ page. IfSome (held_rows self.old) (λ rows. page.items ≡ page_of rows table after.now n)) }
+        ensures rows { IfOk result
+            (λ page. IfSome (held_rows self.old) (λ rows. page.items ≡ page_of rows table after.now n)) }
         ensures shape { IfOk result (λ page. IsPage after.now n page.items) }
         ensures stays { UnlessFailed result (Stays held_rows IsSettled HasMade self.old self.new) }
         ensures told { is_some (held_rows self.new) ≡ is_some (held_rows self.old) }
@@ -257,7 +259,8 @@ impl Keeper for MemKeeper {
         // As every keeper.
         ensures done { OnOk result (held_rows self.new ≡ held_after batch.now (held_rows self.old)) }
         ensures opened { OnOk result (IsSettled self.new) }
-        ensures either { IfSome (held_rows self.old) (λ rows. (left : Rows) → Leaves self.new left → IsBeforeOrAfter rows (changed batch.now rows) left) }
+        ensures either { IfSome (held_rows self.old)
+            (λ rows. (left : Rows) → Leaves self.new left → IsBeforeOrAfter rows (changed batch.now rows) left) }
         ensures told { is_some (held_rows self.new) ≡ is_some (held_rows self.old) }
         ensures cause { HasCause self.old.faults self.new.faults result }
 

@@ -83,7 +83,8 @@ impl<S: Alter> Keeper for AdoptedKeeper<S> {
 
         ensures once { IsTrue self.old.was_opened → result ≡ Err KeepFault.Failed }
         ensures done { OnOk result (self.new ≡ record self.old { was_opened = true; is_open = true }) }
-        ensures failed { OnFailed result (self.new ≡ record { was_opened = true; is_open = false; faults = one_more self.old.faults }) }
+        ensures failed { OnFailed result
+            (self.new ≡ record { was_opened = true; is_open = false; faults = one_more self.old.faults }) }
         ensures wanting { OnNoMemory result (self.new ≡ record self.old { was_opened = true; is_open = false }) }
     {
         self.gate.is_open = false;
@@ -106,7 +107,8 @@ impl<S: Alter> Keeper for AdoptedKeeper<S> {
         ensures cause { HasFaultCause self.old.faults self.new.faults result }
 
         ensures same { UnlessFailed result (self.new ≡ self.old) }
-        ensures failed { OnFailed result (self.new ≡ record self.old { is_open = false; faults = one_more self.old.faults }) }
+        ensures failed { OnFailed result
+            (self.new ≡ record self.old { is_open = false; faults = one_more self.old.faults }) }
     {
         match value_in(&mut self.connection, table, key) {
             Ok(value) => Ok(value),
@@ -129,7 +131,8 @@ impl<S: Alter> Keeper for AdoptedKeeper<S> {
         ensures cause { HasFaultCause self.old.faults self.new.faults result }
 
         ensures same { UnlessFailed result (self.new ≡ self.old) }
-        ensures failed { OnFailed result (self.new ≡ record self.old { is_open = false; faults = one_more self.old.faults }) }
+        ensures failed { OnFailed result
+            (self.new ≡ record self.old { is_open = false; faults = one_more self.old.faults }) }
     {
         match page_in(alloc, &mut self.connection, table, after, n) {
             Ok(page) => Ok(page),
@@ -151,7 +154,8 @@ impl<S: Alter> Keeper for AdoptedKeeper<S> {
         ensures cause { HasCause self.old.faults self.new.faults result }
 
         ensures done { OnOk result (self.new ≡ self.old) }
-        ensures failed { OnErr result (self.new ≡ record self.old { is_open = false; faults = one_more self.old.faults }) }
+        ensures failed { OnErr result
+            (self.new ≡ record self.old { is_open = false; faults = one_more self.old.faults }) }
     {
         match write_batch(&mut self.connection, batch) {
             Ok(()) => Ok(()),

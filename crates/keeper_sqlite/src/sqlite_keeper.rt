@@ -86,7 +86,8 @@ impl Keeper for SqliteKeeper {
         ensures cause { HasFaultCause self.old.faults self.new.faults result }
 
         ensures done { OnOk result (self.new ≡ record self.old { is_open = true }) }
-        ensures failed { OnFailed result (self.new ≡ record self.old { is_open = false; faults = one_more self.old.faults }) }
+        ensures failed { OnFailed result
+            (self.new ≡ record self.old { is_open = false; faults = one_more self.old.faults }) }
         ensures wanting { OnNoMemory result (self.new ≡ record self.old { is_open = false }) }
     {
         // The old connection holds the lock of the file.
@@ -108,7 +109,8 @@ impl Keeper for SqliteKeeper {
         ensures cause { HasFaultCause self.old.faults self.new.faults result }
 
         ensures same { UnlessFailed result (self.new ≡ self.old) }
-        ensures failed { OnFailed result (self.new ≡ record self.old { is_open = false; faults = one_more self.old.faults }) }
+        ensures failed { OnFailed result
+            (self.new ≡ record self.old { is_open = false; faults = one_more self.old.faults }) }
     {
         let Some(connection) = &mut self.connection else {
             return Err(self.gate.refused(KeepFault::Failed));
@@ -134,7 +136,8 @@ impl Keeper for SqliteKeeper {
         ensures cause { HasFaultCause self.old.faults self.new.faults result }
 
         ensures same { UnlessFailed result (self.new ≡ self.old) }
-        ensures failed { OnFailed result (self.new ≡ record self.old { is_open = false; faults = one_more self.old.faults }) }
+        ensures failed { OnFailed result
+            (self.new ≡ record self.old { is_open = false; faults = one_more self.old.faults }) }
     {
         let Some(connection) = &mut self.connection else {
             return Err(self.gate.refused(KeepFault::Failed));
@@ -159,7 +162,8 @@ impl Keeper for SqliteKeeper {
         ensures cause { HasCause self.old.faults self.new.faults result }
 
         ensures done { OnOk result (self.new ≡ self.old) }
-        ensures failed { OnErr result (self.new ≡ record self.old { is_open = false; faults = one_more self.old.faults }) }
+        ensures failed { OnErr result
+            (self.new ≡ record self.old { is_open = false; faults = one_more self.old.faults }) }
     {
         let Some(connection) = &mut self.connection else {
             return Err(self.gate.fail());

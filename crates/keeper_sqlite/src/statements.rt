@@ -47,7 +47,9 @@ pub fn prepare_all<S: Alter>(conn: &mut Connection<S>) -> Result<(), Error> {
 }
 
 fn row_with<S: Alter>(conn: &mut Connection<S>, table: u8, key: &[u8]) -> Result<sqlite::Row, Error>
-    ensures { HasCleanDisk (state S.Store conn.new) → QueriesRow get_text (Int (pos table) ∷ Blob key.now ∷ []) (state S.Store conn.old) (state S.Store conn.new) result }
+    ensures { HasCleanDisk (state S.Store conn.new)
+        → QueriesRow get_text (Int (pos table) ∷ Blob key.now ∷ []) (state S.Store conn.old) (state S.Store conn.new)
+        result }
 {
     conn.query_row(GET, &[ValueRef::Int(i64::from(table)), ValueRef::Blob(key)])
 }
@@ -71,7 +73,9 @@ fn rows_with<S: Alter>(
     after: &[u8],
     n: u32,
 ) -> Result<Vec<sqlite::Row>, Error>
-    ensures { HasCleanDisk (state S.Store conn.new) → IfOk result (λ rows. Shown page_text (Int (pos table) ∷ Blob after.now ∷ Int (pos n) ∷ []) (state S.Store conn.old) (state S.Store conn.new) rows.items) }
+    ensures { HasCleanDisk (state S.Store conn.new)
+        → IfOk result (λ rows. Shown page_text (Int (pos table) ∷ Blob after.now ∷ Int (pos n) ∷ [])
+        (state S.Store conn.old) (state S.Store conn.new) rows.items) }
 {
     let params = [
         ValueRef::Int(i64::from(table)),
@@ -115,7 +119,8 @@ fn put<'v, S: Alter>(
 ) -> Result<usize, Error>
     ensures same_reference { tx.new.conn.ghost_name ≡ tx.old.conn.ghost_name }
     ensures runs { HasCleanDisk (state S.Store tx.new.conn.now) → IsTrue tx.old.conn.now.in_transaction
-        → ExecutesInside 0 put_text (Int (pos table) ∷ Blob key.now ∷ Blob value.now ∷ []) (state S.Store tx.old.conn.now) (state S.Store tx.new.conn.now) result }
+        → ExecutesInside 0 put_text (Int (pos table) ∷ Blob key.now ∷ Blob value.now ∷ [])
+        (state S.Store tx.old.conn.now) (state S.Store tx.new.conn.now) result }
     ensures survives { Survives (state S.Store tx.old.conn.now) (state S.Store tx.new.conn.now) (λ _. ⊥) }
 {
     let params = [
@@ -129,7 +134,8 @@ fn put<'v, S: Alter>(
 fn delete<S: Alter>(tx: &mut Transaction<'_, S>, table: u8, key: &[u8]) -> Result<usize, Error>
     ensures same_reference { tx.new.conn.ghost_name ≡ tx.old.conn.ghost_name }
     ensures runs { HasCleanDisk (state S.Store tx.new.conn.now) → IsTrue tx.old.conn.now.in_transaction
-        → ExecutesInside 0 delete_text (Int (pos table) ∷ Blob key.now ∷ []) (state S.Store tx.old.conn.now) (state S.Store tx.new.conn.now) result }
+        → ExecutesInside 0 delete_text (Int (pos table) ∷ Blob key.now ∷ []) (state S.Store tx.old.conn.now)
+        (state S.Store tx.new.conn.now) result }
     ensures survives { Survives (state S.Store tx.old.conn.now) (state S.Store tx.new.conn.now) (λ _. ⊥) }
 {
     tx.execute(
@@ -141,7 +147,8 @@ fn delete<S: Alter>(tx: &mut Transaction<'_, S>, table: u8, key: &[u8]) -> Resul
 fn make_change<S: Alter>(tx: &mut Transaction<'_, S>, change: &Change) -> Result<usize, Error>
     ensures same_reference { tx.new.conn.ghost_name ≡ tx.old.conn.ghost_name }
     ensures runs { HasCleanDisk (state S.Store tx.new.conn.now) → IsTrue tx.old.conn.now.in_transaction
-        → ExecutesInside 0 (text_for change.now) (params_for change.now) (state S.Store tx.old.conn.now) (state S.Store tx.new.conn.now) result }
+        → ExecutesInside 0 (text_for change.now) (params_for change.now) (state S.Store tx.old.conn.now)
+        (state S.Store tx.new.conn.now) result }
     ensures survives { Survives (state S.Store tx.old.conn.now) (state S.Store tx.new.conn.now) (λ _. ⊥) }
 {
     match change {
@@ -153,8 +160,10 @@ fn make_change<S: Alter>(tx: &mut Transaction<'_, S>, change: &Change) -> Result
 fn make_all<S: Alter>(tx: &mut Transaction<'_, S>, batch: &[Change]) -> Result<(), Error>
     requires { IsTrue tx.old.conn.now.in_transaction }
     ensures same_reference { tx.new.conn.ghost_name ≡ tx.old.conn.ghost_name }
-    ensures made { HasCleanDisk (state S.Store tx.new.conn.now) → OnOk result (MakesAll S.Store batch.now tx.old.conn.now tx.new.conn.now) }
-    ensures kept { HasCleanDisk (state S.Store tx.new.conn.now) → KeepsCommit (state S.Store tx.old.conn.now) (state S.Store tx.new.conn.now) }
+    ensures made { HasCleanDisk (state S.Store tx.new.conn.now)
+        → OnOk result (MakesAll S.Store batch.now tx.old.conn.now tx.new.conn.now) }
+    ensures kept { HasCleanDisk (state S.Store tx.new.conn.now)
+        → KeepsCommit (state S.Store tx.old.conn.now) (state S.Store tx.new.conn.now) }
     ensures mode { HasCleanDisk (state S.Store tx.new.conn.now) → OnOk result (IsTrue tx.new.conn.now.in_transaction) }
     ensures survives { Survives (state S.Store tx.old.conn.now) (state S.Store tx.new.conn.now) (λ _. ⊥) }
 {
@@ -166,10 +175,13 @@ fn make_all<S: Alter>(tx: &mut Transaction<'_, S>, batch: &[Change]) -> Result<(
 
 /// Makes all the changes in one transaction, or none, and over a crash too.
 pub fn write_batch<S: Alter>(conn: &mut Connection<S>, batch: &[Change]) -> Result<(), Error>
-    ensures all { HasCleanDisk (state S.Store conn.new) → OnOk result (CommitsAll S.Store batch.now conn.old (state S.Store conn.new).committed) }
+    ensures all { HasCleanDisk (state S.Store conn.new)
+        → OnOk result (CommitsAll S.Store batch.now conn.old (state S.Store conn.new).committed) }
     ensures none { HasCleanDisk (state S.Store conn.new) → IsTrue (state S.Store conn.new).is_open
-        → OnErr result (((state S.Store conn.new).now ≡ (state S.Store conn.old).now) × ((state S.Store conn.new).committed ≡ (state S.Store conn.old).committed)) }
-    ensures crash { Survives (state S.Store conn.old) (state S.Store conn.new) (λ trees. (db : _) × CommitsAll S.Store batch.now conn.old db × (trees ≡ db.trees)) }
+        → OnErr result (((state S.Store conn.new).now ≡ (state S.Store conn.old).now)
+        × ((state S.Store conn.new).committed ≡ (state S.Store conn.old).committed)) }
+    ensures crash { Survives (state S.Store conn.old) (state S.Store conn.new)
+        (λ trees. (db : _) × CommitsAll S.Store batch.now conn.old db × (trees ≡ db.trees)) }
 {
     if !conn.is_autocommit() {
         return Err(Error::SqliteFailure(ErrorCode::TransactionState));

@@ -16,8 +16,8 @@ use io_edge::Source;
 use std::alloc::Global;
 use toml::{Table, Value};
 
-/// The landscape that the bytes of a source are, or the first rule that they break. The source is read to its end, or up
-/// to the first byte past the longest document.
+/// The landscape that the bytes of a source are, or the first rule that they break. The source is read to its end, or
+/// up to the first byte past the longest document.
 pub fn read_landscape<S: Source>(alloc: Global, source: &mut S) -> Result<Landscape, LandFault>
     ensures reads { ReadsLandscape (S.left source.old) (S.left source.new)
         (S.faults source.old) (S.faults source.new) result }

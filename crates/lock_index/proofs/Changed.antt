@@ -128,6 +128,15 @@ mapped-first n f k ss i e h first =
 pub mapped-none : (n : LockName) (f : Entry → Entry) → ((x : Entry) → has_name n x ≡ false → f x ≡ x) → (es : List Entry) → list_any (has_name n) es ≡ false → es ≡ map f es
 mapped-none n f k es h = sym (map-none n f k es h)
 
+-- where no entry has the name, none goes
+pub without-none : (n : LockName) (es : List Entry) → list_any (has_name n) es ≡ false → without es n ≡ es
+without-none n [] h = refl
+without-none n (e ∷ es) h =
+    elim (cases_Bool (has_name n e)) [
+      | inl b ↦ absurd (let l = rw b at h in cc)
+      | inr b ↦ let l = rw b at h in ap (λ a. cond (not a) (e ∷ without es n) (without es n)) b ∙ ap (λ (r : List Entry). e ∷ r) (without-none n es l)
+    ]
+
 -- the entry that alone has its name goes
 pub without-first : (n : LockName) (ss : List (Option Entry)) (i : ℕ) (e : Entry) → has_distinct_names (live ss) ≡ true → IsFirst (has_name n) ss i e → live (set ss i None) ≡ without (live ss) n
 without-first n ss i e h first =
@@ -138,16 +147,8 @@ without-first n ss i e h first =
     let after : list_any (has_name n) ys ≡ false = none-after n xs ys e (sym (ap has_distinct_names split) ∙ h) first.passes in
     live-set ss i e None first.at
     ∙ sym (ap (filter q) split ∙ filter-append q xs (e ∷ ys)
-    ∙ (λ j. kept n xs first.before j ++ cond (not (first.passes j)) (e ∷ filter q ys) (filter q ys))
-    ∙ ap (λ (l : List Entry). xs ++ l) (kept n ys after))
-  where
-    kept : (n : LockName) (zs : List Entry) → list_any (has_name n) zs ≡ false → filter (λ x. not (has_name n x)) zs ≡ zs
-    kept n [] k = refl
-    kept n (z ∷ zs) k =
-        elim (cases_Bool (has_name n z)) [
-          | inl b ↦ absurd (let l = rw b at k in cc)
-          | inr b ↦ let l = rw b at k in ap (λ a. cond (not a) (z ∷ filter (λ x. not (has_name n x)) zs) (filter (λ x. not (has_name n x)) zs)) b ∙ ap (λ (r : List Entry). z ∷ r) (kept n zs l)
-        ]
+    ∙ (λ j. without-none n xs first.before j ++ cond (not (first.passes j)) (e ∷ filter q ys) (filter q ys))
+    ∙ ap (λ (l : List Entry). xs ++ l) (without-none n ys after))
 
 find-split : (q : Entry → Bool) (xs ys : List Entry) (e : Entry) → list_any q xs ≡ false → q e ≡ true → find q (xs ++ e ∷ ys) ≡ Some e
 find-split q [] ys e h t = ap (λ b. cond b (Some e) (find q ys)) t

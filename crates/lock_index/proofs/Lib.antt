@@ -14,3 +14,4 @@ pub mod Cleared
 pub mod Turned
 pub mod Conversions
 pub mod Found
+pub mod Shipped

@@ -5,3 +5,4 @@ pub mod Slots
 pub mod Searches
 pub mod Granted
 pub mod Conversions
+pub mod Replica

@@ -77,7 +77,8 @@ pub fn replace(
 /// Puts the entries last, in place of those with the key, all or none.
 fn swap(alloc: Global, shelf: &mut Shelf, key: &Key, given: &[Entry]) -> Result<(), NoMemory>
     requires { is_lengths key.now ≡ false }
-    ensures replaced { OnOk result (live shelf.new ≡ filter (λ e. not (has_key key.now e)) (live shelf.old) ++ given.now) }
+    ensures replaced { OnOk result
+        (live shelf.new ≡ filter (λ e. not (has_key key.now e)) (live shelf.old) ++ given.now) }
     ensures unchanged { OnErr result (live shelf.new ≡ live shelf.old) }
 {
     let places = Vec::from_slice(alloc, shelf.places_of(key))?;
@@ -130,7 +131,7 @@ fn push_all(alloc: Global, shelf: &mut Shelf, added: &[Entry]) -> Result<(), NoM
 }
 
 /// The entry of this name, and its place.
-fn named(shelf: &Shelf, name: &LockName) -> Option<(usize, Entry)>
+pub fn named(shelf: &Shelf, name: &LockName) -> Option<(usize, Entry)>
     ensures none { IfNone result (spec.stands (live shelf.now) name.now ≡ false) }
     ensures some { IfSome result (λ p. IsFirst (spec.has_name name.now) shelf.now p.0 p.1) }
 {
@@ -186,7 +187,8 @@ fn sum(count: u16, more: u16) -> u16
 /// its count there, up to 9,999, and takes it out. It takes no memory.
 pub fn turn(shelf: &mut Shelf, owner: &Owner, asked: &Asked)
     requires { IsTrue (spec.has_distinct_names (live shelf.old)) }
-    ensures turned { live shelf.new ≡ turning.turned (live shelf.old) (turning.is_at owner.now asked.now.table asked.now.pattern) }
+    ensures turned { live shelf.new ≡ turning.turned (live shelf.old)
+        (turning.is_at owner.now asked.now.table asked.now.pattern) }
     ensures distinct { IsTrue (spec.has_distinct_names (live shelf.new)) }
 {
     let optimistic = name_in(Mode::O, owner, asked);
@@ -218,7 +220,8 @@ pub fn free_one(shelf: &mut Shelf, name: &LockName) -> bool
 
 fn lower(shelf: &mut Shelf, place: usize, entry: &Entry)
     requires { slot_at shelf.old place ≡ Some entry.now }
-    ensures { live shelf.new ≡ live (take place shelf.old) ++ (freeing.lowered entry.now ++ live (drop (suc place) shelf.old)) }
+    ensures { live shelf.new ≡ live
+        (take place shelf.old) ++ (freeing.lowered entry.now ++ live (drop (suc place) shelf.old)) }
 {
     if entry.count <= 1 {
         shelf.clear(place, entry);

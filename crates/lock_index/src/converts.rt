@@ -21,7 +21,9 @@ use std::alloc::Global;
 /// Why the pair's O entries at these arguments may not turn. All is found by look-ups.
 pub fn test(shelf: &Shelf, asker: &Asker, asked: &[Asked]) -> Result<(), AskFault>
     requires { IsTrue (names.has_distinct_names (live shelf.now)) }
-    ensures ok { OnOk result (converting.converted (live shelf.now) asker.now asked.now ≡ Ok (converting.conversion (live shelf.now) asker.now asked.now)) }
+    ensures ok { OnOk result
+        (converting.converted (live shelf.now) asker.now asked.now ≡ Ok
+        (converting.conversion (live shelf.now) asker.now asked.now)) }
     ensures refused { IfErr result (λ f. converting.converted (live shelf.now) asker.now asked.now ≡ Err f) }
 {
     if is_lost(shelf, asker, asked) {
@@ -46,8 +48,10 @@ pub fn convert(
     asked: &[Asked],
 ) -> Result<Vec<Entry>, NoMemory>
     requires { IsTrue (names.has_distinct_names (live shelf.old)) }
-    ensures after { OnOk result (live shelf.new ≡ (converting.conversion (live shelf.old) asker.now asked.now).entries) }
-    ensures removed { IfOk result (λ v. v.items ≡ (converting.conversion (live shelf.old) asker.now asked.now).removed) }
+    ensures after { OnOk result
+        (live shelf.new ≡ (converting.conversion (live shelf.old) asker.now asked.now).entries) }
+    ensures removed { IfOk result
+        (λ v. v.items ≡ (converting.conversion (live shelf.old) asker.now asked.now).removed) }
     ensures unchanged { OnErr result (shelf.new ≡ shelf.old) }
 {
     let places = giving_way(alloc, shelf, asker, asked)?;
@@ -64,7 +68,9 @@ fn giving_way(
     asker: &Asker,
     asked: &[Asked],
 ) -> Result<IndexSet<usize>, NoMemory>
-    ensures { IfOk result (λ s. (i : ℕ) → contains nat_eq s i ≡ on_some (converting.gives_way asker.now asked.now) (slot_at shelf.now i)) }
+    ensures { IfOk result
+        (λ s. (i : ℕ) → contains nat_eq s i ≡ on_some (converting.gives_way asker.now asked.now)
+        (slot_at shelf.now i)) }
 {
     let mut places = IndexSet::new(alloc);
     for a in asked {
@@ -104,7 +110,9 @@ fn has_optimistic(shelf: &Shelf, asker: &Asker, asked: &Asked) -> bool
 }
 
 fn has_either(shelf: &Shelf, asker: &Asker, asked: &Asked) -> bool
-    ensures { result ≡ (names.stands (live shelf.now) (turning.name_at O asker.now.dialogue asked.now.table asked.now.pattern) || names.stands (live shelf.now) (turning.name_at O asker.now.update asked.now.table asked.now.pattern)) }
+    ensures { result ≡ (names.stands (live shelf.now)
+        (turning.name_at O asker.now.dialogue asked.now.table asked.now.pattern) || names.stands (live shelf.now)
+        (turning.name_at O asker.now.update asked.now.table asked.now.pattern)) }
 {
     stands(shelf, &name_in(Mode::O, &asker.dialogue, asked))
         || stands(shelf, &name_in(Mode::O, &asker.update, asked))
@@ -138,7 +146,9 @@ fn sum_exceeds(shelf: &Shelf, asker: &Asker, asked: &[Asked]) -> bool
 }
 
 fn one_exceeds(shelf: &Shelf, asker: &Asker, asked: &[Asked]) -> bool
-    ensures { result ≡ list_any (λ a. exceeds_at (live shelf.now) asker.now.dialogue a || exceeds_at (live shelf.now) asker.now.update a) asked.now }
+    ensures { result ≡ list_any
+        (λ a. exceeds_at (live shelf.now) asker.now.dialogue a || exceeds_at (live shelf.now) asker.now.update a)
+        asked.now }
 {
     asked.iter().any(|a| exceeds_at(shelf, &asker.dialogue, a)
         || exceeds_at(shelf, &asker.update, a))

@@ -44,10 +44,10 @@ impl LockStore for IndexTable {
         Ok(IndexTable { limit, shelf })
     }
 
-    /// For each request it goes over the numbers of literal bytes that arguments of its table have, and over the entries
-    /// with the same literal bytes; for a generic argument also over those with more literal bytes. The halves of one
-    /// call are compared with one another. No other entry is looked at, but where most places are empty: the entries
-    /// are then moved together, once for as many that went.
+    /// For each request it goes over the numbers of literal bytes that arguments of its table have, and over the
+    /// entries with the same literal bytes; for a generic argument also over those with more literal bytes. The halves
+    /// of one call are compared with one another. No other entry is looked at, but where most places are empty: the
+    /// entries are then moved together, once for as many that went.
     fn ask(
         &mut self,
         alloc: Global,

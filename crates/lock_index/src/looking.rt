@@ -75,7 +75,8 @@ fn oldest_under(
     count: usize,
     best: Option<usize>,
 ) -> Option<usize>
-    ensures { result ≡ searches.oldest_under slots.now map.now search.now best (searches.candidates (searches.place_of search.now) count) }
+    ensures { result ≡ searches.oldest_under slots.now map.now search.now best
+        (searches.candidates (searches.place_of search.now) count) }
 {
     match candidates(search, count) {
         Some(key) => oldest_of(slots, members(map, &key), search, best),
@@ -140,7 +141,10 @@ pub fn add_found(
     search: &Search,
     found: &mut IndexSet<usize>,
 ) -> Result<(), NoMemory>
-    ensures { OnOk result (IsShown slots.now map.now → (i : ℕ) → contains nat_eq found.new i ≡ (contains nat_eq found.old i || on_some (searches.finds search.now) (slot_at slots.now i))) }
+    ensures { OnOk result
+        (IsShown slots.now map.now → (i : ℕ)
+        → contains nat_eq found.new
+        i ≡ (contains nat_eq found.old i || on_some (searches.finds search.now) (slot_at slots.now i))) }
 {
     let lengths = members(map, &lengths_key(search.table()));
     add_found_over(slots, map, search, lengths, found)
@@ -153,7 +157,11 @@ fn add_found_over(
     lengths: &[usize],
     found: &mut IndexSet<usize>,
 ) -> Result<(), NoMemory>
-    ensures { OnOk result ((i : ℕ) → contains nat_eq found.new i ≡ (contains nat_eq found.old i || (list_any (λ n. is_under map.now (searches.candidates (searches.place_of search.now) n) i) lengths.now && on_some (searches.finds search.now) (slot_at slots.now i)))) }
+    ensures { OnOk result
+        ((i : ℕ) → contains nat_eq found.new
+        i ≡ (contains nat_eq found.old
+        i || (list_any (λ n. is_under map.now (searches.candidates (searches.place_of search.now) n) i)
+        lengths.now && on_some (searches.finds search.now) (slot_at slots.now i)))) }
 {
     for length in lengths {
         add_found_under(slots, map, search, *length, found)?;
@@ -168,7 +176,11 @@ fn add_found_under(
     count: usize,
     found: &mut IndexSet<usize>,
 ) -> Result<(), NoMemory>
-    ensures { OnOk result ((i : ℕ) → contains nat_eq found.new i ≡ (contains nat_eq found.old i || (is_under map.now (searches.candidates (searches.place_of search.now) count) i && on_some (searches.finds search.now) (slot_at slots.now i)))) }
+    ensures { OnOk result
+        ((i : ℕ) → contains nat_eq found.new
+        i ≡ (contains nat_eq found.old
+        i || (is_under map.now (searches.candidates (searches.place_of search.now) count) i && on_some
+        (searches.finds search.now) (slot_at slots.now i)))) }
 {
     match candidates(search, count) {
         Some(key) => add_found_of(slots, members(map, &key), search, found),
@@ -182,7 +194,10 @@ fn add_found_of(
     search: &Search,
     found: &mut IndexSet<usize>,
 ) -> Result<(), NoMemory>
-    ensures { OnOk result ((i : ℕ) → contains nat_eq found.new i ≡ (contains nat_eq found.old i || (list_any (nat_eq i) places.now && on_some (searches.finds search.now) (slot_at slots.now i)))) }
+    ensures { OnOk result
+        ((i : ℕ) → contains nat_eq found.new
+        i ≡ (contains nat_eq found.old
+        i || (list_any (nat_eq i) places.now && on_some (searches.finds search.now) (slot_at slots.now i)))) }
 {
     for place in places {
         add_if(found, *place, is_found(slots, *place, search))?;
@@ -191,7 +206,8 @@ fn add_found_of(
 }
 
 fn add_if(found: &mut IndexSet<usize>, place: usize, is_wanted: bool) -> Result<(), NoMemory>
-    ensures { OnOk result ((i : ℕ) → contains nat_eq found.new i ≡ (contains nat_eq found.old i || (is_wanted && nat_eq i place))) }
+    ensures { OnOk result
+        ((i : ℕ) → contains nat_eq found.new i ≡ (contains nat_eq found.old i || (is_wanted && nat_eq i place))) }
 {
     if is_wanted {
         found.insert(place)?;
@@ -203,9 +219,12 @@ fn add_if(found: &mut IndexSet<usize>, place: usize, is_wanted: bool) -> Result<
 
 /// Some entry with the key, and its place.
 pub fn any_of(slots: &[Option<Entry>], map: &NumberMap, key: &Key) -> Option<(usize, Entry)>
-    ensures none { IfNone result (IsShown slots.now map.now → is_lengths key.now ≡ false → (i : ℕ) → on_some (has_key key.now) (slot_at slots.now i) ≡ false) }
+    ensures none { IfNone result
+        (IsShown slots.now map.now → is_lengths key.now ≡ false → (i : ℕ)
+        → on_some (has_key key.now) (slot_at slots.now i) ≡ false) }
     ensures stands { IfSome result (λ p. slot_at slots.now p.0 ≡ Some p.1) }
-    ensures passes { IfSome result (λ p. IsShown slots.now map.now → is_lengths key.now ≡ false → has_key key.now p.1 ≡ true) }
+    ensures passes { IfSome result
+        (λ p. IsShown slots.now map.now → is_lengths key.now ≡ false → has_key key.now p.1 ≡ true) }
 {
     match first_of(members(map, key)) {
         Some(place) => match slot(slots, place) {
@@ -229,7 +248,9 @@ fn first_of(places: &[usize]) -> Option<usize>
 /// Flags the entries at the places as handed.
 pub fn flag_places(slots: &mut Vec<Option<Entry>>, places: &[usize])
     ensures long { length slots.new.items ≡ length slots.old.items }
-    ensures flagged { (i : ℕ) → slot_at slots.new.items i ≡ cond (list_any (nat_eq i) places.now) (option_map handed (slot_at slots.old.items i)) (slot_at slots.old.items i) }
+    ensures flagged { (i : ℕ)
+        → slot_at slots.new.items i ≡ cond (list_any (nat_eq i) places.now)
+        (option_map handed (slot_at slots.old.items i)) (slot_at slots.old.items i) }
 {
     for place in places {
         flag_at(slots, *place);
@@ -238,7 +259,9 @@ pub fn flag_places(slots: &mut Vec<Option<Entry>>, places: &[usize])
 
 fn flag_at(slots: &mut Vec<Option<Entry>>, place: usize)
     ensures long { length slots.new.items ≡ length slots.old.items }
-    ensures flagged { (i : ℕ) → slot_at slots.new.items i ≡ cond (nat_eq place i) (option_map handed (slot_at slots.old.items i)) (slot_at slots.old.items i) }
+    ensures flagged { (i : ℕ)
+        → slot_at slots.new.items i ≡ cond (nat_eq place i) (option_map handed (slot_at slots.old.items i))
+        (slot_at slots.old.items i) }
 {
     match slot(slots.as_slice(), place) {
         Some(entry) => {

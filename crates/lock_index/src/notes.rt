@@ -11,8 +11,11 @@ use std::alloc::Global;
 
 /// Notes an entry that goes last, at this place.
 pub fn note(alloc: Global, map: &mut NumberMap, entry: &Entry, place: usize) -> Result<(), NoMemory>
-    ensures noted { OnOk result ((slots : List (Option Entry)) → IsShown slots map.old → length slots ≡ place → IsShown (slots ++ Some entry.now ∷ []) map.new) }
-    ensures unchanged { OnErr result ((slots : List (Option Entry)) → IsShown slots map.old → length slots ≡ place → IsShown slots map.new) }
+    ensures noted { OnOk result
+        ((slots : List (Option Entry)) → IsShown slots map.old → length slots ≡ place
+        → IsShown (slots ++ Some entry.now ∷ []) map.new) }
+    ensures unchanged { OnErr result
+        ((slots : List (Option Entry)) → IsShown slots map.old → length slots ≡ place → IsShown slots map.new) }
 {
     let keys = keys_of(entry);
     let lengths = lengths_key(&entry.table);
@@ -28,14 +31,16 @@ pub fn note(alloc: Global, map: &mut NumberMap, entry: &Entry, place: usize) -> 
 
 /// Forgets the entry at this place. It takes no memory.
 pub fn forget(map: &mut NumberMap, entry: &Entry, place: usize)
-    ensures { (slots : List (Option Entry)) → IsShown slots map.old → slot_at slots place ≡ Some entry.now → IsShown (slice_set slots place None) map.new }
+    ensures { (slots : List (Option Entry)) → IsShown slots map.old → slot_at slots place ≡ Some entry.now
+        → IsShown (slice_set slots place None) map.new }
 {
     take_all(map, &keys_of(entry), place);
 }
 
 /// Forgets that the entry at this place is optimistic. It takes no memory.
 pub fn forget_optimistic(map: &mut NumberMap, entry: &Entry, place: usize)
-    ensures { (slots : List (Option Entry)) → IsShown slots map.old → slot_at slots place ≡ Some entry.now → entry.now.mode ≡ O → IsShown (slice_set slots place (Some (record entry.now { mode = E }))) map.new }
+    ensures { (slots : List (Option Entry)) → IsShown slots map.old → slot_at slots place ≡ Some entry.now
+        → entry.now.mode ≡ O → IsShown (slice_set slots place (Some (record entry.now { mode = E }))) map.new }
 {
     match &entry.owner {
         Owner::Dlg { .. } => {}

@@ -15,7 +15,10 @@ pub fn entries_at(
     slots: &[Option<Entry>],
     places: &[usize],
 ) -> Result<Vec<Entry>, NoMemory>
-    ensures { IfOk result (λ v. (q : Entry → Bool) → IsDistinct nat_eq places.now → ((i : ℕ) → list_any (nat_eq i) places.now ≡ on_some q (slot_at slots.now i)) → v.items ≡ filter q (live slots.now)) }
+    ensures { IfOk result
+        (λ v. (q : Entry → Bool) → IsDistinct nat_eq places.now
+        → ((i : ℕ) → list_any (nat_eq i) places.now ≡ on_some q (slot_at slots.now i))
+        → v.items ≡ filter q (live slots.now)) }
 {
     let sorted = sorted(alloc, places)?;
     Ok(read(alloc, slots, sorted.as_slice())?)

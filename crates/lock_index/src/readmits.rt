@@ -13,8 +13,11 @@ use lock_entry::{AskFault, Asker, Entry};
 /// Why the given entries may not be granted as they are in place of the ones that the update owner has.
 pub fn test(limit: u32, shelf: &Shelf, asker: &Asker, given: &[Entry]) -> Result<(), AskFault>
     requires { length (live shelf.now) ≤ limit }
-    ensures granted { OnOk result (readmitted (record { entries = live shelf.now; limit = limit }) asker.now given.now ≡ Ok (freed_owner (live shelf.now) asker.now.update ++ given.now)) }
-    ensures refused { IfErr result (λ f. readmitted (record { entries = live shelf.now; limit = limit }) asker.now given.now ≡ Err f) }
+    ensures granted { OnOk result
+        (readmitted (record { entries = live shelf.now; limit = limit }) asker.now given.now ≡ Ok
+        (freed_owner (live shelf.now) asker.now.update ++ given.now)) }
+    ensures refused { IfErr result
+        (λ f. readmitted (record { entries = live shelf.now; limit = limit }) asker.now given.now ≡ Err f) }
 {
     match first_given_bar(shelf, asker, given) {
         Some(entry) => return Err(AskFault::Foreign(*entry)),

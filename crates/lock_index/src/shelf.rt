@@ -89,7 +89,9 @@ impl Shelf {
 
     /// Puts the places of all entries that are looked for among those found.
     pub fn add_found(&self, search: &Search, found: &mut IndexSet<usize>) -> Result<(), NoMemory>
-        ensures { OnOk result ((i : ℕ) → contains nat_eq found.new i ≡ (contains nat_eq found.old i || on_some (searches.finds search.now) (slot_at self.now i))) }
+        ensures { OnOk result
+            ((i : ℕ) → contains nat_eq found.new
+            i ≡ (contains nat_eq found.old i || on_some (searches.finds search.now) (slot_at self.now i))) }
     {
         looking::add_found(self.slots.as_slice(), &self.map, search, found)
     }
@@ -164,6 +166,16 @@ impl Shelf {
         ensures { self.new ≡ slice_set self.old place (Some (record entry.now { count = count })) }
     {
         self.slots[place] = Some(Entry { count, ..*entry });
+    }
+
+    /// Writes another entry of the same name over the one at the place. It takes no memory.
+    pub fn rewrite(&mut self, place: usize, entry: &Entry, other: &Entry)
+        requires stands { slot_at self.old place ≡ Some entry.now }
+        requires same { names.has_name (names.name_of other.now) entry.now ≡ true }
+        ensures { self.new ≡ slice_set self.old place (Some other.now) }
+    {
+        let _ = entry;
+        self.slots[place] = Some(*other);
     }
 
     /// Makes the optimistic entry at the place exclusive. It takes no memory.

@@ -101,7 +101,8 @@ fn dialogue_request(asked: Asked) -> Request {
     }
 }
 
-/// Another session asks for the locks, every 7,919th in turn, so many times in all. The requests are made before the first ask.
+/// Another session asks for the locks, every 7,919th in turn, so many times in all. The requests are made before the
+/// first ask.
 fn ask_again(alloc: Global, table: &mut IndexTable, locks: u32, asks: u32) -> Option<u32>
     requires { locks ≤ 1000000 }
 {

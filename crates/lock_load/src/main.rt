@@ -1,5 +1,5 @@
-//! A load on the lock index, for measuring: so many locks are granted, and then another session asks for them, or all are
-//! freed.
+//! A load on the lock index, for measuring: so many locks are granted, and then another session asks for them, or all
+//! are freed.
 #![tactic(auto)]
 
 mod loads;

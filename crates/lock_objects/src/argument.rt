@@ -31,7 +31,8 @@ fn push_key(
     values: &[FieldValue],
     key: &Name,
 ) -> Result<(), AllocError>
-    ensures { OnOk result (argument.new.items ≡ argument.old.items ++ arguments.key_part fields.now values.now key.now) }
+    ensures { OnOk result
+        (argument.new.items ≡ argument.old.items ++ arguments.key_part fields.now values.now key.now) }
 {
     match field_named(fields, key) {
         Some(field) => push_part(argument, values, &field),

@@ -141,7 +141,8 @@ fn is_key(keys: &[Name], name: &Name) -> bool
 }
 
 fn unknown_fault(fields: &[Field], tables: &[KeyTable]) -> Option<ObjectFault>
-    ensures { result ≡ option_map fault.UnknownField (objects.first_some (λ t. objects.first_unknown fields.now t.keys) tables.now) }
+    ensures { result ≡ option_map fault.UnknownField
+        (objects.first_some (λ t. objects.first_unknown fields.now t.keys) tables.now) }
 {
     match unknown_key(fields, tables) {
         Some(name) => Some(ObjectFault::UnknownField(name)),
@@ -163,7 +164,8 @@ fn unknown_key(fields: &[Field], tables: &[KeyTable]) -> Option<Name>
 }
 
 fn length_fault(fields: &[Field], tables: &[KeyTable]) -> Option<ObjectFault>
-    ensures { result ≡ option_map fault.TooLong (objects.first_some (λ t. objects.wrong_length (objects.argument_length fields.now t.keys)) tables.now) }
+    ensures { result ≡ option_map fault.TooLong
+        (objects.first_some (λ t. objects.wrong_length (objects.argument_length fields.now t.keys)) tables.now) }
 {
     match wrong_length(fields, tables) {
         Some(bytes) => Some(ObjectFault::TooLong(bytes)),
@@ -173,7 +175,8 @@ fn length_fault(fields: &[Field], tables: &[KeyTable]) -> Option<ObjectFault>
 
 /// The length of the arguments of the first table where it isn't 1 to 150.
 fn wrong_length(fields: &[Field], tables: &[KeyTable]) -> Option<u32>
-    ensures { result ≡ objects.first_some (λ t. objects.wrong_length (objects.argument_length fields.now t.keys)) tables.now }
+    ensures { result ≡ objects.first_some
+        (λ t. objects.wrong_length (objects.argument_length fields.now t.keys)) tables.now }
 {
     for table in tables {
         let bytes = wrong_length_of(fields, table.keys.as_slice());

@@ -31,10 +31,15 @@ pub fn plan_grant(
     requests: &[Request],
 ) -> Result<Plan, AskFault>
     requires { length entries.now ≤ limit }
-    ensures halves { IfOk result (λ p. p.halves.items ≡ map (half_at entries.now) (names.halves asker.now requests.now)) }
+    ensures halves { IfOk result
+        (λ p. p.halves.items ≡ map (half_at entries.now) (names.halves asker.now requests.now)) }
     ensures counts { OnOk result (granting.is_over entries.now (names.halves asker.now requests.now) ≡ false) }
-    ensures granted { IfOk result (λ p. granting.asked (record { entries = entries.now; limit = limit }) asker.now user.now requests.now ≡ Ok (map (granting.raised (names.halves asker.now requests.now)) entries.now ++ p.added.items)) }
-    ensures refused { IfErr result (λ f. IsFaultOf (granting.asked (record { entries = entries.now; limit = limit }) asker.now user.now requests.now) f) }
+    ensures granted { IfOk result
+        (λ p. granting.asked (record { entries = entries.now; limit = limit }) asker.now user.now requests.now ≡ Ok
+        (map (granting.raised (names.halves asker.now requests.now)) entries.now ++ p.added.items)) }
+    ensures refused { IfErr result
+        (λ f. IsFaultOf (granting.asked (record { entries = entries.now; limit = limit }) asker.now user.now
+        requests.now) f) }
 {
     let halves = halves(alloc, entries, asker, requests)?;
     let added = new_entries(alloc, user, halves.as_slice())?;
@@ -90,7 +95,10 @@ fn new_entries(alloc: Global, user: &Name, all: &[Half]) -> Result<Vec<Entry>, N
 }
 
 fn push_new(added: &mut Vec<Entry>, user: &Name, all: &[Half], half: &Half) -> Result<(), NoMemory>
-    ensures { OnOk result (added.new.items ≡ added.old.items ++ cond (is_some half.now.place || names.stands added.old.items half.now.name) [] (capped_entry user.now (names_of all.now) half.now.name ∷ [])) }
+    ensures { OnOk result
+        (added.new.items ≡ added.old.items ++ cond
+        (is_some half.now.place || names.stands added.old.items half.now.name) []
+        (capped_entry user.now (names_of all.now) half.now.name ∷ [])) }
 {
     if !is_known(added.as_slice(), half) {
         added.push(capped_entry(user, all, &half.name))?;
@@ -123,7 +131,8 @@ pub fn grant(entries: &mut Vec<Entry>, all: &[Half], added: &[Entry]) -> Result<
     requires halves { all.now ≡ map (half_at entries.old.items) (names_of all.now) }
     requires distinct { IsTrue (names.has_distinct_names entries.old.items) }
     requires counts { granting.is_over entries.old.items (names_of all.now) ≡ false }
-    ensures granted { OnOk result (entries.new.items ≡ map (granting.raised (names_of all.now)) entries.old.items ++ added.now) }
+    ensures granted { OnOk result
+        (entries.new.items ≡ map (granting.raised (names_of all.now)) entries.old.items ++ added.now) }
     ensures unchanged { OnErr result (entries.new.items ≡ entries.old.items) }
 {
     entries.extend_from_slice(added)?;

@@ -13,7 +13,9 @@ use std::alloc::{AllocError, Global};
 
 /// Why the pair's O entries at these arguments may not turn.
 pub fn test(entries: &[Entry], asker: &Asker, asked: &[Asked]) -> Result<(), AskFault>
-    ensures ok { OnOk result (converting.converted entries.now asker.now asked.now ≡ Ok (converting.conversion entries.now asker.now asked.now)) }
+    ensures ok { OnOk result
+        (converting.converted entries.now asker.now asked.now ≡ Ok
+        (converting.conversion entries.now asker.now asked.now)) }
     ensures refused { IfErr result (λ f. converting.converted entries.now asker.now asked.now ≡ Err f) }
 {
     if is_lost(entries, asker, asked) {
@@ -138,7 +140,8 @@ fn sum_exceeds(entries: &[Entry], asker: &Asker, asked: &[Asked]) -> bool
 }
 
 fn takes_too_many(entries: &[Entry], entry: &Entry) -> bool
-    ensures { result ≡ (same_mode entry.now.mode E && nat_lt 9999 (entry.now.count + names.count_at entries.now (turning.name_in O entry.now))) }
+    ensures { result ≡ (same_mode entry.now.mode E && nat_lt 9999
+        (entry.now.count + names.count_at entries.now (turning.name_in O entry.now))) }
 {
     entry.mode.is(Mode::E) && exceeds(entry.count, count_at(entries, &optimistic_name(entry)))
 }

@@ -26,11 +26,13 @@ pub struct Places {
     pub update: Option<usize>,
 }
 
-/// Walks once over the entries: the oldest one that bars what is asked for, or else where those of the two owners stand.
+/// Walks once over the entries: the oldest one that bars what is asked for, or else where those of the two owners
+/// stand.
 pub fn look(entries: &[Entry], asker: &Asker, asked: &Asked) -> Result<Places, Entry>
     ensures free { OnOk result (find (barring.bars asker.now asked.now) entries.now ≡ None) }
     ensures barred { IfErr result (λ e. find (barring.bars asker.now asked.now) entries.now ≡ Some e) }
-    ensures dialogue { IfOk result (λ p. p.dialogue ≡ position (has_name (named asker.now.dialogue asked.now)) entries.now) }
+    ensures dialogue { IfOk result
+        (λ p. p.dialogue ≡ position (has_name (named asker.now.dialogue asked.now)) entries.now) }
     ensures update { IfOk result (λ p. p.update ≡ position (has_name (named asker.now.update asked.now)) entries.now) }
 {
     let dialogue = LockName {
@@ -94,9 +96,11 @@ fn push_halves(
     request: &Request,
     places: &Places,
 ) -> Result<(), NoMemory>
-    requires dialogue { places.now.dialogue ≡ position (has_name (named asker.now.dialogue request.now.asked)) entries.now }
+    requires dialogue { places.now.dialogue ≡ position (has_name (named asker.now.dialogue request.now.asked))
+        entries.now }
     requires update { places.now.update ≡ position (has_name (named asker.now.update request.now.asked)) entries.now }
-    ensures { OnOk result (halves.new.items ≡ halves.old.items ++ map (half_at entries.now) (names.halves_of asker.now request.now)) }
+    ensures { OnOk result
+        (halves.new.items ≡ halves.old.items ++ map (half_at entries.now) (names.halves_of asker.now request.now)) }
 {
     if request.dialogue {
         let name = LockName {

@@ -64,7 +64,10 @@ pub fn free_one(entries: &mut Vec<Entry>, name: &LockName) -> bool
 /// Takes one from the entry at the place, which goes at 0.
 fn lower_at(entries: &mut Vec<Entry>, place: usize)
     requires { place < length entries.old.items }
-    ensures { (d : Entry) → entries.new.items ≡ take place entries.old.items ++ (lowered (slice_index_or entries.old.items place d) ++ drop (suc place) entries.old.items) }
+    ensures { (d : Entry)
+        → entries.new.items ≡ take place
+        entries.old.items ++ (lowered (slice_index_or entries.old.items place d) ++ drop (suc place)
+        entries.old.items) }
 {
     let entry = entries[place];
     if entry.count <= 1 {

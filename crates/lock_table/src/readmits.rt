@@ -13,8 +13,11 @@ use lock_entry::{AskFault, Asker, Entry, free_owner};
 pub fn test(limit: u32, entries: &[Entry], asker: &Asker, given: &[Entry]) -> Result<(), AskFault>
     requires within { length entries.now ≤ limit }
     requires owners { IsTrue (list_all (is_of asker.now.update) given.now) }
-    ensures granted { OnOk result (readmitted (record { entries = entries.now; limit = limit }) asker.now given.now ≡ Ok (freed_owner entries.now asker.now.update ++ given.now)) }
-    ensures refused { IfErr result (λ f. readmitted (record { entries = entries.now; limit = limit }) asker.now given.now ≡ Err f) }
+    ensures granted { OnOk result
+        (readmitted (record { entries = entries.now; limit = limit }) asker.now given.now ≡ Ok
+        (freed_owner entries.now asker.now.update ++ given.now)) }
+    ensures refused { IfErr result
+        (λ f. readmitted (record { entries = entries.now; limit = limit }) asker.now given.now ≡ Err f) }
 {
     match count_new(entries, asker, given) {
         Err(entry) => Err(AskFault::Foreign(entry)),

@@ -1,5 +1,5 @@
-//! The texts of the monitors: SM12 for the lock table, SM13 for update records, SNRO for intervals, AUDIT. And the lines of
-//! replies.
+//! The texts of the monitors: SM12 for the lock table, SM13 for update records, SNRO for intervals, AUDIT. And the
+//! lines of replies.
 #![tactic(auto)]
 
 mod lines;

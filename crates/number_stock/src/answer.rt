@@ -17,7 +17,8 @@ impl Drawn {
     }
 }
 
-/// A ticket that was drawn and didn't lie below the limit: the buffered numbers ran out. Ask again with it once the limit is raised.
+/// A ticket that was drawn and didn't lie below the limit: the buffered numbers ran out. Ask again with it once the
+/// limit is raised.
 #[derive(Drop)]
 pub struct Dry {
     pub(crate) ticket: u64,

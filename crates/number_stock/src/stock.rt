@@ -14,7 +14,8 @@ const NEXT_TICKET: usize = 0;
 // How many tickets may be answered.
 const LIMIT: usize = 1;
 
-/// A stock of numbers from a base on, buffered ahead of need: the number of a ticket is the base plus the ticket, which a draw fetches and adds one to. Nobody waits, and a number is answered to one seat alone.
+/// A stock of numbers from a base on, buffered ahead of need: the number of a ticket is the base plus the ticket, which
+/// a draw fetches and adds one to. Nobody waits, and a number is answered to one seat alone.
 #[derive(Drop)]
 pub struct Stock {
     base: u64,
@@ -29,7 +30,8 @@ impl Stock {
     ghost use Rattle.number_stock.specs.Rule.{opener, drew, IsUnanswered};
     ghost use Rattle.number_stock.specs.Seats.{hand, base_of, IsSeatOf};
 
-    /// A stock, and a seat that has all draws and the right to raise the limit. The limit counts tickets: those below it may be answered. An Err is want of memory.
+    /// A stock, and a seat that has all draws and the right to raise the limit. The limit counts tickets: those below
+    /// it may be answered. An Err is want of memory.
     pub fn new(
         alloc: Global,
         base: u64,
@@ -98,19 +100,22 @@ impl Stock {
             .fetch_max::<Raises>(&mut seat.seat, LIMIT, limit);
     }
 
-    /// Draws the next ticket. It is answered with its number if it lies below the limit that is loaded in this call; otherwise it is dry, and the seat keeps it. Takes no memory.
+    /// Draws the next ticket. It is answered with its number if it lies below the limit that is loaded in this call;
+    /// otherwise it is dry, and the seat keeps it. Takes no memory.
     pub fn draw(&self, seat: &mut StockSeat) -> Result<Drawn, Dry>
         requires own { IsSeatOf self.now seat.old }
         requires left { 0 < (hand seat.old).draws }
         ensures own { IsSeatOf self.now seat.new }
-        ensures drawn { (ticket : ℕ) × IsLook (base_of self.now) ticket (drew ticket (hand seat.old)) (hand seat.new) result }
+        ensures drawn { (ticket : ℕ)
+            × IsLook (base_of self.now) ticket (drew ticket (hand seat.old)) (hand seat.new) result }
         ensures dry { IfErr result (λ e. IsUnanswered (ticket_of e) (hand seat.new)) }
     {
         let ticket = self.fetch(seat);
         self.answer::<Brand>(seat, ticket)
     }
 
-    /// Asks again for a ticket that this seat drew and that was not answered, against the limit that is loaded in this call. Takes no memory.
+    /// Asks again for a ticket that this seat drew and that was not answered, against the limit that is loaded in this
+    /// call. Takes no memory.
     pub fn again(&self, seat: &mut StockSeat, dry: Dry) -> Result<Drawn, Dry>
         requires own { IsSeatOf self.now seat.old }
         requires unanswered { IsUnanswered (ticket_of dry) (hand seat.old) }
@@ -138,7 +143,8 @@ impl Stock {
         }
     }
 
-    /// The second seat has the stated draws, no ticket and no right to raise; the first keeps all else. Takes no memory.
+    /// The second seat has the stated draws, no ticket and no right to raise; the first keeps all else. Takes no
+    /// memory.
     pub fn split(&self, mut seat: StockSeat, draws: u32) -> (StockSeat, StockSeat)
         requires own { IsSeatOf self.now seat }
         requires enough { draws ≤ (hand seat).draws }
@@ -151,17 +157,20 @@ impl Stock {
 
     // Takes another seat in, and learns what all tickets together say of both.
     fn glue<N: Portion>(&self, seat: &mut Seat<u8, Hand>, other: Seat<u8, Hand>)
-        requires own { (seat.old.table_id ≡ self.now.table.shared.table_id) × (other.table_id ≡ self.now.table.shared.table_id) × (other.me.1 ≡ []) }
+        requires own { (seat.old.table_id ≡ self.now.table.shared.table_id)
+            × (other.table_id ≡ self.now.table.shared.table_id) × (other.me.1 ≡ []) }
         requires told { N.draws ≡ self.now.table.shared.key.0 }
         ensures own { (seat.new.table_id ≡ seat.old.table_id) × (seat.new.me.1 ≡ seat.old.me.1) }
         ensures both { seat.new.me.0 ≡ both_of seat.old.me.0 other.me.0 }
-        ensures learned { (seat.new.me.0.draws < 2 ^ 32) × IsDistinct seat.new.me.0.tickets × IsDistinct seat.new.me.0.answered × All (λ t. t < seat.new.me.0.limit) seat.new.me.0.answered }
+        ensures learned { (seat.new.me.0.draws < 2 ^ 32) × IsDistinct seat.new.me.0.tickets
+            × IsDistinct seat.new.me.0.answered × All (λ t. t < seat.new.me.0.limit) seat.new.me.0.answered }
     {
         self.table.shared.join_seat::<Glues>(seat, other);
         self.table.shared.load::<Learns<N>>(seat, NEXT_TICKET);
     }
 
-    /// One seat with the draws, the tickets and the right of both. None of these tickets is there twice, and those that were answered lie below the limit that it saw. Takes no memory.
+    /// One seat with the draws, the tickets and the right of both. None of these tickets is there twice, and those that
+    /// were answered lie below the limit that it saw. Takes no memory.
     pub fn join(&self, a: StockSeat, b: StockSeat) -> StockSeat
         requires own { IsSeatOf self.now a × IsSeatOf self.now b }
         ensures own { IsSeatOf self.now result }

@@ -7,7 +7,8 @@ use lock_entry::Entry;
 use replica_link::{Link, LinkFault, MemLink, TableOp};
 use std::alloc::Global;
 
-/// What a link hands over: what its replica has, or that without the last lock, with the first one once more, or from its end on.
+/// What a link hands over: what its replica has, or that without the last lock, with the first one once more, or from
+/// its end on.
 #[derive(Clone, Copy, Debug, PartialEq, Eq)]
 pub(crate) enum Hands {
     All,

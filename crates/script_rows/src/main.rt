@@ -2,8 +2,8 @@
 //! over devices in memory, and what it was answered is shown. The files `stdin` and `stdout` of this crate are the
 //! cases and what they have to show.
 //!
-//! A case begins with a line `== what it shows`, an empty store and an empty backup file, and the document that was given
-//! first. Then come lines that are done in their order; a line that begins with `#` is a remark.
+//! A case begins with a line `== what it shows`, an empty store and an empty backup file, and the document that was
+//! given first. Then come lines that are done in their order; a line that begins with `#` is a remark.
 //!
 //! | Line | What it does |
 //! |---|---|

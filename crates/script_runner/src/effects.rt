@@ -28,7 +28,8 @@ pub(crate) fn effect_with(
     key: &[u8],
     text: &[u8],
 ) -> Result<Effect, Refusal>
-    ensures { IsGivenBy (λ (effect : EffectView). effect) (effect_with side.now.side.variables verb table key.now text.now) result }
+    ensures { IsGivenBy (λ (effect : EffectView). effect)
+        (effect_with side.now.side.variables verb table key.now text.now) result }
 {
     let key = part_of(alloc, side, key)?;
     let text = part_of(alloc, side, text)?;

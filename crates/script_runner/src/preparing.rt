@@ -27,8 +27,8 @@ pub(crate) enum Prepared {
     Changed,
 }
 
-/// What a line comes to, with the memory for all that it makes before a call. A private side is changed only where there
-/// is no call.
+/// What a line comes to, with the memory for all that it makes before a call. A private side is changed only where
+/// there is no call.
 pub(crate) fn prepare(
     alloc: Global,
     objects: &[LockObject],
@@ -37,7 +37,9 @@ pub(crate) fn prepare(
 ) -> Result<Prepared, Refusal>
     requires part { has_part line.now ≡ true }
     requires replied { line_kind line.now ≡ LineKind.Replied }
-    ensures prepared { (hall : State) → IsPrepared (meaning (world objects.now hall sides.old.items) line.now) (grows line.now) sides.old.items sides.new.items result }
+    ensures prepared { (hall : State)
+        → IsPrepared (meaning (world objects.now hall sides.old.items) line.now) (grows line.now) sides.old.items
+        sides.new.items result }
     ensures room { HasRoomFor line.now result sides.new }
 {
     match line {
@@ -101,7 +103,9 @@ fn prepare_request(
     sides: &Sides,
 ) -> Result<Prepared, Refusal>
     requires { is_request_line line.now ≡ true }
-    ensures { (hall : State) → IsPrepared (meaning (world objects.now hall sides.now.items) line.now) (grows line.now) sides.now.items sides.now.items result }
+    ensures { (hall : State)
+        → IsPrepared (meaning (world objects.now hall sides.now.items) line.now) (grows line.now) sides.now.items
+        sides.now.items result }
 {
     match line {
         ScriptLine::Enq {
@@ -140,7 +144,9 @@ fn prepare_other_locks(
     sides: &mut Sides,
 ) -> Result<Prepared, Refusal>
     requires { is_other_lock_line line.now ≡ true }
-    ensures { (hall : State) → IsPrepared (meaning (world objects.now hall sides.old.items) line.now) (grows line.now) sides.old.items sides.new.items result }
+    ensures { (hall : State)
+        → IsPrepared (meaning (world objects.now hall sides.old.items) line.now) (grows line.now) sides.old.items
+        sides.new.items result }
 {
     match line {
         ScriptLine::Collect {
@@ -167,7 +173,9 @@ fn prepare_other_locks(
 /// A line that puts a text into a row.
 fn prepare_text(alloc: Global, line: &ScriptLine, sides: &mut Sides) -> Result<Prepared, Refusal>
     requires { is_text_line line.now ≡ true }
-    ensures { (objects : List Object) (hall : State) → IsPrepared (meaning (world objects hall sides.old.items) line.now) (grows line.now) sides.old.items sides.new.items result }
+    ensures { (objects : List Object) (hall : State)
+        → IsPrepared (meaning (world objects hall sides.old.items) line.now) (grows line.now) sides.old.items
+        sides.new.items result }
 {
     match line {
         ScriptLine::Put {
@@ -201,7 +209,9 @@ fn prepare_other_effect(
     sides: &mut Sides,
 ) -> Result<Prepared, Refusal>
     requires { is_other_effect_line line.now ≡ true }
-    ensures { (objects : List Object) (hall : State) → IsPrepared (meaning (world objects hall sides.old.items) line.now) (grows line.now) sides.old.items sides.new.items result }
+    ensures { (objects : List Object) (hall : State)
+        → IsPrepared (meaning (world objects hall sides.old.items) line.now) (grows line.now) sides.old.items
+        sides.new.items result }
 {
     match line {
         ScriptLine::Del {
@@ -229,7 +239,9 @@ fn prepare_other_effect(
 
 /// A logon, with the memory for a private side.
 fn log_on(sides: &mut Sides, session: Name, user: Name) -> Result<Prepared, Refusal>
-    ensures prepared { (objects : List Object) (hall : State) → IsPrepared (meaning (world objects hall sides.old.items) (line.Logon session user)) true sides.old.items sides.new.items result }
+    ensures prepared { (objects : List Object) (hall : State)
+        → IsPrepared (meaning (world objects hall sides.old.items) (line.Logon session user)) true sides.old.items
+        sides.new.items result }
     ensures room { HasRoomFor (line.Logon session user) result sides.new }
 {
     if sides.make_room().is_err() {
@@ -240,7 +252,9 @@ fn log_on(sides: &mut Sides, session: Name, user: Name) -> Result<Prepared, Refu
 
 /// A logoff.
 fn log_off(sides: &Sides, session: Name) -> Result<Prepared, Refusal>
-    ensures { (objects : List Object) (hall : State) → IsPrepared (meaning (world objects hall sides.now.items) (line.Logoff session)) false sides.now.items sides.now.items result }
+    ensures { (objects : List Object) (hall : State)
+        → IsPrepared (meaning (world objects hall sides.now.items) (line.Logoff session)) false sides.now.items
+        sides.now.items result }
 {
     if !sides.has_side(&session) {
         return Err(Refusal::UnknownSession);
@@ -250,7 +264,9 @@ fn log_off(sides: &Sides, session: Name) -> Result<Prepared, Refusal>
 
 /// A call that frees all locks of a session.
 fn free_all(sides: &Sides, session: Name) -> Result<Prepared, Refusal>
-    ensures { (objects : List Object) (hall : State) → IsPrepared (meaning (world objects hall sides.now.items) (line.DeqAll session)) false sides.now.items sides.now.items result }
+    ensures { (objects : List Object) (hall : State)
+        → IsPrepared (meaning (world objects hall sides.now.items) (line.DeqAll session)) false sides.now.items
+        sides.now.items result }
 {
     if !sides.has_side(&session) {
         return Err(Refusal::UnknownSession);
@@ -260,7 +276,9 @@ fn free_all(sides: &Sides, session: Name) -> Result<Prepared, Refusal>
 
 /// A rollback.
 fn roll_back(sides: &Sides, session: Name) -> Result<Prepared, Refusal>
-    ensures { (objects : List Object) (hall : State) → IsPrepared (meaning (world objects hall sides.now.items) (line.Rollback session)) false sides.now.items sides.now.items result }
+    ensures { (objects : List Object) (hall : State)
+        → IsPrepared (meaning (world objects hall sides.now.items) (line.Rollback session)) false sides.now.items
+        sides.now.items result }
 {
     if !sides.has_side(&session) {
         return Err(Refusal::UnknownSession);
@@ -270,7 +288,9 @@ fn roll_back(sides: &Sides, session: Name) -> Result<Prepared, Refusal>
 
 /// A call for all that a session has collected.
 fn flush(alloc: Global, sides: &Sides, session: Name) -> Result<Prepared, Refusal>
-    ensures { (objects : List Object) (hall : State) → IsPrepared (meaning (world objects hall sides.now.items) (line.Flush session)) true sides.now.items sides.now.items result }
+    ensures { (objects : List Object) (hall : State)
+        → IsPrepared (meaning (world objects hall sides.now.items) (line.Flush session)) true sides.now.items
+        sides.now.items result }
 {
     if !sides.has_side(&session) {
         return Err(Refusal::UnknownSession);
@@ -284,7 +304,9 @@ fn flush(alloc: Global, sides: &Sides, session: Name) -> Result<Prepared, Refusa
 
 /// A commit of the effects that a session has registered.
 fn commit(alloc: Global, sides: &Sides, session: Name) -> Result<Prepared, Refusal>
-    ensures { (objects : List Object) (hall : State) → IsPrepared (meaning (world objects hall sides.now.items) (line.Commit session)) true sides.now.items sides.now.items result }
+    ensures { (objects : List Object) (hall : State)
+        → IsPrepared (meaning (world objects hall sides.now.items) (line.Commit session)) true sides.now.items
+        sides.now.items result }
 {
     if !sides.has_side(&session) {
         return Err(Refusal::UnknownSession);
@@ -301,7 +323,9 @@ fn commit(alloc: Global, sides: &Sides, session: Name) -> Result<Prepared, Refus
 
 /// A call for a number of an interval, with the memory for the variable that it is for.
 fn draw(sides: &mut Sides, session: Name, object: Name, nr: [u8; 2]) -> Result<Prepared, Refusal>
-    ensures prepared { (objects : List Object) (hall : State) → IsPrepared (numbering (world objects hall sides.old.items) session object nr) true sides.old.items sides.new.items result }
+    ensures prepared { (objects : List Object) (hall : State)
+        → IsPrepared (numbering (world objects hall sides.old.items) session object nr) true sides.old.items
+        sides.new.items result }
     ensures room { OnOk result (1 ≤ variable_room sides.new session) }
 {
     if !sides.has_side(&session) {
@@ -325,7 +349,9 @@ fn read(
     table: Name,
     key: &[u8],
 ) -> Result<Prepared, Refusal>
-    ensures prepared { (objects : List Object) (hall : State) → IsPrepared (reading (world objects hall sides.old.items) session table key.now) true sides.old.items sides.new.items result }
+    ensures prepared { (objects : List Object) (hall : State)
+        → IsPrepared (reading (world objects hall sides.old.items) session table key.now) true sides.old.items
+        sides.new.items result }
     ensures room { OnOk result (1 ≤ variable_room sides.new session) }
 {
     let Some(side) = sides.side_of(&session) else {
@@ -347,7 +373,9 @@ fn read(
 
 /// Empties a session's container.
 fn empty(sides: &mut Sides, session: Name) -> Result<Prepared, Refusal>
-    ensures { (objects : List Object) (hall : State) → IsPrepared (meaning (world objects hall sides.old.items) (line.Reset session)) false sides.old.items sides.new.items result }
+    ensures { (objects : List Object) (hall : State)
+        → IsPrepared (meaning (world objects hall sides.old.items) (line.Reset session)) false sides.old.items
+        sides.new.items result }
 {
     if !sides.has_side(&session) {
         return Err(Refusal::UnknownSession);
@@ -367,7 +395,9 @@ fn enqueue(
     scope: Scope,
     values: &[RawValue],
 ) -> Result<Prepared, Refusal>
-    ensures { (hall : State) → IsPrepared (meaning (world objects.now hall sides.now.items) (line.Enq session object.now mode scope values.now)) true sides.now.items sides.now.items result }
+    ensures { (hall : State)
+        → IsPrepared (meaning (world objects.now hall sides.now.items)
+        (line.Enq session object.now mode scope values.now)) true sides.now.items sides.now.items result }
 {
     let Some(side) = sides.side_of(&session) else {
         return Err(Refusal::UnknownSession);
@@ -392,7 +422,9 @@ fn dequeue(
     scope: Scope,
     values: &[RawValue],
 ) -> Result<Prepared, Refusal>
-    ensures { (hall : State) → IsPrepared (meaning (world objects.now hall sides.now.items) (line.Deq session object.now mode scope values.now)) true sides.now.items sides.now.items result }
+    ensures { (hall : State)
+        → IsPrepared (meaning (world objects.now hall sides.now.items)
+        (line.Deq session object.now mode scope values.now)) true sides.now.items sides.now.items result }
 {
     let Some(side) = sides.side_of(&session) else {
         return Err(Refusal::UnknownSession);
@@ -417,7 +449,9 @@ fn collect(
     scope: Scope,
     values: &[RawValue],
 ) -> Result<Prepared, Refusal>
-    ensures { (hall : State) → IsPrepared (meaning (world objects.now hall sides.old.items) (line.Collect session object.now mode scope values.now)) true sides.old.items sides.new.items result }
+    ensures { (hall : State)
+        → IsPrepared (meaning (world objects.now hall sides.old.items)
+        (line.Collect session object.now mode scope values.now)) true sides.old.items sides.new.items result }
 {
     let Some(side) = sides.side_of(&session) else {
         return Err(Refusal::UnknownSession);
@@ -441,7 +475,9 @@ fn convert(
     object: &Name,
     values: &[RawValue],
 ) -> Result<Prepared, Refusal>
-    ensures { (hall : State) → IsPrepared (meaning (world objects.now hall sides.now.items) (line.Convert session object.now values.now)) true sides.now.items sides.now.items result }
+    ensures { (hall : State)
+        → IsPrepared (meaning (world objects.now hall sides.now.items) (line.Convert session object.now values.now))
+        true sides.now.items sides.now.items result }
 {
     let Some(side) = sides.side_of(&session) else {
         return Err(Refusal::UnknownSession);
@@ -468,7 +504,9 @@ fn effect(
 ) -> Result<Prepared, Refusal>
     requires part { (part ≡ 1) ⊎ (part ≡ 2) }
     requires nothing { verb ≡ Verb.Del → text.now ≡ [] }
-    ensures { (objects : List Object) (hall : State) → IsPrepared (meaning (world objects hall sides.old.items) (effect_line verb session part table key.now text.now)) true sides.old.items sides.new.items result }
+    ensures { (objects : List Object) (hall : State)
+        → IsPrepared (meaning (world objects hall sides.old.items)
+        (effect_line verb session part table key.now text.now)) true sides.old.items sides.new.items result }
 {
     let Some(side) = sides.side_of(&session) else {
         return Err(Refusal::UnknownSession);

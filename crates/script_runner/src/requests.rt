@@ -27,7 +27,8 @@ pub(crate) fn requests_of(
     scope: Scope,
     values: &[RawValue],
 ) -> Result<Vec<Request>, Refusal>
-    ensures { IsGivenBy (λ (v : Vec Request). v.items) (requesting side.now.side.variables objects.now object.now mode scope values.now) result }
+    ensures { IsGivenBy (λ (v : Vec Request). v.items)
+        (requesting side.now.side.variables objects.now object.now mode scope values.now) result }
 {
     let asked = asked_of(alloc, side, objects, object, mode, values)?;
     match in_scope(alloc, scope, asked.as_slice()) {
@@ -45,7 +46,8 @@ pub(crate) fn asked_of(
     mode: Mode,
     values: &[RawValue],
 ) -> Result<Vec<Asked>, Refusal>
-    ensures { IsGivenBy (λ (v : Vec Asked). v.items) (asking side.now.side.variables objects.now object.now mode values.now) result }
+    ensures { IsGivenBy (λ (v : Vec Asked). v.items)
+        (asking side.now.side.variables objects.now object.now mode values.now) result }
 {
     let values = field_values(alloc, side, values)?;
     asked_at(alloc, objects, object, mode, values.as_slice())

@@ -78,8 +78,8 @@ const GRANTED: &[u8] = b"1 OK\n2 OK\n3 ";
 
 const BARRED: &[u8] = b"1 OK\n2 FOREIGN_LOCK MILLER ZORDER 1000000000001\n3 ";
 
-// Whether the unit waits for its V1 part behind what was answered. The store kept what it failed in, or not; where it failed
-// in the post nothing tells whether that was in a read.
+// Whether the unit waits for its V1 part behind what was answered. The store kept what it failed in, or not; where it
+// failed in the post nothing tells whether that was in a read.
 fn waits(replies: &[u8], kept: bool) -> Option<bool> {
     if contains(replies, b"\n6 POSTED 1.1.1\n") || contains(replies, b"\n6 BACKUP_FAULT\n") {
         return Some(false);

@@ -1,6 +1,6 @@
-//! Tests of scripts that look at more than their replies and what they leave: at the history, at what is read of a device, at
-//! a hall that is handed in, at the images that a crash may leave, and at the texts around a script. All others are text, in
-//! `script_rows`.
+//! Tests of scripts that look at more than their replies and what they leave: at the history, at what is read of a
+//! device, at a hall that is handed in, at the images that a crash may leave, and at the texts around a script. All
+//! others are text, in `script_rows`.
 #![tactic(auto)]
 
 #[cfg(test)]

@@ -6,8 +6,8 @@ use std::alloc::Global;
 use std::process::Abort;
 use std::test::*;
 
-// The words of a command line, which writes fail, how the program then ends, after so many calls of the hall, and what it
-// has written.
+// The words of a command line, which writes fail, how the program then ends, after so many calls of the hall, and what
+// it has written.
 struct Row {
     words: &'static [u8],
     writes: &'static [u64],

@@ -36,7 +36,8 @@ impl Model for SortedRows {
       made = changed a.waiting.items (rows_of a.tables.items);
     } };
 
-    ghost invariant = { λ a. AreSorted (entries_from 0 a.tables.items) × HasRoom (length a.waiting.items) a.waiting.items a.tables.items };
+    ghost invariant = { λ a. AreSorted (entries_from 0 a.tables.items)
+        × HasRoom (length a.waiting.items) a.waiting.items a.tables.items };
 }
 
 impl SortedRows {

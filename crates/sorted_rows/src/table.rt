@@ -36,13 +36,15 @@ fn is_at(row: &Row, key: &[u8]) -> bool
 fn count_before(rows: &[Row], key: &[u8]) -> usize
     ensures within { result ≤ length rows.now }
     ensures parted { IsPartitionedBy (λ row. is_below row.key key.now) rows.now
-        → IsPartitionPoint (λ row. is_below row.key key.now ≡ true) (λ row. is_below row.key key.now ≡ false) rows.now result }
+        → IsPartitionPoint (λ row. is_below row.key key.now ≡ true)
+        (λ row. is_below row.key key.now ≡ false) rows.now result }
 {
     rows.partition_point(|row| is_before(row, key))
 }
 
 fn place_of(rows: &[Row], key: &[u8]) -> Place
-    ensures place { (table : ℕ) → AreSorted (entries_in table rows.now) → result ≡ place_in (table, key.now) (entries_in table rows.now) }
+    ensures place { (table : ℕ) → AreSorted (entries_in table rows.now)
+        → result ≡ place_in (table, key.now) (entries_in table rows.now) }
     ensures inside { IsInside (length rows.now) result }
 {
     let count = count_before(rows, key);
@@ -82,7 +84,8 @@ fn count_through(rows: &[Row], key: &[u8]) -> usize
 /// The first `n` rows behind a key.
 pub fn page_behind(alloc: Global, rows: &[Row], after: &[u8], n: u32) -> Result<Vec<Row>, NoMemory>
     ensures { (table : ℕ) → AreSorted (entries_in table rows.now)
-        → IfOk result (λ page. page.items ≡ take n (map row_of (filter (is_behind table after.now) (entries_in table rows.now)))) }
+        → IfOk result (λ page. page.items ≡ take n
+        (map row_of (filter (is_behind table after.now) (entries_in table rows.now)))) }
 {
     let behind = &rows[count_through(rows, after)..];
     if behind.len() <= n as usize {
@@ -109,7 +112,8 @@ pub fn put_row(rows: &mut Vec<Row>, key: Bytes, value: Bytes)
 
 pub fn remove_row(rows: &mut Vec<Row>, key: &[u8])
     ensures gone { (table : ℕ) → AreSorted (entries_in table rows.old.items)
-        → entries_in table rows.new.items ≡ where_key spot_cmp (λ k. not (eq_by_cmp spot_cmp (table, key.now) k)) (entries_in table rows.old.items) }
+        → entries_in table rows.new.items ≡ where_key spot_cmp
+        (λ k. not (eq_by_cmp spot_cmp (table, key.now) k)) (entries_in table rows.old.items) }
     ensures less { vec_len rows.new ≤ vec_len rows.old }
     ensures room { vec_capacity rows.old ≤ vec_capacity rows.new }
 {

@@ -21,8 +21,12 @@ type Tables = Vec<Vec<Row>>;
 /// The rows of a table, or none.
 pub fn rows_in(tables: &[Vec<Row>], table: u8) -> &[Row]
     ensures sorted { AreSorted (entries_from 0 tables.now) → AreSorted (entries_in table result.now) }
-    ensures values { (key : List ℕ) → find spot_cmp (table, key) (entries_from 0 tables.now) ≡ find spot_cmp (table, key) (entries_in table result.now) }
-    ensures behind { (after : List ℕ) → filter (is_behind table after) (entries_from 0 tables.now) ≡ filter (is_behind table after) (entries_in table result.now) }
+    ensures values { (key : List ℕ)
+        → find spot_cmp (table, key) (entries_from 0 tables.now) ≡ find spot_cmp (table, key)
+        (entries_in table result.now) }
+    ensures behind { (after : List ℕ)
+        → filter (is_behind table after) (entries_from 0 tables.now) ≡ filter (is_behind table after)
+        (entries_in table result.now) }
 {
     let number = table as usize;
     if number >= tables.len() {
@@ -45,7 +49,8 @@ fn put_into(tables: &mut Tables, table: u8, key: Bytes, value: Bytes)
 fn remove_from(tables: &mut Tables, table: u8, key: &[u8])
     requires sorted { AreSorted (entries_from 0 tables.old.items) }
     requires room { HasPlace 1 table tables.old.items }
-    ensures gone { entries_from 0 tables.new.items ≡ where_key spot_cmp (λ k. not (eq_by_cmp spot_cmp (table, key.now) k)) (entries_from 0 tables.old.items) }
+    ensures gone { entries_from 0 tables.new.items ≡ where_key spot_cmp
+        (λ k. not (eq_by_cmp spot_cmp (table, key.now) k)) (entries_from 0 tables.old.items) }
     ensures room { (n other : ℕ) → HasPlace (n + 1) other tables.old.items → HasPlace n other tables.new.items }
 {
     let number = table as usize;

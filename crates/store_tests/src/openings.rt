@@ -162,8 +162,8 @@ fn mark_cases() -> [Case; 5] {
     ]
 }
 
-/// A unit lacks its effect, no mark records a header, a unit has an effect or a lock more, and nothing posted a business
-/// row.
+/// A unit lacks its effect, no mark records a header, a unit has an effect or a lock more, and nothing posted a
+/// business row.
 fn row_cases() -> [Case; 6] {
     let [_, header, ..] = good();
     [

@@ -3,6 +3,7 @@ ghost use Rattle.replica_link.specs.Operations.{replica};
 
 use enq_base::{Owner, Pattern, UnitKey, read_name};
 use lock_entry::{Entry, Mode};
+use lock_index::IndexLink;
 use replica_link::{Link, LinkFault, MemLink, TableOp, apply_op};
 use std::alloc::Global;
 use std::process::Abort;
@@ -98,7 +99,7 @@ fn turn_of(row: Row) -> Result<TableOp, Fail> {
     })
 }
 
-/// Tests what an operation makes of a list.
+/// Tests what an operation makes of a list, and of a replica.
 fn check(
     rt: &impl Abort,
     alloc: Global,
@@ -110,6 +111,10 @@ fn check(
     apply_op(alloc, &mut list, &op)?;
     let wanted = list_of(alloc, after)?;
     assert_eq!(rt; list.as_slice(), wanted.as_slice(), "{op:?}");
+    let snapshot = list_of(alloc, before)?;
+    let mut link = IndexLink::new(alloc);
+    let given = given_after(alloc, &mut link, snapshot.as_slice(), &[op])?;
+    assert_eq!(rt; given.as_slice(), wanted.as_slice(), "{op:?}");
     Ok(())
 }
 
@@ -147,6 +152,22 @@ fn a_link_gives_the_snapshot_after_what_was_shipped(rt: HostRuntime) -> Result<(
     let mut link = MemLink::new(alloc, Vec::new(alloc))?;
     let list = given_after(alloc, &mut link, snapshot.as_slice(), &ops)?;
     assert_eq!(rt; list.as_slice(), wanted.as_slice());
+    let mut link = IndexLink::new(alloc);
+    let list = given_after(alloc, &mut link, snapshot.as_slice(), &ops)?;
+    assert_eq!(rt; list.as_slice(), wanted.as_slice());
+    Ok(())
+}
+
+#[test]
+fn an_index_takes_no_snapshot_with_a_name_twice(rt: HostRuntime) -> Result<(), Fail> {
+    let alloc = rt.alloc();
+    let mut link = IndexLink::new(alloc);
+    let snapshot = list_of(alloc, &[EXCLUSIVE, FOREIGN, HANDED])?;
+    let fault = given_after(alloc, &mut link, snapshot.as_slice(), &[]).err();
+    assert_eq!(rt; fault, Some(LinkFault::Failed));
+    let snapshot = list_of(alloc, &[FOREIGN, HANDED])?;
+    let list = given_after(alloc, &mut link, snapshot.as_slice(), &[])?;
+    assert_eq!(rt; list.as_slice(), snapshot.as_slice());
     Ok(())
 }
 

@@ -97,17 +97,20 @@ fn take_by_two<R: Threads + Wait + Sync>(
         rt,
         || -> (Pass<Count>, u64)
             requires { IsPassOf lock.now one }
-            ensures { IsPassOf lock.entry.now result.0 × ((known result.0).parts ≡ (known one).parts) × AddedEntries one result.0 result.1 × (result.1 ≤ turns) }
+            ensures { IsPassOf lock.entry.now result.0 × ((known result.0).parts ≡ (known one).parts)
+                × AddedEntries one result.0 result.1 × (result.1 ≤ turns) }
         { take_turns(rt, lock, one, turns) },
         || -> (Pass<Count>, u64)
             requires { IsPassOf lock.now two }
-            ensures { IsPassOf lock.entry.now result.0 × ((known result.0).parts ≡ (known two).parts) × AddedEntries two result.0 result.1 × (result.1 ≤ turns) }
+            ensures { IsPassOf lock.entry.now result.0 × ((known result.0).parts ≡ (known two).parts)
+                × AddedEntries two result.0 result.1 × (result.1 ≤ turns) }
         { take_turns(rt, lock, two, turns) },
     );
     (lock.join(one, two), first + second)
 }
 
-/// Four threads take as many turns each as stated. The state counted each turn that was answered, once. None is want of memory.
+/// Four threads take as many turns each as stated. The state counted each turn that was answered, once. None is want of
+/// memory.
 pub fn turns_by_four<R: Threads + Wait + Sync>(rt: &R, alloc: Global, turns: u32) -> Option<Counted>
     ensures { IfSome result (λ c. c.turns ≡ c.answered) }
 {
@@ -120,11 +123,13 @@ pub fn turns_by_four<R: Threads + Wait + Sync>(rt: &R, alloc: Global, turns: u32
         rt,
         || -> (Pass<Count>, u64)
             requires { IsPassOf shared.now one × ((known one).parts ≡ 2) }
-            ensures { IsPassOf shared.entry.now result.0 × ((known result.0).parts ≡ 2) × AddedEntries one result.0 result.1 × (result.1 ≤ 2 * turns) }
+            ensures { IsPassOf shared.entry.now result.0 × ((known result.0).parts ≡ 2)
+                × AddedEntries one result.0 result.1 × (result.1 ≤ 2 * turns) }
         { take_by_two(rt, shared, one, turns) },
         || -> (Pass<Count>, u64)
             requires { IsPassOf shared.now two × ((known two).parts ≡ 2) }
-            ensures { IsPassOf shared.entry.now result.0 × ((known result.0).parts ≡ 2) × AddedEntries two result.0 result.1 × (result.1 ≤ 2 * turns) }
+            ensures { IsPassOf shared.entry.now result.0 × ((known result.0).parts ≡ 2)
+                × AddedEntries two result.0 result.1 × (result.1 ≤ 2 * turns) }
         { take_by_two(rt, shared, two, turns) },
     );
     let pass = lock.join(one, two);

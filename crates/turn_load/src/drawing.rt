@@ -59,11 +59,15 @@ fn draw_by_two<R: Threads + Sync>(
         rt,
         || -> (StockSeat, Tally)
             requires { IsSeatOf stock.now one × (each ≤ (hand one).draws) }
-            ensures { IsSeatOf stock.entry.now result.0 × (length (hand result.0).answered ≡ length (hand one).answered + result.1.count) × (result.1.count ≤ each) }
+            ensures { IsSeatOf stock.entry.now result.0
+                × (length (hand result.0).answered ≡ length (hand one).answered + result.1.count)
+                × (result.1.count ≤ each) }
         { draw_alone(stock, one, each) },
         || -> (StockSeat, Tally)
             requires { IsSeatOf stock.now two × (each ≤ (hand two).draws) }
-            ensures { IsSeatOf stock.entry.now result.0 × (length (hand result.0).answered ≡ length (hand two).answered + result.1.count) × (result.1.count ≤ each) }
+            ensures { IsSeatOf stock.entry.now result.0
+                × (length (hand result.0).answered ≡ length (hand two).answered + result.1.count)
+                × (result.1.count ≤ each) }
         { draw_alone(stock, two, each) },
     );
     (stock.join(one, two), both(first, second))

@@ -1,4 +1,5 @@
-//! A load on the ticket lock and on the number stock, for measuring: four threads that take turns, four threads that draw from one stock, or one thread that draws as much.
+//! A load on the ticket lock and on the number stock, for measuring: four threads that take turns, four threads that
+//! draw from one stock, or one thread that draws as much.
 #![tactic(auto)]
 
 ghost use Rattle.std.specs.Prelude.{◌≤◌};

@@ -28,7 +28,8 @@ const PAUSES: u32 = 64;
 // How often a caller looks for its turn before it yields the processor.
 const SPINS: u32 = 100;
 
-/// A ticket lock round a state: callers are served in the order of their tickets, one at a time. It has to be closed: it isn't dropped.
+/// A ticket lock round a state: callers are served in the order of their tickets, one at a time. It has to be closed:
+/// it isn't dropped.
 pub struct TurnLock<S: History> {
     table: Table<Option<S>, View<S::Entry>, (u32, Snapshot<S>), Turns<S>, Global>,
     ghost sized: { (table.shared.table_id.words ≡ 2) × (table.shared.table_id.slots ≡ 1) },
@@ -84,7 +85,8 @@ impl<S: History> TurnLock<S> {
         requires own { seat.old.table_id ≡ self.now.table.shared.table_id }
         requires waits { (seat.old.me.0.turn ≡ Waits ticket) × (seat.old.me.1 ≡ []) × (0 < seat.old.me.0.parts) }
         ensures own { seat.new.table_id ≡ seat.old.table_id }
-        ensures looked { MatchBool result (IsServed S.past ticket seat.old.me.0 seat.new.me) (seat.new.me ≡ seat.old.me) }
+        ensures looked { MatchBool result (IsServed S.past ticket seat.old.me.0 seat.new.me)
+            (seat.new.me ≡ seat.old.me) }
     {
         self.table.shared.load::<Looks<S>>(seat, NOW_SERVING) == ticket
     }
@@ -94,7 +96,8 @@ impl<S: History> TurnLock<S> {
         requires own { seat.old.table_id ≡ self.now.table.shared.table_id }
         requires waits { (seat.old.me.0.turn ≡ Waits ticket) × (seat.old.me.1 ≡ []) × (0 < seat.old.me.0.parts) }
         ensures own { seat.new.table_id ≡ seat.old.table_id }
-        ensures looked { MatchBool result (IsServed S.past ticket seat.old.me.0 seat.new.me) (seat.new.me ≡ seat.old.me) }
+        ensures looked { MatchBool result (IsServed S.past ticket seat.old.me.0 seat.new.me)
+            (seat.new.me ≡ seat.old.me) }
     {
         for _ in 0..SPINS {
             if self.try_enter(seat, ticket) {
@@ -151,13 +154,16 @@ impl<S: History> TurnLock<S> {
             .fetch_add::<Gives<S>>(seat, NOW_SERVING, 1);
     }
 
-    /// One turn: takes a ticket, waits until it is served, runs the act once while this pass holds the state alone, and serves the next ticket by a fetch-and-add. It waits for ever after 2^64 - 1 tickets, or where a pass that holds an earlier one never ends its act.
-    /// The pass has then seen the state's whole history, and what the act added to it counts as the pass's own.
+    /// One turn: takes a ticket, waits until it is served, runs the act once while this pass holds the state alone, and
+    /// serves the next ticket by a fetch-and-add. It waits for ever after 2^64 - 1 tickets, or where a pass that holds
+    /// an earlier one never ends its act. The pass has then seen the state's whole history, and what the act added to
+    /// it counts as the pass's own.
     pub fn with<W: Wait, B, A: Act<S, B>>(&self, rt: &W, pass: &mut Pass<S>, act: &mut A) -> B
         requires own { IsPassOf self.now pass.old }
         requires can { (x : S) → IsPrefix (known pass.old).seen (S.past x) → A.can act.old x }
         ensures own { IsPassOf self.now pass.new }
-        ensures ran { IsTurn S.past (λ before after. A.does act.old before act.new after result) (known pass.old) (known pass.new) }
+        ensures ran { IsTurn S.past
+            (λ before after. A.does act.old before act.new after result) (known pass.old) (known pass.new) }
     {
         let ticket = self.take_ticket(rt, &mut pass.seat);
         let mut state = self.enter(rt, &mut pass.seat, ticket);
@@ -176,10 +182,12 @@ impl<S: History> TurnLock<S> {
     ghost use Rattle.turn_lock.specs.Rule.{opener, kept_of, given_of, both_of, own_entries, IsSound};
     ghost use Rattle.turn_lock.specs.Passes.{known, IsPassOf, all_parts};
 
-    /// A lock round the state, with a pass that has all parts, at least one. The entries that the state has count as this pass's own. An Err is want of memory, and gives the state back.
+    /// A lock round the state, with a pass that has all parts, at least one. The entries that the state has count as
+    /// this pass's own. An Err is want of memory, and gives the state back.
     pub fn new(alloc: Global, state: S, parts: u32) -> Result<(TurnLock<S>, Pass<S>), S>
         requires { 0 < parts }
-        ensures ok { IfOk result (λ r. IsPassOf r.0 r.1 × (all_parts r.0 ≡ parts) × (known r.1 ≡ opener parts (S.past state))) }
+        ensures ok { IfOk result
+            (λ r. IsPassOf r.0 r.1 × (all_parts r.0 ≡ parts) × (known r.1 ≡ opener parts (S.past state))) }
         ensures own { IfOk result (λ r. own_entries (known r.1) ≡ S.past state) }
         ensures err { IfErr result (λ s. s ≡ state) }
     {
@@ -209,13 +217,15 @@ impl<S: History> TurnLock<S> {
         requires told { N.parts ≡ parts }
         requires parts { (0 < parts) × (parts < seat.old.me.0.parts) }
         ensures own { (seat.new.table_id ≡ seat.old.table_id) × (result.table_id ≡ seat.old.table_id) }
-        ensures cut { (seat.new.me ≡ (kept_of parts seat.old.me.0, seat.old.me.1)) × (result.me ≡ (given_of parts seat.old.me.0, [])) }
+        ensures cut { (seat.new.me ≡ (kept_of parts seat.old.me.0, seat.old.me.1))
+            × (result.me ≡ (given_of parts seat.old.me.0, [])) }
     {
         let _ = parts;
         self.table.shared.split_seat::<Cuts<N>>(seat)
     }
 
-    /// The second pass has the stated parts, at least one and fewer than the pass has. It has seen as much as the first, and has no entries of its own. Takes no memory.
+    /// The second pass has the stated parts, at least one and fewer than the pass has. It has seen as much as the
+    /// first, and has no entries of its own. Takes no memory.
     pub fn split(&self, pass: Pass<S>, parts: u32) -> (Pass<S>, Pass<S>)
         requires own { IsPassOf self.now pass }
         requires parts { (0 < parts) × (parts < (known pass).parts) }
@@ -233,7 +243,8 @@ impl<S: History> TurnLock<S> {
         seat: &mut Seat<Option<S>, View<S::Entry>>,
         other: Seat<Option<S>, View<S::Entry>>,
     )
-        requires own { (seat.old.table_id ≡ self.now.table.shared.table_id) × (other.table_id ≡ self.now.table.shared.table_id) × (other.me.1 ≡ []) }
+        requires own { (seat.old.table_id ≡ self.now.table.shared.table_id)
+            × (other.table_id ≡ self.now.table.shared.table_id) × (other.me.1 ≡ []) }
         requires told { N.parts ≡ all_parts self.now }
         requires rest { (seat.old.me.0.turn ≡ Rests) × (other.me.0.turn ≡ Rests) × (0 < seat.old.me.0.parts) }
         ensures own { seat.new.table_id ≡ seat.old.table_id }
@@ -244,7 +255,8 @@ impl<S: History> TurnLock<S> {
         self.table.shared.load::<Learns<N>>(seat, NEXT_TICKET);
     }
 
-    /// One pass with the parts and the entries of both. The shorter of what they saw begins the longer, and no entry is twice its own. Takes no memory.
+    /// One pass with the parts and the entries of both. The shorter of what they saw begins the longer, and no entry is
+    /// twice its own. Takes no memory.
     pub fn join(&self, a: Pass<S>, b: Pass<S>) -> Pass<S>
         requires own { IsPassOf self.now a × IsPassOf self.now b }
         ensures own { IsPassOf self.now result }
@@ -259,7 +271,8 @@ impl<S: History> TurnLock<S> {
         Pass { seat }
     }
 
-    /// Ends the lock with the pass that has all parts again, and gives the state. The pass saw its whole history, and the pass's own entries are that history, each once.
+    /// Ends the lock with the pass that has all parts again, and gives the state. The pass saw its whole history, and
+    /// the pass's own entries are that history, each once.
     pub fn close(self, pass: Pass<S>) -> S
         requires own { IsPassOf self pass }
         requires all { (known pass).parts ≡ all_parts self }

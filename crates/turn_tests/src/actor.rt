@@ -19,7 +19,9 @@ impl<S: History, A: Act<S, bool> + Drop> Actor<S, A> {
         requires can { (x : S) → A.can self.old.act x }
         ensures own { IsPassOf lock.now self.new.pass }
         ensures parts { (known self.new.pass).parts ≡ (known self.old.pass).parts }
-        ensures ran { IsTurn S.past (λ before after. A.does self.old.act before self.new.act after self.new.answer) (known self.old.pass) (known self.new.pass) }
+        ensures ran { IsTurn S.past
+            (λ before after. A.does self.old.act before self.new.act after self.new.answer) (known self.old.pass)
+            (known self.new.pass) }
     {
         self.answer = lock.with(rt, &mut self.pass, &mut self.act);
     }

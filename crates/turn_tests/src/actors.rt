@@ -21,7 +21,8 @@ pub fn run_actors<S: History + Send, A: Act<S, bool> + Drop + Send, R: Threads +
     requires can { All (λ j. (x : S) → A.can j.act x) actors.old }
     ensures own { All (λ j. IsPassOf lock.now j.pass) actors.new }
     ensures parts { sum_by (λ a. (known a.pass).parts) actors.new ≡ sum_by (λ a. (known a.pass).parts) actors.old }
-    ensures ran { (i : ℕ) (d : _) → i < length actors.old → HasActed A.does (slice_index_or actors.old i d) (slice_index_or actors.new i d) }
+    ensures ran { (i : ℕ) (d : _) → i < length actors.old
+        → HasActed A.does (slice_index_or actors.old i d) (slice_index_or actors.new i d) }
 {
     thread::for_each_mut(
         rt,
@@ -29,7 +30,9 @@ pub fn run_actors<S: History + Send, A: Act<S, bool> + Drop + Send, R: Threads +
         8,
         &|_: usize, actor: &mut Actor<S, A>|
             requires { IsPassOf lock.now actor.now.pass × ((x : S) → A.can actor.now.act x) }
-            ensures { IsPassOf lock.entry.now actor.exit.now.pass × ((known actor.exit.now.pass).parts ≡ (known actor.entry.now.pass).parts) × HasActed A.does actor.entry.now actor.exit.now }
+            ensures { IsPassOf lock.entry.now actor.exit.now.pass
+                × ((known actor.exit.now.pass).parts ≡ (known actor.entry.now.pass).parts)
+                × HasActed A.does actor.entry.now actor.exit.now }
         { actor.run(rt, lock) },
     );
 }

@@ -182,12 +182,14 @@ fn draw_beside<R: Threads + Wait + Sync>(
         { hold_turn(rt, lock, turn, gauges, writer, shown) },
         || -> (Drawn, Drawn)
             requires { CanDraw stock.now gauges.now each one × CanDraw stock.now gauges.now each two }
-            ensures { Drew stock.entry.now one.0 result.0.seat result.0.numbers.items × Drew stock.entry.now two.0 result.1.seat result.1.numbers.items }
+            ensures { Drew stock.entry.now one.0 result.0.seat result.0.numbers.items
+                × Drew stock.entry.now two.0 result.1.seat result.1.numbers.items }
         { draw_after(rt, stock, gauges, one, two, alloc, each, shown) },
     )
 }
 
-/// Two threads draw as often as stated each, and look after each draw, while this one holds the turn and publishes. No number is drawn twice. None where memory ran out, or the others weren't done while the turn was held.
+/// Two threads draw as often as stated each, and look after each draw, while this one holds the turn and publishes. No
+/// number is drawn twice. None where memory ran out, or the others weren't done while the turn was held.
 pub fn draw_under_turn<R: Threads + Wait + Sync>(
     rt: &R,
     alloc: Global,

@@ -1,4 +1,5 @@
-//! Clients of the ticket lock, the number stock and the gauges: threads that note numbers in one history, threads that draw and look while another holds the turn, and readings that are seen to rise.
+//! Clients of the ticket lock, the number stock and the gauges: threads that note numbers in one history, threads that
+//! draw and look while another holds the turn, and readings that are seen to rise.
 #![tactic(auto)]
 
 mod actor;

@@ -40,7 +40,8 @@ impl Act<Notes, bool> for NoteNumber {
 
     ghost can = { λ a s. ⊤ };
 
-    ghost does = { λ a s b t ok. (b.number ≡ a.number) × MatchBool ok (t.numbers.items ≡ s.numbers.items ++ a.number ∷ []) (t.numbers.items ≡ s.numbers.items) };
+    ghost does = { λ a s b t ok. (b.number ≡ a.number)
+        × MatchBool ok (t.numbers.items ≡ s.numbers.items ++ a.number ∷ []) (t.numbers.items ≡ s.numbers.items) };
 
     fn act(&mut self, state: &mut Notes) -> bool {
         state.numbers.push(self.number).is_ok()

@@ -40,7 +40,8 @@ impl<J: Origin> Act<Opened<J>, bool> for Put {
 
     ghost can = { λ a s. ⊤ };
 
-    ghost does = { λ a s b t ok. MatchBool ok (t.noted.items ≡ s.noted.items ++ a.number ∷ []) (t.noted.items ≡ s.noted.items) };
+    ghost does = { λ a s b t ok. MatchBool ok (t.noted.items ≡ s.noted.items ++ a.number ∷ [])
+        (t.noted.items ≡ s.noted.items) };
 
     fn act(&mut self, state: &mut Opened<J>) -> bool {
         state.noted.push(self.number).is_ok()

@@ -63,11 +63,13 @@ pub fn note_both<R: Threads + Wait + Sync>(
         rt,
         || -> (Pass<Notes>, bool)
             requires { IsPassOf shared.now one }
-            ensures { IsPassOf shared.entry.now result.0 × ((known result.0).parts ≡ (known one).parts) × NotedOne one result.0 a result.1 }
+            ensures { IsPassOf shared.entry.now result.0 × ((known result.0).parts ≡ (known one).parts)
+                × NotedOne one result.0 a result.1 }
         { note_as(rt, shared, one, a) },
         || -> (Pass<Notes>, bool)
             requires { IsPassOf shared.now two }
-            ensures { IsPassOf shared.entry.now result.0 × ((known result.0).parts ≡ (known two).parts) × NotedOne two result.0 b result.1 }
+            ensures { IsPassOf shared.entry.now result.0 × ((known result.0).parts ≡ (known two).parts)
+                × NotedOne two result.0 b result.1 }
         { note_as(rt, shared, two, b) },
     );
     let (one, noted_one) = first;

@@ -20,7 +20,14 @@ use update_records::Unit;
 /// The numbers 1 to 99 of STAT, drawn up to this level.
 pub fn interval_at(level: u64) -> Result<StoredInterval, Fail>
     ensures { IfOk result (λ interval. interval
-        ≡ record { object = 83 ∷ 84 ∷ 65 ∷ 84 ∷ []; nr = 48 ∷ 49 ∷ []; from = 1; to = 99; level = level; buffered = false }) }
+        ≡ record {
+          object = 83 ∷ 84 ∷ 65 ∷ 84 ∷ [];
+          nr = 48 ∷ 49 ∷ [];
+          from = 1;
+          to = 99;
+          level = level;
+          buffered = false;
+        }) }
 {
     let object = name_of(b"STAT")?;
     Ok(StoredInterval {
@@ -36,7 +43,8 @@ pub fn interval_at(level: u64) -> Result<StoredInterval, Fail>
 /// The first two numbers of STAT.
 fn first_numbers() -> Result<[Num; 2], Fail>
     ensures { IfOk result (λ numbers. numbers
-        ≡ record { object = 83 ∷ 84 ∷ 65 ∷ 84 ∷ []; nr = 48 ∷ 49 ∷ []; number = 1 } ∷ record { object = 83 ∷ 84 ∷ 65 ∷ 84 ∷ []; nr = 48 ∷ 49 ∷ []; number = 2 } ∷ []) }
+        ≡ record { object = 83 ∷ 84 ∷ 65 ∷ 84 ∷ []; nr = 48 ∷ 49 ∷ []; number = 1 }
+        ∷ record { object = 83 ∷ 84 ∷ 65 ∷ 84 ∷ []; nr = 48 ∷ 49 ∷ []; number = 2 } ∷ []) }
 {
     let object = name_of(b"STAT")?;
     let first = Num {
@@ -85,7 +93,9 @@ pub fn draw(alloc: Global, books: &mut Books<MemKeeper>, unit: &UnitKey) -> Resu
 
 /// A lock of MILLER that was handed to a unit.
 pub fn lock_of(unit: &UnitKey) -> Result<Entry, Fail>
-    ensures { IfOk result (λ (entry : LockEntry). (of : UnitOfWork) → of.key ≡ unit.now → of.user ≡ 77 ∷ 73 ∷ 76 ∷ 76 ∷ 69 ∷ 82 ∷ [] → IsHeldBy of entry) }
+    ensures { IfOk result
+        (λ (entry : LockEntry). (of : UnitOfWork) → of.key ≡ unit.now → of.user ≡ 77 ∷ 73 ∷ 76 ∷ 76 ∷ 69 ∷ 82 ∷ []
+        → IsHeldBy of entry) }
 {
     let (user, table) = (name_of(b"MILLER")?, name_of(b"T")?);
     let Some(pattern) = Pattern::new(b"1@") else {
@@ -107,7 +117,8 @@ fn locked_unit(alloc: Global, key: &UnitKey, parts: Parts) -> Result<Unit, Fail>
     ensures key { IfOk result (λ unit. unit.key ≡ key.now) }
     ensures parts { IfOk result (λ unit. unit.parts ≡ parts) }
     ensures numbers { IfOk result (λ unit. unit.numbers
-        ≡ record { object = 83 ∷ 84 ∷ 65 ∷ 84 ∷ []; nr = 48 ∷ 49 ∷ []; number = 1 } ∷ record { object = 83 ∷ 84 ∷ 65 ∷ 84 ∷ []; nr = 48 ∷ 49 ∷ []; number = 2 } ∷ []) }
+        ≡ record { object = 83 ∷ 84 ∷ 65 ∷ 84 ∷ []; nr = 48 ∷ 49 ∷ []; number = 1 }
+        ∷ record { object = 83 ∷ 84 ∷ 65 ∷ 84 ∷ []; nr = 48 ∷ 49 ∷ []; number = 2 } ∷ []) }
     ensures few { IfOk result (λ unit. length unit.numbers ≤ 64) }
     ensures digits { IfOk result (λ unit. All HasDigits unit.numbers) }
     ensures lock { IfOk result (λ unit. length unit.entries ≡ 1) }
