@@ -1,12 +1,14 @@
 -- Which places a number isn't of, by the place that it is of.
-use Rattle.std.proofs.Common.{◌≡◌, ℕ, zero, suc, ◌+◌, ◌<◌, Bool, true, false, cond, ◌||◌, List, [], ◌∷◌, ◌++◌, length, take, get_or, Option, Some, None, refl, sym, ap, ◌∙◌, subst, arith}
+use Rattle.std.proofs.Common.{◌≡◌, ℕ, zero, suc, ◌+◌, ◌<◌, ◌≤◌, nat_le, inl, inr, Bool, true, false, cond, ◌||◌, List, [], ◌∷◌, ◌++◌, length, take, get_or, Option, Some, None, refl, sym, ap, ◌∙◌, subst, arith}
 use Rattle.std.specs.List.{list_any, position_from, slice_get}
+use Rattle.std.specs.Prelude.{min}
+use Rattle.std.proofs.lemmas.Bool.{cases_Bool, leb-true, leb-false}
 use Rattle.std.proofs.lemmas.List.{take_more}
 use Rattle.enq_base.specs.declared.unit.Num.{Num}
 use Rattle.number_ranges.specs.Intervals.{is_named}
 use Rattle.number_ranges.specs.declared.interval.Interval.{Interval}
 use Rattle.range_list.specs.Drawn.{drawn_of}
-use Rattle.range_list.specs.Levels.{AreApart, intervals_of}
+use Rattle.range_list.specs.Levels.{AreApart, intervals_of, range_at}
 use Rattle.range_list.specs.declared.range.NumberRange.{NumberRange}
 use Rattle.range_list.proofs.Counting.{bit, count_append, count_cons}
 use Rattle.range_list.proofs.Names.{named_is}
@@ -66,3 +68,40 @@ none_more i numbers k num within at none apart =
     let one = count_cons test num [] in
     let not : bit (test num) ≡ 0 = ap bit apart in
     ap (drawn_of i) whole ∙ (let sum : drawn_of i (take k numbers ++ num ∷ []) ≡ 0 = omega (arith, more, one, not, none) in sum)
+
+-- the range that is found by a name has it
+pub named_found : (ranges : List NumberRange) (object nr : List ℕ) (r : NumberRange) → range_at ranges object nr ≡ Some r → is_named object nr r.interval ≡ true
+named_found [] object nr r h = cc
+named_found (x ∷ ranges) object nr r h =
+    elim (is_named object nr x.interval) as (λ b. is_named object nr x.interval ≡ b → cond b (Some x) (range_at ranges object nr) ≡ Some r → is_named object nr r.interval ≡ true) [
+      | true ↦ λ e is. let same : x ≡ r = cc in subst (λ (y : NumberRange). is_named object nr y.interval ≡ true) same e
+      | false ↦ λ e is. named_found ranges object nr r is
+    ] refl h
+
+-- no range stands behind all
+pub none_behind : (ranges : List NumberRange) (r : NumberRange) → slice_get ranges (length ranges) ≡ Some r → ⊥
+none_behind [] r at = cc
+none_behind (x ∷ ranges) r at = none_behind ranges r at
+
+-- one number more, and the first of two places: a number so far is of the range at the one, and this number of that at the other
+pub some_more : (ranges : List NumberRange) (numbers : List Num) (k : ℕ) (num : Num) (next place : ℕ) → k < length numbers → num ≡ get_or numbers k num
+    → ((r : NumberRange) → slice_get ranges next ≡ Some r → 1 ≤ drawn_of r.interval (take k numbers))
+    → ((r : NumberRange) → slice_get ranges place ≡ Some r → is_named num.object num.nr r.interval ≡ true)
+    → (r : NumberRange) → slice_get ranges (min next place) ≡ Some r → 1 ≤ drawn_of r.interval (take (k + 1) numbers)
+some_more ranges numbers k num next place within is first second r at =
+    let whole : take (k + 1) numbers ≡ take k numbers ++ num ∷ [] = take_more numbers k num within ∙ ap (λ x. take k numbers ++ x ∷ []) (sym is) in
+    let test = λ (n : Num). is_named n.object n.nr r.interval in
+    let more = count_append test (take k numbers) (num ∷ []) in
+    let one = count_cons test num [] in
+    let grown : 1 ≤ drawn_of r.interval (take k numbers ++ num ∷ []) =
+    elim (cases_Bool (nat_le next place)) [
+      | inl e ↦
+          let below : next ≤ place = leb-true next place e in
+          let least : min next place ≡ next = omega (arith, below) in
+          let had = first r (ap (slice_get ranges) (sym least) ∙ at) in omega (arith, more, one, had)
+      | inr e ↦
+          let above : place < next = leb-false next place e in
+          let least : min next place ≡ place = omega (arith, above) in
+          let counts : bit (test num) ≡ 1 = ap bit (second r (ap (slice_get ranges) (sym least) ∙ at)) in omega (arith, more, one, counts)
+    ] in
+    subst (λ l. 1 ≤ drawn_of r.interval l) (sym whole) grown

@@ -1,4 +1,4 @@
-ghost use Rattle.std.specs.Prelude.{◌≡◌, ◌<◌, ◌≤◌, ◌+◌, ◌^◌, OnOk, IfOk, IfSome, Some, List, ℕ, false, if◌then◌else◌, length, map, max, slice_get, slice_set};
+ghost use Rattle.std.specs.Prelude.{◌≡◌, ◌<◌, ◌≤◌, ◌+◌, ◌^◌, OnOk, IfOk, IfSome, Some, List, ℕ, false, true, if◌then◌else◌, length, map, max, slice_get, slice_set};
 ghost use Rattle.std.specs.HashMap.{get};
 ghost use Rattle.std.specs.List.{AllByRecursion};
 ghost use Rattle.std.specs.Option.{option_copied};
@@ -134,7 +134,9 @@ pub fn next_place(
     requires within { from ≤ length ranges.now }
     ensures low { from ≤ result }
     ensures high { result ≤ length ranges.now }
-    ensures none { (k : ℕ) (r : NumberRange) → from ≤ k → k < result → slice_get ranges.now k ≡ Some r → drawn_of r.interval numbers.now ≡ 0 }
+    ensures none { (k : ℕ) (r : NumberRange) → from ≤ k → k < result → slice_get ranges.now k ≡ Some r
+        → drawn_of r.interval numbers.now ≡ 0 }
+    ensures some { (r : NumberRange) → slice_get ranges.now result ≡ Some r → 1 ≤ drawn_of r.interval numbers.now }
 {
     let mut next = ranges.len();
     for num in numbers {
@@ -155,7 +157,10 @@ fn place_from(
     requires within { from ≤ length ranges.now }
     ensures low { from ≤ result }
     ensures high { result ≤ length ranges.now }
-    ensures none { (k : ℕ) (r : NumberRange) → from ≤ k → k < result → slice_get ranges.now k ≡ Some r → is_named num.now.object num.now.nr r.interval ≡ false }
+    ensures none { (k : ℕ) (r : NumberRange) → from ≤ k → k < result → slice_get ranges.now k ≡ Some r
+        → is_named num.now.object num.now.nr r.interval ≡ false }
+    ensures some { (r : NumberRange) → slice_get ranges.now result ≡ Some r
+        → is_named num.now.object num.now.nr r.interval ≡ true }
 {
     match place_of(places, &num.object, num.nr) {
         Some(place) if place >= from => place,

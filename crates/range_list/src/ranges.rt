@@ -100,7 +100,9 @@ impl Ranges {
         requires { from ≤ length self.now }
         ensures low { from ≤ result }
         ensures high { result ≤ length self.now }
-        ensures none { (k : ℕ) (r : NumberRange) → from ≤ k → k < result → slice_get self.now k ≡ Some r → drawn_of r.interval numbers.now ≡ 0 }
+        ensures none { (k : ℕ) (r : NumberRange) → from ≤ k → k < result → slice_get self.now k ≡ Some r
+            → drawn_of r.interval numbers.now ≡ 0 }
+        ensures some { (r : NumberRange) → slice_get self.now result ≡ Some r → 1 ≤ drawn_of r.interval numbers.now }
     {
         next_place(self.list.as_slice(), &self.places, numbers, from)
     }

@@ -9,4 +9,5 @@ invariant-loop-num l = record {
   low : l.from ≤ l.next;
   high : l.next ≤ length l.ranges;
   none : (k : ℕ) (r : NumberRange) → l.from ≤ k → k < l.next → slice_get l.ranges k ≡ Some r → drawn_of r.interval (take l.num-index l.numbers) ≡ 0;
+  some : (r : NumberRange) → slice_get l.ranges l.next ≡ Some r → 1 ≤ drawn_of r.interval (take l.num-index l.numbers);
 }

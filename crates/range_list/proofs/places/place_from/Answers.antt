@@ -1,6 +1,9 @@
-use Rattle.std.proofs.Common.{Some, None, sym, ◌∙◌, arith}
+use Rattle.std.proofs.Common.{◌≡◌, Some, None, sym, ◌∙◌, true, subst, arith}
 use Rattle.range_list.proofs.HandedOut.{handed_at}
-use Rattle.range_list.proofs.Nexts.{not_named}
+use Rattle.std.proofs.lemmas.Option.{same_Some}
+use Rattle.range_list.specs.declared.range.NumberRange.{NumberRange}
+use Rattle.number_ranges.specs.Intervals.{is_named}
+use Rattle.range_list.proofs.Nexts.{named_found, none_behind, not_named}
 use Rattle.range_list.proofs.places.place_from.Goals as goal
 
 pub returns-in-Some-clause-high : goal.returns-in-Some-clause-high
@@ -26,3 +29,16 @@ returns-in_default-2-clause-none c k r from before at =
     let num = c.args.num.now in
     not_named num.object num.nr c.args.ranges.now None k r c.requires.apart (sym (c.requires.places num.object num.nr) ∙ sym c.place_of.ensures ∙ c.in_default.is)
     (λ never. never) at
+
+pub returns-in-Some-clause-some : goal.returns-in-Some-clause-some
+returns-in-Some-clause-some c r at =
+    let num = c.args.num.now in
+    let is = handed_at num.object num.nr c.args.ranges.now c.in-Some.place c.requires.apart (sym (c.requires.places num.object num.nr) ∙ sym c.place_of.ensures ∙ c.in-Some.is) in
+    let same : is.range ≡ r = same_Some is.range r (sym is.found ∙ at) in
+    subst (λ (y : NumberRange). is_named num.object num.nr y.interval ≡ true) same (named_found c.args.ranges.now num.object num.nr is.range is.called)
+
+pub returns-in_default-clause-some : goal.returns-in_default-clause-some
+returns-in_default-clause-some c r at = absurd (none_behind c.args.ranges.now r at)
+
+pub returns-in_default-2-clause-some : goal.returns-in_default-2-clause-some
+returns-in_default-2-clause-some c r at = absurd (none_behind c.args.ranges.now r at)
