@@ -2,7 +2,7 @@ ghost use Rattle.std.specs.Prelude.{◌≡◌};
 ghost use Rattle.backup_file.specs.Ids.{id_of, kind_of, lock_id, numbers_of};
 ghost use Rattle.backup_file.specs.Spelling.{mode_byte};
 
-use enq_base::{Name, Owner, ShortBytes, UnitKey};
+use enq_base::{ARGUMENT_BYTES, Name, Owner, ShortBytes, UnitKey};
 use lock_entry::{Entry, Mode};
 
 /// A unit, as maps and sets look it up.
@@ -49,7 +49,7 @@ pub struct LockId {
     pub kind: u8,
     pub numbers: UnitId,
     pub table: Name,
-    pub pattern: ShortBytes<150>,
+    pub pattern: ShortBytes<ARGUMENT_BYTES>,
     pub mode: u8,
 }
 

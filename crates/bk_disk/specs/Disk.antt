@@ -1,6 +1,10 @@
 -- What the calls of a disk do to its bytes, and what a crash may leave of them.
 use Rattle.std.specs.Prelude.{◌≡◌, ℕ, ◌+◌, ◌-◌, ◌≤◌, min, max, List, ◌++◌, length, take, drop, replicate}
 
+-- a disk holds at most 2^63 - 1 bytes
+abbrev pub FitsDisk : List ℕ → Type 0
+FitsDisk bytes = length bytes ≤ 9223372036854775807
+
 -- old with these bytes at this offset, and zeros in a gap before them
 abbrev pub written : List ℕ → ℕ → List ℕ → List ℕ
 written old at bytes = take at old ++ replicate (at - length old) 0 ++ bytes ++ drop (at + length bytes) old

@@ -1,6 +1,6 @@
 ghost use Rattle.std.specs.Prelude.{◌≡◌, ◌+◌, ◌≤◌, ℕ, Bool, List, length, IsTrue, IfOk, OnOk};
 ghost use Rattle.enq_base.specs.Causes.{HasCause};
-ghost use Rattle.bk_disk.specs.Disk.{written, resized, Torn, Cut, Follows, AddsNone, Only, Fills};
+ghost use Rattle.bk_disk.specs.Disk.{written, resized, FitsDisk, Torn, Cut, Follows, AddsNone, Only, Fills};
 
 use enq_base::Failed;
 
@@ -29,6 +29,7 @@ pub trait Disk {
         ensures value { IsTrue tells → IfOk result (λ n. n ≡ length (reads self.old)) }
         ensures same { IsTrue tells → OnOk result (reads self.new ≡ reads self.old) }
         ensures left { IsTrue tells → AddsNone (may_leave self.old) (may_leave self.new) }
+        ensures short { IsTrue tells → OnOk result (FitsDisk (reads self.new)) }
         ensures cause { HasCause (faults self.old) (faults self.new) result };
 
     /// Reads as many bytes as there are from an offset on, at most as many as `into` takes, and answers how many.
@@ -37,6 +38,7 @@ pub trait Disk {
         ensures value { IsTrue tells → IfOk result (λ n. Fills (reads self.old) at n into.old into.new) }
         ensures same { IsTrue tells → OnOk result (reads self.new ≡ reads self.old) }
         ensures left { IsTrue tells → AddsNone (may_leave self.old) (may_leave self.new) }
+        ensures short { IsTrue tells → OnOk result (FitsDisk (reads self.new)) }
         ensures cause { HasCause (faults self.old) (faults self.new) result };
 
     /// Writes over what is there, and past the end. A gap before the offset is filled with zeros.
@@ -45,6 +47,7 @@ pub trait Disk {
         ensures fits { IsTrue tells → OnOk result (at + length from.now ≤ MAX_LENGTH) }
         ensures left { IsTrue tells
             → Follows (Torn at (length from.now)) (may_leave self.old) (may_leave self.new) }
+        ensures short { IsTrue tells → OnOk result (FitsDisk (reads self.new)) }
         ensures cause { HasCause (faults self.old) (faults self.new) result };
 
     /// Cuts to a length, or makes longer by zeros.
@@ -52,6 +55,7 @@ pub trait Disk {
         ensures value { IsTrue tells → OnOk result (reads self.new ≡ resized (reads self.old) length) }
         ensures fits { IsTrue tells → OnOk result (length ≤ MAX_LENGTH) }
         ensures left { IsTrue tells → Follows (Cut length) (may_leave self.old) (may_leave self.new) }
+        ensures short { IsTrue tells → OnOk result (FitsDisk (reads self.new)) }
         ensures cause { HasCause (faults self.old) (faults self.new) result };
 
     /// Waits until a crash leaves just what a read gives.
@@ -59,6 +63,7 @@ pub trait Disk {
         ensures durable { IsTrue tells → OnOk result (Only (reads self.new) (may_leave self.new)) }
         ensures same { IsTrue tells → OnOk result (reads self.new ≡ reads self.old) }
         ensures left { IsTrue tells → AddsNone (may_leave self.old) (may_leave self.new) }
+        ensures short { IsTrue tells → OnOk result (FitsDisk (reads self.new)) }
         ensures cause { HasCause (faults self.old) (faults self.new) result };
 
     /// What a read gives is one of the images.

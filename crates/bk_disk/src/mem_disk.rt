@@ -1,6 +1,6 @@
 ghost use Rattle.std.specs.Prelude.{◌≡◌, ◌⊎◌, ◌+◌, ◌≤◌, ◌↔◌, length, IsTrue, IsErr, IfOk, IfSome, OnOk, OnErr};
 ghost use Rattle.enq_base.specs.Causes.{HasCause};
-ghost use Rattle.bk_disk.specs.Disk.{written, resized, Torn, Cut, Follows, AddsNone, Only, Fills};
+ghost use Rattle.bk_disk.specs.Disk.{written, resized, FitsDisk, Torn, Cut, Follows, AddsNone, Only, Fills};
 ghost use Rattle.bk_disk.specs.Memory as memory;
 ghost use Rattle.bk_disk.specs.Memory.{MayBeLeft, IsNextListed, FailsCall, FailsChange, mem_filled};
 ghost use Rattle.bk_disk.specs.declared.change.Change.TheVariants.{Write, Resize};
@@ -117,6 +117,13 @@ impl MemDisk {
         self.fail()
     }
 
+    /// Bytes that stand in memory fit a disk.
+    fn read_fit(&self)
+        ensures { FitsDisk self.now.reads }
+    {
+        fit(self.bytes.as_slice());
+    }
+
     /// Makes a change that leads to these bytes, or fails. A change that fails by the list is noted too.
     fn change(&mut self, change: Change, next: Vec<u8>, fails: bool) -> Result<(), Failed>
         ensures done { OnOk result (self.new ≡ memory.changed self.old change next.items) }
@@ -124,7 +131,9 @@ impl MemDisk {
         ensures failed { OnErr result ((self.new ≡ memory.refused_now self.old)
             ⊎ (IsTrue fails × (self.new ≡ memory.failed_change self.old change))) }
         ensures later { self.old.faults ≤ self.new.faults }
+        ensures short { OnOk result (FitsDisk next.items) }
     {
+        fit(next.as_slice());
         if self.changes.push(change).is_err() {
             return Err(self.refuse());
         }
@@ -178,12 +187,14 @@ impl Disk for MemDisk {
         ensures value { IfOk result (λ n. n ≡ length self.old.reads) }
         ensures same { OnOk result (self.new.reads ≡ self.old.reads) }
         ensures left { AddsNone (MayBeLeft self.old) (MayBeLeft self.new) }
+        ensures short { OnOk result (FitsDisk self.new.reads) }
         ensures cause { HasCause self.old.faults self.new.faults result }
 
         ensures listed { IsErr result ↔ IsNextListed self.old }
         ensures failed { OnErr result (self.new ≡ memory.after_listed self.old) }
         ensures done { OnOk result (self.new ≡ memory.called self.old) }
     {
+        self.read_fit();
         if self.fails_now() {
             return Err(self.fail());
         }
@@ -196,12 +207,14 @@ impl Disk for MemDisk {
         ensures value { IfOk result (λ n. Fills self.old.reads at n into.old into.new) }
         ensures same { OnOk result (self.new.reads ≡ self.old.reads) }
         ensures left { AddsNone (MayBeLeft self.old) (MayBeLeft self.new) }
+        ensures short { OnOk result (FitsDisk self.new.reads) }
         ensures cause { HasCause self.old.faults self.new.faults result }
 
         ensures listed { IsErr result ↔ IsNextListed self.old }
         ensures failed { OnErr result (self.new ≡ memory.after_listed self.old) }
         ensures done { OnOk result (self.new ≡ memory.called self.old) }
     {
+        self.read_fit();
         if self.fails_now() {
             return Err(self.fail());
         }
@@ -213,12 +226,14 @@ impl Disk for MemDisk {
         ensures value { OnOk result (self.new.reads ≡ written self.old.reads at from.now) }
         ensures fits { OnOk result (at + length from.now ≤ MAX_LENGTH) }
         ensures left { Follows (Torn at (length from.now)) (MayBeLeft self.old) (MayBeLeft self.new) }
+        ensures short { OnOk result (FitsDisk self.new.reads) }
         ensures cause { HasCause self.old.faults self.new.faults result }
 
         ensures listed { IsNextListed self.old → IsErr result }
         ensures failed { OnErr result (FailsChange (Write at (length from.now)) self.old self.new) }
         ensures done { OnOk result (self.new ≡ memory.after_write self.old at from.now) }
     {
+        self.read_fit();
         let fails = self.fails_now();
         let Some(next) = self.written(at, from) else {
             return Err(self.refuse());
@@ -235,12 +250,14 @@ impl Disk for MemDisk {
         ensures value { OnOk result (self.new.reads ≡ resized self.old.reads length) }
         ensures fits { OnOk result (length ≤ MAX_LENGTH) }
         ensures left { Follows (Cut length) (MayBeLeft self.old) (MayBeLeft self.new) }
+        ensures short { OnOk result (FitsDisk self.new.reads) }
         ensures cause { HasCause self.old.faults self.new.faults result }
 
         ensures listed { IsNextListed self.old → IsErr result }
         ensures failed { OnErr result (FailsChange (Resize length) self.old self.new) }
         ensures done { OnOk result (self.new ≡ memory.after_cut self.old length) }
     {
+        self.read_fit();
         let fails = self.fails_now();
         let Some(next) = self.resized(length) else {
             return Err(self.refuse());
@@ -253,12 +270,14 @@ impl Disk for MemDisk {
         ensures durable { OnOk result (Only self.new.reads (MayBeLeft self.new)) }
         ensures same { OnOk result (self.new.reads ≡ self.old.reads) }
         ensures left { AddsNone (MayBeLeft self.old) (MayBeLeft self.new) }
+        ensures short { OnOk result (FitsDisk self.new.reads) }
         ensures cause { HasCause self.old.faults self.new.faults result }
 
         ensures listed { IsNextListed self.old → IsErr result }
         ensures failed { OnErr result (FailsCall self.old self.new) }
         ensures done { OnOk result (self.new ≡ memory.after_sync self.old) }
     {
+        self.read_fit();
         if self.fails_now() {
             return Err(self.fail());
         }
@@ -269,6 +288,12 @@ impl Disk for MemDisk {
         self.changes.clear();
         Ok(())
     }
+}
+
+fn fit(bytes: &[u8])
+    ensures { FitsDisk bytes.now }
+{
+    let _length = bytes.len();
 }
 
 /// Copies what stands from an offset on, at most as much as there is room for.

@@ -1,7 +1,7 @@
 ghost use Rattle.std.specs.Prelude.{◌≡◌, ◌+◌, ◌-◌, ◌≤◌, length, IsTrue, IsErr, IfOk, OnOk, OnErr};
 ghost use Rattle.enq_base.specs.Causes.{HasCause};
 ghost use Rattle.enq_base.specs.Causes.{one_more};
-ghost use Rattle.bk_disk.specs.Disk.{written, resized, Torn, Cut, Follows, AddsNone, Only, Fills};
+ghost use Rattle.bk_disk.specs.Disk.{written, resized, FitsDisk, Torn, Cut, Follows, AddsNone, Only, Fills};
 ghost use Rattle.bk_disk.specs.Stopping.{FailsStopped, all_faults};
 
 use crate::disk::{Disk, MAX_LENGTH};
@@ -82,6 +82,7 @@ impl<D: Disk> Disk for StopDisk<D> {
         ensures value { IsTrue D.tells → IfOk result (λ n. n ≡ length (D.reads self.old.disk)) }
         ensures same { IsTrue D.tells → OnOk result (D.reads self.new.disk ≡ D.reads self.old.disk) }
         ensures left { IsTrue D.tells → AddsNone (D.may_leave self.old.disk) (D.may_leave self.new.disk) }
+        ensures short { IsTrue D.tells → OnOk result (FitsDisk (D.reads self.new.disk)) }
         ensures cause { HasCause (all_faults D.faults self.old) (all_faults D.faults self.new) result }
 
         ensures stops { self.old.left ≡ 0 → IsErr result }
@@ -98,6 +99,7 @@ impl<D: Disk> Disk for StopDisk<D> {
         ensures value { IsTrue D.tells → IfOk result (λ n. Fills (D.reads self.old.disk) at n into.old into.new) }
         ensures same { IsTrue D.tells → OnOk result (D.reads self.new.disk ≡ D.reads self.old.disk) }
         ensures left { IsTrue D.tells → AddsNone (D.may_leave self.old.disk) (D.may_leave self.new.disk) }
+        ensures short { IsTrue D.tells → OnOk result (FitsDisk (D.reads self.new.disk)) }
         ensures cause { HasCause (all_faults D.faults self.old) (all_faults D.faults self.new) result }
 
         ensures stops { self.old.left ≡ 0 → IsErr result }
@@ -115,6 +117,7 @@ impl<D: Disk> Disk for StopDisk<D> {
         ensures fits { IsTrue D.tells → OnOk result (at + length from.now ≤ MAX_LENGTH) }
         ensures left { IsTrue D.tells
             → Follows (Torn at (length from.now)) (D.may_leave self.old.disk) (D.may_leave self.new.disk) }
+        ensures short { IsTrue D.tells → OnOk result (FitsDisk (D.reads self.new.disk)) }
         ensures cause { HasCause (all_faults D.faults self.old) (all_faults D.faults self.new) result }
 
         ensures stops { self.old.left ≡ 0 → IsErr result }
@@ -132,6 +135,7 @@ impl<D: Disk> Disk for StopDisk<D> {
         ensures fits { IsTrue D.tells → OnOk result (length ≤ MAX_LENGTH) }
         ensures left { IsTrue D.tells
             → Follows (Cut length) (D.may_leave self.old.disk) (D.may_leave self.new.disk) }
+        ensures short { IsTrue D.tells → OnOk result (FitsDisk (D.reads self.new.disk)) }
         ensures cause { HasCause (all_faults D.faults self.old) (all_faults D.faults self.new) result }
 
         ensures stops { self.old.left ≡ 0 → IsErr result }
@@ -147,6 +151,7 @@ impl<D: Disk> Disk for StopDisk<D> {
         ensures durable { IsTrue D.tells → OnOk result (Only (D.reads self.new.disk) (D.may_leave self.new.disk)) }
         ensures same { IsTrue D.tells → OnOk result (D.reads self.new.disk ≡ D.reads self.old.disk) }
         ensures left { IsTrue D.tells → AddsNone (D.may_leave self.old.disk) (D.may_leave self.new.disk) }
+        ensures short { IsTrue D.tells → OnOk result (FitsDisk (D.reads self.new.disk)) }
         ensures cause { HasCause (all_faults D.faults self.old) (all_faults D.faults self.new) result }
 
         ensures stops { self.old.left ≡ 0 → IsErr result }

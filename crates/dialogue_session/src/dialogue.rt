@@ -5,7 +5,7 @@ ghost use Rattle.dialogue_session.specs.Private.{without_effects, without_reques
 
 use crate::filling::{Resolved, resolve};
 use crate::variables::Variables;
-use enq_base::{Effect, Items, Name, NoMemory, Parts, Refusal};
+use enq_base::{Effect, Items, Name, NoMemory, Parts, Refusal, TEXT_BYTES};
 use lock_collector::{CollectFault, Collector};
 use lock_entry::Request;
 use std::alloc::Global;
@@ -77,7 +77,7 @@ impl Dialogue {
     /// over the variables.
     pub fn set_variable(&mut self, name: Name, text: &[u8])
         requires room { 1 ≤ self.old.room }
-        requires text { length text.now ≤ 512 }
+        requires text { length text.now ≤ TEXT_BYTES }
         ensures { self.new.side ≡ with_variable name text.now self.old.side }
     {
         self.variables.set(name, text);

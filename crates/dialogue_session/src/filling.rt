@@ -3,11 +3,9 @@ ghost use Rattle.enq_base.specs.Grammar.{is_name_byte};
 ghost use Rattle.dialogue_session.specs.Filling.{IsRefusedAs, filled, filled_from, holds_dollar, joined, name_ahead, name_behind, text_for};
 
 use crate::variables::Variables;
-use enq_base::{Name, Refusal, read_name};
+use enq_base::{NAME_BYTES, Name, Refusal, read_name};
 use std::alloc::Global;
 use std::marker::Model;
-
-const LONGEST_NAME: usize = 30;
 
 /// A part of a line with texts in place of the names of variables. One without `$` stands where it stood.
 #[derive(Drop)]
@@ -141,7 +139,7 @@ fn name_behind(first: u8, bytes: &[u8]) -> Option<Name>
 fn name_ahead(bytes: &[u8]) -> Option<Name>
     ensures { result ≡ name_ahead bytes.now }
 {
-    let most = bytes.len().min(LONGEST_NAME);
+    let most = bytes.len().min(NAME_BYTES);
     let run = name_bytes(&bytes[..most]);
     read_name(run)
 }

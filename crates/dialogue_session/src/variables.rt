@@ -3,7 +3,7 @@ ghost use Rattle.std.specs.List.{position};
 ghost use Rattle.std.specs.Option.{option_map};
 ghost use Rattle.dialogue_session.specs.Variables.{is_called, text_of, with_text};
 
-use enq_base::{Name, NoMemory, ShortBytes};
+use enq_base::{Name, NoMemory, ShortBytes, TEXT_BYTES};
 use std::alloc::Global;
 use std::marker::Model;
 
@@ -11,7 +11,7 @@ use std::marker::Model;
 #[derive(Clone, Copy)]
 pub struct Variable {
     pub name: Name,
-    pub text: ShortBytes<512>,
+    pub text: ShortBytes<TEXT_BYTES>,
 }
 
 /// A session's variables, each name once, in the order in which the names came. A name is found by a walk over them.
@@ -51,7 +51,7 @@ impl Variables {
     /// Lets the text stand for the name. There is room for it.
     pub(crate) fn set(&mut self, name: Name, text: &[u8])
         requires room { 1 ≤ self.old.room }
-        requires text { length text.now ≤ 512 }
+        requires text { length text.now ≤ TEXT_BYTES }
         ensures { self.new.items ≡ with_text name text.now self.old.items }
     {
         let Some(text) = ShortBytes::new(text) else {

@@ -5,7 +5,7 @@ use Rattle.std.proofs.lemmas.Bool.{and_parts}
 use Rattle.enq_base.specs.Grammar.{is_digit}
 use Rattle.update_records.specs.Grammar.{IsNr}
 use Rattle.number_ranges.specs.declared.interval.Interval.{Interval}
-use Rattle.range_list.specs.Levels.{AreApart, AreIntervals, IsUnused}
+use Rattle.ledger_steps.specs.Levels.{AreApart, AreIntervals, IsUnused}
 use Rattle.landscape.specs.Broken.{Broken}
 use Rattle.landscape.specs.Landscape.{landscape_of}
 use Rattle.landscape.specs.Ranges.{is_nr}

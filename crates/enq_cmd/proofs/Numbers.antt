@@ -12,17 +12,17 @@ use Rattle.enq_base.specs.declared.unit.Num.{Num as Number}
 use Rattle.enq_base.specs.declared.unit.Parts.{Parts}
 use Rattle.number_ranges.specs.Intervals.{block_level, is_buffered, with_level}
 use Rattle.number_ranges.specs.declared.interval.Interval.{Interval}
-use Rattle.posting.proofs.Numbered.{numbers_push, numbers_recorded, numbers_same}
-use Rattle.posting.specs.Intervals.{with_intervals, with_levels}
+use Rattle.ledger_steps.proofs.CommittedNumbers.{numbers_push, numbers_recorded, numbers_same}
+use Rattle.ledger_steps.specs.Intervals.{with_intervals, with_levels}
 use Rattle.posting.specs.Numbers.{AreNumbersRight, committed}
-use Rattle.posting.specs.Posts.{kind_for}
-use Rattle.range_list.proofs.Drawing.{interval_among, range_found}
-use Rattle.range_list.proofs.Fits.{level_fits}
-use Rattle.range_list.proofs.Owners.{session_may_commit_stock}
-use Rattle.range_list.proofs.Storing.{may_raise, none_committed}
-use Rattle.range_list.specs.Drawn.{handed_out, num_of, settled_rows, stored_as}
-use Rattle.range_list.specs.Levels.{intervals_of, present}
-use Rattle.range_list.specs.declared.range.NumberRange.{NumberRange}
+use Rattle.ledger_steps.specs.Posts.{kind_for}
+use Rattle.draw_laws.proofs.Drawing.{interval_among, range_found}
+use Rattle.draw_laws.proofs.FittingLevels.{level_fits}
+use Rattle.draw_laws.proofs.OverSessions.{session_may_commit_stock}
+use Rattle.draw_laws.proofs.StoredDraws.{may_raise, none_committed}
+use Rattle.ledger_steps.specs.Drawn.{handed_out, num_of, settled_rows, stored_as}
+use Rattle.ledger_steps.specs.Levels.{intervals_of, present}
+use Rattle.ledger_steps.specs.declared.range.NumberRange.{NumberRange}
 use Rattle.store_reading.specs.Good.{IsSound}
 use Rattle.update_records.proofs.Status.{none_of}
 use Rattle.update_records.specs.Business.{numbers_from}
@@ -32,29 +32,31 @@ use Rattle.update_records.specs.Marks.{has_no_v2}
 use Rattle.update_records.specs.RecordRows.{Level}
 use Rattle.update_records.specs.declared.records.MarkKind.{MarkKind}
 use Rattle.update_records.specs.declared.records.MarkKind.TheVariants as mark
-use Rattle.hall.specs.declared.command.Command.{Command}
-use Rattle.hall.specs.declared.command.Session.{Session}
-use Rattle.hall.specs.Devices.{DeviceOutcome, Reading, found_by}
-use Rattle.hall.specs.History.{is_unread, judged, pending_after, served, takes_flight}
-use Rattle.hall.specs.Kept.{IsDrawn, IsSteady}
-use Rattle.hall.specs.Numbers.{drawn, next_number, raised_to}
-use Rattle.hall.specs.Calls.{Call, call_of, only_reads}
-use Rattle.hall.specs.OpenUnits.{HoldsOpenUnits, OfPending}
-use Rattle.hall.specs.Recall.{IsModelAnswer, Made, recalled, state_after}
-use Rattle.hall.specs.Sessions.{is_called, session_at, unit_key, with_draw, with_session, without_draws}
-use Rattle.hall.specs.State.{State, opened}
-use Rattle.hall.specs.Stocks.{IsStockIn, MayCall}
-use Rattle.hall.specs.Step.{Found, Leaves, Refuses, Verdict, call_verdict, committed as recorded, is_taken, numbered, stored_anew, unit_of}
-use Rattle.hall.proofs.Beginning.{AgreeWith, IsFirst}
-use Rattle.hall.proofs.ByCall.{CanDraw, OfEach, by_event, by_filing, by_made, by_stock}
-use Rattle.hall.proofs.Drawn.{CommitsNone, blocks, post_commits_none}
-use Rattle.hall.proofs.FirstState.{IsFirstTable, first_few, first_open, first_sound, first_steady}
-use Rattle.hall.proofs.Frames.{by_noting, verdict_pending}
-use Rattle.hall.proofs.Fresh.{open_unheard}
-use Rattle.hall.proofs.Landings.{HoldsAll, step_all}
-use Rattle.hall.proofs.OpenKept.{holds_up, while_up}
+use Rattle.hall_model.specs.declared.command.Command.{Command}
+use Rattle.hall_model.specs.declared.command.Session.{Session}
+use Rattle.hall_model.specs.Devices.{DeviceOutcome, Reading, found_by}
+use Rattle.hall_model.specs.History.{is_unread, judged, pending_after, served, takes_flight}
+use Rattle.hall_model.specs.Kept.{IsDrawn, IsSteady}
+use Rattle.hall_model.specs.Numbers.{drawn, next_number, raised_to}
+use Rattle.hall_model.specs.Calls.{Call, call_of, only_reads}
+use Rattle.hall_model.specs.OpenUnits.{HoldsOpenUnits, OfPending}
+use Rattle.hall_model.specs.Recall.{IsModelAnswer, Made, recalled, state_after}
+use Rattle.hall_model.specs.Sessions.{is_called, session_at, unit_key, with_draw, with_session, without_draws}
+use Rattle.hall_model.specs.State.{State, opened}
+use Rattle.hall_model.specs.Stocks.{IsStockIn, MayCall}
+use Rattle.hall_model.specs.Step.{Found, Leaves, Refuses, Verdict, call_verdict, committed as recorded, is_taken, numbered, stored_anew, unit_of}
+use Rattle.hall_laws.proofs.starting.FirstKeeps.{AgreeWith, IsFirst}
+use Rattle.hall_model.proofs.ByCall.{CanDraw, OfEach, by_event, by_filing, by_made, by_stock}
+use Rattle.hall_laws.proofs.keeping.DrawnNumbers.{CommitsNone, post_commits_none}
+use Rattle.hall_model.proofs.BlockLevels.{blocks}
+use Rattle.hall_laws.proofs.starting.FirstState.{IsFirstTable, first_few, first_open, first_sound, first_steady}
+use Rattle.hall_model.proofs.NotedCalls.{by_noting}
+use Rattle.hall_laws.proofs.keeping.Unchanged.{verdict_pending}
+use Rattle.hall_laws.proofs.keeping.UnitsToCome.{open_unheard}
+use Rattle.hall_laws.proofs.keeping.InFlight.{HoldsAll, step_all}
+use Rattle.hall_laws.proofs.open_units.ChangedLocks.{holds_up, while_up}
 use Rattle.enq_cmd.specs.Main.{HandedAreOpen}
-use Rattle.hall.proofs.Recalls.{AnswersFrom}
+use Rattle.hall_laws.proofs.histories.NotedSteps.{AnswersFrom}
 
 -- the levels of a ledger agree with the numbers that are committed
 abbrev Agrees : Ledger → Type 0

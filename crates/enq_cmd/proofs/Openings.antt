@@ -14,14 +14,15 @@ use Rattle.keeper_api.specs.Keeping.{IsWithin}
 use Rattle.keeper_api.specs.Rows.{Rows}
 use Rattle.landscape.specs.declared.landscape.Landscape.{Landscape}
 use Rattle.number_ranges.specs.declared.interval.Interval.{Interval}
-use Rattle.posting.specs.Intervals.{in_row_order}
-use Rattle.posting.specs.Reopening.{HasStood, IsRaised, MayBeLeftBy}
-use Rattle.posting.specs.Views.{open_locks}
-use Rattle.range_list.specs.Levels.{fits}
+use Rattle.ledger_steps.specs.Intervals.{in_row_order}
+use Rattle.posting.specs.Reopening.{HasStood, MayBeLeftBy}
+use Rattle.ledger_steps.specs.Starts.{IsRaised}
+use Rattle.ledger_steps.specs.Views.{open_locks}
+use Rattle.ledger_steps.specs.Levels.{fits}
 use Rattle.store_reading.specs.Good.{IsBadPlace}
 use Rattle.update_records.specs.Ledger.{IsGood, Ledger}
-use Rattle.hall.proofs.Rereads.{bad_is_not_good}
-use Rattle.hall.specs.declared.command.PastEntry.{PastEntry}
+use Rattle.hall_calls.proofs.restarting.StoreRead.{bad_is_not_good}
+use Rattle.hall_model.specs.declared.command.PastEntry.{PastEntry}
 use Rattle.hall.specs.declared.opening.HallFault.{HallFault}
 use Rattle.hall.specs.declared.opening.HallFault.TheVariants as fault
 use Rattle.hall.specs.Faults.{CountsFileFault, CountsHallFault, IsBadFile, IsHallFault, LeavesFileOf, MayBeHallFault, OnBadStore, OnKept, OnStore, StoodUnfit, StoodUnlike}

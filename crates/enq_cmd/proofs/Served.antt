@@ -2,21 +2,22 @@
 use Rattle.std.proofs.Common.{◌≡◌, ◌⊎◌, inl, inr, Bool, true, false, ℕ, List, [], Option, Some, None, refl, sym, ap, ◌∙◌, subst, arith}
 use Rattle.std.specs.Prelude.{is_some, IfSome, IsTrue}
 use Rattle.enq_base.specs.Causes.{Rose}
-use Rattle.hall.specs.Filing.{AllRecover, LeavesLists}
-use Rattle.hall.specs.Leaving.{LeavesState, StandForState}
-use Rattle.hall.specs.Kept.{HasOpenUnits}
-use Rattle.hall.specs.Recall.{state_after}
-use Rattle.hall.specs.State.{State, View}
+use Rattle.hall_calls.specs.Filing.{AllRecover, LeavesLists}
+use Rattle.hall_calls.specs.Leaving.{LeavesState, StandForState}
+use Rattle.hall_model.specs.Kept.{HasOpenUnits}
+use Rattle.hall_model.specs.Recall.{state_after}
+use Rattle.hall_model.specs.State.{State}
+use Rattle.hall_calls.specs.View.{View}
 use Rattle.enq_base.specs.declared.condition.BackupBad.{BackupBad}
-use Rattle.hall.specs.declared.command.PastEntry.{PastEntry}
-use Rattle.hall.specs.declared.command.Reply.{Reply}
+use Rattle.hall_model.specs.declared.command.PastEntry.{PastEntry}
+use Rattle.hall_model.specs.declared.command.Reply.{Reply}
 use Rattle.keeper_api.specs.Rows.{Rows}
 use Rattle.landscape.proofs.Limits.{read_limits}
 use Rattle.landscape.specs.declared.landscape.Landscape.{Landscape}
 use Rattle.lock_entry.specs.declared.entry.Entry.{Entry}
 use Rattle.lock_objects.specs.Objects.{Object}
 use Rattle.update_records.specs.Ledger.{Ledger}
-use Rattle.hall.specs.Unsound.{is_unsound_file, is_unsound_replica, is_unsound_store}
+use Rattle.hall_model.specs.Unsound.{is_unsound_file, is_unsound_replica, is_unsound_store}
 use Rattle.script_runner.proofs.Kept.{same_counts}
 use Rattle.script_runner.specs.Faults.{NoneTells, NoneUnsound, NoneUnsoundReplica, NoneUnsoundStore, TellsNoFault, is_link_fault}
 use Rattle.script_runner.specs.Replay.{RunsScript, Seen, seen}

@@ -3,52 +3,54 @@ use Rattle.std.proofs.Common.{inl, inr, is_some, IsTrue, IfSome, ◌≡◌, ℕ,
 use Rattle.std.specs.Prelude.{Option, Some, None}
 use Rattle.enq_base.specs.declared.condition.Bad.{Bad}
 use Rattle.enq_base.specs.declared.refusal.Refusal.TheVariants as refusal
-use Rattle.hall.specs.declared.command.Command.{Command}
-use Rattle.hall.specs.declared.command.PastEntry.{PastEntry}
-use Rattle.hall.specs.declared.command.Reply.{Reply}
-use Rattle.hall.specs.declared.command.Reply.TheVariants as reply
-use Rattle.hall.specs.Devices.{DeviceOutcome, IsAllowed}
-use Rattle.hall.specs.History.{step}
-use Rattle.hall.specs.Recall.{Made, state_after}
-use Rattle.hall.specs.State.{State}
-use Rattle.hall.proofs.Beginning.{AgreeWith}
-use Rattle.hall.proofs.FirstState.{IsFirstTable}
-use Rattle.hall.proofs.GoodFiles.{no_bad_place}
-use Rattle.hall.proofs.Losers.{losers_told}
-use Rattle.hall.proofs.Standings.{locks_return, locks_stand, stays_sound}
-use Rattle.hall.proofs.Recalls.{IsTold, answers_before, told_first, told_step, told-answers}
+use Rattle.hall_model.specs.declared.command.Command.{Command}
+use Rattle.hall_model.specs.declared.command.PastEntry.{PastEntry}
+use Rattle.hall_model.specs.declared.command.Reply.{Reply}
+use Rattle.hall_model.specs.declared.command.Reply.TheVariants as reply
+use Rattle.hall_model.specs.Devices.{DeviceOutcome, IsAllowed}
+use Rattle.hall_model.specs.History.{step}
+use Rattle.hall_model.specs.Recall.{Made, state_after}
+use Rattle.hall_model.specs.State.{State}
+use Rattle.hall_laws.proofs.starting.FirstKeeps.{AgreeWith}
+use Rattle.hall_laws.proofs.starting.FirstState.{IsFirstTable}
+use Rattle.hall_calls.proofs.lists.GoodFiles.{no_bad_place}
+use Rattle.hall_laws.proofs.histories.ToldLosers.{losers_told}
+use Rattle.hall_laws.proofs.histories.StandingLocks.{locks_return, locks_stand, stays_sound}
+use Rattle.hall_laws.proofs.histories.NotedSteps.{IsTold, answers_before, told_first, told-answers}
+use Rattle.hall.proofs.Told.{told_step}
 use Rattle.script_runner.specs.declared.runner.Why.{Why}
 use Rattle.script_runner.specs.declared.runner.Why.TheVariants.{Done, BadWords, BadLandscape, BadLine, SourceFault, SinkFault, LongLine, ManyLines, StoreFault, BackupFault, BadStore, BadBackup, NoStart, NoMemory}
 use Rattle.lock_objects.specs.Objects.{Object}
 use Rattle.landscape.specs.declared.landscape.Landscape.{Landscape}
 use Rattle.landscape.proofs.Limits.{HasLimits}
-use Rattle.range_list.specs.Levels.{FitRows}
+use Rattle.ledger_steps.specs.Levels.{FitRows}
 use Rattle.script_lang.specs.Memory.{holds_lists}
 use Rattle.script_lang.specs.declared.script_line.ScriptLine.{ScriptLine}
 use Rattle.script_runner.specs.Lines.{Meaning, Silent, Shows, Calls, Declines, Changes, line_in, meaning, settled}
-use Rattle.script_runner.specs.Replay.{RunsScript, Seen}
+use Rattle.script_runner.specs.Replay.{RunsScript, Seen, HasBadCause, IsFoundBad, doubt_of}
 use Rattle.script_runner.specs.Run.{AreAllowed, CallMayHave, Called, LineMayHave, LineOutcome, MayHave, NoRoom, Progress, Turn, after_turn, begun, does, line_does, next, run, said}
 use Rattle.script_runner.proofs.TurnLemmas.{answered-world}
 use Rattle.script_runner.specs.World.{World, first_world, world}
 use Rattle.script_runner.proofs.GoodFiles.{answer_sound, never_met}
 use Rattle.script_runner.specs.Faults.{NoneTells, NoneUnsound, NoneUnsoundReplica, NoneUnsoundStore}
-use Rattle.script_runner.specs.Replay.{HasBadCause, IsFoundBad, doubt_of}
 use Rattle.script_runner.specs.Whole.{IsComplete, IsScript}
 use Rattle.enq_cmd.specs.Main.{EndsComplete, HadHanded, HasHanded, IsFaultless, IsGoodFile, IsLedgerBy, IsLedgerOf, IsNextOf, IsServed, Ran, SurvivesStop, first_state}
 use Rattle.enq_cmd.proofs.Lands.{landed_intervals}
 use Rattle.enq_cmd.proofs.Numbers.{handed_held, numbers_right}
-use Rattle.posting.specs.Views.{open_locks}
+use Rattle.ledger_steps.specs.Views.{open_locks}
 use Rattle.ledger_laws.proofs.Books.{books_right, holds_books}
 use Rattle.ledger_laws.proofs.OneLedger.{one_ledger}
 use Rattle.update_records.specs.Growing.{with_start}
 use Rattle.keeper_api.specs.Rows.{Rows}
-use Rattle.posting.specs.Reopening.{HasStood, IsRaised}
+use Rattle.posting.specs.Reopening.{HasStood}
+use Rattle.ledger_steps.specs.Starts.{IsRaised}
 use Rattle.store_reading.specs.Good.{IsSound}
 use Rattle.update_records.specs.Ledger.{Ledger, StandFor}
-use Rattle.hall.specs.Filing.{RecoversFrom, UnlessTaken, UnlessUntaken}
-use Rattle.hall.specs.Kept.{HasOpenUnits}
-use Rattle.hall.specs.Leaving.{StandForKnown, StandForPending, StandForState}
-use Rattle.hall.specs.OpenUnits.{AgreeAll, OfPending, open_entries}
+use Rattle.hall_calls.specs.Filing.{RecoversFrom, UnlessTaken, UnlessUntaken}
+use Rattle.hall_model.specs.Kept.{HasOpenUnits}
+use Rattle.hall_calls.specs.Leaving.{StandForKnown, StandForPending, StandForState}
+use Rattle.hall_calls.specs.OpenLists.{AgreeAll}
+use Rattle.hall_model.specs.OpenUnits.{OfPending, open_entries}
 use Rattle.backup_file.specs.declared.handed.Handed.{Handed}
 use Rattle.lock_entry.specs.Sound.{IsSound as IsSoundTable}
 use Rattle.lock_entry.specs.declared.entry.Entry.{Entry}

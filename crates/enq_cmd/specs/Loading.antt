@@ -1,8 +1,8 @@
 -- The script that is made from a number, and done.
 use Rattle.std.specs.Prelude.{◌≡◌, Bool, ◌⊎◌, ℕ, List, Option, Some, None, Result, Ok, Err}
-use Rattle.hall.specs.Recall.{state_after}
-use Rattle.hall.specs.State.{State}
-use Rattle.hall.specs.declared.command.PastEntry.{PastEntry}
+use Rattle.hall_model.specs.Recall.{state_after}
+use Rattle.hall_model.specs.State.{State}
+use Rattle.hall_model.specs.declared.command.PastEntry.{PastEntry}
 use Rattle.keeper_api.specs.Rows.{Rows}
 use Rattle.landscape.specs.declared.landscape.Landscape.{Landscape}
 use Rattle.load_gen.specs.Script.{script_of}

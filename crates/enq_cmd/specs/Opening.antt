@@ -3,13 +3,14 @@ use Rattle.std.specs.Prelude.{◌≡◌, Bool, true, ℕ, List, [], Option, is_s
 use Rattle.enq_server.specs.Server.{recovered}
 use Rattle.lock_entry.specs.Table.{IsTable}
 use Rattle.lock_entry.specs.declared.entry.Entry.{Entry}
-use Rattle.posting.specs.Views.{open_locks}
-use Rattle.hall.specs.State.{View}
+use Rattle.ledger_steps.specs.Views.{open_locks}
+use Rattle.hall_calls.specs.View.{View}
 use Rattle.keeper_api.specs.Rows.{Rows}
 use Rattle.landscape.specs.declared.landscape.Landscape.{Landscape}
 use Rattle.lock_objects.specs.Objects.{Object}
-use Rattle.posting.specs.Reopening.{HasStood, IsRaised}
-use Rattle.range_list.specs.Levels.{FitRows}
+use Rattle.posting.specs.Reopening.{HasStood}
+use Rattle.ledger_steps.specs.Starts.{IsRaised}
+use Rattle.ledger_steps.specs.Levels.{FitRows}
 use Rattle.script_runner.specs.Replay.{seen}
 use Rattle.script_runner.specs.declared.runner.Why.{Why}
 use Rattle.store_reading.specs.Good.{IsSound}

@@ -4,7 +4,7 @@ ghost use Rattle.enq_cmd.specs.Main.{status_of};
 use crate::{Ended, Site};
 use bk_disk::Disk;
 use enq_base::Items;
-use hall::PastEntry;
+use hall_model::PastEntry;
 use keeper_api::Keeper;
 use replica_link::Link;
 use script_runner::Why;

@@ -4,9 +4,9 @@ use Rattle.std.specs.Prelude.{List, Option}
 use Rattle.enq_base.specs.declared.condition.Condition.{Condition}
 use Rattle.enq_base.specs.declared.condition.Condition.TheVariants as condition
 use Rattle.enq_server.specs.Following.{Following, KeepsOn}
-use Rattle.hall.specs.Devices.{is_doubt}
-use Rattle.hall.specs.Serving.{LosesOnly}
-use Rattle.hall.specs.State.{State, attached_in}
+use Rattle.hall_model.specs.Devices.{is_doubt}
+use Rattle.hall_calls.specs.Serving.{LosesOnly}
+use Rattle.hall_model.specs.State.{State, attached_in}
 use Rattle.lock_entry.specs.declared.entry.Entry.{Entry}
 
 followed : (c : Condition) (on : Bool) → attached_in c on ≡ true → on ≡ true

@@ -10,16 +10,17 @@ use Rattle.enq_server.specs.declared.fault.OpenFault.TheVariants as opening
 use Rattle.keeper_api.specs.Rows.{Rows}
 use Rattle.lock_entry.specs.declared.entry.UnitLocks.{UnitLocks}
 use Rattle.number_ranges.specs.declared.interval.Interval.{Interval}
-use Rattle.posting.specs.Intervals.{in_row_order}
-use Rattle.posting.specs.Opening.{CountsFault, OnBad, OnRefused}
-use Rattle.posting.specs.Reopening.{HasStood, IsOpeningFault, IsRaised, MayBeOpeningFault}
+use Rattle.ledger_steps.specs.Intervals.{in_row_order}
+use Rattle.posting.specs.Opening.{CountsFault}
+use Rattle.posting.specs.Reopening.{HasStood, IsOpeningFault}
+use Rattle.ledger_steps.specs.Starts.{IsRaised}
 use Rattle.posting.specs.declared.opening.BooksFault.{BooksFault}
 use Rattle.posting.specs.declared.opening.BooksFault.TheVariants as books
-use Rattle.posting.specs.Views.{open_locks}
-use Rattle.range_list.specs.Levels.{IsFirstUnfit}
+use Rattle.ledger_steps.specs.Views.{open_locks}
+use Rattle.ledger_steps.specs.Levels.{IsFirstUnfit}
 use Rattle.store_reading.specs.Good.{IsSound}
 use Rattle.update_records.specs.Ledger.{Ledger, Levels}
-use Rattle.hall.specs.Faults.{CountsFileFault, CountsHallFault, IsBadFile, IsFileFault, IsHallFault, IsLateFault, IsRangesFault, LeavesFile, LeavesFileOf, MayBeHallFault, OnBadStore, OnKept, OnStore, file_fault, hall_fault}
+use Rattle.hall.specs.Faults.{CountsFileFault, CountsHallFault, IsBadFile, IsFileFault, IsHallFault, IsLateFault, IsRangesFault, LeavesFile, LeavesFileOf, MayBeHallFault, OnBadStore, OnKept, file_fault, hall_fault}
 use Rattle.hall.specs.declared.opening.HallFault.{HallFault}
 use Rattle.hall.specs.declared.opening.HallFault.TheVariants as hall
 use Rattle.std.specs.Prelude.{true, Result, Ok, Err, IfOk, IfErr, IsTrue}
@@ -31,30 +32,6 @@ books_why intervals before rows books.StoreFault h = tt
 books_why intervals before rows (books.BadStore table row) h = h
 books_why intervals before rows books.NoStart h = (h.1, h.2, h.3)
 books_why intervals before rows books.NoMemory h = tt
-
-pub books_may : (f : BooksFault) → MayBeOpeningFault true f → MayBeHallFault (hall_fault f)
-books_may books.StoreFault h = tt
-books_may (books.BadStore table row) h = h
-books_may books.NoStart h = tt
-books_may books.NoMemory h = tt
-
-pub books_kept : (f : BooksFault) (P : Type 0) → OnRefused f P → OnKept (hall_fault f) P
-books_kept books.StoreFault P h = tt
-books_kept (books.BadStore table row) P h = h
-books_kept books.NoStart P h = h
-books_kept books.NoMemory P h = tt
-
-pub books_bad : (f : BooksFault) (P : Type 0) → OnBad f P → OnBadStore (hall_fault f) P
-books_bad books.StoreFault P h = tt
-books_bad (books.BadStore table row) P h = h
-books_bad books.NoStart P h = h
-books_bad books.NoMemory P h = tt
-
-pub books_counts : (f : BooksFault) (n m : ℕ) → CountsFault f n m → CountsHallFault (hall_fault f) n m
-books_counts books.StoreFault n m h = h
-books_counts (books.BadStore table row) n m h = h
-books_counts books.NoStart n m h = h
-books_counts books.NoMemory n m h = h
 
 -- a fault of the books says nothing of the backup file, which isn't touched then
 pub books_file : (told : Option Rows) (before : Rows → Type 0) (bytes : List ℕ) (f : BooksFault) → IsBadFile told before bytes (hall_fault f)
@@ -162,29 +139,6 @@ file_left units opening.NoMemory old new h = h
 pub ranges_left : (intervals : List Interval) (levels : Levels) (units : List UnitLocks) (f : HallFault) (images : List ℕ → Type 0) → IsRangesFault intervals levels f → LeavesFile units f images images
 ranges_left intervals levels units (hall.Interval row) images h = images_stay images
 ranges_left intervals levels units _ images h = absurd h
-
-pub file_not_store : (tells : Bool) (bytes : List ℕ) (units : List UnitLocks) (f : HallFault) (P : Type 0) → IsFileFault tells bytes units f → OnStore f P
-file_not_store tells bytes units hall.Backup P h = tt
-file_not_store tells bytes units (hall.Bad (bad.Backup place)) P h = tt
-file_not_store tells bytes units hall.NoMemory P h = tt
-file_not_store tells bytes units _ P h = absurd h
-
-pub on_store : (f : HallFault) (P : Type 0) → P → OnStore f P
-on_store hall.Store P h = h
-on_store hall.Backup P h = tt
-on_store (hall.Bad (bad.Store table row)) P h = h
-on_store (hall.Bad (bad.Backup place)) P h = tt
-on_store (hall.Bad (bad.Replica first second)) P h = tt
-on_store hall.NoStart P h = h
-on_store (hall.Interval row) P h = h
-on_store hall.NoMemory P h = tt
-
--- where the books aren't opened
-pub books_left : (told : Option Rows) (before : Rows → Type 0) (f : BooksFault) (images : List ℕ → Type 0) → LeavesFileOf told before (hall_fault f) images images
-books_left told before books.StoreFault images = images_stay images
-books_left told before (books.BadStore table row) images = images_stay images
-books_left told before books.NoStart images = images_stay images
-books_left told before books.NoMemory images = images_stay images
 
 -- behind the books
 pub late_left : (ledger : Ledger) (told : Option Rows) (before : Rows → Type 0) (f : HallFault) (old new : List ℕ → Type 0) → IsRaised IsSound true ledger → IfSome told (λ _. IsRaised (HasStood before) true ledger)

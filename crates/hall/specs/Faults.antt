@@ -12,12 +12,13 @@ use Rattle.enq_server.specs.declared.fault.OpenFault.TheVariants as opening
 use Rattle.keeper_api.specs.Rows.{Rows}
 use Rattle.lock_entry.specs.declared.entry.UnitLocks.{UnitLocks}
 use Rattle.number_ranges.specs.declared.interval.Interval.{Interval}
-use Rattle.posting.specs.Intervals.{in_row_order}
-use Rattle.posting.specs.Reopening.{HasStood, IsRaised}
+use Rattle.ledger_steps.specs.Intervals.{in_row_order}
+use Rattle.posting.specs.Reopening.{HasStood}
+use Rattle.ledger_steps.specs.Starts.{IsRaised}
 use Rattle.posting.specs.declared.opening.BooksFault.{BooksFault}
 use Rattle.posting.specs.declared.opening.BooksFault.TheVariants as books
-use Rattle.posting.specs.Views.{open_locks}
-use Rattle.range_list.specs.Levels.{IsFirstUnfit}
+use Rattle.ledger_steps.specs.Views.{open_locks}
+use Rattle.ledger_steps.specs.Levels.{IsFirstUnfit}
 use Rattle.store_reading.specs.Good.{IsBadPlace, IsSound}
 use Rattle.update_records.specs.Ledger.{Ledger, Levels, StandFor}
 use Rattle.hall.specs.declared.opening.HallFault.{HallFault}

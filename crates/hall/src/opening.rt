@@ -1,23 +1,22 @@
 ghost use Rattle.std.specs.Prelude.{◌≡◌, ◌≤◌, List, [], false, None, IsTrue, IfOk, IfErr, MatchResult, replicate, vec_capacity};
 ghost use Rattle.enq_server.specs.Server.{IsRecovered, recovered};
 ghost use Rattle.hall.specs.Faults.{CountsFileFault, IsFileFault, IsRangesFault, LeavesFile, file_fault, hall_fault};
-ghost use Rattle.posting.specs.Intervals.{in_row_order};
-ghost use Rattle.range_list.specs.Levels.{IsLevelFault};
+ghost use Rattle.ledger_steps.specs.Intervals.{in_row_order};
+ghost use Rattle.ledger_steps.specs.Levels.{IsLevelFault};
 ghost use Rattle.number_ranges.specs.declared.interval.Interval.{Interval};
 ghost use Rattle.update_records.specs.Ledger.{Levels};
 ghost use Rattle.lock_entry.specs.Table.{IsTable};
 
-use crate::command::PastEntry;
 use bk_disk::Disk;
 use enq_base::{Bad, NoMemory, UnitKey};
 use enq_server::{EnqServer, OpenFault};
+use hall_calls::HISTORY_LIMIT;
+use hall_model::PastEntry;
+use ledger_steps::LevelFault;
 use lock_entry::{LockStore, UnitLocks};
 use posting::BooksFault;
-use range_list::LevelFault;
 use replica_link::Link;
 use std::alloc::Global;
-
-pub(crate) const HISTORY_LIMIT: usize = 262_144;
 
 const WORKERS: usize = 256;
 

@@ -6,15 +6,15 @@ use Rattle.enq_base.specs.declared.unit.Num.{Num}
 use Rattle.number_ranges.specs.Draws.{RangeState}
 use Rattle.number_ranges.specs.Intervals.{is_buffered}
 use Rattle.number_ranges.specs.declared.interval.Interval.{Interval}
-use Rattle.range_list.specs.Drawn.{AreDrawnRight, IsStock, num_of}
-use Rattle.range_list.specs.Levels.{intervals_of, present}
-use Rattle.range_list.specs.declared.range.NumberRange.{NumberRange}
-use Rattle.range_list.proofs.Behind.{run_is_stock}
-use Rattle.range_list.proofs.Names.{contains_first}
-use Rattle.hall.specs.Kept.{draws_in}
-use Rattle.hall.specs.Numbers.{holder_of, next_of, range_state, shown_range}
-use Rattle.hall.specs.State.{State}
-use Rattle.hall.specs.declared.command.Session.{Session}
+use Rattle.ledger_steps.specs.Drawn.{AreDrawnRight, IsStock, num_of}
+use Rattle.ledger_steps.specs.Levels.{intervals_of, present}
+use Rattle.ledger_steps.specs.declared.range.NumberRange.{NumberRange}
+use Rattle.draw_laws.proofs.StockBehind.{run_is_stock}
+use Rattle.draw_laws.proofs.IntervalNames.{contains_first}
+use Rattle.hall_model.specs.Kept.{draws_in}
+use Rattle.hall_model.specs.Numbers.{holder_of, next_of, range_state, shown_range}
+use Rattle.hall_model.specs.State.{State}
+use Rattle.hall_model.specs.declared.command.Session.{Session}
 
 shown_interval : (i : Interval) (next : ℕ) (holder : Option Session) → (shown_range i next holder).interval ≡ i
 shown_interval i next None = refl

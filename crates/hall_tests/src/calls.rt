@@ -1,7 +1,7 @@
-ghost use Rattle.hall.specs.State.{State};
-ghost use Rattle.hall.specs.Stocks.{IsStockIn};
-ghost use Rattle.range_list.specs.Drawn.{num_of};
-ghost use Rattle.range_list.specs.Levels.{AreIntervals, IsUnused};
+ghost use Rattle.hall_model.specs.State.{State};
+ghost use Rattle.hall_model.specs.Stocks.{IsStockIn};
+ghost use Rattle.ledger_steps.specs.Drawn.{num_of};
+ghost use Rattle.ledger_steps.specs.Levels.{AreIntervals, IsUnused};
 ghost use Rattle.std.specs.List.{range_with_len};
 ghost use Rattle.std.specs.Prelude.{◌≡◌, ◌≤◌, ◌<◌, ◌+◌, ◌^◌, [], ◌∷◌, IfOk, OnOk, map};
 
@@ -10,12 +10,14 @@ use enq_base::{
     BackupBad, Bad, Deed, Effect, Items, Key, Name, Num, Owner, Parts, Pattern, Refusal, Text,
     UnitKey, read_name,
 };
-use hall::{Hall, HallFault, Reply};
+use hall::{Hall, HallFault};
+use hall_model::Reply;
 use keeper_mem::MemKeeper;
 use lock_entry::{Asked, Entry, Mode, Request};
 use lock_table::ListTable;
 use number_ranges::{Code, Interval, Range};
 use replica_link::MemLink;
+use single_calls::SingleCalls;
 use std::alloc::Global;
 use std::test::*;
 

@@ -44,3 +44,8 @@ IsWithin new old = (left : Rows) → new left → old left
 
 abbrev pub IsBeforeOrAfter : Rows → Rows → Rows → Type 0
 IsBeforeOrAfter before after left = (left ≡ before) ⊎ (left ≡ after)
+
+-- both the rows before and those after a batch may be left
+pub record AreBothLeft (before after : Rows) (may_leave : Rows → Type 0) : Type 0 where
+  pub before_left : may_leave before
+  pub after_left : may_leave after

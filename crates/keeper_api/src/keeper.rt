@@ -1,9 +1,9 @@
-ghost use Rattle.std.specs.Prelude.{◌≡◌, ◌≤◌, ℕ, List, Option, IfSome, IfOk, OnOk, is_some};
+ghost use Rattle.std.specs.Prelude.{◌≡◌, ◌≤◌, ℕ, List, Option, IfSome, IfOk, OnOk, OnErr, is_some};
 ghost use Rattle.enq_base.specs.Causes.{HasCause};
 ghost use Rattle.keeper_api.specs.declared.rows.Change.{Change};
 ghost use Rattle.keeper_api.specs.Rows.{Rows, value_at, page_of, IsPage};
 ghost use Rattle.keeper_api.specs.Batch.{changed, held_after, IsBatch};
-ghost use Rattle.keeper_api.specs.Keeping.{HasFaultCause, Stays, UnlessFailed, OnNoMemory, IsOnly, IsWithin, IsBeforeOrAfter};
+ghost use Rattle.keeper_api.specs.Keeping.{HasFaultCause, Stays, UnlessFailed, OnNoMemory, IsOnly, IsWithin, IsBeforeOrAfter, AreBothLeft};
 
 use crate::fault::KeepFault;
 use crate::rows::{Bytes, Change, Row};
@@ -27,11 +27,13 @@ pub trait Keeper {
     // A commit of these changes is allowed.
     ghost has_room: { Self → List Change → Type 0 };
 
-    /// Opens the rows, after a fault too. They are then one of those that a crash might have left.
+    /// Opens the rows, after a fault too. They are then one of those that a crash might have left. After an error only
+    /// `reopen` is allowed, after want of memory too: a keeper over a file has let go of it by then.
     fn reopen(&mut self, alloc: Global) -> Result<(), KeepFault>
         ensures opened { OnOk result (is_open self.new) }
         ensures found { OnOk result (IfSome (held self.new) (may_leave self.old)) }
         ensures stays { OnNoMemory result (held self.new ≡ held self.old) }
+        ensures still { OnNoMemory result (IsWithin (may_leave self.old) (may_leave self.new)) }
         ensures told { is_some (held self.new) ≡ is_some (held self.old) }
         ensures crash { IsWithin (may_leave self.new) (may_leave self.old) }
         ensures cause { HasFaultCause (faults self.old) (faults self.new) result };
@@ -82,9 +84,13 @@ pub trait Keeper {
         ensures done { OnOk result (held self.new ≡ held_after batch.now (held self.old)) }
         ensures opened { OnOk result (is_open self.new) }
         ensures either { IfSome (held self.old) (λ rows. (left : Rows) → may_leave self.new left → IsBeforeOrAfter rows (changed batch.now rows) left) }
+        ensures both { OnErr result (IfSome (held self.old) (λ rows. AreBothLeft rows (changed batch.now rows) (may_leave self.new))) }
         ensures told { is_some (held self.new) ≡ is_some (held self.old) }
         ensures cause { HasCause (faults self.old) (faults self.new) result };
 
     // While calls are allowed, a crash leaves the rows that are held.
     ghost settled: { (keeper : Self) → is_open keeper → IfSome (held keeper) (λ rows. IsOnly rows (may_leave keeper)) };
+
+    // In every state a crash may leave the rows that are held.
+    ghost held_left: { (keeper : Self) → IfSome (held keeper) (λ rows. may_leave keeper rows) };
 }

@@ -1,7 +1,7 @@
 ghost use Rattle.std.specs.Prelude.{◌≡◌, ◌≤◌, ◌↔◌, ◌+◌, true, false, IsTrue, Option, Some, IfOk, OnOk, OnErr, IsErr, IsOkAnd, IfSome, is_some};
 ghost use Rattle.enq_base.specs.Causes.{HasCause, Rose};
 ghost use Rattle.keeper_api.specs.Batch.{changed, held_after, IsBatch};
-ghost use Rattle.keeper_api.specs.Keeping.{HasFaultCause, Stays, UnlessFailed, OnNoMemory, OnFailed, IsWithin, IsBeforeOrAfter};
+ghost use Rattle.keeper_api.specs.Keeping.{HasFaultCause, Stays, UnlessFailed, OnNoMemory, OnFailed, IsWithin, IsBeforeOrAfter, AreBothLeft};
 ghost use Rattle.keeper_api.specs.Rows.{Rows, value_at, page_of, IsPage};
 ghost use Rattle.keeper_mem.specs.Memory as memory;
 ghost use Rattle.keeper_mem.specs.Memory.{Leaves, held_rows, IsSettled, HasMade};
@@ -151,7 +151,7 @@ fn stops_after(stop: &Option<Stop>, call: u64) -> bool
 }
 
 impl Keeper for MemKeeper {
-    ghost use Rattle.keeper_mem.specs.Memory.{Leaves, held_rows, IsSettled, HasMade, settled_leaves};
+    ghost use Rattle.keeper_mem.specs.Memory.{Leaves, held_rows, IsSettled, HasMade, settled_leaves, leaves_held};
 
     ghost held = { held_rows };
 
@@ -165,11 +165,14 @@ impl Keeper for MemKeeper {
 
     ghost settled = { settled_leaves };
 
+    ghost held_left = { leaves_held };
+
     fn reopen(&mut self, _alloc: Global) -> Result<(), KeepFault>
         // As every keeper.
         ensures opened { OnOk result (IsSettled self.new) }
         ensures found { OnOk result (Leaves self.old self.new.rows) }
         ensures stays { OnNoMemory result (held_rows self.new ≡ held_rows self.old) }
+        ensures still { OnNoMemory result (IsWithin (Leaves self.old) (Leaves self.new)) }
         ensures told { is_some (held_rows self.new) ≡ is_some (held_rows self.old) }
         ensures crash { IsWithin (Leaves self.new) (Leaves self.old) }
         ensures cause { HasFaultCause self.old.faults self.new.faults result }
@@ -261,6 +264,8 @@ impl Keeper for MemKeeper {
         ensures opened { OnOk result (IsSettled self.new) }
         ensures either { IfSome (held_rows self.old)
             (λ rows. (left : Rows) → Leaves self.new left → IsBeforeOrAfter rows (changed batch.now rows) left) }
+        ensures both { OnErr result (IfSome (held_rows self.old)
+            (λ rows. AreBothLeft rows (changed batch.now rows) (Leaves self.new))) }
         ensures told { is_some (held_rows self.new) ≡ is_some (held_rows self.old) }
         ensures cause { HasCause self.old.faults self.new.faults result }
 

@@ -76,6 +76,8 @@ impl<S: Alter> Keeper for AdoptedKeeper<S> {
 
     ghost settled = { λ k is_open. tt };
 
+    ghost held_left = { λ k. tt };
+
     fn reopen(&mut self, _alloc: Global) -> Result<(), KeepFault>
         // As every keeper.
         ensures opened { OnOk result (IsTrue self.new.is_open) }

@@ -80,6 +80,8 @@ impl Keeper for SqliteKeeper {
 
     ghost settled = { λ k is_open. tt };
 
+    ghost held_left = { λ k. tt };
+
     fn reopen(&mut self, _alloc: Global) -> Result<(), KeepFault>
         // As every keeper.
         ensures opened { OnOk result (IsTrue self.new.is_open) }

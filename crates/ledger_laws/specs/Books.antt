@@ -6,7 +6,7 @@ use Rattle.enq_base.specs.Owners.{same_unit}
 use Rattle.enq_base.specs.declared.owner.UnitKey.{UnitKey}
 use Rattle.keeper_api.specs.Rows.{Rows}
 use Rattle.posting.specs.Numbers.{AreNumbersRight}
-use Rattle.posting.specs.Posts.{HoldsTables}
+use Rattle.ledger_steps.specs.Posts.{HoldsTables}
 use Rattle.update_records.specs.Business.{AreRight, tables_of}
 use Rattle.update_records.specs.Ledger.{Ledger}
 use Rattle.update_records.specs.Marks.{is_rec}

@@ -1,6 +1,6 @@
 -- What stands once locks are freed, or handed over to the update.
 use Rattle.std.specs.Prelude.{◌-◌, Bool, true, not, ◌&&◌, cond, nat_le, List, [], ◌∷◌, ◌++◌, map}
-use Rattle.std.specs.List.{filter}
+use Rattle.std.specs.List.{filter, list_any}
 use Rattle.enq_base.specs.declared.owner.Owner.{Owner}
 use Rattle.enq_base.specs.declared.owner.Owner.TheVariants.{Upd}
 use Rattle.enq_base.specs.declared.owner.UnitKey.{UnitKey}
@@ -42,3 +42,7 @@ flagged owner e = cond (is_of owner e) (record e { handed = true }) e
 -- the unit's S, E and X entries become handed, and its O entries go
 abbrev pub handed_over : List Entry → UnitKey → List Entry
 handed_over entries unit = map (flagged (Upd unit)) (without_optimistic entries (Upd unit))
+
+-- an entry of the owner wasn't handed over
+abbrev pub has_unhanded : Owner → List Entry → Bool
+has_unhanded owner entries = list_any (λ e. is_of owner e && not e.handed) entries

@@ -6,7 +6,7 @@ ghost use Rattle.lock_entry.specs.Pairs.{IsPair};
 ghost use Rattle.lock_entry.specs.Sound.{ReadmitsOnly};
 ghost use Rattle.lock_entry.specs.Table.{Table, IsTable, IsFaultOf, IsLoadFault, with_entries, entry_at};
 ghost use Rattle.lock_entry.specs.Granting as granting;
-ghost use Rattle.lock_entry.specs.Freeing.{freed, freed_owner, handed_over};
+ghost use Rattle.lock_entry.specs.Freeing.{freed, freed_owner, handed_over, has_unhanded};
 ghost use Rattle.lock_entry.specs.Converting.{converted};
 
 use crate::entry::{Asked, Asker, Entry, Request};
@@ -107,6 +107,11 @@ pub trait LockStore: Sized + Drop {
     /// The owner's entries in order of granting.
     fn entries_of(&self, alloc: Global, owner: &Owner) -> Result<Vec<Entry>, NoMemory>
         ensures entries { IfOk result (λ v. v.items ≡ lists.filter (is_of owner.now) (table self.now).entries) }
+        ensures good { IsTable (table self.now) };
+
+    /// Whether the owner has an entry that wasn't handed over.
+    fn has_unhanded(&self, owner: &Owner) -> bool
+        ensures answer { result ≡ has_unhanded owner.now (table self.now).entries }
         ensures good { IsTable (table self.now) };
 
     /// The entry at this place, counted from 1. None comes exactly at place 0 and past the last.

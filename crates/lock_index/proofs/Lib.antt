@@ -7,6 +7,7 @@ pub mod Live
 pub mod Names
 pub mod Changed
 pub mod Owned
+pub mod Unhanded
 pub mod MadeExclusive
 pub mod Filters
 pub mod InOrder

@@ -122,6 +122,11 @@ impl LockStore for IndexTable {
         owners::entries_of(alloc, &self.shelf, owner)
     }
 
+    /// It goes over the owner's entries.
+    fn has_unhanded(&self, owner: &Owner) -> bool {
+        owners::has_unhanded(&self.shelf, owner)
+    }
+
     /// In constant time where no entry went since the entries were moved together; else it goes over the places up to
     /// that entry.
     fn at(&self, place: u32) -> Option<Entry> {

@@ -3,7 +3,7 @@ ghost use Rattle.std.specs.List.{list_any, position};
 ghost use Rattle.std.specs.Option.{option_map};
 ghost use Rattle.lock_entry.specs.Names as names;
 ghost use Rattle.lock_index.specs.Searches as searches;
-ghost use Rattle.lock_index.specs.Slots.{slot_at, on_some, is_lengths, handed, IsShown};
+ghost use Rattle.lock_index.specs.Slots.{slot_at, on_some, is_lengths, is_unhanded, handed, IsShown};
 ghost use Rattle.lock_index.specs.Keys.{has_key};
 ghost use Rattle.lock_index.specs.Members.{is_under};
 ghost use Rattle.indexmap.specs.IndexSet.{contains};
@@ -242,6 +242,22 @@ fn first_of(places: &[usize]) -> Option<usize>
     match places {
         [] => None,
         [place, ..] => Some(*place),
+    }
+}
+
+/// Whether an entry at one of the places wasn't handed over.
+pub fn has_unhanded(slots: &[Option<Entry>], places: &[usize]) -> bool
+    ensures { result ≡ list_any (λ i. on_some is_unhanded (slot_at slots.now i)) places.now }
+{
+    places.iter().any(|place| is_unhanded(slots, *place))
+}
+
+fn is_unhanded(slots: &[Option<Entry>], place: usize) -> bool
+    ensures { result ≡ on_some is_unhanded (slot_at slots.now place) }
+{
+    match slots.get(place) {
+        Some(Some(entry)) => !entry.handed,
+        _ => false,
     }
 }
 

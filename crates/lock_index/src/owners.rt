@@ -29,6 +29,13 @@ pub fn entries_of(alloc: Global, shelf: &Shelf, owner: &Owner) -> Result<Vec<Ent
     shelf.entries_of(alloc, &owner_key(owner))
 }
 
+/// Whether the owner has an entry that wasn't handed over.
+pub fn has_unhanded(shelf: &Shelf, owner: &Owner) -> bool
+    ensures { result ≡ freeing.has_unhanded owner.now (live shelf.now) }
+{
+    shelf.has_unhanded(&owner_key(owner))
+}
+
 /// Takes out the owner's entries. Tells how many there were.
 pub fn free_owner(shelf: &mut Shelf, owner: &Owner) -> usize
     ensures count { result ≡ count_by (is_of owner.now) (live shelf.old) }

@@ -1,4 +1,4 @@
-ghost use Rattle.std.specs.Prelude.{◌≡◌, ◌||◌, nat_eq, ◌++◌, ◌∷◌, [], None, Some, ℕ, true, false, IfOk, IfSome, IfNone, OnOk, OnErr, count_by, length, map, option_copied, slice_set};
+ghost use Rattle.std.specs.Prelude.{◌≡◌, ◌||◌, ◌&&◌, not, nat_eq, ◌++◌, ◌∷◌, [], None, Some, ℕ, true, false, IfOk, IfSome, IfNone, OnOk, OnErr, count_by, length, map, option_copied, slice_set};
 ghost use Rattle.std.specs.List.{filter, list_any, position};
 ghost use Rattle.mode_rules.specs.declared.Mode.TheVariants.{E, O};
 ghost use Rattle.lock_entry.specs.Names as names;
@@ -119,6 +119,14 @@ impl Shelf {
         ensures { result ≡ count_by (has_key key.now) (live self.now) }
     {
         members(&self.map, key).len()
+    }
+
+    /// Whether an entry with the key wasn't handed over.
+    pub fn has_unhanded(&self, key: &Key) -> bool
+        requires { is_lengths key.now ≡ false }
+        ensures { result ≡ list_any (λ e. has_key key.now e && not e.handed) (live self.now) }
+    {
+        looking::has_unhanded(self.slots.as_slice(), members(&self.map, key))
     }
 
     /// Where the entries with the key stand, in no certain order.

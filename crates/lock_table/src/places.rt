@@ -1,7 +1,7 @@
 ghost use Rattle.std.specs.Prelude.{◌≡◌, ◌<◌, ◌++◌, suc, length, take, drop, count_by, slice_index_or, IfOk};
 ghost use Rattle.std.specs.List.{filter};
 ghost use Rattle.lock_entry.specs.Names.{count_at, is_of, stands};
-ghost use Rattle.lock_entry.specs.Freeing.{freed, lowered};
+ghost use Rattle.lock_entry.specs.Freeing.{freed, has_unhanded, lowered};
 ghost use Rattle.lock_entry.specs.Table.{entry_at};
 ghost use Rattle.lock_entry.specs.declared.entry.Entry.{Entry};
 
@@ -25,6 +25,13 @@ pub fn entries_of(alloc: Global, entries: &[Entry], owner: &Owner) -> Result<Vec
         .filter(|e| e.is_of(owner))
         .copied()
         .collect(alloc)
+}
+
+/// Whether the owner has an entry that wasn't handed over.
+pub fn has_unhanded(entries: &[Entry], owner: &Owner) -> bool
+    ensures { result ≡ has_unhanded owner.now entries.now }
+{
+    entries.iter().any(|e| e.is_of(owner) && !e.handed)
 }
 
 /// The count of the entry of this name, or 0.

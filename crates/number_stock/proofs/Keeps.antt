@@ -1,5 +1,5 @@
 -- Each step keeps the rule of a stock.
-use Rattle.std.proofs.Common.{◌≡◌, ◌⊎◌, inl, inr, ℕ, ◌+◌, ◌%◌, ◌<◌, ◌≤◌, ◌==◌, max, ltb, Bool, true, false, true≢false, ◌||◌, List, [], ◌∷◌, ◌++◌, if◌then◌else◌, set, slice_index, sym, refl, ap, subst, ⊎_elim, ◌∙◌, arith, le_refl}
+use Rattle.std.proofs.Common.{◌≡◌, ◌⊎◌, inl, inr, ℕ, zero, suc, ◌+◌, ◌%◌, ◌<◌, ◌≤◌, ◌==◌, max, leb, ltb, Bool, true, false, true≢false, ◌&&◌, ◌||◌, List, [], ◌∷◌, ◌++◌, if◌then◌else◌, All, length, get_or, set, slice_index, sym, refl, ap, subst, ⊎_elim, ◌∙◌, arith, le_refl}
 use Rattle.std.specs.List.{sum_by}
 use Rattle.std.proofs.lemmas.List.Sums.{sum_by_push}
 use Rattle.std.proofs.lemmas.List.Elements.{All-push, All-append}
@@ -10,27 +10,44 @@ use native.Mathlib.Decide.{ℕ_discrete}
 use mathlib.Core.Option.{none}
 use Rattle.atomic_table.specs.Table.{State, Me, step, keeps, Allows, Splits, Joins}
 use Rattle.seat_sums.specs.Sums.{times, one_if}
-use Rattle.seat_sums.proofs.Totals.{total_set, total_at, total_two, total_whole, each_set, each_snoc, was_there, times_push, times_append, below_next, one_if_le, one_if_true, one_if_below}
+use Rattle.seat_sums.proofs.Totals.{total_set, total_at, total_two, total_whole, each_set, each_snoc, was_there, times_cons, times_push, times_append, below_next, one_if_le, one_if_true, one_if_below}
 use Rattle.seat_sums.proofs.Entries.{below_none, below_higher}
 use Rattle.number_stock.specs.declared.hand.Hand.{Hand}
-use Rattle.number_stock.specs.Rule.{Fits, Kept, spent, drew, saw, raised, kept_of, given_of, both_of, Draws, Looks, Raises, Learns}
+use Rattle.number_stock.specs.Rule.{Fits, Kept, spent, drew, saw, raised, kept_of, given_of, leads, both_of, IsKnown, Draws, Looks, Raises, Learns}
 
 drew_fits : (limit ticket : ℕ) (v : Hand) → Fits limit v → Fits limit (drew ticket v)
 drew_fits limit ticket v f = record {
   seen = f.seen;
   set = f.set;
+  led = f.led;
   below = f.below;
   own = λ t. omega (arith, f.own t, times_push t v.tickets ticket);
 }
+
+below_cons : (high x : ℕ) (xs : List ℕ) → x < high → All (λ t. t < high) xs → All (λ t. t < high) (x ∷ xs)
+below_cons high x xs lt all = go
+  where
+    go : (k d : ℕ) → k < length (x ∷ xs) → get_or (x ∷ xs) k d < high
+    go zero d l = lt
+    go (suc k) d l = all k d (omega arith)
+
+-- where each number that stands in a list is below a bound, the list is
+below_all : (high : ℕ) (xs : List ℕ) → ((t : ℕ) → 0 < times t xs → t < high) → All (λ t. t < high) xs
+below_all high [] stands = below_none high
+below_all high (x ∷ xs) stands =
+    below_cons high x xs
+    (stands x (let one : one_if (x == x) ≡ 1 = grind (arith, nat_tests) in omega (arith, times_cons x x xs)))
+    (below_all high xs (λ t some. stands t (omega (arith, times_cons t x xs))))
 
 one_if_lt2 : (t n : ℕ) → one_if (ltb t n) < 2
 one_if_lt2 t n = let h = one_if_le (ltb t n) in omega arith
 
 saw_fits_if : (limit ticket : ℕ) (v : Hand) (b : Bool) → ltb ticket limit ≡ b → Fits limit v → times ticket v.answered < times ticket v.tickets
-    → Fits limit record { draws = v.draws; tickets = v.tickets; answered = if b then v.answered ++ ticket ∷ [] else v.answered; limit = limit; looks = v.looks + 1; raises = v.raises }
+    → Fits limit record { draws = v.draws; tickets = v.tickets; answered = if b then v.answered ++ ticket ∷ [] else v.answered; limit = limit; looks = v.looks + 1; raises = v.raises; right_leads = v.right_leads }
 saw_fits_if limit ticket v true is f open_yet = record {
   seen = le_refl limit;
   set = λ _. refl;
+  led = f.led;
   below = All-push (λ t. t < limit) v.answered ticket (below_higher v.limit limit v.answered f.seen f.below) (ltb-true ticket limit is);
   own = λ t. own_more t;
 }
@@ -42,6 +59,7 @@ saw_fits_if limit ticket v true is f open_yet = record {
 saw_fits_if limit ticket v false is f open_yet = record {
   seen = le_refl limit;
   set = λ _. refl;
+  led = f.led;
   below = below_higher v.limit limit v.answered f.seen f.below;
   own = f.own;
 }
@@ -58,10 +76,22 @@ or_true : (a b : Bool) → (a || b) ≡ true → (a ≡ true) ⊎ (b ≡ true)
 or_true true b e = inl refl
 or_true false b e = inr e
 
+leads_if : (b : Bool) (low high : ℕ) → (b ≡ true → low ≤ high) → (if b then leb low high else true) ≡ true
+leads_if true low high le = let h = le refl in grind (arith, nat_tests)
+leads_if false low high le = refl
+
+-- the seat with the right set the present limit, and no other saw a higher one
+fits_leads : (limit : ℕ) (v w : Hand) → Fits limit v → Fits limit w → leads v w ≡ true
+fits_leads limit v w f g = leads_if v.raises w.limit v.limit (λ yes. let e = f.set yes in let le = g.seen in omega arith)
+
+both_true : (a b : Bool) → a ≡ true → b ≡ true → (a && b) ≡ true
+both_true a b x y = rw (x, y) refl
+
 both_fits : (limit : ℕ) (v w : Hand) → Fits limit v → Fits limit w → Fits limit (both_of v w)
 both_fits limit v w f g = let f₀ = f.seen in let g₀ = g.seen in record {
   seen = omega arith;
   set = λ yes. ⊎_elim (λ a. let e = f.set a in omega arith) (λ b. let e = g.set b in omega arith) (or_true v.raises w.raises yes);
+  led = both_true (leads v w) (leads w v) (fits_leads limit v w f g) (fits_leads limit w v g f);
   below = All-append (λ t. t < max v.limit w.limit) v.answered w.answered
       (below_higher v.limit (max v.limit w.limit) v.answered (omega arith) f.below)
       (below_higher w.limit (max v.limit w.limit) w.answered (omega arith) g.below);
@@ -69,7 +99,7 @@ both_fits limit v w f g = let f₀ = f.seen in let g₀ = g.seen in record {
 }
 
 spent_fits : (limit : ℕ) → Fits limit spent
-spent_fits limit = record { seen = omega arith; set = λ yes. absurd (true≢false (sym yes)); below = below_none 0; own = λ t. omega arith }
+spent_fits limit = record { seen = omega arith; set = λ yes. absurd (true≢false (sym yes)); led = refl; below = below_none 0; own = λ t. omega arith }
 
 module _ {S : Type 0} where
   word_0 : (s : State S Hand) (n l : ℕ) → s.words ≡ n ∷ l ∷ [] → slice_index s.words 0 ≡ n
@@ -105,7 +135,14 @@ module _ {S : Type 0} where
           one_raises = let change = total_set (λ (u : Hand). one_if u.raises) s.views id v w at in let was = k.one_raises in omega arith;
           each = each_set (λ _. Fits k.limit) s.views id w (drew_fits k.limit found v (k.each id v at)) (λ j u _ there. k.each j u there);
         },
-        (refl, (let own = (k.each id v at).own found in let one : one_if (found == found) ≡ 1 = grind (arith, nat_tests) in omega (arith, times_push found v.tickets found))),
+        (
+          refl,
+          (
+            (let low = total_at (λ (u : Hand). times found u.tickets) s.views id v at in let were = k.tickets found in let past : one_if (ltb found k.next) ≡ 0 = grind (arith, nat_tests) in omega arith),
+            below_all found v.tickets (λ t some. let low = total_at (λ (u : Hand). times t u.tickets) s.views id v at in let were = k.tickets t in let lt = one_if_below t k.next (omega arith) in omega arith),
+          ),
+          (let own = (k.each id v at).own found in let one : one_if (found == found) ≡ 1 = grind (arith, nat_tests) in omega (arith, times_push found v.tickets found)),
+        ),
       )
 
   pub looks_allowed : (draws ticket slots id : ℕ) (me : Me S Hand) → times ticket me.0.answered < times ticket me.0.tickets
@@ -131,7 +168,7 @@ module _ {S : Type 0} where
           one_raises = let change = total_set (λ (u : Hand). one_if u.raises) s.views id v w at in let was = k.one_raises in omega arith;
           each = each_set (λ _. Fits k.limit) s.views id w (saw_fits k.limit found ticket v here fits open_yet) (λ j u _ there. k.each j u there);
         },
-        (refl, (let low = fits.seen in omega arith), omega arith),
+        (refl, (let low = fits.seen in omega arith), (λ yes. here ∙ sym (fits.set yes)), omega arith),
       )
 
   pub raises_allowed : (draws limit slots id : ℕ) (me : Me S Hand) → me.0.raises ≡ true
@@ -159,13 +196,14 @@ module _ {S : Type 0} where
               record {
                 seen = omega arith;
                 set = λ _. ap (λ (n : ℕ). max n limit) set_last;
+                led = mine.led;
                 below = below_higher v.limit (max v.limit limit) v.answered (omega arith) mine.below;
                 own = mine.own;
               }
               (λ j u ne there.
               let f = k.each j u there in
               let none_there : one_if u.raises ≡ 0 = total_whole (λ (x : Hand). one_if x.raises) s.views id v at only j u ne there in
-              record { seen = (let low = f.seen in omega arith); set = λ yes. absurd (let one = one_if_true u.raises yes in omega arith); below = f.below; own = f.own });
+              record { seen = (let low = f.seen in omega arith); set = λ yes. absurd (let one = one_if_true u.raises yes in omega arith); led = f.led; below = f.below; own = f.own });
         },
         refl,
       )
@@ -192,6 +230,7 @@ module _ {S : Type 0} where
           (λ t. let low = total_at (λ (u : Hand). times t u.tickets) s.views id v at in let all = k.tickets t in let few = one_if_lt2 t k.next in omega arith),
           (λ t. let own = mine.own t in let low = total_at (λ (u : Hand). times t u.tickets) s.views id v at in let all = k.tickets t in let few = one_if_lt2 t k.next in omega arith),
           mine.below,
+          mine.led,
         ),
       )
 
@@ -216,8 +255,8 @@ module _ {S : Type 0} where
             let was = k.one_raises in
             let change = total_set (λ (u : Hand). one_if u.raises) s.views id v l at in
             let more = sum_by_push (λ (u : Hand). one_if u.raises) views r in omega arith;
-        each = each_snoc (Fits k.limit) views r record { seen = mine.seen; set = λ yes. absurd (true≢false (sym yes)); below = below_none v.limit; own = λ t. omega arith }
-            (each_set (λ _. Fits k.limit) s.views id l record { seen = mine.seen; set = mine.set; below = mine.below; own = mine.own } (λ j u _ there. k.each j u there));
+        each = each_snoc (Fits k.limit) views r record { seen = mine.seen; set = λ yes. absurd (true≢false (sym yes)); led = refl; below = below_none v.limit; own = λ t. omega arith }
+            (each_set (λ _. Fits k.limit) s.views id l record { seen = mine.seen; set = mine.set; led = mine.led; below = mine.below; own = mine.own } (λ j u _ there. k.each j u there));
       }
 
   pub glues_allowed : (draws id : ℕ) (v : Hand) (other : ℕ) (w : Hand) → Joins {S = S} (Kept draws) id v other w (both_of v w) spent
@@ -255,3 +294,21 @@ module _ {S : Type 0} where
 
   pub learns_told : (draws said slots id : ℕ) (me : Me S Hand) → said ≡ draws → Allows (Kept draws) slots id me 0 (λ n. n) (Learns said (step slots 0 0 0 none) me)
   learns_told draws said slots id me d = subst (λ (n : ℕ). Allows (Kept draws) slots id me 0 (λ n. n) (Learns n (step slots 0 0 0 none) me)) (sym d) (learns_allowed draws slots id me)
+
+leads_limit : (v w : Hand) → leads v w ≡ true → v.raises ≡ true → max v.limit w.limit ≡ v.limit
+leads_limit v w h may = let le : leb w.limit v.limit ≡ true = sym (ap (λ (b : Bool). if b then leb w.limit v.limit else true) may) ∙ h in grind (arith, nat_tests)
+
+both_left : (a b : Bool) → (a && b) ≡ true → a ≡ true
+both_left true b e = refl
+both_left false b e = e
+
+both_right : (a b : Bool) → (a && b) ≡ true → b ≡ true
+both_right true b e = e
+both_right false b e = absurd (true≢false (sym e))
+
+-- a seat with the right to raise keeps its limit where it is joined
+pub joined_limit : (v w u : Hand) → u ≡ both_of v w → u.right_leads ≡ true → IsKnown u.limit v × IsKnown u.limit w
+joined_limit v w u is led =
+    let both : (leads v w && leads w v) ≡ true = sym (ap (λ (x : Hand). x.right_leads) is) ∙ led in
+    let limit : u.limit ≡ max v.limit w.limit = ap (λ (x : Hand). x.limit) is in
+    ((λ yes. limit ∙ leads_limit v w (both_left (leads v w) (leads w v) both) yes), (λ yes. let h = leads_limit w v (both_right (leads v w) (leads w v) both) yes in omega arith))

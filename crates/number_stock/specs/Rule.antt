@@ -1,5 +1,5 @@
 -- The rule of a stock, and what each step tells.
-use Rattle.std.specs.Prelude.{◌≡◌, ℕ, ◌+◌, ◌-◌, ◌<◌, ◌≤◌, max, true, false, ◌||◌, ltb, [], ◌∷◌, ◌++◌, if◌then◌else◌, All}
+use Rattle.std.specs.Prelude.{◌≡◌, ℕ, ◌+◌, ◌-◌, ◌<◌, ◌≤◌, max, Bool, true, false, ◌&&◌, ◌||◌, leb, ltb, [], ◌∷◌, ◌++◌, if◌then◌else◌, All}
 use Rattle.std.specs.List.{sum_by}
 use mathlib.Core.Option.{some}
 use lib.ListN.{get_elem?}
@@ -7,10 +7,11 @@ use Rattle.atomic_table.specs.Table.{State, Me, Step}
 use Rattle.seat_sums.specs.Sums.{times, one_if, IsDistinct}
 use Rattle.number_stock.specs.declared.hand.Hand.{Hand}
 
--- What a seat knows of the limit: it is no less than the one that this seat saw last, and the seat with the right to raise set the present one. Each answered ticket lies below it, and is one of the seat's own, answered once
+-- What a seat knows of the limit: it is no less than the one that this seat saw last, and the seat with the right to raise set the present one, so it led where it was joined. Each answered ticket lies below it, and is one of the seat's own, answered once
 pub record Fits (limit : ℕ) (v : Hand) : Type 0 where
   pub seen : v.limit ≤ limit
   pub set : v.raises ≡ true → v.limit ≡ limit
+  pub led : v.right_leads ≡ true
   pub below : All (λ t. t < v.limit) v.answered
   pub own : (t : ℕ) → times t v.answered ≤ times t v.tickets
 
@@ -25,31 +26,43 @@ pub record Kept {S : Type 0} (draws : ℕ) (s : State S Hand) : Type 0 where
   pub each : (seat : ℕ) (v : Hand) → get_elem? s.views seat ≡ some v → Fits limit v
 
 abbrev pub opener : ℕ → ℕ → Hand
-opener draws limit = record { draws = draws; tickets = []; answered = []; limit = limit; looks = 0; raises = true }
+opener draws limit = record { draws = draws; tickets = []; answered = []; limit = limit; looks = 0; raises = true; right_leads = true }
 
 abbrev pub spent : Hand
-spent = record { draws = 0; tickets = []; answered = []; limit = 0; looks = 0; raises = false }
+spent = record { draws = 0; tickets = []; answered = []; limit = 0; looks = 0; raises = false; right_leads = true }
 
 -- one draw is used for the ticket
 abbrev pub drew : ℕ → Hand → Hand
-drew ticket v = record { draws = v.draws - 1; tickets = v.tickets ++ ticket ∷ []; answered = v.answered; limit = v.limit; looks = v.looks; raises = v.raises }
+drew ticket v = record { draws = v.draws - 1; tickets = v.tickets ++ ticket ∷ []; answered = v.answered; limit = v.limit; looks = v.looks; raises = v.raises; right_leads = v.right_leads }
 
 -- the limit was loaded once more, and the ticket is answered if it lies below
 abbrev pub saw : ℕ → ℕ → Hand → Hand
-saw ticket limit v = record { draws = v.draws; tickets = v.tickets; answered = if ltb ticket limit then v.answered ++ ticket ∷ [] else v.answered; limit = limit; looks = v.looks + 1; raises = v.raises }
+saw ticket limit v = record { draws = v.draws; tickets = v.tickets; answered = if ltb ticket limit then v.answered ++ ticket ∷ [] else v.answered; limit = limit; looks = v.looks + 1; raises = v.raises; right_leads = v.right_leads }
 
 abbrev pub raised : ℕ → Hand → Hand
-raised limit v = record { draws = v.draws; tickets = v.tickets; answered = v.answered; limit = max v.limit limit; looks = v.looks; raises = v.raises }
+raised limit v = record { draws = v.draws; tickets = v.tickets; answered = v.answered; limit = max v.limit limit; looks = v.looks; raises = v.raises; right_leads = v.right_leads }
 
 -- a seat that gives away this many draws, and the new seat that has them
 abbrev pub kept_of : ℕ → Hand → Hand
-kept_of draws v = record { draws = v.draws - draws; tickets = v.tickets; answered = v.answered; limit = v.limit; looks = v.looks; raises = v.raises }
+kept_of draws v = record { draws = v.draws - draws; tickets = v.tickets; answered = v.answered; limit = v.limit; looks = v.looks; raises = v.raises; right_leads = v.right_leads }
 
 abbrev pub given_of : ℕ → Hand → Hand
-given_of draws v = record { draws = draws; tickets = []; answered = []; limit = v.limit; looks = 0; raises = false }
+given_of draws v = record { draws = draws; tickets = []; answered = []; limit = v.limit; looks = 0; raises = false; right_leads = true }
+
+-- a seat with the right to raise knows as high a limit as the other
+abbrev pub leads : Hand → Hand → Bool
+leads v w = if v.raises then leb w.limit v.limit else true
 
 abbrev pub both_of : Hand → Hand → Hand
-both_of v w = record { draws = v.draws + w.draws; tickets = v.tickets ++ w.tickets; answered = v.answered ++ w.answered; limit = max v.limit w.limit; looks = v.looks + w.looks; raises = v.raises || w.raises }
+both_of v w = record { draws = v.draws + w.draws; tickets = v.tickets ++ w.tickets; answered = v.answered ++ w.answered; limit = max v.limit w.limit; looks = v.looks + w.looks; raises = v.raises || w.raises; right_leads = leads v w && leads w v }
+
+-- the seat never had the ticket: all that it has had lie before it
+abbrev pub IsNew : ℕ → Hand → Type 0
+IsNew ticket v = (times ticket v.tickets ≡ 0) × All (λ t. t < ticket) v.tickets
+
+-- a seat with the right to raise knew the limit that was found
+abbrev pub IsKnown : ℕ → Hand → Type 0
+IsKnown limit v = v.raises ≡ true → limit ≡ v.limit
 
 -- the seat drew the ticket, and it wasn't answered yet
 abbrev pub IsUnanswered : ℕ → Hand → Type 0
@@ -58,14 +71,14 @@ IsUnanswered ticket v = times ticket v.answered < times ticket v.tickets
 module _ {S : Type 0} where
   -- the ticket is new, and not answered yet
   abbrev pub Draws : Step S → Me S Hand → ℕ → Me S Hand → Type 0
-  Draws st m ticket w = (w ≡ (drew ticket m.0, m.1)) × IsUnanswered ticket (drew ticket m.0)
+  Draws st m ticket w = (w ≡ (drew ticket m.0, m.1)) × IsNew ticket m.0 × IsUnanswered ticket (drew ticket m.0)
 
   -- the ticket of this seat is answered if it lies below the limit that was found
   abbrev pub Looks : ℕ → ℕ → Step S → Me S Hand → ℕ → Me S Hand → Type 0
-  Looks draws ticket st m found w = (w ≡ (saw ticket found m.0, m.1)) × (m.0.limit ≤ found) × (ticket < draws)
+  Looks draws ticket st m found w = (w ≡ (saw ticket found m.0, m.1)) × (m.0.limit ≤ found) × IsKnown found m.0 × (ticket < draws)
 
   abbrev pub Raises : Step S → Me S Hand → ℕ → Me S Hand → Type 0
   Raises st m found w = w ≡ (raised st.first m.0, m.1)
 
   abbrev pub Learns : ℕ → Step S → Me S Hand → ℕ → Me S Hand → Type 0
-  Learns draws st m found w = (w ≡ m) × (w.0.draws ≤ draws) × IsDistinct w.0.tickets × IsDistinct w.0.answered × All (λ t. t < w.0.limit) w.0.answered
+  Learns draws st m found w = (w ≡ m) × (w.0.draws ≤ draws) × IsDistinct w.0.tickets × IsDistinct w.0.answered × All (λ t. t < w.0.limit) w.0.answered × (w.0.right_leads ≡ true)

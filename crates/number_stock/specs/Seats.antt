@@ -5,7 +5,7 @@ use Rattle.number_stock.specs.declared.answer.Dry.{Dry}
 use Rattle.number_stock.specs.declared.hand.Hand.{Hand}
 use Rattle.number_stock.specs.declared.seat.StockSeat.{StockSeat}
 use Rattle.number_stock.specs.declared.stock.Stock.{Stock}
-use Rattle.number_stock.specs.Rule.{saw}
+use Rattle.number_stock.specs.Rule.{saw, IsKnown}
 
 -- what the seat knows
 abbrev pub hand : StockSeat → Hand
@@ -24,9 +24,10 @@ number_of d = d.number
 abbrev pub ticket_of : Dry → ℕ
 ticket_of d = d.ticket
 
--- One look at the limit for a ticket of the seat. Below the limit the reply is the ticket's number, and else that the stock is dry
+-- One look at the limit for a ticket of the seat. A seat with the right to raise finds the limit that it knows. Below the limit the reply is the ticket's number, and else that the stock is dry
 pub record IsLook (base ticket : ℕ) (before after : Hand) (reply : Result Drawn Dry) : Type 0 where
   pub limit : ℕ
   pub knows : after ≡ saw ticket limit before
   pub risen : before.limit ≤ limit
+  pub known : IsKnown limit before
   pub replies : MatchResult reply (λ d. (number_of d ≡ base + ticket) × (ticket < limit)) (λ e. (ticket_of e ≡ ticket) × (limit ≤ ticket))

@@ -23,3 +23,14 @@ impl Drawn {
 pub struct Dry {
     pub(crate) ticket: u64,
 }
+
+impl Dry {
+    ghost use Rattle.number_stock.specs.Seats.{ticket_of};
+
+    /// The ticket that waits: its number may be had once the limit is above it.
+    pub fn ticket(&self) -> u64
+        ensures { result ≡ ticket_of self.now }
+    {
+        self.ticket
+    }
+}

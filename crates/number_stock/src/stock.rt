@@ -27,7 +27,7 @@ pub struct Stock {
 
 impl Stock {
     ghost use Rattle.std.specs.Prelude.{IfOk};
-    ghost use Rattle.number_stock.specs.Rule.{opener, drew, IsUnanswered};
+    ghost use Rattle.number_stock.specs.Rule.{opener, drew, IsNew, IsUnanswered};
     ghost use Rattle.number_stock.specs.Seats.{hand, base_of, IsSeatOf};
 
     /// A stock, and a seat that has all draws and the right to raise the limit. The limit counts tickets: those below
@@ -52,6 +52,7 @@ impl Stock {
         requires left { 0 < (hand seat.old).draws }
         ensures own { IsSeatOf self.now seat.new }
         ensures drawn { hand seat.new ≡ drew result (hand seat.old) }
+        ensures new { IsNew result (hand seat.old) }
         ensures unanswered { IsUnanswered result (hand seat.new) }
     {
         let ticket = self
@@ -66,7 +67,7 @@ impl Stock {
 impl Stock {
     ghost use Rattle.std.specs.Prelude.{ℕ, ◌≤◌, true, [], All, IfErr};
     ghost use Rattle.seat_sums.specs.Sums.{IsDistinct};
-    ghost use Rattle.number_stock.specs.Rule.{drew, raised, kept_of, given_of, both_of, IsUnanswered};
+    ghost use Rattle.number_stock.specs.Rule.{drew, raised, kept_of, given_of, both_of, IsNew, IsKnown, IsUnanswered};
     ghost use Rattle.number_stock.specs.Seats.{hand, base_of, ticket_of, IsSeatOf, IsLook};
 
     // Loads the limit once, for a ticket that this seat has and that was not answered.
@@ -100,13 +101,13 @@ impl Stock {
             .fetch_max::<Raises>(&mut seat.seat, LIMIT, limit);
     }
 
-    /// Draws the next ticket. It is answered with its number if it lies below the limit that is loaded in this call;
+    /// Draws the next ticket, which comes behind all that the seat has had. It is answered with its number if it lies below the limit that is loaded in this call;
     /// otherwise it is dry, and the seat keeps it. Takes no memory.
     pub fn draw(&self, seat: &mut StockSeat) -> Result<Drawn, Dry>
         requires own { IsSeatOf self.now seat.old }
         requires left { 0 < (hand seat.old).draws }
         ensures own { IsSeatOf self.now seat.new }
-        ensures drawn { (ticket : ℕ)
+        ensures drawn { (ticket : ℕ) × IsNew ticket (hand seat.old)
             × IsLook (base_of self.now) ticket (drew ticket (hand seat.old)) (hand seat.new) result }
         ensures dry { IfErr result (λ e. IsUnanswered (ticket_of e) (hand seat.new)) }
     {
@@ -163,18 +164,21 @@ impl Stock {
         ensures own { (seat.new.table_id ≡ seat.old.table_id) × (seat.new.me.1 ≡ seat.old.me.1) }
         ensures both { seat.new.me.0 ≡ both_of seat.old.me.0 other.me.0 }
         ensures learned { (seat.new.me.0.draws < 2 ^ 32) × IsDistinct seat.new.me.0.tickets
-            × IsDistinct seat.new.me.0.answered × All (λ t. t < seat.new.me.0.limit) seat.new.me.0.answered }
+            × IsDistinct seat.new.me.0.answered × All (λ t. t < seat.new.me.0.limit) seat.new.me.0.answered
+            × (seat.new.me.0.right_leads ≡ true) }
     {
         self.table.shared.join_seat::<Glues>(seat, other);
         self.table.shared.load::<Learns<N>>(seat, NEXT_TICKET);
     }
 
     /// One seat with the draws, the tickets and the right of both. None of these tickets is there twice, and those that
-    /// were answered lie below the limit that it saw. Takes no memory.
+    /// were answered lie below the limit that it saw: where one of the two has the right to raise, that seat's own.
+    /// Takes no memory.
     pub fn join(&self, a: StockSeat, b: StockSeat) -> StockSeat
         requires own { IsSeatOf self.now a × IsSeatOf self.now b }
         ensures own { IsSeatOf self.now result }
         ensures both { hand result ≡ both_of (hand a) (hand b) }
+        ensures limit { IsKnown (hand result).limit (hand a) × IsKnown (hand result).limit (hand b) }
         ensures distinct { IsDistinct (hand result).tickets × IsDistinct (hand result).answered }
         ensures below { All (λ t. t < (hand result).limit) (hand result).answered }
     {

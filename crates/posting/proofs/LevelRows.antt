@@ -19,7 +19,7 @@ use Rattle.update_records.proofs.Apart.{AreDistinct, IsApart, at_number, distinc
 use Rattle.update_records.proofs.Books.{books_in, is_book_table}
 use Rattle.update_records.proofs.Keyed.{level_left, unname, unname_name}
 use Rattle.update_records.proofs.Own.{AreOwn}
-use Rattle.posting.specs.Intervals.{HasDistinctIntervals, HasNr, MayStore, interval_row, interval_rows, with_intervals, with_levels}
+use Rattle.ledger_steps.specs.Intervals.{HasDistinctIntervals, HasNr, MayStore, interval_row, interval_rows, with_intervals, with_levels}
 use Rattle.update_records.specs.Intervals.{level_of, named}
 use Rattle.update_records.specs.declared.stored.StoredInterval.{StoredInterval}
 

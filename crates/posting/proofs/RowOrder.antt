@@ -1,8 +1,7 @@
 -- Intervals in the order of the keys of their rows: look-ups by name, and the search for a place.
-use Rattle.std.proofs.Common.{T, ◌≡◌, ℕ, zero, suc, ◌<◌, Bool, true, false, cond, ◌&&◌, List, [], ◌∷◌, map, length, get_or, Option, Some, None, Decides, refl, sym, ap, subst, ◌∙◌, arith}
-use Rattle.std.specs.Cmp.{Equal-is, eq_by_cmp_equiv}
+use Rattle.std.proofs.Common.{T, ◌≡◌, ℕ, zero, suc, ◌<◌, Bool, true, false, cond, ◌&&◌, List, [], ◌∷◌, map, length, get_or, Option, Some, None, Decides, refl, sym, ap, ◌∙◌, arith}
 use Rattle.std.specs.Cmp.Lexicographic.{slice_cmp, nat_list_cmp_total}
-use Rattle.std.specs.FinMap.{IsAntisymmetric, entries, find, from_entries, from_sorted, get, values, entries-from_sorted, get-entries, get-from_entries, get-from_sorted, nat_cmp-IsAntisymmetric, same_map, slice_cmp-IsAntisymmetric}
+use Rattle.std.specs.FinMap.{entries, find, from_entries, from_sorted, get, values, entries-from_sorted, get-entries, get-from_entries, get-from_sorted, same_map}
 use Rattle.std.specs.FinMap.Entries.{below_all}
 use Rattle.std.specs.List.{find as first}
 use Rattle.std.specs.List.Sorted.{IsPartitionedBy}
@@ -20,37 +19,14 @@ use Rattle.update_records.proofs.Keyed.{unname, unname_name}
 use Rattle.update_records.specs.Intervals.{entry_of, level_of, levels_of, named}
 use Rattle.update_records.specs.RecordRows.{Level, row_name}
 use Rattle.update_records.specs.declared.stored.StoredInterval.{StoredInterval}
-use Rattle.posting.specs.Intervals.{AreInOrder, in_row_order, interval_of_entry, is_before, is_called, key_cmp, keyed}
-
-abbrev Bytes : Type 0
-Bytes = List ℕ
-
-pub exact_bytes : IsAntisymmetric (slice_cmp nat_cmp)
-exact_bytes = slice_cmp-IsAntisymmetric nat_cmp-IsAntisymmetric
+use Rattle.ledger_steps.specs.Intervals.{AreInOrder, in_row_order, interval_of_entry, is_before, is_called, key_cmp, keyed}
+use Rattle.ledger_steps.proofs.RowNames.{Bytes, exact_bytes, first_called, key-Decides}
 
 -- how the code compares two names
 pub keys_compared : (a b : RowName) → ordering_then (ordering_then (nat_cmp (length a.0) (length b.0)) (slice_cmp nat_cmp a.0 b.0)) (slice_cmp nat_cmp a.1 b.1) ≡ key_cmp a b
 keys_compared a b = name_cmp a.0 b.0 a.1 b.1
 
 -- ---- names and their keys
-
-key-Decides : (k l : Bytes) → Decides (eq_by_cmp (slice_cmp nat_cmp) k l) (k ≡ l)
-key-Decides k l = (
-  λ t. exact_bytes k l ((Equal-is (slice_cmp nat_cmp k l)).0 t),
-  λ e. subst (λ r. eq_by_cmp (slice_cmp nat_cmp) k r ≡ true) e ((eq_by_cmp_equiv nat_list_cmp_total).refl k),
-)
-
-same_name : (a b : RowName) → row_name a ≡ row_name b → a ≡ b
-same_name a b e = sym (unname_name a) ∙ ap unname e ∙ unname_name b
-
-called-Decides : (a b : RowName) → Decides (eq_by_cmp key_cmp a b) (a ≡ b)
-called-Decides a b = (
-  λ t. same_name a b ((key-Decides (row_name a) (row_name b)).0 t),
-  λ e. (key-Decides (row_name a) (row_name b)).1 (ap row_name e),
-)
-
-pub called_row : (a b : RowName) → eq_by_cmp key_cmp a b ≡ same_row a b
-called_row a b = same_from_decides _ _ (called-Decides a b) (same_row-Decides a b)
 
 -- whether bytes are the key of a name
 abbrev is_key : Bytes → Bool
@@ -108,12 +84,6 @@ in_order items h =
     ∙ sym (get-from_sorted (slice_cmp nat_cmp) (map keyed items) k h)))
     ∙ ap (map (λ (e : Bytes × StoredInterval). e.1)) (entries-from_sorted (slice_cmp nat_cmp) (map keyed items) h)
     ∙ same_values items
-
-pub first_called : (name : RowName) (items : List StoredInterval) → find row_cmp name (map entry_of items) ≡ option_map level_of (first (is_called name) items)
-first_called name [] = refl
-first_called name (j ∷ items) =
-    ap (λ b. cond b (Some (level_of j)) (find row_cmp name (map entry_of items))) (sym (called_row name (named j)))
-    ∙ elim (is_called name j) as (λ b. cond b (Some (level_of j)) (find row_cmp name (map entry_of items)) ≡ option_map level_of (cond b (Some j) (first (is_called name) items))) [ true ↦ refl | false ↦ first_called name items ]
 
 pub level_called : (name : RowName) (items : List StoredInterval) → get (levels_of items) name ≡ option_map level_of (first (is_called name) items)
 level_called name items = get-from_entries rows_total (map entry_of items) name ∙ first_called name items

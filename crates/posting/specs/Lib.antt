@@ -1,13 +1,9 @@
-pub mod Intervals
 pub mod Registers
 pub mod Turns
 pub mod Standings
-pub mod Steps
-pub mod Posts
-pub mod Shelf
+pub mod BooksView
 pub mod Restoring
 pub mod Opening
 pub mod Reopening
 pub mod Settling
-pub mod Views
 pub mod Numbers

@@ -1,16 +1,11 @@
 -- What is found in a store that is opened, and what an opening leaves.
-use Rattle.std.specs.Prelude.{ℕ, ◌≡◌, ◌+◌, ◌≤◌, Bool, if◌then◌else◌}
+use Rattle.std.specs.Prelude.{ℕ, ◌≡◌, ◌≤◌}
 use Rattle.enq_base.specs.Causes.{Rose}
 use Rattle.keeper_api.specs.declared.fault.KeepFault.{KeepFault}
 use Rattle.keeper_api.specs.declared.fault.KeepFault.TheVariants as keep
-use Rattle.update_records.specs.Growing.{with_start}
 use Rattle.update_records.specs.Ledger.{Ledger}
 use Rattle.posting.specs.declared.opening.BooksFault.{BooksFault}
 use Rattle.posting.specs.declared.opening.BooksFault.TheVariants.{StoreFault, BadStore, NoStart, NoMemory}
-
--- a ledger that was opened: at its next start, where one is raised
-abbrev pub raised : Bool → Ledger → Ledger
-raised raise ledger = if raise then with_start ledger (ledger.start + 1) else ledger
 
 abbrev pub books_fault : KeepFault → BooksFault
 books_fault keep.Failed = StoreFault

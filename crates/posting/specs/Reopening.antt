@@ -5,7 +5,7 @@ use Rattle.store_reading.specs.Good.{IsBadPlace}
 use Rattle.store_reading.specs.declared.fault.ReadingFault.{ReadingFault}
 use Rattle.store_reading.specs.declared.fault.ReadingFault.TheVariants as reading
 use Rattle.update_records.specs.Ledger.{Ledger, StandFor}
-use Rattle.posting.specs.Opening.{raised}
+use Rattle.ledger_steps.specs.Starts.{raised}
 use Rattle.posting.specs.declared.opening.BooksFault.{BooksFault}
 use Rattle.posting.specs.declared.opening.BooksFault.TheVariants.{StoreFault, BadStore, NoStart, NoMemory}
 
@@ -17,10 +17,6 @@ opening_fault reading.NoMemory = NoMemory
 -- rows that may have been left before stand for the ledger
 abbrev pub HasStood : (Rows → Type 0) → Ledger → Type 0
 HasStood before ledger = (rows : Rows) × before rows × StandFor rows ledger
-
--- the ledger is that of a store that is good, at its next start where one is raised
-abbrev pub IsRaised : (Ledger → Type 0) → Bool → Ledger → Type 0
-IsRaised stood raise opened = (ledger : Ledger) × stood ledger × (opened ≡ raised raise ledger)
 
 -- why a store with these rows isn't opened: a bad store at its first bad place, and one at the last start that there is
 abbrev pub IsOpeningFault : Bool → Rows → BooksFault → Type 0

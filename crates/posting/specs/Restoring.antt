@@ -9,7 +9,8 @@ use Rattle.update_records.specs.Ledger.{recorded}
 use Rattle.update_records.specs.Marks.{is_rec, may_follow, status_of, unit_at}
 use Rattle.update_records.specs.declared.records.Mark.{Mark}
 use Rattle.update_records.specs.declared.records.Unit.{Unit as UnitOfWork}
-use Rattle.posting.specs.Standings.{Standings, error_of, standing_at}
+use Rattle.posting.specs.Standings.{Standings, standing_at}
+use Rattle.ledger_steps.specs.Errors.{error_of}
 use Rattle.posting.specs.Turns.{last_turn, turns_of}
 use Rattle.posting.specs.declared.register.Standing.{Standing}
 use Rattle.posting.specs.declared.restoring.Followed.{Followed}

@@ -6,10 +6,10 @@ use Rattle.update_records.specs.declared.records.Mark.{Mark}
 use Rattle.update_records.specs.declared.records.MarkKind.TheVariants as kind
 use Rattle.update_records.specs.declared.records.Unit.{Unit as UnitOfWork}
 use Rattle.posting.specs.Opening.{CountsFault, OnBad}
-use Rattle.posting.specs.Steps.{after_step}
+use Rattle.ledger_steps.specs.Steps.{after_step}
 use Rattle.posting.specs.declared.opening.BooksFault.{BooksFault}
-use Rattle.posting.specs.declared.prepared.Step.{Step}
-use Rattle.posting.specs.declared.prepared.Step.TheVariants.{Start, Record, Note, Draw, Level}
+use Rattle.ledger_steps.specs.declared.step.Step.{Step}
+use Rattle.ledger_steps.specs.declared.step.Step.TheVariants.{Start, Record, Note, Draw, Level}
 use Rattle.posting.specs.declared.settling.SettleFault.{SettleFault}
 use Rattle.posting.specs.declared.settling.SettleFault.TheVariants.{Books, Other}
 

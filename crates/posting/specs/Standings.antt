@@ -1,43 +1,25 @@
 -- Where each unit stands, as it is looked up by its key.
-use Rattle.std.specs.Prelude.{ℕ, ◌≡◌, ◌≤◌, List, [], ◌∷◌, length, if◌then◌else◌, Option, Some, None, IfSome, ◌<◌, ◌*◌, ◌+◌, ◌^◌}
+use Rattle.std.specs.Prelude.{ℕ, ◌≡◌, ◌≤◌, List, length, Option, IfSome, ◌<◌, ◌*◌, ◌+◌, ◌^◌}
 use Rattle.std.specs.HashMap.{HashMap, get}
 use Rattle.std.specs.List.{All, slice_get}
 use Rattle.std.specs.Option.{option_map, option_and_then}
-use Rattle.enq_base.specs.Owners.{same_unit}
 use Rattle.enq_base.specs.declared.owner.UnitKey.{UnitKey}
-use Rattle.enq_base.specs.declared.unit.Reason.{Reason}
 use Rattle.enq_base.specs.declared.unit.Status.TheVariants.{Open, Posted}
 use Rattle.update_records.specs.Business.{numbers_of}
 use Rattle.update_records.specs.Ids.{id_of, same_id}
 use Rattle.update_records.specs.declared.records.Mark.{Mark}
-use Rattle.update_records.specs.declared.records.MarkKind.{MarkKind}
-use Rattle.update_records.specs.declared.records.MarkKind.TheVariants.{Num, Bad1, Bad2}
 use Rattle.update_records.specs.declared.records.Unit.{Unit as UnitOfWork}
 use Rattle.update_records.specs.Marks.{status_of, unit_at}
 use Rattle.update_records.specs.declared.unit_id.UnitId.{UnitId}
 use Rattle.posting.specs.Turns.{last_turn, turns_of}
 use Rattle.posting.specs.declared.register.Standing.{Standing}
+use Rattle.ledger_steps.specs.Errors.{error_of}
 
 abbrev pub Standings : Type 0 → Type 0
 Standings S = HashMap UnitId Standing S
 
 abbrev pub standing_at : {S : Type 0} → Standings S → UnitKey → Option Standing
 standing_at standings key = get same_id standings (id_of key)
-
--- the refusal that a mark tells, by the one before it: the effect's number and the reason; numbers alone tell nothing new
-abbrev pub told : MarkKind → Option (ℕ × Reason) → Option (ℕ × Reason)
-told (Num numbers) before = before
-told (Bad1 index reason) before = Some (index, reason)
-told (Bad2 index reason) before = Some (index, reason)
-told kind before = None
-
-abbrev pub error_after : UnitKey → Option (ℕ × Reason) → List Mark → Option (ℕ × Reason)
-error_after key error [] = error
-error_after key error (m ∷ marks) = error_after key (if same_unit m.unit key then told m.kind error else error) marks
-
--- the refusal that the last mark of a unit tells
-abbrev pub error_of : List Mark → UnitKey → Option (ℕ × Reason)
-error_of marks key = error_after key None marks
 
 -- a unit whose effects, numbers and locks can be counted in four bytes
 pub record IsSmall (unit : UnitOfWork) : Type 0 where

@@ -5,9 +5,9 @@ ghost use Rattle.update_records.specs.Grammar.{HasDigits, IsHeldBy, IsUnitKey, M
 ghost use Rattle.update_records.specs.RecordRows.{mark_row, meta_row, unit_rows};
 ghost use Rattle.update_records.specs.Spelling.{HasFields};
 ghost use Rattle.update_records.specs.declared.records.MarkKind.TheVariants.{Rec};
-ghost use Rattle.posting.specs.Intervals.{HasNr, draw_changes, interval_row, interval_rows};
-ghost use Rattle.posting.specs.Posts.{note_changes};
-ghost use Rattle.posting.specs.Steps.{IsSpelt};
+ghost use Rattle.ledger_steps.specs.Intervals.{HasNr, draw_changes, interval_row, interval_rows};
+ghost use Rattle.ledger_steps.specs.Posts.{note_changes};
+ghost use Rattle.ledger_steps.specs.Steps.{IsSpelt};
 
 use crate::spots::encode_rows;
 use enq_base::{NoMemory, UnitKey};

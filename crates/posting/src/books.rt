@@ -1,34 +1,34 @@
 ghost use Rattle.std.specs.Prelude.{◌≡◌, ◌≤◌, ◌⊎◌, List, [], length, nat_eq, true, false, if◌then◌else◌, Option, Some, None, IfSome, IfOk, IfErr, OnOk, OnErr, IsTrue, is_some, ◌∷◌};
 ghost use Rattle.std.specs.FinMap.{get};
 ghost use Rattle.std.specs.Option.{option_copied, option_map};
-ghost use Rattle.update_records.specs.Business.{numbers_of};
+ghost use Rattle.update_records.specs.Business.{numbers_of, tables_of};
 ghost use Rattle.update_records.specs.RecordRows.{Level as StoredLevel};
-ghost use Rattle.posting.specs.Intervals.{in_row_order, MayStore};
+ghost use Rattle.ledger_steps.specs.Intervals.{in_row_order, MayStore};
 ghost use Rattle.enq_base.specs.Causes.{HasCause};
 ghost use Rattle.keeper_api.specs.Batch.{changed, IsBatch};
 ghost use Rattle.keeper_api.specs.Keeping.{IsWithin, HasFaultCause, Stays, UnlessFailed};
 ghost use Rattle.keeper_api.specs.Rows.{Rows};
 ghost use Rattle.module_effects.specs.Effects.{applied};
 ghost use Rattle.module_effects.specs.Rows.{Tables};
-ghost use Rattle.update_records.specs.Business.{tables_of};
 ghost use Rattle.update_records.specs.Ledger.{StandFor};
 ghost use Rattle.update_records.specs.Growing.{next_mark, with_start};
 ghost use Rattle.update_records.specs.Marks.{status_of, v1_of, v2_of};
-ghost use Rattle.posting.specs.Opening.{CountsFault, OnBad, OnRefused, IsRaiseFault, raised};
+ghost use Rattle.posting.specs.Opening.{CountsFault, OnBad, OnRefused, IsRaiseFault};
+ghost use Rattle.ledger_steps.specs.Starts.{raised, IsRaised};
 ghost use Rattle.posting.specs.Numbers.{AreNumbersRight};
-ghost use Rattle.posting.specs.Posts.{HasDistinctRows, HoldsTables, IsNote, IsPost, MayCome, WaitsFor, effects_of, entries_of, kind_for, post2_kind};
-ghost use Rattle.posting.specs.Reopening.{HasStood, IsOpeningFault, IsRaised, MayBeLeftBy, MayBeOpeningFault};
+ghost use Rattle.ledger_steps.specs.Posts.{HasDistinctRows, HoldsTables, IsNote, IsPost, MayCome, WaitsFor, effects_of, entries_of, kind_for, post2_kind};
+ghost use Rattle.posting.specs.Reopening.{HasStood, IsOpeningFault, MayBeLeftBy, MayBeOpeningFault};
 ghost use Rattle.store_reading.specs.Good.{IsSound, ledger_of};
-ghost use Rattle.posting.specs.Shelf.{IsUsable, IsUnmoved, IsReady, MayTake, StandForEither};
+ghost use Rattle.posting.specs.BooksView.{IsUsable, IsUnmoved, IsReady, MayTake, StandForEither};
 ghost use Rattle.posting.specs.Settling.{CountsSettling, IsSettled, OnBooks, OnFound, OnOther, StandForOther};
-ghost use Rattle.posting.specs.Standings.{error_of};
-ghost use Rattle.posting.specs.Steps.{after_step, at_place, intervals_in, IsDrawing, post_kind, waiting_for, HasMarksLeft, IsNewUnit, IsOpenUnit, IsOutcome, IsPostedUnit, IsSetByHand, MayGet};
-ghost use Rattle.posting.specs.Views.{open_locks, views_of};
-ghost use Rattle.posting.specs.declared.prepared.Step.TheVariants.{Record, Note, Start, Draw, Level};
+ghost use Rattle.ledger_steps.specs.Errors.{error_of};
+ghost use Rattle.ledger_steps.specs.Steps.{after_step, at_place, intervals_in, IsDrawing, post_kind, waiting_for, HasMarksLeft, IsNewUnit, IsOpenUnit, IsOutcome, IsPostedUnit, IsSetByHand, MayGet};
+ghost use Rattle.ledger_steps.specs.Views.{open_locks, views_of};
+ghost use Rattle.ledger_steps.specs.declared.step.Step.TheVariants.{Record, Note, Start, Draw, Level};
 
 use crate::batch::{draw_batch, level_batch, mark_behind, note_batch, start_batch, unit_batch};
 use crate::opening::{BooksFault, open_ledger, restored};
-use crate::prepared::{Outcome, Prepared, Step};
+use crate::prepared::Prepared;
 use crate::register::Register;
 use crate::settling::{Reread, SettleFault, settled};
 use crate::spots::{apply_to_store, read_text};
@@ -37,6 +37,7 @@ use enq_base::{
     Effect, Failed, Items, Key, Name, NoMemory, Num, Parts, Reason, Status, Text, UnitKey,
 };
 use keeper_api::{Change, KeepFault, Keeper};
+use ledger_steps::{Outcome, Step};
 use lock_entry::{Entry, UnitLocks};
 use module_effects::Spot;
 use std::alloc::Global;
@@ -51,9 +52,9 @@ pub struct Books<K: Keeper> {
 }
 
 impl<K: Keeper> Model for Books<K> {
-    ghost use Rattle.posting.specs.Shelf.{Shelf};
+    ghost use Rattle.posting.specs.BooksView.{BooksView};
 
-    ghost Value = { Shelf K };
+    ghost Value = { BooksView K };
 
     ghost use Rattle.std.specs.Coded.{codes};
     ghost use Rattle.update_records.specs.Codes.{levels_code};

@@ -3,9 +3,9 @@ ghost use Rattle.std.specs.FinMap.{empty, get, insert};
 ghost use Rattle.std.specs.List.{find, position_or_len};
 ghost use Rattle.std.specs.Option.{option_map, option_map_or};
 ghost use Rattle.update_records.specs.RecordRows.{Level};
-ghost use Rattle.posting.specs.Intervals.{AreInOrder, if_called, in_row_order, is_before, is_called, is_past, key_cmp, with_levels};
+ghost use Rattle.ledger_steps.specs.Intervals.{AreInOrder, if_called, in_row_order, is_before, is_called, is_past, key_cmp, with_levels};
 ghost use Rattle.update_records.specs.Intervals.{level_of, named};
-ghost use Rattle.posting.specs.Steps.{at_place};
+ghost use Rattle.ledger_steps.specs.Steps.{at_place};
 
 use crate::sameness::are_same;
 use enq_base::{Name, NoMemory};
@@ -23,7 +23,7 @@ pub struct IntervalList {
 
 impl Model for IntervalList {
     ghost use Rattle.std.specs.Prelude.{◌-◌, vec_len, vec_capacity};
-    ghost use Rattle.posting.specs.Intervals.{AreInOrder, IntervalsView};
+    ghost use Rattle.ledger_steps.specs.Intervals.{AreInOrder, IntervalsView};
     ghost use Rattle.update_records.specs.Intervals.{levels_of};
 
     ghost Value = { IntervalsView };

@@ -15,6 +15,6 @@ mod viewing;
 
 pub use books::Books;
 pub use opening::BooksFault;
-pub use prepared::{Outcome, Prepared, Step};
+pub use prepared::Prepared;
 pub use settling::{Reread, SettleFault};
 pub use update_records::StoredInterval;

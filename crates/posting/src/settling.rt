@@ -1,17 +1,17 @@
 ghost use Rattle.std.specs.Prelude.{◌≡◌, ◌≢◌, ◌↔◌, ◌+◌, ◌++◌, ◌∷◌, [], length, IsTrue, IfOk, IfErr, Some};
 ghost use Rattle.std.specs.Option.{option_copied};
-ghost use Rattle.posting.specs.Intervals.{with_levels};
+ghost use Rattle.ledger_steps.specs.Intervals.{with_levels};
 ghost use Rattle.posting.specs.Settling.{IsOther, IsSettled, OnBooks, OnOther, mark_in, marks_after, start_after, units_after};
-ghost use Rattle.posting.specs.Steps.{after_step, intervals_in};
-ghost use Rattle.posting.specs.Views.{open_locks};
+ghost use Rattle.ledger_steps.specs.Steps.{after_step, intervals_in};
+ghost use Rattle.ledger_steps.specs.Views.{open_locks};
 
 use crate::interval_list::IntervalList;
 use crate::opening::BooksFault;
-use crate::prepared::Step;
 use crate::register::Register;
 use crate::sameness::{Same, are_same, is_num};
 use crate::viewing;
 use enq_base::NoMemory;
+use ledger_steps::Step;
 use lock_entry::UnitLocks;
 use std::alloc::Global;
 use std::marker::Model;

@@ -4,11 +4,11 @@ ghost use Rattle.keeper_api.specs.Keeping.{HasFaultCause, IsWithin, Stays, Unles
 ghost use Rattle.module_effects.specs.Rows.{RowName, Tables, row_of};
 ghost use Rattle.module_effects.specs.Spots.{covers, is_at};
 ghost use Rattle.update_records.specs.RecordRows.{row_name};
-ghost use Rattle.posting.specs.Posts.{AreRead, HasDistinctRows, HoldsTables, IsPost, MayCome, row_change, row_changes, text_at, text_in};
+ghost use Rattle.ledger_steps.specs.Posts.{AreRead, HasDistinctRows, HoldsTables, IsPost, MayCome, row_change, row_changes, text_at, text_in};
 
-use crate::prepared::Outcome;
 use enq_base::{Effect, Items, Key, Name, NoMemory, Text, TextFault};
 use keeper_api::{Bytes, Change, KeepFault, Keeper};
+use ledger_steps::Outcome;
 use module_effects::{EffectFault, Spot, apply};
 use std::alloc::Global;
 use update_records::{encode_business, tables};

@@ -1,8 +1,8 @@
 ghost use Rattle.std.specs.Prelude.{◌≡◌, IfOk, map};
 ghost use Rattle.std.specs.List.{All};
-ghost use Rattle.posting.specs.Posts.{entries_of};
+ghost use Rattle.ledger_steps.specs.Posts.{entries_of};
 ghost use Rattle.posting.specs.Standings.{IsSmall};
-ghost use Rattle.posting.specs.Views.{locks_of, open_locks, view_of, views_of};
+ghost use Rattle.ledger_steps.specs.Views.{locks_of, open_locks, view_of, views_of};
 
 use crate::register::Register;
 use enq_base::{Items, NoMemory, Status, UnitKey};

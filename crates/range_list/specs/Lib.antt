@@ -1,4 +1,2 @@
-pub mod Levels
-pub mod Places
+pub mod RangePlaces
 pub mod Sameness
-pub mod Drawn

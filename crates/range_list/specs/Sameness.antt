@@ -1,7 +1,7 @@
 -- Names of intervals that are one stand for each other, as maps want it of them.
 use Rattle.std.specs.Cmp.{IsEquivalence, IsPartialEquivalence, and_equiv, on_equiv, partial_equiv_from_equiv}
 use Rattle.std.specs.Cmp.Lexicographic.{nat_list_eq_equiv}
-use Rattle.range_list.specs.Places.{same_range}
+use Rattle.range_list.specs.RangePlaces.{same_range}
 use Rattle.range_list.specs.declared.range_id.RangeId.{RangeId}
 
 pub ranges_equiv : IsEquivalence same_range

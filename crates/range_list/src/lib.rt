@@ -2,13 +2,9 @@
 //! draw from them.
 #![tactic(auto)]
 
-mod laws;
-mod places;
-mod range;
 mod range_id;
+mod range_places;
 mod ranges;
 mod starting;
 
-pub use laws::{draws_may_be_stored, draws_outlast_sessions, draws_stay_right, rows_fit_by_name};
-pub use range::{LevelFault, NumberRange};
 pub use ranges::Ranges;

@@ -1,5 +1,5 @@
 ghost use Rattle.std.specs.Prelude.{◌≡◌};
-ghost use Rattle.range_list.specs.Places.{range_id};
+ghost use Rattle.range_list.specs.RangePlaces.{range_id};
 
 use enq_base::Name;
 
@@ -11,7 +11,7 @@ pub struct RangeId {
 }
 
 impl PartialEq for RangeId {
-    ghost use Rattle.range_list.specs.Places.{same_range};
+    ghost use Rattle.range_list.specs.RangePlaces.{same_range};
     ghost use Rattle.range_list.specs.Sameness.{ranges_partial};
 
     ghost eq = { same_range };

@@ -2,18 +2,18 @@ ghost use Rattle.std.specs.Prelude.{◌≡◌, ◌<◌, ◌≤◌, ◌+◌, ◌^
 ghost use Rattle.std.specs.List.{AllByRecursion, list_all, position};
 ghost use Rattle.std.specs.Option.{option_copied};
 ghost use Rattle.enq_base.specs.declared.unit.Num.{Num};
-ghost use Rattle.posting.specs.Intervals.{in_row_order};
-ghost use Rattle.range_list.specs.Drawn.{drawn_of, handed_out_of, passed};
-ghost use Rattle.range_list.specs.Levels.{AreIntervals, FitRows, IsLevelFault, first_ranges, fits, intervals_of, range_at};
-ghost use Rattle.range_list.specs.declared.range.NumberRange.{NumberRange};
+ghost use Rattle.ledger_steps.specs.Intervals.{in_row_order};
+ghost use Rattle.ledger_steps.specs.Drawn.{drawn_of, handed_out_of, passed};
+ghost use Rattle.ledger_steps.specs.Levels.{AreIntervals, FitRows, IsLevelFault, first_ranges, fits, intervals_of, range_at};
+ghost use Rattle.ledger_steps.specs.declared.range.NumberRange.{NumberRange};
 ghost use Rattle.update_records.specs.declared.stored.StoredInterval.{StoredInterval};
 
-use crate::places::{find_range, hand_out, next_place, pass_all, places_of};
-use crate::range::{LevelFault, NumberRange};
 use crate::range_id::RangeId;
+use crate::range_places::{find_range, hand_out, next_place, pass_all, places_of};
 use crate::starting::{fresh_ranges, is_row_of, start_all};
 use enq_base::{Name, NoMemory, Num};
 use keeper_api::Keeper;
+use ledger_steps::{LevelFault, NumberRange};
 use number_ranges::Interval;
 use posting::Books;
 use std::alloc::Global;
@@ -30,9 +30,9 @@ pub struct Ranges {
 
 impl Model for Ranges {
     ghost use Rattle.std.specs.Prelude.{List};
-    ghost use Rattle.range_list.specs.Levels.{AreIntervals, intervals_of};
-    ghost use Rattle.range_list.specs.Places.{ArePlaces};
-    ghost use Rattle.range_list.specs.declared.range.NumberRange.{NumberRange};
+    ghost use Rattle.ledger_steps.specs.Levels.{AreIntervals, intervals_of};
+    ghost use Rattle.range_list.specs.RangePlaces.{ArePlaces};
+    ghost use Rattle.ledger_steps.specs.declared.range.NumberRange.{NumberRange};
 
     ghost Value = { List NumberRange };
 

@@ -1,9 +1,9 @@
 ghost use Rattle.std.specs.Prelude.{◌≡◌, ◌≤◌, ◌+◌, IfOk};
-ghost use Rattle.range_list.specs.Levels.{AreIntervals, FitRows, first_ranges, intervals_of, is_row_of, level_in};
+ghost use Rattle.ledger_steps.specs.Levels.{AreIntervals, FitRows, first_ranges, intervals_of, is_row_of, level_in};
 
-use crate::range::NumberRange;
 use enq_base::NoMemory;
 use keeper_api::Keeper;
+use ledger_steps::NumberRange;
 use number_ranges::Interval;
 use posting::Books;
 use std::alloc::Global;

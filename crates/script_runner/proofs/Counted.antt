@@ -4,8 +4,8 @@ use Rattle.std.specs.Prelude.{◌||◌, Option}
 use Rattle.std.specs.List.{list_any}
 use Rattle.enq_base.specs.Causes.{Rose}
 use Rattle.enq_server.specs.Following.{Following, IsLater}
-use Rattle.hall.specs.Leaving.{HasCounted}
-use Rattle.hall.specs.declared.command.PastEntry.{PastEntry}
+use Rattle.hall_calls.specs.Leaving.{HasCounted}
+use Rattle.hall_model.specs.declared.command.PastEntry.{PastEntry}
 use Rattle.lock_entry.specs.declared.entry.Entry.{Entry}
 use Rattle.script_runner.specs.Faults.{TellsNoFault}
 use Rattle.script_runner.specs.Run.{Turn}

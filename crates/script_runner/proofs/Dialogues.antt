@@ -10,8 +10,8 @@ use Rattle.std.proofs.lemmas.Bool.{cases_Bool}
 use Rattle.std.proofs.lemmas.List.{map-append}
 use Rattle.dialogue_session.specs.Private.{DialogueView, Private, fresh}
 use Rattle.indexmap.specs.IndexMap.{IndexMap, get, insert_entry}
-use Rattle.hall.specs.Named.{AreNamed}
-use Rattle.hall.proofs.Named.{added_by_name, are_named_added, are_named_changed, changed_by_name, found_by_name, name_eq, taken_by_name, unchanged_by_name}
+use Rattle.hall_calls.specs.Named.{AreNamed}
+use Rattle.hall_calls.proofs.NamedValues.{added_by_name, are_named_added, are_named_changed, changed_by_name, found_by_name, name_eq, taken_by_name, unchanged_by_name}
 use Rattle.lock_entry.specs.Freeing.{replace_first}
 use Rattle.script_runner.specs.Sides.{is_side_of, side_of, with_new_side, with_side, without_side}
 

@@ -13,19 +13,19 @@ use Rattle.enq_base.specs.declared.condition.Condition.{Condition}
 use Rattle.enq_base.specs.declared.condition.Condition.TheVariants.{Up, NoServer, Doubt}
 use Rattle.enq_base.specs.declared.refusal.Refusal.{Refusal}
 use Rattle.enq_base.specs.declared.refusal.Refusal.TheVariants as refusal
-use Rattle.hall.proofs.ByCall.{by_stock}
-use Rattle.hall.proofs.Frames.{Becomes, step_becomes, step_begins}
-use Rattle.hall.specs.Calls.{call_of}
-use Rattle.hall.specs.declared.command.Command.{Command}
-use Rattle.hall.specs.declared.command.PastEntry.{PastEntry}
-use Rattle.hall.specs.declared.command.Reply.{Reply}
-use Rattle.hall.specs.declared.command.Reply.TheVariants as reply
-use Rattle.hall.specs.Devices.{AllWell, BackupFails, DeviceOutcome, Event, FindsBad, FindsBadStore, LinkFails, MeetsWant, NotRemade, Reading, RemakeFault, StoreFails, Wanting, all_well, fault_told, found_by, is_file_failure, is_store_failure}
-use Rattle.hall.specs.History.{doubted, losing, noted, pending_after, refused, step}
-use Rattle.hall.specs.Leaving.{HasCounted}
-use Rattle.hall.specs.Recall.{HasBegun}
-use Rattle.hall.specs.State.{State, doubt_in}
-use Rattle.hall.specs.Step.{call_verdict}
+use Rattle.hall_model.proofs.ByCall.{by_stock}
+use Rattle.hall_laws.proofs.keeping.Unchanged.{Becomes, step_becomes, step_begins}
+use Rattle.hall_model.specs.Calls.{call_of}
+use Rattle.hall_model.specs.declared.command.Command.{Command}
+use Rattle.hall_model.specs.declared.command.PastEntry.{PastEntry}
+use Rattle.hall_model.specs.declared.command.Reply.{Reply}
+use Rattle.hall_model.specs.declared.command.Reply.TheVariants as reply
+use Rattle.hall_model.specs.Devices.{AllWell, BackupFails, DeviceOutcome, Event, FindsBad, FindsBadStore, LinkFails, MeetsWant, NotRemade, Reading, RemakeFault, StoreFails, Wanting, all_well, fault_told, found_by, is_file_failure, is_store_failure}
+use Rattle.hall_model.specs.History.{doubted, losing, noted, pending_after, refused, step}
+use Rattle.hall_calls.specs.Leaving.{HasCounted}
+use Rattle.hall_model.specs.Recall.{HasBegun}
+use Rattle.hall_model.specs.State.{State, doubt_in}
+use Rattle.hall_model.specs.Step.{call_verdict}
 use Rattle.script_lang.specs.Memory.{holds_lists}
 use Rattle.script_lang.specs.declared.script_line.ScriptLine.{ScriptLine}
 use Rattle.script_runner.specs.declared.runner.Why.{Why}

@@ -6,16 +6,17 @@ use Rattle.std.specs.Option.{option_map}
 use Rattle.std.proofs.lemmas.List.Folds.{list_any-append}
 use Rattle.enq_base.specs.Causes.{Rose}
 use Rattle.enq_base.specs.declared.refusal.Refusal.TheVariants as refusal
-use Rattle.hall.proofs.Frames.{by_noting, served-past}
-use Rattle.hall.specs.Devices.{DeviceOutcome}
-use Rattle.hall.specs.History.{IsStep, Served, past_entry, served, step, takes_flight}
-use Rattle.hall.specs.State.{State}
-use Rattle.hall.specs.declared.command.Command.{Command}
-use Rattle.hall.specs.declared.command.PastEntry.{PastEntry}
-use Rattle.hall.specs.declared.command.Reply.{Reply}
-use Rattle.hall.specs.declared.command.Reply.TheVariants as reply
-use Rattle.hall.specs.Serving.{HasLinkCause}
-use Rattle.hall.specs.Unsound.{is_unsound_file, is_unsound_store}
+use Rattle.hall_model.proofs.NotedCalls.{by_noting}
+use Rattle.hall_laws.proofs.keeping.Unchanged.{served-past}
+use Rattle.hall_model.specs.Devices.{DeviceOutcome}
+use Rattle.hall_model.specs.History.{IsStep, Served, past_entry, served, step, takes_flight}
+use Rattle.hall_model.specs.State.{State}
+use Rattle.hall_model.specs.declared.command.Command.{Command}
+use Rattle.hall_model.specs.declared.command.PastEntry.{PastEntry}
+use Rattle.hall_model.specs.declared.command.Reply.{Reply}
+use Rattle.hall_model.specs.declared.command.Reply.TheVariants as reply
+use Rattle.hall_calls.specs.Serving.{HasLinkCause}
+use Rattle.hall_model.specs.Unsound.{is_unsound_file, is_unsound_store}
 use Rattle.script_runner.specs.Faults.{NoneTells, NoneUnsound, NoneUnsoundStore, answer_at, is_link_fault}
 use Rattle.script_runner.specs.Replay.{MeetsBad}
 

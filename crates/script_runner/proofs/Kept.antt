@@ -3,17 +3,17 @@ use Rattle.std.proofs.Common.{◌≡◌, inl, inr, ℕ, ◌≤◌, Bool, true, f
 use Rattle.std.specs.Prelude.{if◌then◌else◌, Option}
 use Rattle.enq_base.specs.declared.refusal.Refusal.TheVariants as refusal
 use Rattle.enq_server.specs.Following.{Following, IsLater}
-use Rattle.hall.proofs.Frames.{served-past}
-use Rattle.hall.proofs.Replies.{unnoted_same}
-use Rattle.hall.specs.Calls.{call_of, renews_replica}
-use Rattle.hall.specs.Devices.{DeviceOutcome, IsAllowed}
-use Rattle.hall.specs.History.{IsStep, Served, is_unrecorded, past_entry, served, step, takes_flight, with_entry}
-use Rattle.hall.specs.Serving.{HasLinkCause, LosesOnly}
-use Rattle.hall.specs.State.{State}
-use Rattle.hall.specs.declared.command.Command.{Command}
-use Rattle.hall.specs.declared.command.PastEntry.{PastEntry}
-use Rattle.hall.specs.declared.command.Reply.{Reply}
-use Rattle.hall.specs.declared.command.Reply.TheVariants as reply
+use Rattle.hall_laws.proofs.keeping.Unchanged.{served-past}
+use Rattle.hall_calls.proofs.verdicts.Replies.{unnoted_same}
+use Rattle.hall_model.specs.Calls.{call_of, renews_replica}
+use Rattle.hall_model.specs.Devices.{DeviceOutcome, IsAllowed}
+use Rattle.hall_model.specs.History.{IsStep, Served, is_unrecorded, past_entry, served, step, takes_flight, with_entry}
+use Rattle.hall_calls.specs.Serving.{HasLinkCause, LosesOnly}
+use Rattle.hall_model.specs.State.{State}
+use Rattle.hall_model.specs.declared.command.Command.{Command}
+use Rattle.hall_model.specs.declared.command.PastEntry.{PastEntry}
+use Rattle.hall_model.specs.declared.command.Reply.{Reply}
+use Rattle.hall_model.specs.declared.command.Reply.TheVariants as reply
 use Rattle.lock_entry.specs.declared.entry.Entry.{Entry}
 use Rattle.script_runner.proofs.Counted.{rose_from}
 use Rattle.script_runner.specs.Replicas.{AreLater, CountsLink, CountsLinkEach, GoesOnLinked, HasLinked, LinkCounts, OneRose, follows_behind, link_counts}

@@ -8,17 +8,17 @@ use Rattle.enq_base.specs.declared.refusal.Refusal.{Refusal}
 use Rattle.enq_base.specs.declared.refusal.Refusal.TheVariants as refusal
 use Rattle.enq_base.specs.declared.unit.Effect.{Effect}
 use Rattle.dialogue_session.specs.Private.{Private, with_effect, with_requests, with_variable, without_effects, without_requests}
-use Rattle.hall.proofs.Logons as Logons
-use Rattle.hall.proofs.Logons.{IsLoggedOn, OnDone, logs_off_name, step_enters, step_keeps}
-use Rattle.hall.specs.Calls.{call_of}
-use Rattle.hall.specs.Devices.{DeviceOutcome}
-use Rattle.hall.specs.History.{step}
-use Rattle.hall.specs.Sessions.{session_at}
-use Rattle.hall.specs.Step.{effects_in}
-use Rattle.hall.specs.declared.command.Command.TheVariants as command
-use Rattle.hall.specs.declared.command.Reply.{Reply}
-use Rattle.hall.specs.declared.command.Reply.TheVariants as reply
-use Rattle.hall.specs.declared.command.Session.{Session}
+use Rattle.hall_laws.proofs.histories.LoggedOn as Logons
+use Rattle.hall_laws.proofs.histories.LoggedOn.{IsLoggedOn, OnDone, logs_off_name, step_enters, step_keeps}
+use Rattle.hall_model.specs.Calls.{call_of}
+use Rattle.hall_model.specs.Devices.{DeviceOutcome}
+use Rattle.hall_model.specs.History.{step}
+use Rattle.hall_model.specs.Sessions.{session_at}
+use Rattle.hall_model.specs.Step.{effects_in}
+use Rattle.hall_model.specs.declared.command.Command.TheVariants as command
+use Rattle.hall_model.specs.declared.command.Reply.{Reply}
+use Rattle.hall_model.specs.declared.command.Reply.TheVariants as reply
+use Rattle.hall_model.specs.declared.command.Session.{Session}
 use Rattle.script_lang.specs.declared.script_line.ScriptLine.{ScriptLine}
 use Rattle.script_lang.specs.declared.script_line.ScriptLine.TheVariants as line
 use Rattle.script_runner.specs.declared.effects.Verb.{Verb}

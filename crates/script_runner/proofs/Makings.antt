@@ -4,12 +4,12 @@ use Rattle.std.specs.Prelude.{Result, Ok, Err, if◌then◌else◌, is_some}
 use Rattle.enq_base.specs.declared.refusal.Refusal.{Refusal}
 use Rattle.enq_base.specs.declared.refusal.Refusal.TheVariants as refusal
 use Rattle.dialogue_session.specs.Private.{Private}
-use Rattle.hall.proofs.Drawn.{no_stock_in}
-use Rattle.hall.specs.Calls.{call_of}
-use Rattle.hall.specs.State.{State}
-use Rattle.hall.specs.Stocks.{MayCall}
-use Rattle.hall.specs.declared.command.Command.{Command}
-use Rattle.hall.specs.declared.command.Command.TheVariants as command
+use Rattle.hall_laws.proofs.keeping.DrawnNumbers.{no_stock_in}
+use Rattle.hall_model.specs.Calls.{call_of}
+use Rattle.hall_model.specs.State.{State}
+use Rattle.hall_model.specs.Stocks.{MayCall}
+use Rattle.hall_model.specs.declared.command.Command.{Command}
+use Rattle.hall_model.specs.declared.command.Command.TheVariants as command
 use Rattle.mode_rules.specs.declared.Mode.TheVariants as mode
 use Rattle.script_lang.specs.declared.script_line.ScriptLine.{ScriptLine}
 use Rattle.script_lang.specs.declared.script_line.ScriptLine.TheVariants as line

@@ -2,9 +2,9 @@
 use Rattle.std.proofs.Common.{◌⊎◌, inl, inr, ◌≡◌, ℕ, Bool, false, List, refl}
 use Rattle.std.specs.Prelude.{Option, Some, None, is_some, IsTrue}
 use Rattle.enq_base.specs.declared.refusal.Refusal.TheVariants as refusal
-use Rattle.hall.specs.declared.command.Reply.{Reply}
-use Rattle.hall.specs.declared.command.Reply.TheVariants as reply
-use Rattle.hall.specs.Devices.{DeviceOutcome, Event, AllWell, LinkFails, NotRemade, Wanting, StoreFails, BackupFails, Reading, all_well, is_file_failure, is_store_failure}
+use Rattle.hall_model.specs.declared.command.Reply.{Reply}
+use Rattle.hall_model.specs.declared.command.Reply.TheVariants as reply
+use Rattle.hall_model.specs.Devices.{DeviceOutcome, Event, AllWell, LinkFails, NotRemade, Wanting, StoreFails, BackupFails, Reading, all_well, is_file_failure, is_store_failure}
 use Rattle.script_lang.specs.declared.script_line.ScriptLine.{ScriptLine}
 use Rattle.script_runner.specs.declared.runner.Why.{Why}
 use Rattle.script_runner.specs.declared.runner.Why.TheVariants.{NoMemory}

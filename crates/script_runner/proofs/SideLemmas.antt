@@ -7,7 +7,7 @@ use Rattle.enq_base.specs.declared.refusal.Refusal.{Refusal}
 use Rattle.enq_base.specs.declared.refusal.Refusal.TheVariants as refusal
 use Rattle.enq_base.specs.declared.unit.Effect.{Effect}
 use Rattle.dialogue_session.specs.Private.{Private, effect_count, with_effect, with_requests}
-use Rattle.hall.specs.Step.{effects_in}
+use Rattle.hall_model.specs.Step.{effects_in}
 use Rattle.lock_entry.specs.declared.entry.Request.{Request}
 use Rattle.script_runner.specs.Answers.{IsGivenBy, IsRefusedBy}
 use Rattle.script_runner.specs.Lines.{collected, registered}

@@ -2,8 +2,7 @@
 use Rattle.std.proofs.Common.{◌⊎◌, inl, inr, ◌≡◌, ◌≢◌, ℕ, suc, ◌+◌, ◌<◌, ◌≤◌, List, [], ◌∷◌, ◌++◌, length, map, refl, sym, ap, ◌∙◌, subst, arith, true, false, append_assoc, Bool, ne_eqb, length-append}
 use Rattle.std.specs.Prelude.{Option, Some, None, is_some, IsTrue, if◌then◌else◌, nat_eq, fold}
 use Rattle.std.specs.Io.KnownBytes.{Consumes, Appends, IsAtEnd}
-use Rattle.std.proofs.lemmas.List.{append-nil}
-use Rattle.std.proofs.lemmas.List.{length-map}
+use Rattle.std.proofs.lemmas.List.{append-nil, length-map}
 use Rattle.std.proofs.lemmas.List.Elements.{recursion_from_All}
 use Rattle.std.specs.List.{AllByRecursion, list_any}
 use Rattle.io_edge.specs.Lines.{lines_of, onto_first, is_ended, IsUnbroken}
@@ -13,14 +12,14 @@ use Rattle.script_runner.specs.declared.runner.Why.TheVariants.{Done, BadWords, 
 use Rattle.script_runner.specs.Run.{AreAllowed, Turn, Progress, begun, next, run, moved, after_turn, file_fails_in, line_does, store_fails_in}
 use Rattle.script_runner.specs.World.{World}
 use Rattle.script_runner.specs.Replay.{Replays, Seen, HasBadCause, IsEnd, IsReadToEnd, MeetsBad}
-use Rattle.hall.specs.Leaving.{HasCounted}
+use Rattle.hall_calls.specs.Leaving.{HasCounted}
 use Rattle.script_runner.proofs.Counted.{all_counted}
 use Rattle.script_runner.proofs.Doubts.{MadeOrBad, found_met, or_left, or_right, run_made, run_stays_or_fails, run_stops, stays_filed, stays_or_found, stays_stored, stopped, unmade_in}
 use Rattle.enq_base.specs.Causes.{Rose}
 use Rattle.enq_base.specs.declared.condition.Bad.{Bad}
 use Rattle.enq_base.specs.declared.condition.Bad.TheVariants as bad
 use Rattle.enq_base.specs.declared.refusal.Refusal.TheVariants as refusal
-use Rattle.hall.specs.declared.command.Reply.TheVariants as reply
+use Rattle.hall_model.specs.declared.command.Reply.TheVariants as reply
 use Rattle.script_runner.specs.Faults.{is_unsound}
 use Rattle.script_runner.specs.Lines.{line_in}
 use Rattle.script_runner.proofs.Outcomes.{IsFine, calmed, calmed_calm, calmed_may, line_fine, line_well}

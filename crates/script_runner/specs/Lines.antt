@@ -28,11 +28,11 @@ use Rattle.owner_scope.specs.Halves.{names_dialogue, names_update}
 use Rattle.dialogue_session.specs.Filling.{filled}
 use Rattle.dialogue_session.specs.declared.variables.Variable.{Variable}
 use Rattle.dialogue_session.specs.Private.{Private, with_effect, with_requests, with_variable, without_effects, without_requests}
-use Rattle.hall.specs.declared.command.Command.{Command}
-use Rattle.hall.specs.declared.command.Command.TheVariants as command
-use Rattle.hall.specs.declared.command.Reply.{Reply}
-use Rattle.hall.specs.declared.command.Reply.TheVariants as reply
-use Rattle.hall.specs.Step.{effects_in}
+use Rattle.hall_model.specs.declared.command.Command.{Command}
+use Rattle.hall_model.specs.declared.command.Command.TheVariants as command
+use Rattle.hall_model.specs.declared.command.Reply.{Reply}
+use Rattle.hall_model.specs.declared.command.Reply.TheVariants as reply
+use Rattle.hall_model.specs.Step.{effects_in}
 use Rattle.script_lang.specs.Reading.{line_of}
 use Rattle.script_lang.specs.declared.script_line.RawValue.{RawValue}
 use Rattle.script_lang.specs.declared.script_line.ScriptLine.{ScriptLine}

@@ -3,8 +3,8 @@ use Rattle.std.specs.Prelude.{◌≡◌, ◌≤◌, ℕ, Bool, true, false, ◌|
 use Rattle.enq_base.specs.declared.refusal.Refusal.{Refusal}
 use Rattle.enq_base.specs.declared.refusal.Refusal.TheVariants as refusal
 use Rattle.dialogue_session.specs.Private.{Private}
-use Rattle.hall.specs.declared.command.Reply.{Reply}
-use Rattle.hall.specs.declared.command.Reply.TheVariants as reply
+use Rattle.hall_model.specs.declared.command.Reply.{Reply}
+use Rattle.hall_model.specs.declared.command.Reply.TheVariants as reply
 use Rattle.script_lang.specs.declared.script_line.ScriptLine.{ScriptLine}
 use Rattle.script_lang.specs.declared.script_line.ScriptLine.TheVariants as line
 use Rattle.script_runner.specs.Lines.{Meaning, Calls, Declines, Changes}

@@ -1,11 +1,11 @@
 -- Whether a replica follows the lock table, and the counts of the link to it, call by call.
 use Rattle.std.specs.Prelude.{◌≡◌, ◌⊎◌, ◌≤◌, ℕ, Bool, true, false, List, [], ◌∷◌}
 use Rattle.enq_base.specs.Causes.{Rose}
-use Rattle.hall.specs.Calls.{call_of, renews_replica}
-use Rattle.hall.specs.Devices.{is_doubt}
-use Rattle.hall.specs.Serving.{HasLinkCause}
-use Rattle.hall.specs.State.{State}
-use Rattle.hall.specs.declared.command.PastEntry.{PastEntry}
+use Rattle.hall_model.specs.Calls.{call_of, renews_replica}
+use Rattle.hall_model.specs.Devices.{is_doubt}
+use Rattle.hall_calls.specs.Serving.{HasLinkCause}
+use Rattle.hall_model.specs.State.{State}
+use Rattle.hall_model.specs.declared.command.PastEntry.{PastEntry}
 
 -- in how many calls a link failed, and in how many it found no memory
 pub record LinkCounts : Type 0 where

@@ -1,7 +1,7 @@
 -- What the monitors show of the server.
 use Rattle.std.specs.Prelude.{ℕ, List}
-use Rattle.hall.specs.State.{State, seen_locks}
-use Rattle.hall.specs.Views.{marks_shown, numbers_shown, ranges_shown, units_shown}
+use Rattle.hall_model.specs.State.{State, seen_locks}
+use Rattle.hall_model.specs.Views.{marks_shown, numbers_shown, ranges_shown, units_shown}
 use Rattle.monitors.specs.Monitors.{audit_text, sm12_text, sm13_text, snro_text}
 use Rattle.monitors.specs.declared.views.ServerView.{ServerView}
 use Rattle.script_runner.specs.declared.monitor.Monitor.{Monitor}

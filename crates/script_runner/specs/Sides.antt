@@ -6,8 +6,8 @@ use Rattle.std.specs.Str.{bytes_eq}
 use Rattle.enq_base.specs.declared.unit.Parts.{Parts}
 use Rattle.dialogue_session.specs.Private.{DialogueView, Private, fresh}
 use Rattle.dialogue_session.specs.declared.variables.Variable.{Variable}
-use Rattle.hall.specs.Sessions.{session_at}
-use Rattle.hall.specs.declared.command.Session.{Session}
+use Rattle.hall_model.specs.Sessions.{session_at}
+use Rattle.hall_model.specs.declared.command.Session.{Session}
 use Rattle.lock_entry.specs.Freeing.{replace_first}
 use Rattle.lock_entry.specs.declared.entry.Request.{Request}
 

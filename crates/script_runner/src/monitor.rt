@@ -17,7 +17,7 @@ use std::alloc::Global;
 
 /// A monitor: SM12 shows the lock table, SM13 the update records, SNRO the number ranges, AUDIT the counts.
 #[derive(Clone, Copy, Debug, PartialEq, Eq)]
-pub(crate) enum Monitor {
+pub enum Monitor {
     Sm12,
     Sm13,
     Snro,
@@ -26,7 +26,7 @@ pub(crate) enum Monitor {
 
 /// How a line is answered.
 #[derive(Clone, Copy, Debug, PartialEq, Eq)]
-pub(crate) enum LineKind {
+pub enum LineKind {
     /// Not at all: it is empty, or a comment.
     Blank,
     /// By what a monitor shows.
@@ -35,7 +35,7 @@ pub(crate) enum LineKind {
     Replied,
 }
 
-pub(crate) fn line_kind(line: &ScriptLine) -> LineKind
+pub fn line_kind(line: &ScriptLine) -> LineKind
     ensures { result ≡ line_kind line.now }
 {
     match line {
@@ -49,7 +49,7 @@ pub(crate) fn line_kind(line: &ScriptLine) -> LineKind
 }
 
 /// Writes what a monitor shows. The whole text is made before any of it is written.
-pub(crate) fn show<W: Sink, T: LockStore, K: Keeper, D: Disk, L: Link>(
+pub fn show<W: Sink, T: LockStore, K: Keeper, D: Disk, L: Link>(
     alloc: Global,
     number: u32,
     monitor: Monitor,

@@ -1,5 +1,5 @@
 ghost use Rattle.std.specs.Prelude.{◌≡◌, ◌⊎◌, ◌≤◌, [], List, OnOk, false, true};
-ghost use Rattle.hall.specs.State.{State};
+ghost use Rattle.hall_model.specs.State.{State};
 ghost use Rattle.lock_objects.specs.Objects.{Object};
 ghost use Rattle.script_lang.specs.declared.script_line.ScriptLine.TheVariants as line;
 ghost use Rattle.script_runner.specs.Lines.{Calls, effect_line, grows, line_kind, meaning, numbering, reading, settled};
@@ -13,7 +13,7 @@ use crate::requests::{asked_of, requests_of};
 use crate::sides::Sides;
 use crate::words::digits;
 use enq_base::{Items, Name, Refusal, Scope};
-use hall::{Command, Reply};
+use hall_model::{Command, Reply};
 use lock_objects::LockObject;
 use mode_rules::Mode;
 use script_lang::{RawValue, ScriptLine};
@@ -21,7 +21,7 @@ use std::alloc::Global;
 
 /// What a line comes to that isn't refused before any call.
 #[derive(Drop)]
-pub(crate) enum Prepared {
+pub enum Prepared {
     Call(Command),
     /// The private side was changed, and there is no call.
     Changed,
@@ -29,7 +29,7 @@ pub(crate) enum Prepared {
 
 /// What a line comes to, with the memory for all that it makes before a call. A private side is changed only where
 /// there is no call.
-pub(crate) fn prepare(
+pub fn prepare(
     alloc: Global,
     objects: &[LockObject],
     line: &ScriptLine,
@@ -522,7 +522,7 @@ fn effect(
 }
 
 /// Lets the private sides follow the answer of a line's call.
-pub(crate) fn settle(alloc: Global, line: &ScriptLine, reply: &Reply, sides: &mut Sides)
+pub fn settle(alloc: Global, line: &ScriptLine, reply: &Reply, sides: &mut Sides)
     requires { MayEnter line.now reply.now sides.old }
     ensures { sides.new.items ≡ settled line.now reply.now sides.old.items }
 {

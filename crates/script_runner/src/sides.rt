@@ -6,7 +6,7 @@ ghost use Rattle.script_runner.specs.Lines.{collected, registered};
 ghost use Rattle.script_runner.specs.Sides.{container_of, parts_of, side_of, variable_room, with_new_side, with_side, without_side};
 
 use dialogue_session::Dialogue;
-use enq_base::{Effect, Items, Name, NoMemory, Parts, Refusal};
+use enq_base::{Effect, Items, Name, NoMemory, Parts, Refusal, TEXT_BYTES};
 use indexmap::IndexMap;
 use lock_entry::Request;
 use std::alloc::Global;
@@ -15,14 +15,14 @@ use std::marker::Model;
 /// The private sides of the sessions that have logged on, in the order of their logons. Each is found by its session's
 /// name without a walk.
 #[derive(Drop)]
-pub(crate) struct Sides {
+pub struct Sides {
     by_name: IndexMap<Name, Dialogue>,
 }
 
 impl Model for Sides {
     ghost use Rattle.std.specs.Prelude.{map};
     ghost use Rattle.indexmap.specs.IndexMap.{spare, values};
-    ghost use Rattle.hall.specs.Named.{AreNamed};
+    ghost use Rattle.hall_calls.specs.Named.{AreNamed};
     ghost use Rattle.script_runner.specs.Sides.{SidesView};
 
     ghost Value = { SidesView };
@@ -38,7 +38,7 @@ impl Model for Sides {
 
 impl Sides {
     /// No private side. It takes no memory.
-    pub(crate) fn new(alloc: Global) -> Sides
+    pub fn new(alloc: Global) -> Sides
         ensures { result.items ≡ [] }
     {
         Sides {
@@ -47,21 +47,21 @@ impl Sides {
     }
 
     /// Whether the session has a private side.
-    pub(crate) fn has_side(&self, name: &Name) -> bool
+    pub fn has_side(&self, name: &Name) -> bool
         ensures { result ≡ is_some (side_of self.now.items name.now) }
     {
         self.side_of(name).is_some()
     }
 
     /// The private side of the session.
-    pub(crate) fn side_of(&self, name: &Name) -> Option<&Dialogue>
+    pub fn side_of(&self, name: &Name) -> Option<&Dialogue>
         ensures { option_map (λ side. side.now.side) result ≡ side_of self.now.items name.now }
     {
         self.by_name.get(name)
     }
 
     /// What the session has collected, copied.
-    pub(crate) fn container(&self, alloc: Global, name: &Name) -> Result<Vec<Request>, NoMemory>
+    pub fn container(&self, alloc: Global, name: &Name) -> Result<Vec<Request>, NoMemory>
         ensures { IfOk result (λ requests. requests.items ≡ container_of self.now.items name.now) }
     {
         match self.side_of(name) {
@@ -71,7 +71,7 @@ impl Sides {
     }
 
     /// What the session has registered, copied.
-    pub(crate) fn parts(&self, alloc: Global, name: &Name) -> Result<Parts, NoMemory>
+    pub fn parts(&self, alloc: Global, name: &Name) -> Result<Parts, NoMemory>
         ensures { IfOk result (λ parts. parts ≡ parts_of self.now.items name.now) }
     {
         match self.side_of(name) {
@@ -84,7 +84,7 @@ impl Sides {
     }
 
     /// Takes the memory for one more private side.
-    pub(crate) fn make_room(&mut self) -> Result<(), NoMemory>
+    pub fn make_room(&mut self) -> Result<(), NoMemory>
         ensures items { self.new.items ≡ self.old.items }
         ensures room { OnOk result (1 ≤ self.new.room) }
     {
@@ -93,7 +93,7 @@ impl Sides {
     }
 
     /// Takes the memory for one more variable of the session.
-    pub(crate) fn make_variable_room(&mut self, name: &Name) -> Result<(), NoMemory>
+    pub fn make_variable_room(&mut self, name: &Name) -> Result<(), NoMemory>
         requires { IsTrue (is_some (side_of self.old.items name.now)) }
         ensures items { self.new.items ≡ self.old.items }
         ensures room { OnOk result (1 ≤ variable_room self.new name.now) }
@@ -105,9 +105,9 @@ impl Sides {
     }
 
     /// Lets a text stand for a variable of the session. There is room for it.
-    pub(crate) fn set_variable(&mut self, name: &Name, variable: Name, text: &[u8])
+    pub fn set_variable(&mut self, name: &Name, variable: Name, text: &[u8])
         requires room { 1 ≤ variable_room self.old name.now }
-        requires text { length text.now ≤ 512 }
+        requires text { length text.now ≤ TEXT_BYTES }
         ensures { self.new.items ≡ with_side name.now (with_variable variable text.now) self.old.items }
     {
         let Some(side) = self.by_name.get_mut(name) else {
@@ -117,7 +117,7 @@ impl Sides {
     }
 
     /// Makes the private side of a session that has logged on and has none yet. There is room for it.
-    pub(crate) fn enter(&mut self, alloc: Global, session: Name)
+    pub fn enter(&mut self, alloc: Global, session: Name)
         requires room { 1 ≤ self.old.room }
         requires free { is_some (side_of self.old.items session) ≡ false }
         ensures { self.new.items ≡ with_new_side session self.old.items }
@@ -126,14 +126,14 @@ impl Sides {
     }
 
     /// Ends the private side of a session that has logged off.
-    pub(crate) fn leave(&mut self, name: &Name)
+    pub fn leave(&mut self, name: &Name)
         ensures { self.new.items ≡ without_side name.now self.old.items }
     {
         self.by_name.shift_remove(name);
     }
 
     /// Collects requests for the session, all or none.
-    pub(crate) fn collect(&mut self, name: &Name, requests: &[Request]) -> Result<(), Refusal>
+    pub fn collect(&mut self, name: &Name, requests: &[Request]) -> Result<(), Refusal>
         requires { IsTrue (is_some (side_of self.old.items name.now)) }
         ensures given { IsGivenBy (λ _. self.new.items) (collected self.old.items name.now requests.now) result }
         ensures unchanged { OnErr result (self.new.items ≡ self.old.items) }
@@ -145,7 +145,7 @@ impl Sides {
     }
 
     /// Registers an effect for a part of the session's unit.
-    pub(crate) fn register(&mut self, name: &Name, part: u8, effect: Effect) -> Result<(), Refusal>
+    pub fn register(&mut self, name: &Name, part: u8, effect: Effect) -> Result<(), Refusal>
         requires side { IsTrue (is_some (side_of self.old.items name.now)) }
         requires part { (part ≡ 1) ⊎ (part ≡ 2) }
         ensures given { IsGivenBy (λ _. self.new.items) (registered self.old.items name.now part effect) result }
@@ -158,7 +158,7 @@ impl Sides {
     }
 
     /// Drops the session's effects, and keeps its container.
-    pub(crate) fn drop_effects(&mut self, name: &Name)
+    pub fn drop_effects(&mut self, name: &Name)
         ensures { self.new.items ≡ with_side name.now without_effects self.old.items }
     {
         if let Some(side) = self.by_name.get_mut(name) {
@@ -167,7 +167,7 @@ impl Sides {
     }
 
     /// Empties the session's container.
-    pub(crate) fn reset(&mut self, name: &Name)
+    pub fn reset(&mut self, name: &Name)
         ensures { self.new.items ≡ with_side name.now without_requests self.old.items }
     {
         if let Some(side) = self.by_name.get_mut(name) {
@@ -176,7 +176,7 @@ impl Sides {
     }
 
     /// Drops the session's effects and empties its container.
-    pub(crate) fn clear(&mut self, name: &Name)
+    pub fn clear(&mut self, name: &Name)
         ensures { self.new.items ≡ with_side name.now (λ p. without_requests (without_effects p)) self.old.items }
     {
         if let Some(side) = self.by_name.get_mut(name) {

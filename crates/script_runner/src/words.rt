@@ -6,10 +6,10 @@ use arrayvec::ArrayVec;
 use enq_base::{UnitKey, put_number};
 
 /// The text of a reply, in a place of fixed size.
-pub(crate) type Text = ArrayVec<u8, 1024>;
+pub type Text = ArrayVec<u8, 1024>;
 
 /// Appends bytes, for which there is room.
-pub(crate) fn push<const N: usize>(text: &mut ArrayVec<u8, N>, bytes: &[u8])
+pub fn push<const N: usize>(text: &mut ArrayVec<u8, N>, bytes: &[u8])
     requires { length text.old.items + length bytes.now ≤ N }
     ensures { text.new.items ≡ text.old.items ++ bytes.now }
 {
@@ -17,7 +17,7 @@ pub(crate) fn push<const N: usize>(text: &mut ArrayVec<u8, N>, bytes: &[u8])
 }
 
 /// Appends words, each with a space in front.
-pub(crate) fn push_words(text: &mut Text, words: &[&[u8]])
+pub fn push_words(text: &mut Text, words: &[&[u8]])
     requires { length text.old.items + length (spaced (map (λ word. word.now) words.now)) ≤ 1024 }
     ensures { text.new.items ≡ text.old.items ++ spaced (map (λ word. word.now) words.now) }
 {
@@ -35,7 +35,7 @@ fn push_word(text: &mut Text, word: &[u8])
 }
 
 /// A number in decimal.
-pub(crate) fn digits(number: u64) -> ArrayVec<u8, 20>
+pub fn digits(number: u64) -> ArrayVec<u8, 20>
     ensures digits { result.items ≡ decimal number }
     ensures fits { length result.items ≤ 20 }
 {

@@ -2,7 +2,7 @@ ghost use Rattle.std.specs.Prelude.{◌≡◌};
 ghost use Rattle.store_reading.specs.Ids.{lock_id};
 ghost use Rattle.update_records.specs.RecordRows.{mode_number};
 
-use enq_base::{Name, Pattern, ShortBytes, UnitKey};
+use enq_base::{ARGUMENT_BYTES, Name, Pattern, ShortBytes, UnitKey};
 use lock_entry::Mode;
 use update_records::{UnitId, id_of};
 
@@ -11,7 +11,7 @@ use update_records::{UnitId, id_of};
 pub struct LockId {
     pub unit: UnitId,
     pub table: Name,
-    pub pattern: ShortBytes<150>,
+    pub pattern: ShortBytes<ARGUMENT_BYTES>,
     pub mode: u8,
 }
 

@@ -1,14 +1,14 @@
 ghost use Rattle.std.specs.Prelude.{◌≡◌};
 ghost use Rattle.store_reading.specs.Ids.{text_id};
 
-use enq_base::{Key, Name, ShortBytes};
+use enq_base::{KEY_BYTES, Key, Name, ShortBytes};
 use std::cmp::Ordering;
 
 /// The name of a business row: its table and its key. In the order of the keys of table 6.
 #[derive(Clone, Copy, Debug)]
 pub struct TextId {
     pub table: Name,
-    pub key: ShortBytes<60>,
+    pub key: ShortBytes<KEY_BYTES>,
 }
 
 impl PartialEq for TextId {

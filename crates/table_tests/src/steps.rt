@@ -28,13 +28,15 @@ pub(crate) enum Act {
     FreeOwner(Who),
     Convert(u32, Place),
     Hand(u32),
+    /// Asks whether an owner has an entry that wasn't handed over.
+    HasUnhanded(Who),
     /// A session's unit asks for an exclusive lock that was stored with it.
     Readmit(u32, Place),
 }
 
 #[derive(Clone, Copy, Debug)]
 pub(crate) enum Answer {
-    /// How many entries were freed, handed over or taken away; 0 for a grant.
+    /// How many entries were freed, handed over or taken away; 0 for a grant and for a no, 1 for a yes.
     Done(u32),
     /// The entry that stands in the way is of this owner and at this place.
     Foreign(Who, Place),
@@ -191,6 +193,7 @@ pub(crate) fn take<T: LockStore>(
         Act::FreeOwner(who) => Ok(Ok(table.free_owner(&owner(who)))),
         Act::Convert(session, place) => Ok(convert(alloc, table, session, &asked(place)?)),
         Act::Hand(session) => Ok(Ok(table.hand(&unit(session)))),
+        Act::HasUnhanded(who) => Ok(Ok(u32::from(table.has_unhanded(&owner(who))))),
         Act::Readmit(session, place) => {
             Ok(readmit(alloc, table, session, &user()?, &asked(place)?))
         }

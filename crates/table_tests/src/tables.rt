@@ -356,6 +356,54 @@ fn a_unit_is_handed_over_freed_and_readmitted(rt: HostRuntime) -> Result<(), Fai
     take_both(&rt, rt.alloc(), &UNITS)
 }
 
+const U1_E1: Row = (U1, E1, 1, false);
+
+const U1_E1_HANDED: Row = (U1, E1, 1, true);
+
+const UNHANDED: [Case; 2] = [
+    // One that was handed over beside one that wasn't.
+    Case {
+        limit: 3,
+        loaded: &[(U1, X1, 1, true), (U1, E2, 1, false)],
+        steps: &[
+            (
+                Act::HasUnhanded(U1),
+                Answer::Done(1),
+                &[(U1, X1, 1, true), (U1, E2, 1, false)],
+            ),
+            (Act::Free(U1, E2), Answer::Done(1), &[(U1, X1, 1, true)]),
+            (Act::HasUnhanded(U1), Answer::Done(0), &[(U1, X1, 1, true)]),
+        ],
+    },
+    // An owner without entries has none that wasn't handed over, nor has a unit once all of its own were.
+    Case {
+        limit: 1000,
+        loaded: &[],
+        steps: &[
+            (Act::HasUnhanded(U1), Answer::Done(0), &[]),
+            (Act::Ask(1, &[(E1, true)]), Answer::Done(0), &[D1_E1, U1_E1]),
+            (Act::HasUnhanded(U1), Answer::Done(1), &[D1_E1, U1_E1]),
+            (Act::HasUnhanded(D2), Answer::Done(0), &[D1_E1, U1_E1]),
+            (Act::Hand(1), Answer::Done(1), &[D1_E1, U1_E1_HANDED]),
+            (
+                Act::HasUnhanded(U1),
+                Answer::Done(0),
+                &[D1_E1, U1_E1_HANDED],
+            ),
+            (
+                Act::HasUnhanded(D1),
+                Answer::Done(1),
+                &[D1_E1, U1_E1_HANDED],
+            ),
+        ],
+    },
+];
+
+#[test]
+fn locks_that_were_not_handed_over_are_told(rt: HostRuntime) -> Result<(), Fail> {
+    take_both(&rt, rt.alloc(), &UNHANDED)
+}
+
 const D3_E2: Row = (D3, E2, 1, false);
 
 const ORDERS: [Case; 3] = [

@@ -1,15 +1,16 @@
 -- The entries at given places of a history.
-use Rattle.std.proofs.Common.{◌≡◌, ℕ, zero, suc, ◌+◌, ◌-◌, ◌<◌, ◌==◌, ltb, cond, Bool, true, false, if◌then◌else◌, List, [], ◌∷◌, ◌++◌, length, get_or, drop, map, All, slice_get, refl, sym, ap, subst, ◌∙◌, arith}
+use Rattle.std.proofs.Common.{◌≡◌, ℕ, zero, suc, ◌+◌, ◌-◌, ◌<◌, ◌==◌, ltb, cond, Bool, true, false, if◌then◌else◌, List, [], ◌∷◌, ◌++◌, length, get_or, drop, map, All, Option, Some, None, slice_get, refl, sym, ap, subst, ◌∙◌, arith}
 use Rattle.std.specs.List.{remove}
 use Rattle.std.specs.List.Sorted.{IsPermutation}
 use Rattle.std.proofs.lemmas.List.Sorted.{IsPermutation-refl, IsPermutation-sym, IsPermutation-trans, IsPermutation-cons, IsPermutation-map, IsPermutation-remove, sum_by-IsPermutation}
 use Rattle.std.proofs.lemmas.Bool.Decides.{nat_tests}
+use Rattle.std.proofs.lemmas.Option.{none-some, slice_get_within}
 use Rattle.std.proofs.lemmas.List.Elements.{All-append}
 use mathlib.Core.List.{IsPrefix}
 use Rattle.seat_sums.specs.Sums.{times, one_if}
 use Rattle.seat_sums.specs.Entries.{entry_of, entries_at}
-use Rattle.seat_sums.proofs.Entries.{entries_append, entries_longer}
-use Rattle.turn_lock.specs.Rule.{numbers, places_from, own_entries, longer_of, shorter_of, both_of, opener}
+use Rattle.seat_sums.proofs.Entries.{entries_append, entries_longer, same_there}
+use Rattle.turn_lock.specs.Rule.{numbers, places_from, own_entries, Stands, longer_of, shorter_of, both_of, opener}
 use Rattle.turn_lock.specs.declared.view.View.{View}
 use Rattle.seat_sums.proofs.Beginnings.{whole_is_front, front_of_front, front_is_short}
 use Rattle.seat_sums.proofs.Totals.{times_cons}
@@ -43,6 +44,12 @@ same_times (x ∷ xs) ys e =
     let b = sum_by-IsPermutation (λ (y : ℕ). cond (n == y) 1 0) ys (x ∷ rest) moved in
     omega (arith, times_cons n x xs, times_cons n x rest) in
     IsPermutation-trans (x ∷ xs) (x ∷ rest) ys (IsPermutation-cons x xs rest (same_times xs rest same)) (IsPermutation-sym ys (x ∷ rest) moved)
+
+-- each number below n once, and no other
+pub each_number : (n : ℕ) (own : List ℕ) → ((q : ℕ) → times q own ≡ one_if (ltb q n)) → IsPermutation (numbers 0 n) own
+each_number n own each_once =
+    let none_below : (q : ℕ) → one_if (ltb q 0) ≡ 0 = λ q. grind (arith, nat_tests) in
+    same_times (numbers 0 n) own (λ q. let a = numbers_times q 0 n in let b = each_once q in let c = none_below q in let all_of : one_if (ltb q (0 + n)) ≡ one_if (ltb q n) = ap (λ (m : ℕ). one_if (ltb q m)) (omega arith) in omega arith)
 
 module _ {E : Type 0} where
   entry_get : (log : List E) (d : E) (k : ℕ) → k < length log → entry_of (slice_get log k) ≡ get_or log k d ∷ []
@@ -97,13 +104,47 @@ module _ {E : Type 0} where
       (IsPermutation-map (λ (k : ℕ). get_or (x ∷ xs) k x) ks ls p)
 
   -- who has each place once has the whole history
-  pub whole_own : (log : List E) (own : List ℕ) → All (λ k. k < length log) own → ((q : ℕ) → times q own ≡ one_if (ltb q (length log))) → IsPermutation log (entries_at log own)
-  whole_own log own below each_once =
+  pub whole_own : (log : List E) (own : List ℕ) → All (λ k. k < length log) own → IsPermutation (numbers 0 (length log)) own → IsPermutation log (entries_at log own)
+  whole_own log own below whole =
       let n = length log in
-      let places = numbers 0 n in
-      let none_below : (q : ℕ) → one_if (ltb q 0) ≡ 0 = λ q. grind (arith, nat_tests) in
-      let p : IsPermutation places own = same_times places own (λ q. let a = numbers_times q 0 n in let b = each_once q in let c = none_below q in let all_of : one_if (ltb q (0 + n)) ≡ one_if (ltb q n) = ap (λ (m : ℕ). one_if (ltb q m)) (omega arith) in omega arith) in
-      subst (λ (l : List E). IsPermutation l (entries_at log own)) (entries_from log 0 n (omega arith)) (permuted log places own (numbers_below 0 n n (omega arith)) below p)
+      subst (λ (l : List E). IsPermutation l (entries_at log own)) (entries_from log 0 n (omega arith)) (permuted log (numbers 0 n) own (numbers_below 0 n n (omega arith)) below whole)
+
+  stands_there : (o : Option E) (x : E) → o ≡ Some x → (os : List (Option E)) (xs : List E) → os ≡ map Some xs → (o ∷ os) ≡ map Some (entry_of o ++ xs)
+  stands_there None x is os xs h = absurd (none-some x is)
+  stands_there (Some y) x is os xs h = ap (λ (l : List (Option E)). Some y ∷ l) h
+
+  has_entry : (log : List E) (k : ℕ) → k < length log → (x : E) × (slice_get log k ≡ Some x)
+  has_entry [] k lt = absurd (omega arith)
+  has_entry (x ∷ xs) zero lt = (x, refl)
+  has_entry (x ∷ xs) (suc k) lt = has_entry xs k (omega arith)
+
+  entries_stand : (log : List E) (ks : List ℕ) → All (λ k. k < length log) ks → map (slice_get log) ks ≡ map Some (entries_at log ks)
+  entries_stand log [] all = refl
+  entries_stand log (k ∷ ks) all =
+      let x = has_entry log k (all 0 k (omega arith)) in
+      stands_there (slice_get log k) x.0 x.1 (map (slice_get log) ks) (entries_at log ks) (entries_stand log ks (λ j d lt. all (suc j) d (omega arith)))
+
+  -- what a pass has of its own stands at the same places in each longer history
+  pub own_stands : (v : View E) (log : List E) → All (λ k. k < length v.seen) v.own → IsPrefix v.seen log → Stands log v
+  own_stands v log all p =
+      let le = front_is_short v.seen log p in
+      entries_stand log v.own (λ k d lt. let h = all k d lt in omega arith) ∙ ap (map Some) (entries_longer v.seen log v.own p all)
+
+  still_there : (front log : List E) (k : ℕ) (x : E) → IsPrefix front log → slice_get front k ≡ Some x → slice_get log k ≡ Some x
+  still_there front log k x p there = same_there front log k p (slice_get_within front k x there) ∙ there
+
+  stay_there : (front log : List E) (ks : List ℕ) (xs : List E) → IsPrefix front log → map (slice_get front) ks ≡ map Some xs → map (slice_get log) ks ≡ map Some xs
+  stay_there front log [] xs p h = h
+  stay_there front log (k ∷ ks) [] p h = absurd (cc (h))
+  stay_there front log (k ∷ ks) (x ∷ xs) p h =
+      let here : slice_get front k ≡ Some x = cc (h) in
+      let later : map (slice_get front) ks ≡ map Some xs = cc (h) in
+      let first = still_there front log k x p here in
+      let others = stay_there front log ks xs p later in
+      λ i. first i ∷ others i
+
+  pub stands_longer : (v : View E) (front log : List E) → IsPrefix front log → Stands front v → Stands log v
+  stands_longer v front log p h = stay_there front log v.own (own_entries v) p h
 
   longer_begins_if : (xs ys : List E) (b : Bool) → IsPrefix (if b then xs else ys) (if b then ys else xs) → IsPrefix xs (if b then ys else xs) × IsPrefix ys (if b then ys else xs)
   longer_begins_if xs ys true p = (p, whole_is_front ys)
@@ -112,6 +153,11 @@ module _ {E : Type 0} where
   -- where the shorter begins the longer, each of two begins the longer
   pub longer_begins : (xs ys : List E) → IsPrefix (shorter_of xs ys) (longer_of xs ys) → IsPrefix xs (longer_of xs ys) × IsPrefix ys (longer_of xs ys)
   longer_begins xs ys p = longer_begins_if xs ys (ltb (length xs) (length ys)) p
+
+  -- of two that are joined, the entries of each stand where they stood
+  pub both_stand : (v w : View E) → All (λ k. k < length v.seen) v.own → All (λ k. k < length w.seen) w.own → IsPrefix (shorter_of v.seen w.seen) (longer_of v.seen w.seen)
+      → Stands (longer_of v.seen w.seen) v × Stands (longer_of v.seen w.seen) w
+  both_stand v w a b p = let q = longer_begins v.seen w.seen p in (own_stands v (longer_of v.seen w.seen) a q.0, own_stands w (longer_of v.seen w.seen) b q.1)
 
   pub both_entries : (v w : View E) → All (λ k. k < length v.seen) v.own → All (λ k. k < length w.seen) w.own → IsPrefix (shorter_of v.seen w.seen) (longer_of v.seen w.seen)
       → own_entries (both_of v w) ≡ own_entries v ++ own_entries w

@@ -18,9 +18,9 @@ use Rattle.seat_sums.proofs.Totals.{total_set, total_at, total_whole, total_only
 use Rattle.turn_lock.specs.declared.view.View.{View}
 use Rattle.turn_lock.specs.declared.view.Turn.{Turn}
 use Rattle.turn_lock.specs.declared.view.Turn.TheVariants.{Rests, Waits, Holds}
-use Rattle.turn_lock.specs.Rule.{has_ticket, ticket_of, is_holding, numbers, TurnFits, Fits, IsHome, IsOut, Kept, opener, spent, waits, took, gave, called, own_entries, kept_of, given_of, longer_of, both_of, SeatState, Tickets, Looks, Gives, Learns}
+use Rattle.turn_lock.specs.Rule.{has_ticket, ticket_of, is_holding, numbers, TurnFits, Fits, IsHome, IsOut, Kept, opener, spent, waits, took, gave, called, own_entries, Stands, kept_of, given_of, longer_of, both_of, SeatState, Tickets, Looks, Gives, Learns}
 use Rattle.seat_sums.proofs.Beginnings.{whole_is_front, front_of_front, fronts_agree, front_is_all, front_is_short}
-use Rattle.turn_lock.proofs.Entries.{whole_own}
+use Rattle.turn_lock.proofs.Entries.{each_number, whole_own, own_stands}
 use Rattle.std.specs.List.Sorted.{IsPermutation}
 use Rattle.seat_sums.proofs.Entries.{below_none, below_higher}
 use Rattle.turn_lock.proofs.Places.{numbers_times, numbers_below, stands_below}
@@ -426,7 +426,8 @@ module _ {S E : Type 0} (past : S → List E) (all : ℕ) where
 
   pub closes_as : (id : ℕ) (v : View E) (ws : List ℕ) (xs : List (Option S)) → v.turn ≡ Rests → v.parts ≡ all → Final (Seen (Kept past all) id v) ws xs
       → All (λ k. k < length v.seen) v.own
-      → (y : Option S) → get_elem? xs 0 ≡ some y → (z : S) → y ≡ Some z → (v.seen ≡ past z) × IsPermutation (past z) (own_entries v)
+      → (y : Option S) → get_elem? xs 0 ≡ some y → (z : S) → y ≡ Some z
+      → (v.seen ≡ past z) × IsPermutation (past z) (own_entries v) × IsPermutation (numbers 0 (length (past z))) v.own × Stands (past z) v
   closes_as id v ws xs rests whole final below y there z is =
       let last = closes id v ws xs rests whole final in
       let e : Some last.0 ≡ Some z = sym (some-injective y (Some last.0) (sym there ∙ last.1)) ∙ is in
@@ -434,7 +435,12 @@ module _ {S E : Type 0} (past : S → List E) (all : ℕ) where
       let saw : v.seen ≡ past last.0 = last.2 in
       let each_once : (q : ℕ) → times q v.own ≡ one_if (ltb q (length v.seen)) = λ q. last.3 q ∙ ap (λ (l : List E). one_if (ltb q (length l))) (sym saw) in
       let now : v.seen ≡ past z = saw ∙ ap past same in
-      (now, subst (λ (l : List E). IsPermutation l (own_entries v)) now (whole_own v.seen v.own below each_once))
+      let places : IsPermutation (numbers 0 (length v.seen)) v.own = each_number (length v.seen) v.own each_once in (
+        now,
+        subst (λ (l : List E). IsPermutation l (own_entries v)) now (whole_own v.seen v.own below places),
+        subst (λ (l : List E). IsPermutation (numbers 0 (length l)) v.own) now places,
+        own_stands v (past z) below (subst (IsPrefix v.seen) now (whole_is_front v.seen)),
+      )
 
 -- the steps of one call
 pub call_steps : {S E : Type 0} (t : ℕ) (before after : List E) (m₀ m₁ m₂ m₃ : SeatState S E) → m₁ ≡ (waits t m₀.0, m₀.1) → m₂ ≡ (took t before m₁.0, (0, None) ∷ []) → m₃ ≡ (gave after m₂.0, [])

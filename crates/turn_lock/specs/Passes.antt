@@ -1,5 +1,5 @@
 -- What clauses say of a lock and its passes.
-use Rattle.std.specs.Prelude.{◌≡◌, ◌++◌, ℕ, List, drop, length}
+use Rattle.std.specs.Prelude.{◌≡◌, ◌<◌, ◌++◌, ℕ, List, All, drop, length}
 use mathlib.Core.List.{IsPrefix}
 use Rattle.turn_lock.specs.declared.history.History.{Ghosts}
 use Rattle.turn_lock.specs.declared.view.View.{View}
@@ -19,12 +19,13 @@ module _ {S E : Type 0} {g : Ghosts S E} where
 abbrev pub all_parts : {S E : Type 0} → TurnLock S E → ℕ
 all_parts lock = lock.table.shared.key.0
 
--- One turn: the act ran once, on a state whose history begins with what the pass had seen. The pass has then seen the whole history of the state that the act left, and what the act added to it is the pass's own
+-- One turn: the act ran once, on a state whose history begins with what the pass had seen. The pass has then seen the whole history of the state that the act left, and what the act added to it is the pass's own, behind all that was its own
 pub record IsTurn {S E : Type 0} (past : S → List E) (does : S → S → Type 0) (v w : View E) : Type 0 where
   pub before : S
   pub after : S
   pub ran : does before after
   pub began : IsPrefix v.seen (past before)
   pub grew : IsPrefix (past before) (past after)
+  pub behind : All (λ k. k < length (past before)) v.own
   pub knows : w ≡ called (past before) (past after) v
   pub own : own_entries w ≡ own_entries v ++ drop (length (past before)) (past after)

@@ -1,5 +1,5 @@
 -- The rule of a lock that serves in turn, and what each step tells.
-use Rattle.std.specs.Prelude.{◌≡◌, ◌≢◌, ◌⊎◌, ℕ, zero, suc, ◌+◌, ◌-◌, ◌^◌, ◌<◌, ◌≤◌, ◌==◌, Bool, true, false, ltb, List, [], ◌∷◌, ◌++◌, length, if◌then◌else◌, All, Option, Some}
+use Rattle.std.specs.Prelude.{◌≡◌, ◌≢◌, ◌⊎◌, ℕ, zero, suc, ◌+◌, ◌-◌, ◌^◌, ◌<◌, ◌≤◌, ◌==◌, Bool, true, false, ltb, List, [], ◌∷◌, ◌++◌, length, map, slice_get, if◌then◌else◌, All, Option, Some}
 use Rattle.std.specs.List.{sum_by}
 use mathlib.Core.Option.{some, none}
 use mathlib.Core.List.{IsPrefix}
@@ -98,6 +98,10 @@ module _ {E : Type 0} where
   -- the pass's own entries
   abbrev pub own_entries : View E → List E
   own_entries v = entries_at v.seen v.own
+
+  -- the history has the pass's own entries, in order, at the places that are its own
+  abbrev pub Stands : List E → View E → Type 0
+  Stands log v = map (slice_get log) v.own ≡ map Some (own_entries v)
 
   -- this many parts are given away, to a new pass that has seen as much
   abbrev pub kept_of : ℕ → View E → View E

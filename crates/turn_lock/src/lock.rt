@@ -174,12 +174,12 @@ impl<S: History> TurnLock<S> {
 }
 
 impl<S: History> TurnLock<S> {
-    ghost use Rattle.std.specs.Prelude.{◌<◌, [], ◌++◌, IfOk, IfErr};
+    ghost use Rattle.std.specs.Prelude.{◌<◌, [], ◌++◌, length, IfOk, IfErr};
     ghost use mathlib.Core.List.{IsPrefix};
     ghost use Rattle.seat_sums.specs.Sums.{IsDistinct};
     ghost use Rattle.turn_lock.specs.declared.view.Turn.TheVariants.{Rests};
     ghost use Rattle.std.specs.List.Sorted.{IsPermutation};
-    ghost use Rattle.turn_lock.specs.Rule.{opener, kept_of, given_of, both_of, own_entries, IsSound};
+    ghost use Rattle.turn_lock.specs.Rule.{numbers, opener, kept_of, given_of, both_of, own_entries, Stands, IsSound};
     ghost use Rattle.turn_lock.specs.Passes.{known, IsPassOf, all_parts};
 
     /// A lock round the state, with a pass that has all parts, at least one. The entries that the state has count as
@@ -255,14 +255,15 @@ impl<S: History> TurnLock<S> {
         self.table.shared.load::<Learns<N>>(seat, NEXT_TICKET);
     }
 
-    /// One pass with the parts and the entries of both. The shorter of what they saw begins the longer, and no entry is
-    /// twice its own. Takes no memory.
+    /// One pass with the parts and the entries of both, which stand at the same places as before. The shorter of what
+    /// they saw begins the longer, and no entry is twice its own. Takes no memory.
     pub fn join(&self, a: Pass<S>, b: Pass<S>) -> Pass<S>
         requires own { IsPassOf self.now a × IsPassOf self.now b }
         ensures own { IsPassOf self.now result }
         ensures both { known result ≡ both_of (known a) (known b) }
         ensures begins { IsPrefix (known a).seen (known result).seen × IsPrefix (known b).seen (known result).seen }
         ensures entries { own_entries (known result) ≡ own_entries (known a) ++ own_entries (known b) }
+        ensures places { Stands (known result).seen (known a) × Stands (known result).seen (known b) }
         ensures once { IsDistinct (known result).own }
     {
         let Pass { mut seat } = a;
@@ -272,12 +273,15 @@ impl<S: History> TurnLock<S> {
     }
 
     /// Ends the lock with the pass that has all parts again, and gives the state. The pass saw its whole history, and
-    /// the pass's own entries are that history, each once.
+    /// the pass's own entries are that history, each once. The places of the history are the pass's own, each once, and
+    /// at these places stand its own entries, in order.
     pub fn close(self, pass: Pass<S>) -> S
         requires own { IsPassOf self pass }
         requires all { (known pass).parts ≡ all_parts self }
         ensures seen { (known pass).seen ≡ S.past result }
         ensures own { IsPermutation (S.past result) (own_entries (known pass)) }
+        ensures whole { IsPermutation (numbers 0 (length (S.past result))) (known pass).own }
+        ensures places { Stands (S.past result) (known pass) }
     {
         let TurnLock { table } = self;
         let Pass { seat } = pass;

@@ -47,10 +47,11 @@ fn a_dry_draw_is_answered_once_the_limit_is_raised(rt: HostRuntime) {
     let Err(dry) = stock.draw(&mut seat) else {
         panic!(rt; "drawn above the limit")
     };
+    assert!(rt; dry.ticket() == 0);
     stock.raise(&mut seat, 2);
     assert!(rt; stock.again(&mut seat, dry).is_ok_and(|d| d.number() == 1));
     assert!(rt; stock.draw(&mut seat).is_ok_and(|d| d.number() == 2));
-    assert!(rt; stock.draw(&mut seat).is_err());
+    assert!(rt; stock.draw(&mut seat).is_err_and(|d| d.ticket() == 2));
     assert!(rt; seat.left() == 0);
 }
 

@@ -16,7 +16,7 @@ use Rattle.update_records.specs.Intervals.{level_of}
 use Rattle.update_records.specs.Ledger.{AreDrawn, Ledger, Levels, LevelsAgree, IsRightLevel}
 use Rattle.update_records.specs.RecordRows.{Level}
 use Rattle.update_records.specs.declared.stored.StoredInterval.{StoredInterval}
-use Rattle.posting.specs.Intervals.{HasNr, MayStore}
+use Rattle.ledger_steps.specs.Intervals.{HasNr, MayStore}
 
 abbrev stat : List ℕ
 stat = 83 ∷ 84 ∷ 65 ∷ 84 ∷ []

@@ -1,14 +1,15 @@
 ghost use Rattle.std.specs.Prelude.{◌≡◌, ◌⊎◌, true, IfOk, IsSome, IsTrue, OnOk};
 ghost use Rattle.keeper_mem.specs.Memory.{HasMade, IsSettled, held_rows};
-ghost use Rattle.posting.specs.Shelf.{IsReady, IsUsable};
-ghost use Rattle.posting.specs.Steps.{IsSetByHand, MayGet};
+ghost use Rattle.posting.specs.BooksView.{IsReady, IsUsable};
+ghost use Rattle.ledger_steps.specs.Steps.{IsSetByHand, MayGet};
 ghost use Rattle.update_records.specs.Marks.{may_follow};
 ghost use Rattle.update_records.specs.declared.records.MarkKind.TheVariants.{Gone};
 
 use super::units::{are_few, name_of, unit_of};
 use enq_base::{Key, Parts, Status, UnitKey};
 use keeper_mem::MemKeeper;
-use posting::{Books, Outcome, Prepared};
+use ledger_steps::Outcome;
+use posting::{Books, Prepared};
 use std::alloc::Global;
 use std::test::Fail;
 use update_records::MarkKind;

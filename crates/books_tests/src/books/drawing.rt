@@ -3,7 +3,7 @@ ghost use Rattle.std.specs.List.{All};
 ghost use Rattle.keeper_mem.specs.Memory.{IsSettled, held_rows};
 ghost use Rattle.lock_entry.specs.Names.{has_distinct_names};
 ghost use Rattle.lock_entry.specs.declared.entry.Entry.{Entry as LockEntry};
-ghost use Rattle.posting.specs.Shelf.{IsUsable};
+ghost use Rattle.posting.specs.BooksView.{IsUsable};
 ghost use Rattle.update_records.specs.Grammar.{HasDigits, IsHeldBy};
 ghost use Rattle.update_records.specs.declared.records.Unit.{Unit as UnitOfWork};
 

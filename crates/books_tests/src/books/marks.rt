@@ -2,7 +2,7 @@ use super::steps::{Step, do_steps};
 use super::told::Told;
 use super::units::Act;
 use enq_base::{Reason, Status};
-use posting::Outcome;
+use ledger_steps::Outcome;
 use std::test::*;
 
 /// Four units are recorded and read back: 1 makes row 1, the V1 part of 2 is refused while there is that row, the V2

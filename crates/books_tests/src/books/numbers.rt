@@ -2,7 +2,7 @@ use super::steps::{Step, do_steps};
 use super::told::Told;
 use super::units::{Act, name_of, unit_key};
 use enq_base::Status;
-use posting::Outcome;
+use ledger_steps::Outcome;
 use std::test::*;
 use update_records::UnitView;
 

@@ -2,7 +2,7 @@ use super::steps::{Step, do_steps};
 use super::told::Told;
 use super::units::Act;
 use enq_base::{Reason, Status};
-use posting::Outcome;
+use ledger_steps::Outcome;
 use std::alloc::Global;
 use std::process::Abort;
 use std::test::*;

@@ -1,13 +1,14 @@
 ghost use Rattle.std.specs.Prelude.{IfOk, OnOk};
 ghost use Rattle.keeper_mem.specs.Memory.{IsSettled, held_rows};
-ghost use Rattle.posting.specs.Shelf.{IsUsable};
+ghost use Rattle.posting.specs.BooksView.{IsUsable};
 
 use super::calls::{cancel, commit, has_text, opened, post1, post2, reopened, try_again};
 use super::drawing::{commit_locked, draw, store};
 use super::told::{Told, are_numbers, are_open, are_views, has_lock, is_told};
 use super::units::{Act, parts_of, unit_key};
 use keeper_mem::MemKeeper;
-use posting::{Books, Outcome};
+use ledger_steps::Outcome;
+use posting::Books;
 use std::alloc::Global;
 use std::process::Abort;
 use std::test::Fail;

@@ -6,7 +6,7 @@ use Rattle.enq_cmd.proofs.Generated.{blameless, is_script}
 use Rattle.script_runner.specs.Faults.{is_link_fault}
 use Rattle.enq_cmd.proofs.Served.{calm_load, link_quiet, load_ends, load_run, none_answered, none_linked, run_document, run_linked, run_place, run_unfit, served_by, unloaded}
 use Rattle.enq_base.specs.declared.condition.Bad.TheVariants as bad
-use Rattle.hall.specs.Unsound.{is_unsound_file, is_unsound_store}
+use Rattle.hall_model.specs.Unsound.{is_unsound_file, is_unsound_store}
 use Rattle.enq_cmd.proofs.Tellings.{completes_as, first_sound, never_bad}
 use Rattle.enq_cmd.specs.Loading.{IsRunEnd, ShowsCounts}
 use Rattle.enq_cmd.proofs.loading.load_site.Goals as goal

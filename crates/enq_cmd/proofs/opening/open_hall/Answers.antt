@@ -2,12 +2,12 @@ use Rattle.std.proofs.Common.{◌≡◌, inl, inr, refl, sym, ap, ◌∙◌, sub
 use Rattle.std.specs.Prelude.{is_some, true, IfSome}
 use Rattle.enq_base.specs.Causes.{Rose}
 use Rattle.hall.specs.Faults.{CountsFileFault, CountsHallFault, IsHallFault, OnKept}
-use Rattle.hall.specs.State.{opened}
+use Rattle.hall_model.specs.State.{opened}
 use Rattle.keeper_api.specs.Keeping.{IsWithin}
 use Rattle.keeper_api.specs.Rows.{Rows}
 use Rattle.landscape.specs.declared.landscape.Landscape.{Landscape}
 use Rattle.posting.specs.Reopening.{MayBeLeftBy}
-use Rattle.range_list.specs.Levels.{AreIntervals, FitRows}
+use Rattle.ledger_steps.specs.Levels.{AreIntervals, FitRows}
 use Rattle.enq_cmd.proofs.Lands.{land_ends, land_unfit, landed_intervals, landed_limits, landed_one, landed_read}
 use Rattle.enq_cmd.proofs.Openings.{IsCause, IsFileLeft, opening_completes, opening_last, opening_place, opening_unfit, unopened}
 use Rattle.enq_cmd.specs.Main.{FitAll, HasNoStart, IsBadStore, IsLandEnd, IsUnfitEnd}

@@ -1,7 +1,7 @@
 use Rattle.std.proofs.Common.{◌≡◌, true, inl, refl, sym, ap, ◌∙◌, subst}
 use Rattle.std.specs.Prelude.{IfSome, is_some}
 use Rattle.enq_base.specs.declared.condition.Bad.TheVariants as bad
-use Rattle.hall.specs.Unsound.{is_unsound_file, is_unsound_store}
+use Rattle.hall_model.specs.Unsound.{is_unsound_file, is_unsound_store}
 use Rattle.script_runner.specs.Replay.{seen}
 use Rattle.script_runner.specs.Faults.{is_link_fault}
 use Rattle.enq_cmd.proofs.Served.{link_quiet, none_answered, none_linked, run_kind, run_linked, run_place, served_by, still_by, unserved}

@@ -1,6 +1,6 @@
 use Rattle.std.proofs.Common.{◌+◌, [], ◌∷◌, ◌++◌, refl, sym, ap, ◌∙◌}
 use Rattle.std.proofs.lemmas.List.FromFn.{map-range_with_len_more}
-use Rattle.range_list.specs.Drawn.{num_of}
+use Rattle.ledger_steps.specs.Drawn.{num_of}
 use Rattle.hall_tests.proofs.calls.numbers_from.Goals as goal
 
 pub loop-done-preserved : goal.loop-done-preserved

@@ -1,6 +1,6 @@
 use Rattle.std.proofs.Common.{◌≡◌, map}
 use Rattle.std.specs.List.{range_with_len}
-use Rattle.range_list.specs.Drawn.{num_of}
+use Rattle.ledger_steps.specs.Drawn.{num_of}
 use Rattle.hall_tests.proofs.calls.numbers_from.Given as goal
 
 abbrev pub invariant-loop-done : goal.invariant-loop-done

@@ -2,8 +2,8 @@ use Rattle.std.proofs.Common.{◌∙◌, map, sym, ap, subst}
 use Rattle.std.specs.List.{range_with_len}
 use Rattle.std.proofs.lemmas.Result.{IfOk-weaker}
 use Rattle.number_ranges.specs.declared.interval.Interval.{Interval}
-use Rattle.range_list.specs.Drawn.{num_of}
-use Rattle.hall.specs.Stocks.{IsStockIn}
+use Rattle.ledger_steps.specs.Drawn.{num_of}
+use Rattle.hall_model.specs.Stocks.{IsStockIn}
 use Rattle.hall_tests.proofs.Reserved.{first_reserved}
 use Rattle.hall_tests.proofs.calls.stock_of.Goals as goal
 

@@ -1,5 +1,5 @@
 use Rattle.std.proofs.Common.{◌≡◌, ◌++◌, take}
-use Rattle.posting.specs.Intervals.{interval_rows}
+use Rattle.ledger_steps.specs.Intervals.{interval_rows}
 use Rattle.posting.proofs.batch.push_levels.Given as goal
 
 abbrev pub invariant-loop-level : goal.invariant-loop-level

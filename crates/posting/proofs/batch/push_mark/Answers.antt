@@ -1,4 +1,4 @@
-use Rattle.posting.proofs.Makes.{pushed_two}
+use Rattle.posting.proofs.BatchRows.{pushed_two}
 use Rattle.posting.proofs.batch.push_mark.Goals as goal
 
 pub returns-clause-rows : goal.returns-clause-rows

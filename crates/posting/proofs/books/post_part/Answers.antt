@@ -1,6 +1,6 @@
 use Rattle.std.proofs.Common.{IfOk, subst, ◌∙◌}
-use Rattle.posting.specs.Posts.{MayCome}
-use Rattle.posting.proofs.Applies.{part_is}
+use Rattle.ledger_steps.specs.Posts.{MayCome}
+use Rattle.posting.proofs.AppliedParts.{part_is}
 use Rattle.posting.proofs.books.post_part.Goals as goal
 
 pub returns-clause-possible : goal.returns-clause-possible

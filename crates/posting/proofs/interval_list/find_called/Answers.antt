@@ -1,6 +1,6 @@
 use Rattle.std.proofs.Common.{sym, ap, ◌∙◌}
 use Rattle.module_effects.specs.Rows.{RowName}
-use Rattle.posting.proofs.Stored.{called_of, found_called}
+use Rattle.posting.proofs.StoredIntervals.{called_of, found_called}
 use Rattle.posting.proofs.interval_list.find_called.Goals as goal
 
 pub returns-in_err-item : goal.returns-in_err-item

@@ -1,9 +1,9 @@
 use Rattle.std.proofs.Common.{rules}
 use Rattle.std.proofs.lemmas.List.Sorted.{IsPartitionPoint-from_clause}
 use Rattle.module_effects.specs.Rows.{RowName}
-use Rattle.posting.specs.Intervals.{is_before}
+use Rattle.ledger_steps.specs.Intervals.{is_before}
 use Rattle.posting.proofs.RowOrder.{parted}
-use Rattle.posting.proofs.Stored.{place_found}
+use Rattle.posting.proofs.StoredIntervals.{place_found}
 use Rattle.posting.proofs.interval_list.place_of.Goals as goal
 
 pub returns-clause-place : goal.returns-clause-place

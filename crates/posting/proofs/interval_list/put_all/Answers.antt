@@ -2,7 +2,7 @@ use Rattle.std.proofs.Common.{sym, ap, arith, ◌∙◌}
 use Rattle.std.specs.FinMap.{insert}
 use Rattle.update_records.specs.Ledger.{Levels}
 use Rattle.update_records.specs.Intervals.{level_of, named}
-use Rattle.posting.proofs.Stored.{levels_more}
+use Rattle.posting.proofs.StoredIntervals.{levels_more}
 use Rattle.posting.proofs.interval_list.put_all.Goals as goal
 
 pub loop-interval-preserved : goal.loop-interval-preserved

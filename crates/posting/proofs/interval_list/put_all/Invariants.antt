@@ -1,5 +1,5 @@
 use Rattle.std.proofs.Common.{◌≡◌, ◌≤◌, ◌+◌, length, take}
-use Rattle.posting.specs.Intervals.{with_levels}
+use Rattle.ledger_steps.specs.Intervals.{with_levels}
 use Rattle.posting.proofs.interval_list.put_all.Given as goal
 
 abbrev pub invariant-loop-interval : goal.invariant-loop-interval

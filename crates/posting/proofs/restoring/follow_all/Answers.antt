@@ -1,7 +1,7 @@
 use Rattle.std.proofs.Common.{◌≡◌, ◌+◌, ◌<◌, ◌++◌, ◌∷◌, [], length, take, ap, sym, subst, arith, ◌∙◌}
 use Rattle.std.proofs.lemmas.List.{length-take-le, take_more}
 use Rattle.posting.specs.Restoring.{IsFollowed}
-use Rattle.posting.proofs.Restored.{all_followed, may_be_next, turns_left}
+use Rattle.posting.proofs.FollowedMarks.{all_followed, may_be_next, turns_left}
 use Rattle.posting.proofs.restoring.follow_all.Goals as goal
 
 pub follow-requires-clause-few : goal.follow-requires-clause-few

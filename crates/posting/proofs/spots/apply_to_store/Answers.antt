@@ -1,9 +1,9 @@
 use Rattle.std.proofs.Common.{IfSome, sym, subst}
 use Rattle.module_effects.specs.Rows.{Tables}
 use Rattle.module_effects.specs.Spots.{IsRefused, IsRefusedOver}
-use Rattle.posting.specs.Posts.{HasDistinctRows, HoldsTables, IsPost}
-use Rattle.posting.specs.declared.prepared.Outcome.TheVariants.{Refused}
-use Rattle.posting.proofs.Applies.{done_comes, no_rows, refused_comes, refused_post}
+use Rattle.ledger_steps.specs.Posts.{HasDistinctRows, HoldsTables, IsPost}
+use Rattle.ledger_steps.specs.declared.step.Outcome.TheVariants.{Refused}
+use Rattle.posting.proofs.AppliedParts.{done_comes, no_rows, refused_comes, refused_post}
 use Rattle.posting.proofs.spots.apply_to_store.Goals as goal
 
 pub returns-in-Ok-clause-possible : goal.returns-in-Ok-clause-possible

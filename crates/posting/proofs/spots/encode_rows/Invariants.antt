@@ -1,5 +1,5 @@
 use Rattle.std.proofs.Common.{◌≡◌, take}
-use Rattle.posting.specs.Posts.{row_changes}
+use Rattle.ledger_steps.specs.Posts.{row_changes}
 use Rattle.posting.proofs.spots.encode_rows.Given as goal
 
 abbrev pub invariant-loop-spot : goal.invariant-loop-spot

@@ -2,8 +2,8 @@ use Rattle.std.proofs.Common.{◌≡◌, true, false, IfSome, sym, ap, subst, �
 use Rattle.std.specs.List.{list_any}
 use Rattle.module_effects.specs.Rows.{row_of}
 use Rattle.module_effects.specs.Spots.{is_at}
-use Rattle.posting.specs.Posts.{AreRead, HasDistinctRows}
-use Rattle.posting.proofs.Applies.{any_last, distinct_more, read_more}
+use Rattle.ledger_steps.specs.Posts.{AreRead, HasDistinctRows}
+use Rattle.posting.proofs.AppliedParts.{any_last, distinct_more, read_more}
 use Rattle.posting.proofs.spots.read_once.Goals as goal
 
 pub returns-clause-covered : goal.returns-clause-covered

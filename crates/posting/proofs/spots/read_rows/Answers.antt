@@ -1,6 +1,6 @@
 use Rattle.std.proofs.Common.{IfSome, refl, sym, subst, ◌∙◌}
-use Rattle.posting.specs.Posts.{AreRead, HasDistinctRows}
-use Rattle.posting.proofs.Applies.{covers_more, no_rows, none_read, read_on}
+use Rattle.ledger_steps.specs.Posts.{AreRead, HasDistinctRows}
+use Rattle.posting.proofs.AppliedParts.{covers_more, no_rows, none_read, read_on}
 use Rattle.posting.proofs.spots.read_rows.Goals as goal
 
 pub loop-effect-init : goal.loop-effect-init

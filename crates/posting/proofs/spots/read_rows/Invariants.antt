@@ -2,7 +2,7 @@ use Rattle.std.proofs.Common.{◌≡◌, take, IfSome, IsTrue}
 use Rattle.std.specs.Option.{is_some}
 use Rattle.keeper_api.specs.Keeping.{IsWithin, Stays}
 use Rattle.module_effects.specs.Spots.{covers}
-use Rattle.posting.specs.Posts.{AreRead, HasDistinctRows}
+use Rattle.ledger_steps.specs.Posts.{AreRead, HasDistinctRows}
 use Rattle.posting.proofs.spots.read_rows.Given as goal
 
 abbrev pub invariant-loop-effect : goal.invariant-loop-effect

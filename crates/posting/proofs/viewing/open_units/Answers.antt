@@ -1,5 +1,5 @@
 use Rattle.std.proofs.Common.{sym, ◌∙◌}
-use Rattle.posting.proofs.Views.{open_more}
+use Rattle.posting.proofs.WaitingViews.{open_more}
 use Rattle.posting.proofs.viewing.open_units.Goals as goal
 
 pub loop-place-preserved : goal.loop-place-preserved

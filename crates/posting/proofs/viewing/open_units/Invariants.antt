@@ -1,6 +1,6 @@
 use Rattle.std.proofs.Common.{◌≡◌, map, take}
-use Rattle.posting.specs.Steps.{waiting_for}
-use Rattle.posting.specs.Views.{locks_of}
+use Rattle.ledger_steps.specs.Steps.{waiting_for}
+use Rattle.ledger_steps.specs.Views.{locks_of}
 use Rattle.posting.proofs.viewing.open_units.Given as goal
 
 abbrev pub invariant-loop-place : goal.invariant-loop-place

@@ -1,5 +1,5 @@
 use Rattle.std.proofs.Common.{◌≡◌, map, take}
-use Rattle.posting.specs.Views.{view_of}
+use Rattle.ledger_steps.specs.Views.{view_of}
 use Rattle.posting.proofs.viewing.views_among.Given as goal
 
 abbrev pub invariant-loop-unit : goal.invariant-loop-unit

@@ -1,5 +1,5 @@
 use Rattle.std.proofs.Common.{◌≡◌, take}
-use Rattle.range_list.specs.Levels.{intervals_of}
+use Rattle.ledger_steps.specs.Levels.{intervals_of}
 use Rattle.range_list.proofs.starting.fresh_ranges.Given as goal
 
 abbrev pub invariant-loop-interval : goal.invariant-loop-interval

@@ -1,7 +1,7 @@
 use Rattle.std.proofs.Common.{◌≤◌, ◌+◌, sym, ap, subst, ◌∙◌, arith}
-use Rattle.range_list.specs.Levels.{level_in}
-use Rattle.range_list.specs.declared.range.NumberRange.{NumberRange}
-use Rattle.range_list.proofs.Started.{level_small, started_all, started_more}
+use Rattle.ledger_steps.specs.Levels.{level_in}
+use Rattle.ledger_steps.specs.declared.range.NumberRange.{NumberRange}
+use Rattle.draw_laws.proofs.StartedRanges.{level_small, started_all, started_more}
 use Rattle.range_list.proofs.starting.start_all.Goals as goal
 
 pub start-requires : goal.start-requires

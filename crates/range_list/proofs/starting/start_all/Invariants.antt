@@ -1,5 +1,5 @@
 use Rattle.std.proofs.Common.{◌≡◌}
-use Rattle.range_list.proofs.Started.{started_to}
+use Rattle.draw_laws.proofs.StartedRanges.{started_to}
 use Rattle.range_list.proofs.starting.start_all.Given as goal
 
 abbrev pub invariant-loop-range : goal.invariant-loop-range

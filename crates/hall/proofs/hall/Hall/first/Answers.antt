@@ -1,10 +1,10 @@
 use Rattle.std.proofs.Common.{◌≡◌, [], false, ◌∙◌, None, refl, sym, subst, is_some}
 use Rattle.enq_base.specs.declared.condition.Condition.TheVariants.{Up}
-use Rattle.hall.proofs.FirstState.{first_kept}
-use Rattle.hall.specs.Kept.{IsKept}
-use Rattle.hall.specs.Serving.{with_calls}
-use Rattle.hall.specs.State.{State, state_of}
-use Rattle.range_list.specs.Levels.{first_ranges, intervals_of}
+use Rattle.hall_laws.proofs.starting.FirstState.{first_kept}
+use Rattle.hall_model.specs.Kept.{IsKept}
+use Rattle.hall_calls.specs.Serving.{with_calls}
+use Rattle.hall_model.specs.State.{State, state_of}
+use Rattle.ledger_steps.specs.Levels.{first_ranges, intervals_of}
 use Rattle.hall.proofs.hall.Hall.first.Goals as goal
 
 pub invariant_of-result : goal.invariant_of-result

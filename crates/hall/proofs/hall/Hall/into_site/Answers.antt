@@ -1,7 +1,7 @@
 use Rattle.std.proofs.Common.{subst}
-use Rattle.hall.specs.Filing.{LeavesLists}
-use Rattle.hall.specs.Kept.{HasOpenUnits}
-use Rattle.hall.specs.Leaving.{LeavesState}
+use Rattle.hall_calls.specs.Filing.{LeavesLists}
+use Rattle.hall_model.specs.Kept.{HasOpenUnits}
+use Rattle.hall_calls.specs.Leaving.{LeavesState}
 use Rattle.hall.proofs.hall.Hall.into_site.Goals as goal
 
 pub returns-clause-left : goal.returns-clause-left

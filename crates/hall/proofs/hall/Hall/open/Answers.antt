@@ -1,12 +1,13 @@
 use Rattle.std.proofs.Common.{◌≡◌, ◌∙◌, refl, sym, ap, subst, is_some, true}
 use Rattle.std.specs.Prelude.{IfSome}
 use Rattle.keeper_api.specs.Keeping.{IsWithin}
-use Rattle.posting.specs.Reopening.{HasStood, IsRaised}
-use Rattle.range_list.specs.Levels.{intervals_of}
+use Rattle.posting.specs.Reopening.{HasStood}
+use Rattle.ledger_steps.specs.Starts.{IsRaised}
+use Rattle.ledger_steps.specs.Levels.{intervals_of}
 use Rattle.store_reading.specs.Good.{IsSound}
 use Rattle.hall.proofs.Refused.{books_file, books_file_counts, books_why, err_more, err_two, held_more, late_bad, late_counts, late_file, late_kept, late_left, late_may, late_why, ok_more, ok_two, where_held}
 use Rattle.hall.specs.Faults.{CountsFileFault, IsBadFile, IsHallFault, IsLateFault}
-use Rattle.hall.specs.State.{State, opened}
+use Rattle.hall_model.specs.State.{State, opened}
 use Rattle.hall.proofs.hall.Hall.open.Goals as goal
 
 pub returns-in-Ok-open-clause-state : goal.returns-in-Ok-open-clause-state

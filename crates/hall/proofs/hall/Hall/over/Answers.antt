@@ -1,10 +1,10 @@
 use Rattle.std.proofs.Common.{inl, refl, subst, ◌∙◌, is_some}
 use Rattle.enq_server.specs.Server.{IsRecovered}
-use Rattle.range_list.specs.Levels.{intervals_of}
-use Rattle.hall.proofs.OpenLists.{recovered_lists}
-use Rattle.posting.specs.Views.{open_locks}
+use Rattle.ledger_steps.specs.Levels.{intervals_of}
+use Rattle.hall_calls.proofs.lists.OfOpenUnits.{recovered_lists}
+use Rattle.ledger_steps.specs.Views.{open_locks}
 use Rattle.hall.proofs.Refused.{ranges_file_counts, ranges_left}
-use Rattle.hall.specs.State.{opened}
+use Rattle.hall_model.specs.State.{opened}
 use Rattle.hall.proofs.hall.Hall.over.Goals as goal
 
 pub returns-in-Err-clause-fault : goal.returns-in-Err-clause-fault

@@ -1,23 +1,23 @@
 use Rattle.std.proofs.Common.{◌≡◌, [], ◌∷◌, ◌++◌, true, false, is_some, refl, sym, ◌∙◌, subst, rules}
-use Rattle.hall.proofs.Endings.{given_noted, unrecorded_same}
-use Rattle.hall.proofs.Landings.{kept_call}
-use Rattle.hall.proofs.Frames.{noted_step}
-use Rattle.hall.proofs.GoodFiles.{given_sound}
+use Rattle.hall_calls.proofs.ending.WithHistory.{given_noted, unrecorded_same}
+use Rattle.hall_laws.proofs.keeping.InFlight.{kept_call}
+use Rattle.hall_laws.proofs.keeping.Unchanged.{noted_step}
+use Rattle.hall_calls.proofs.lists.GoodFiles.{given_sound}
 use Rattle.hall.proofs.KeptReplicas.{loses_only}
-use Rattle.hall.proofs.Replies.{given_telling}
-use Rattle.hall.specs.History.{IsStep, entry_of}
-use Rattle.hall.specs.Kept.{IsKept}
-use Rattle.hall.specs.Calls.{call_of, renews_replica}
-use Rattle.hall.specs.Serving.{LosesOnly, with_calls}
-use Rattle.hall.specs.State.{View}
-use Rattle.hall.specs.Stocks.{MayCall}
-use Rattle.hall.specs.Unsound.{is_unsound_file, is_unsound_replica}
+use Rattle.hall_calls.proofs.verdicts.Replies.{given_telling}
+use Rattle.hall_model.specs.History.{IsStep, entry_of}
+use Rattle.hall_model.specs.Kept.{IsKept}
+use Rattle.hall_model.specs.Calls.{call_of, renews_replica}
+use Rattle.hall_calls.specs.Serving.{LosesOnly, with_calls}
+use Rattle.hall_calls.specs.View.{View}
+use Rattle.hall_model.specs.Stocks.{MayCall}
+use Rattle.hall_model.specs.Unsound.{is_unsound_file, is_unsound_replica}
 use Rattle.hall.proofs.hall.Hall.serve.Goals as goal
 
 pub invariant_of-self : goal.invariant_of-self
 invariant_of-self g c =
     let past = c.self.inside.past.items in
-    let s = with_calls c.self.inside.server.state past in
+    let s = with_calls c.self.inside.present.state past in
     let after = with_calls c.serve-answer.new.self.state past in
     let off = sym c.is_unrecorded.ensures ∙ c.if-is_unrecorded.true in
     (c.self.invariant.0, subst IsKept (sym (unrecorded_same s c.args.command after c.serve-answer.result.reply c.serve-answer.ensures.call.act off)) c.self.invariant.1)
@@ -25,7 +25,7 @@ invariant_of-self g c =
 pub invariant_of-self-2 : goal.invariant_of-self-2
 invariant_of-self-2 g c =
     let past = c.self.inside.past.items in
-    let s = with_calls c.self.inside.server.state past in
+    let s = with_calls c.self.inside.present.state past in
     let after = with_calls c.serve-answer.new.self.state past in
     let given = c.told_twice-noted.result.1 in
     let on = sym c.is_unrecorded.ensures ∙ c.if-is_unrecorded.false in
@@ -40,7 +40,7 @@ invariant_of-self-2 g c =
 pub returns-clause-step : goal.returns-clause-step
 returns-clause-step g c =
     let past = c.self.inside.past.items in
-    let s = with_calls c.self.inside.server.state past in
+    let s = with_calls c.self.inside.present.state past in
     let after = with_calls c.serve-answer.new.self.state past in
     let given = c.told_twice-noted.result.1 in
     let on = sym c.is_unrecorded.ensures ∙ c.if-is_unrecorded.false in
@@ -67,5 +67,5 @@ returns-clause-lost g c =
     let now = c.serve-answer.new.self in
     let after = with_calls now.state c.note.new.past.items in
     subst (λ (v : View g.row.K.Denot g.row.D.Denot g.row.L.Denot). renews_replica (call_of c.args.command) ≡ false → LosesOnly (faults v.follower.link) (faults now.follower.link) (refusals v.follower.link) (refusals now.follower.link) v.state after) c.self.view_is
-    (λ other. loses_only g.L.Link.applied faults refusals c.self.inside.server.follower now.follower (with_calls c.self.inside.server.state c.self.inside.past.items) after
+    (λ other. loses_only g.L.Link.applied faults refusals c.self.inside.present.follower now.follower (with_calls c.self.inside.present.state c.self.inside.past.items) after
     c.read_invariant.ensures.attached c.read_invariant-2.ensures.attached (c.serve-answer.ensures.follower other))

@@ -1,11 +1,12 @@
 use Rattle.std.proofs.Common.{true, IfSome, refl, ap, sym, subst, ◌∙◌}
 use Rattle.keeper_api.specs.Rows.{Rows}
 use Rattle.store_reading.specs.Good.{ledger_of}
-use Rattle.posting.specs.Opening.{OnBad, raised}
+use Rattle.posting.specs.Opening.{OnBad}
+use Rattle.ledger_steps.specs.Starts.{raised}
 use Rattle.posting.specs.Reopening.{IsOpeningFault, MayBeLeftBy}
 use Rattle.posting.specs.Numbers.{AreNumbersRight}
-use Rattle.posting.proofs.Numbers.{raised_numbers, sound_numbers}
-use Rattle.posting.proofs.Reopened.{left_by, opened_usable, raise_fault, raise_found, stood_now}
+use Rattle.posting.proofs.LedgerNumbers.{raised_numbers, sound_numbers}
+use Rattle.posting.proofs.FoundLedger.{left_by, opened_usable, raise_fault, raise_found, stood_now}
 use Rattle.posting.proofs.books.Books.open.Goals as goal
 
 pub returns-then-not-raise-clause-usable : goal.returns-then-not-raise-clause-usable

@@ -1,5 +1,5 @@
 use Rattle.std.proofs.Common.{◌∷◌, []}
-use Rattle.posting.proofs.Makes.{level_is_batch, level_makes}
+use Rattle.posting.proofs.BatchRows.{level_is_batch, level_makes}
 use Rattle.posting.proofs.books.Books.prepare_level.Goals as goal
 
 pub prepare-requires-clause-batch : goal.prepare-requires-clause-batch

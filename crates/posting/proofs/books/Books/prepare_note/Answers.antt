@@ -4,7 +4,7 @@ use Rattle.update_records.specs.Growing.{with_mark}
 use Rattle.update_records.specs.Ledger.{StandFor}
 use Rattle.update_records.specs.Spelling.{HasFields}
 use Rattle.update_records.specs.declared.records.Mark.{Mark}
-use Rattle.posting.proofs.Makes.{note_is_batch, note_makes}
+use Rattle.posting.proofs.BatchRows.{note_is_batch, note_makes}
 use Rattle.posting.proofs.books.Books.prepare_note.Goals as goal
 
 pub prepare-requires-clause-batch : goal.prepare-requires-clause-batch

@@ -2,7 +2,7 @@ use Rattle.std.proofs.Common.{◌≡◌, ℕ, ◌+◌, List, ap, ◌∙◌}
 use Rattle.enq_base.specs.declared.unit.Num.{Num as Number}
 use Rattle.update_records.specs.Growing.{next_mark}
 use Rattle.update_records.specs.declared.records.MarkKind.TheVariants.{Num}
-use Rattle.posting.proofs.Makes.{draw_is_batch, draw_makes}
+use Rattle.posting.proofs.BatchRows.{draw_is_batch, draw_makes}
 use Rattle.posting.proofs.books.Books.prepare_numbers.Goals as goal
 
 pub prepare-requires-clause-batch : goal.prepare-requires-clause-batch

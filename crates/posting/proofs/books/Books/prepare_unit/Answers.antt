@@ -1,5 +1,5 @@
 use Rattle.std.proofs.Common.{◌∙◌}
-use Rattle.posting.proofs.Makes.{unit_is_batch, unit_makes}
+use Rattle.posting.proofs.BatchRows.{unit_is_batch, unit_makes}
 use Rattle.posting.proofs.books.Books.prepare_unit.Goals as goal
 
 pub prepare-requires-clause-batch : goal.prepare-requires-clause-batch

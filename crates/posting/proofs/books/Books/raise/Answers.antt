@@ -1,10 +1,10 @@
 use Rattle.std.proofs.Common.{◌+◌, ◌^◌, ◌<◌, ◌∷◌, [], true, ap, ◌∙◌, arith}
 use Rattle.update_records.specs.Growing.{with_start}
 use Rattle.update_records.specs.RecordRows.{meta_row}
-use Rattle.posting.specs.Opening.{raised}
-use Rattle.posting.specs.Steps.{after_step}
-use Rattle.posting.proofs.Raised.{start_makes}
-use Rattle.posting.proofs.Usable.{one_batch, raised_from}
+use Rattle.ledger_steps.specs.Starts.{raised}
+use Rattle.ledger_steps.specs.Steps.{after_step}
+use Rattle.posting.proofs.LaterStart.{start_makes}
+use Rattle.posting.proofs.UsableBooks.{one_batch, raised_from}
 use Rattle.posting.proofs.books.Books.raise.Goals as goal
 
 pub prepare-requires-clause-batch : goal.prepare-requires-clause-batch

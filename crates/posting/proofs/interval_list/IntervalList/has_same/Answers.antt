@@ -1,6 +1,6 @@
 use Rattle.std.proofs.Common.{sym, ap, ◌∙◌}
 use Rattle.update_records.specs.Intervals.{levels_of}
-use Rattle.posting.specs.Intervals.{IntervalsView, in_row_order}
+use Rattle.ledger_steps.specs.Intervals.{IntervalsView, in_row_order}
 use Rattle.posting.proofs.RowOrder.{in_order}
 use Rattle.posting.proofs.interval_list.IntervalList.has_same.Goals as goal
 

@@ -1,6 +1,6 @@
 use Rattle.std.proofs.Common.{ap, sym, ◌∙◌}
 use Rattle.posting.proofs.RowOrder.{in_order}
-use Rattle.posting.specs.Intervals.{IntervalsView, in_row_order}
+use Rattle.ledger_steps.specs.Intervals.{IntervalsView, in_row_order}
 use Rattle.posting.proofs.interval_list.IntervalList.intervals.Goals as goal
 
 pub returns : goal.returns

@@ -1,8 +1,8 @@
 use Rattle.std.proofs.Common.{sym, ap, ◌∙◌}
 use Rattle.std.specs.Option.{option_map}
-use Rattle.posting.specs.Intervals.{IntervalsView}
+use Rattle.ledger_steps.specs.Intervals.{IntervalsView}
 use Rattle.update_records.specs.declared.stored.StoredInterval.{StoredInterval}
-use Rattle.posting.proofs.Stored.{level_read}
+use Rattle.posting.proofs.StoredIntervals.{level_read}
 use Rattle.posting.proofs.interval_list.IntervalList.level.Goals as goal
 
 pub returns-in_err-found : goal.returns-in_err-found

@@ -3,9 +3,9 @@ use Rattle.std.specs.FinMap.{insert}
 use Rattle.std.specs.List.{position_or_len, slice_get, slice_set, insert as list_insert}
 use Rattle.std.specs.Option.{option_map_or}
 use Rattle.update_records.specs.Ledger.{Levels}
-use Rattle.posting.specs.Intervals.{AreInOrder, IntervalsView, is_called, is_past}
+use Rattle.ledger_steps.specs.Intervals.{AreInOrder, IntervalsView, is_called, is_past}
 use Rattle.update_records.specs.Intervals.{level_of, named}
-use Rattle.posting.proofs.Stored.{Here, inserted_at, kept_put, levels_put, replaced_at}
+use Rattle.posting.proofs.StoredIntervals.{Here, inserted_at, kept_put, levels_put, replaced_at}
 use Rattle.posting.proofs.interval_list.IntervalList.put.Goals as goal
 
 pub invariant_of-self : goal.invariant_of-self

@@ -1,6 +1,6 @@
 use Rattle.std.proofs.Common.{◌≤◌, ap, arith, ◌∙◌}
-use Rattle.posting.specs.Intervals.{IntervalsView}
-use Rattle.posting.proofs.Stored.{stored_read}
+use Rattle.ledger_steps.specs.Intervals.{IntervalsView}
+use Rattle.posting.proofs.StoredIntervals.{stored_read}
 use Rattle.posting.proofs.interval_list.IntervalList.stored.Goals as goal
 
 pub returns : goal.returns

@@ -1,6 +1,6 @@
 use Rattle.std.proofs.Common.{◌+◌, length, ap}
 use Rattle.posting.specs.Registers.{RegisterView}
-use Rattle.posting.proofs.Registers.{drawn_anew, turn_left}
+use Rattle.posting.proofs.RegisterAgrees.{drawn_anew, turn_left}
 use Rattle.posting.proofs.register.Register.draw.Goals as goal
 
 pub pass_turn-requires-clause-few : goal.pass_turn-requires-clause-few

@@ -1,6 +1,6 @@
 use Rattle.std.proofs.Common.{◌≡◌, sym, ap, ◌∙◌, arith, ◌<◌, length}
 use Rattle.posting.specs.Registers.{RegisterView}
-use Rattle.posting.proofs.Registers.{noted_anew, in_range, turn_left}
+use Rattle.posting.proofs.RegisterAgrees.{noted_anew, in_range, turn_left}
 use Rattle.posting.proofs.register.Register.note.Goals as goal
 
 pub index-requires : goal.index-requires

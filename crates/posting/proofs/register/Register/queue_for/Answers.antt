@@ -2,8 +2,8 @@ use Rattle.std.proofs.Common.{◌≡◌, ap, sym, ◌∙◌, arith}
 use Rattle.enq_base.specs.declared.unit.Status.TheVariants.{Open, Posted}
 use Rattle.turn_list.specs.Turns.{waiting_in}
 use Rattle.posting.specs.Registers.{RegisterView}
-use Rattle.posting.specs.Steps.{waiting_for}
-use Rattle.posting.proofs.Waiting.{turns_waiting}
+use Rattle.ledger_steps.specs.Steps.{waiting_for}
+use Rattle.posting.proofs.WaitingTurns.{turns_waiting}
 use Rattle.posting.proofs.register.Register.queue_for.Goals as goal
 
 pub returns-then-part-eq1 : goal.returns-then-part-eq1

@@ -1,6 +1,6 @@
 use Rattle.std.proofs.Common.{◌≡◌, length, ap, arith, rules}
 use Rattle.posting.specs.Registers.{RegisterView}
-use Rattle.posting.proofs.Registers.{recorded_anew, turn_left}
+use Rattle.posting.proofs.RegisterAgrees.{recorded_anew, turn_left}
 use Rattle.posting.proofs.register.Register.record.Goals as goal
 
 pub push-requires-clause-few : goal.push-requires-clause-few

@@ -1,7 +1,7 @@
 use Rattle.std.proofs.Common.{◌*◌, ◌≤◌, length, ap, subst, ◌∙◌}
 use Rattle.update_records.specs.Business.{numbers_of}
 use Rattle.posting.specs.Restoring.{AreFollowed}
-use Rattle.posting.proofs.Restored.{restored_register}
+use Rattle.posting.proofs.FollowedMarks.{restored_register}
 use Rattle.posting.proofs.register.Register.restore.Goals as goal
 
 pub invariant_of-result : goal.invariant_of-result

@@ -1,4 +1,4 @@
-use Rattle.posting.proofs.Restored.{follow_draw}
+use Rattle.posting.proofs.FollowedMarks.{follow_draw}
 use Rattle.std.proofs.Common.{refl}
 use Rattle.posting.proofs.restoring.Followed.draw.Goals as goal
 

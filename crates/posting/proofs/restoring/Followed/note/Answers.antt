@@ -1,6 +1,6 @@
 use Rattle.std.proofs.Common.{refl, sym, ◌∙◌}
-use Rattle.posting.proofs.Registers.{in_range}
-use Rattle.posting.proofs.Restored.{follow_none, follow_some, got_at, still_none}
+use Rattle.posting.proofs.RegisterAgrees.{in_range}
+use Rattle.posting.proofs.FollowedMarks.{follow_none, follow_some, got_at, still_none}
 use Rattle.posting.proofs.restoring.Followed.note.Goals as goal
 
 pub returns-in_default : goal.returns-in_default

@@ -1,4 +1,4 @@
-use Rattle.posting.proofs.Restored.{follow_rec}
+use Rattle.posting.proofs.FollowedMarks.{follow_rec}
 use Rattle.std.proofs.Common.{refl}
 use Rattle.posting.proofs.restoring.Followed.record.Goals as goal
 

@@ -1,6 +1,6 @@
 use Rattle.std.proofs.Common.{sym, ◌∙◌}
-use Rattle.range_list.specs.Levels.{fits, intervals_of}
-use Rattle.range_list.proofs.Fits.{none_fails}
+use Rattle.ledger_steps.specs.Levels.{fits, intervals_of}
+use Rattle.draw_laws.proofs.FittingLevels.{none_fails}
 use Rattle.range_list.proofs.ranges.Ranges.fit.Goals as goal
 
 pub returns-in-None-clause-fits : goal.returns-in-None-clause-fits

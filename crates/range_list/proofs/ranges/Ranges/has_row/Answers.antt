@@ -1,8 +1,8 @@
 use Rattle.std.proofs.Common.{false, sym, ap, subst, ◌∙◌}
 use Rattle.std.specs.Option.{option_copied, option_map_or}
-use Rattle.range_list.specs.Levels.{AreApart, intervals_of, is_row_of}
-use Rattle.range_list.specs.declared.range.NumberRange.{NumberRange}
-use Rattle.range_list.proofs.Lookups.{fits_found}
+use Rattle.ledger_steps.specs.Levels.{AreApart, intervals_of, is_row_of}
+use Rattle.ledger_steps.specs.declared.range.NumberRange.{NumberRange}
+use Rattle.range_list.proofs.FoundByPlace.{fits_found}
 use Rattle.range_list.proofs.ranges.Ranges.has_row.Goals as goal
 
 pub returns-in-Some : goal.returns-in-Some

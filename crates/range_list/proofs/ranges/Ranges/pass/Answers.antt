@@ -1,8 +1,8 @@
 use Rattle.std.proofs.Common.{◌≡◌, ◌++◌, length, take, drop, sym, ap, subst, ◌∙◌, arith}
 use Rattle.std.proofs.Math.Seq.{take-append_seam}
-use Rattle.range_list.specs.Levels.{AreIntervals, intervals_of}
-use Rattle.range_list.specs.Places.{ArePlaces}
-use Rattle.range_list.proofs.HandedOut.{passed_intervals}
+use Rattle.ledger_steps.specs.Levels.{AreIntervals, intervals_of}
+use Rattle.range_list.specs.RangePlaces.{ArePlaces}
+use Rattle.draw_laws.proofs.HandedOut.{passed_intervals}
 use Rattle.range_list.proofs.ranges.Ranges.pass.Goals as goal
 
 pub invariant_of-self : goal.invariant_of-self

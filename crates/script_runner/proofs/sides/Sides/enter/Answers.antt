@@ -1,5 +1,5 @@
 use Rattle.std.proofs.Common.{◌≤◌, ap, sym, ◌∙◌, subst, arith}
-use Rattle.hall.specs.Named.{AreNamed}
+use Rattle.hall_calls.specs.Named.{AreNamed}
 use Rattle.script_runner.specs.Sides.{SidesView, side_of, with_new_side}
 use Rattle.script_runner.proofs.Dialogues.{named_added, not_found, owner, side_added, side_found, sides_in}
 use Rattle.script_runner.proofs.SideLemmas.{none_of, where_done}

@@ -2,6 +2,8 @@ use Rattle.std.proofs.Common.{◌<◌, List, All, length, ap, subst, sym, ◌∙
 use mathlib.Core.List.{IsPrefix}
 use Rattle.turn_lock.specs.declared.view.View.{View}
 use Rattle.turn_lock.specs.Rule.{SeatState, own_entries}
+use Rattle.seat_sums.proofs.Beginnings.{front_is_short}
+use Rattle.seat_sums.proofs.Entries.{below_higher}
 use Rattle.turn_lock.proofs.Keeps.{call_steps}
 use Rattle.turn_lock.proofs.Entries.{own_called, own_called_below}
 use Rattle.turn_lock.proofs.lock.TurnLock.with.Goals as goal
@@ -29,6 +31,7 @@ returns-clause-ran g c =
       ran = c.act-answer.ensures.does;
       began = seen;
       grew = c.act-answer.ensures.grows;
+      behind = below_higher (length v.seen) (length before) v.own (front_is_short v.seen before seen) c.args.pass.now.own_seen;
       knows = view;
       own = ap own_entries view ∙ own_called v.seen before after v.own c.args.pass.now.own_seen seen c.act-answer.ensures.grows;
     }

@@ -1,0 +1,15 @@
+pub mod StockBehind
+pub mod Counting
+pub mod Drawing
+pub mod FittingLevels
+pub mod HandedOut
+pub mod IntervalNames
+pub mod OverSessions
+pub mod OwnNumbers
+pub mod PresentLevels
+pub mod Recording
+pub mod SessionDraws
+pub mod SettledRows
+pub mod StartedRanges
+pub mod Stocks
+pub mod StoredDraws

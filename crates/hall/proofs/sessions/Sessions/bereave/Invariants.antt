@@ -1,8 +1,0 @@
-use Rattle.std.proofs.Common.{◌≡◌, take}
-use Rattle.hall.proofs.OwnLost.{bereft_by}
-use Rattle.hall.proofs.sessions.Sessions.bereave.Given as goal
-
-abbrev pub invariant-loop-place : goal.invariant-loop-place
-invariant-loop-place l = record {
-  so_far : l.self ≡ bereft_by (take l.place l.losing) l.fn.self;
-}

@@ -1,0 +1,9 @@
+pub mod verdicts
+pub mod ending
+pub mod following
+pub mod NamedValues
+pub mod restarting
+pub mod RangesShown
+pub mod lists
+pub mod TestedLocks
+pub mod HistoryRoom

@@ -1,0 +1,6 @@
+pub mod WithHistory
+pub mod StateBehind
+pub mod AfterStop
+pub mod OverStore
+pub mod OverFile
+pub mod FirstState

@@ -1,0 +1,5 @@
+pub mod Handovers
+pub mod EachCall
+pub mod NotedShips
+pub mod ToldLists
+pub mod Shipping

@@ -1,0 +1,5 @@
+pub mod OfOpenUnits
+pub mod BehindMarks
+pub mod StoredLocks
+pub mod AsCallsEnd
+pub mod GoodFiles

@@ -1,0 +1,5 @@
+pub mod LostLocks
+pub mod MadeAnew
+pub mod StoreRead
+pub mod NotMade
+pub mod OverRead

@@ -1,0 +1,10 @@
+pub mod Filing
+pub mod Commits
+pub mod Leaving
+pub mod Named
+pub mod Serving
+pub mod Storing
+pub mod Remaking
+pub mod OpenLists
+pub mod View
+pub mod Written

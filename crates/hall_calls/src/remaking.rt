@@ -1,0 +1,301 @@
+ghost use Rattle.std.specs.Prelude.{◌≡◌, ◌↔◌, true, false, length, replicate, None, Some, IfErr, IfOk, IsSomeAnd, IsTrue, OnOk, is_some};
+ghost use Rattle.std.specs.List.{AllByRecursion};
+ghost use Rattle.enq_server.specs.Following.{IsLater};
+ghost use Rattle.hall_model.specs.declared.command.Command.TheVariants as command;
+ghost use Rattle.hall_model.specs.Acts.{Admits, IsTelling};
+ghost use Rattle.hall_model.specs.Devices.{IsAsBefore, is_doubt};
+ghost use Rattle.hall_calls.specs.Filing.{AllRecover, HasFileCause};
+ghost use Rattle.hall_model.specs.Kept.{IsKnownRight, IsYoung, OutsideDoubt};
+ghost use Rattle.hall_calls.specs.Leaving.{HasStoreCause};
+ghost use Rattle.hall_model.specs.OpenUnits.{OfPending, open_entries};
+ghost use Rattle.hall_calls.specs.Remaking.{IsFoundRight, IsReadAs, IsUnread, IsUnreadInDoubt, IsUsableAs, ledger_read, taken_in, taken_read, IsLeftReady, LeavesKnown, LeavesRemade, OnNotRemade, OnRefusedFirst, OnRemade, flight_over, remade_condition, remade_failure, remade_reply, remade_state, remade_taken, remake_refusal, store_refusal};
+ghost use Rattle.hall_calls.specs.Serving.{DoesStore};
+ghost use Rattle.hall_model.specs.History.{known_behind};
+ghost use Rattle.hall_model.specs.State.{State, gone_in};
+ghost use Rattle.keeper_api.specs.Keeping.{IsWithin};
+ghost use Rattle.hall_model.specs.Unsound.{is_unsound_file, is_unsound_store};
+ghost use Rattle.lock_entry.specs.Sound.{IsSound};
+ghost use Rattle.posting.specs.BooksView.{IsUsable};
+ghost use Rattle.ledger_steps.specs.Views.{open_locks};
+
+use crate::sessions::Sessions;
+use crate::units::Failure;
+use bk_disk::Disk;
+use enq_base::{Bad, Condition, NoMemory, Refusal, UnitKey};
+use enq_server::{EnqServer, OpenFault};
+use hall_model::{Answer, PastEntry, Reply};
+use keeper_api::Keeper;
+use lock_entry::{LockStore, UnitLocks};
+use posting::{Books, BooksFault, Reread, SettleFault};
+use replica_link::Link;
+use std::alloc::Global;
+
+/// What came of making a lock server anew.
+#[derive(Drop)]
+pub(crate) enum Remade {
+    /// It was done, and the store has the change that was in flight, or hasn't.
+    Done(bool),
+    /// Nothing was done, for this reason. No device was called.
+    Refused(Refusal),
+    /// A device failed; or behind its first call memory was wanting, or what it has isn't good. With what was read of
+    /// the change in flight, if the store was read.
+    InDoubt(Refusal, Option<bool>),
+}
+
+/// The units that wait for their V1 part, with their locks, and what the store has that was read anew.
+#[derive(Drop)]
+struct Waiting {
+    units: Vec<UnitLocks>,
+    reread: Option<Reread>,
+}
+
+/// Makes the lock server anew, with the locks of the units that wait for their V1 part. In doubt the store is read anew
+/// first, and tells what became of the change in flight. The sessions lose what they had of the table before, one in
+/// whose call a device failed too, and no order stands.
+pub(crate) fn remake<T: LockStore, K: Keeper, D: Disk, L: Link>(
+    alloc: Global,
+    condition: Condition,
+    sessions: &mut Sessions,
+    orders: &mut Vec<Option<UnitKey>>,
+    locks: &mut EnqServer<T, D, L>,
+    books: &mut Books<K>,
+    failure: &Failure,
+    max_locks: u32,
+) -> Remade
+    requires young { AllByRecursion (IsYoung 262145) sessions.old }
+    requires places { length orders.old.items ≡ 256 }
+    requires usable { OutsideDoubt condition (IsUsable K.held K.is_open books.old) }
+    requires unknown { OutsideDoubt condition (failure.now.found ≡ None) }
+    requires settled { OutsideDoubt condition (failure.now.pending ≡ None) }
+    requires known { IsKnownRight failure.now.found books.old.ledger (flight_over books.old.ledger failure.now) }
+    requires left { LeavesKnown K.held K.may_leave books.old.keeper failure.now.found books.old.ledger
+        (flight_over books.old.ledger failure.now) }
+    requires lists { AllRecover D.tells D.may_leave condition books.old.ledger
+        (flight_over books.old.ledger failure.now) failure.now.found locks.old.file }
+    ensures act { (s : State) → s.condition ≡ condition → s.sessions ≡ sessions.old → s.stored ≡ books.old.ledger
+        → s.pending ≡ flight_over books.old.ledger failure.now → s.found ≡ failure.now.found
+        → s.failed_caller ≡ failure.now.caller
+        → s.max_locks ≡ max_locks → s.gone ≡ gone_in condition locks.old.table.entries → Admits s command.Restart
+        → IsTelling s command.Restart (remade_taken result)
+        (remade_state s sessions.new orders.new.items locks.new.table books.new.ledger result) (remade_reply result) }
+    ensures sessions { OnNotRemade result (sessions.new ≡ sessions.old) }
+    ensures orders { OnNotRemade result (orders.new.items ≡ orders.old.items) }
+    ensures table { OnNotRemade result (locks.new.table ≡ locks.old.table) }
+    ensures ledger { OnNotRemade result (books.new.ledger ≡ books.old.ledger) }
+    ensures usable { OnRemade result (IsUsable K.held K.is_open books.new) }
+    ensures apart { OnRefusedFirst result (books.new ≡ books.old) }
+    ensures store { DoesStore K.held K.may_leave K.faults true (is_doubt condition) books.old.keeper books.new.keeper
+        (remade_reply result) }
+    ensures left { LeavesRemade K.held K.may_leave books.new.keeper books.old.ledger books.new.ledger failure.now
+        result }
+    ensures file { IsLeftReady D.tells D.reads D.may_leave books.old.ledger books.new.ledger failure.now locks.old.file
+        locks.new.file result }
+    ensures cause { HasFileCause (D.faults locks.old.file.disk) (D.faults locks.new.file.disk) (remade_reply result) }
+    ensures follower { IsLater L.applied L.faults L.refusals locks.old.copy locks.new.copy }
+    ensures detached { OnRemade result (locks.new.copy.attached ≡ false) }
+    ensures unshipped { OnRefusedFirst result (locks.new.copy ≡ locks.old.copy) }
+    // A file whose images have the lists of the open units is good.
+    ensures good_file { IsTrue D.tells → IsSound (open_entries books.old.ledger)
+        → OfPending (flight_over books.old.ledger failure.now) (λ ledger. IsSound (open_entries ledger))
+        → is_unsound_file (remade_reply result) ≡ false }
+    // A store that tells its rows is good, and has what it had or the change in flight.
+    ensures good_store { is_some (K.held books.old.keeper) ≡ true → is_unsound_store (remade_reply result) ≡ false }
+{
+    if let Condition::Up = condition {
+        return Remade::Refused(Refusal::ServerUp);
+    }
+    let Ok(losing) = sessions.losing(alloc, books.start(), locks, failure.caller) else {
+        return Remade::Refused(Refusal::NoMemory);
+    };
+    let waiting = match read_waiting(alloc, condition, books, failure) {
+        Ok(waiting) => waiting,
+        Err(remade) => return remade,
+    };
+    match locks.restart(alloc, max_locks, waiting.units.as_slice()) {
+        Ok(()) => {
+            sessions.bereave(alloc, losing.as_slice());
+            drop_orders(orders);
+            Remade::Done(adopt(books, waiting.reread))
+        }
+        Err(fault) => Remade::InDoubt(remake_refusal(fault), taken_in(&waiting.reread)),
+    }
+}
+
+/// The units that wait for their V1 part: those of the books, or in doubt those of the store, which is read anew.
+fn read_waiting<K: Keeper>(
+    alloc: Global,
+    condition: Condition,
+    books: &mut Books<K>,
+    failure: &Failure,
+) -> Result<Waiting, Remade>
+    requires known { IsKnownRight failure.now.found books.old.ledger (flight_over books.old.ledger failure.now) }
+    requires left { LeavesKnown K.held K.may_leave books.old.keeper failure.now.found books.old.ledger
+        (flight_over books.old.ledger failure.now) }
+    ensures units { IfOk result (λ w. w.units.items ≡ open_locks (ledger_read books.old.ledger w.reread)) }
+    ensures read { IfOk result (λ w. IsReadAs condition books.old.ledger failure.now w.reread) }
+    ensures usable { IfOk result (λ w. IsUsableAs K.held K.is_open books.new w.reread) }
+    ensures counts { OnOk result (K.faults books.new.keeper ≡ K.faults books.old.keeper) }
+    ensures left { IfOk result
+        (λ w. LeavesKnown K.held K.may_leave books.new.keeper (known_behind failure.now.found (taken_in w.reread))
+        books.old.ledger (flight_over books.old.ledger failure.now)) }
+    ensures unread { IfErr result (IsUnread K.held K.may_leave K.faults condition failure.now books.old books.new) }
+    ensures good_store { is_some (K.held books.old.keeper) ≡ true
+        → IfErr result (λ remade. is_unsound_store (remade_reply remade) ≡ false) }
+    ensures ledger { books.new.ledger ≡ books.old.ledger }
+    ensures apart { is_doubt condition ≡ false → books.new ≡ books.old }
+    ensures told { is_some (K.held books.new.keeper) ≡ is_some (K.held books.old.keeper) }
+    ensures within { IsWithin (K.may_leave books.new.keeper) (K.may_leave books.old.keeper) }
+{
+    match condition {
+        Condition::Doubt(_) => reread(alloc, books, failure),
+        Condition::Up | Condition::NoServer => match books.open_units(alloc) {
+            Ok(units) => Ok(Waiting {
+                units,
+                reread: None,
+            }),
+            Err(_) => Err(Remade::Refused(Refusal::NoMemory)),
+        },
+    }
+}
+
+/// Reads the store anew. It has to have what it had or the change in flight, and what was read of it before.
+fn reread<K: Keeper>(
+    alloc: Global,
+    books: &mut Books<K>,
+    failure: &Failure,
+) -> Result<Waiting, Remade>
+    requires known { IsKnownRight failure.now.found books.old.ledger (flight_over books.old.ledger failure.now) }
+    requires left { LeavesKnown K.held K.may_leave books.old.keeper failure.now.found books.old.ledger
+        (flight_over books.old.ledger failure.now) }
+    ensures units { IfOk result (λ w. w.units.items ≡ open_locks (ledger_read books.old.ledger w.reread)) }
+    ensures read { IfOk result (λ w. IsSomeAnd w.reread (IsFoundRight books.old.ledger failure.now)) }
+    ensures usable { IfOk result (λ w. IsUsableAs K.held K.is_open books.new w.reread) }
+    ensures counts { OnOk result (K.faults books.new.keeper ≡ K.faults books.old.keeper) }
+    ensures left { IfOk result
+        (λ w. LeavesKnown K.held K.may_leave books.new.keeper (known_behind failure.now.found (taken_in w.reread))
+        books.old.ledger (flight_over books.old.ledger failure.now)) }
+    ensures unread { IfErr result
+        (λ remade. IsUnreadInDoubt K.held K.may_leave K.faults failure.now books.old books.new remade) }
+    ensures good_store { is_some (K.held books.old.keeper) ≡ true
+        → IfErr result (λ remade. is_unsound_store (remade_reply remade) ≡ false) }
+    ensures ledger { books.new.ledger ≡ books.old.ledger }
+    ensures told { is_some (K.held books.new.keeper) ≡ is_some (K.held books.old.keeper) }
+    ensures within { IsWithin (K.may_leave books.new.keeper) (K.may_leave books.old.keeper) }
+{
+    let reread = match books.reread(alloc, failure.pending.as_ref()) {
+        Ok(reread) => reread,
+        Err(fault) => return Err(Remade::InDoubt(store_refusal(fault), None)),
+    };
+    let taken = reread.taken();
+    if !is_as_before(failure.found, taken) {
+        return Err(Remade::InDoubt(store_refusal(SettleFault::Other), None));
+    }
+    match reread.open_units(alloc) {
+        Ok(units) => Ok(Waiting {
+            units,
+            reread: Some(reread),
+        }),
+        Err(_) => Err(Remade::InDoubt(Refusal::NoMemory, Some(taken))),
+    }
+}
+
+/// Whether what was read is as it was read before, if it was.
+fn is_as_before(found: Option<bool>, taken: bool) -> bool
+    ensures { IsTrue result ↔ IsAsBefore found taken }
+{
+    match found {
+        Some(known) => taken == known,
+        None => true,
+    }
+}
+
+/// Whether the change in flight was found, where the store was read anew.
+fn taken_in(reread: &Option<Reread>) -> Option<bool>
+    ensures { result ≡ taken_in reread.now }
+{
+    match reread {
+        Some(reread) => Some(reread.taken()),
+        None => None,
+    }
+}
+
+/// Takes what was read for the ledger, where the store was read anew, and tells whether it has the change in flight.
+fn adopt<K: Keeper>(books: &mut Books<K>, reread: Option<Reread>) -> bool
+    ensures taken { result ≡ taken_read reread }
+    ensures ledger { books.new.ledger ≡ ledger_read books.old.ledger reread }
+    ensures keeper { books.new.keeper ≡ books.old.keeper }
+    ensures apart { reread ≡ None → books.new ≡ books.old }
+{
+    match reread {
+        Some(reread) => {
+            let taken = reread.taken();
+            books.adopt(reread);
+            taken
+        }
+        None => false,
+    }
+}
+
+/// Why the lock server wasn't made anew, by its backup file.
+fn remake_refusal(fault: OpenFault) -> Refusal
+    ensures { result ≡ remake_refusal fault }
+{
+    match fault {
+        OpenFault::Failed => Refusal::BackupFault,
+        OpenFault::Bad(place) => Refusal::Unsound(Bad::Backup(place)),
+        OpenFault::NoMemory => Refusal::NoMemory,
+    }
+}
+
+/// And by its store. One that has neither what it had nor the change in flight is told by no row, of table 0.
+fn store_refusal(fault: SettleFault) -> Refusal
+    ensures { result ≡ store_refusal fault }
+{
+    match fault {
+        SettleFault::Books(BooksFault::StoreFault) => Refusal::StoreFault,
+        SettleFault::Books(BooksFault::BadStore { table, row }) => {
+            Refusal::Unsound(Bad::Store { table, row })
+        }
+        SettleFault::Books(BooksFault::NoStart | BooksFault::NoMemory) => Refusal::NoMemory,
+        SettleFault::Other => Refusal::Unsound(Bad::Store { table: 0, row: 0 }),
+    }
+}
+
+/// No worker has an order then.
+fn drop_orders(orders: &mut Vec<Option<UnitKey>>)
+    ensures { orders.new.items ≡ replicate (length orders.old.items) None }
+{
+    orders.fill(None);
+}
+
+/// What a restart is answered, and whether the server is up then. Done, it leaves nothing of a failure.
+pub(crate) fn settled(
+    condition: &mut Condition,
+    failure: &mut Failure,
+    past: &Vec<PastEntry>,
+    remade: Remade,
+) -> Answer
+    ensures reply { result.reply ≡ remade_reply remade }
+    ensures taken { result.taken ≡ remade_taken remade }
+    ensures condition { condition.new ≡ remade_condition condition.old (length past.now.items) remade }
+    ensures failure { failure.new ≡ remade_failure failure.old remade }
+{
+    match remade {
+        Remade::Done(taken) => {
+            *condition = Condition::Up;
+            *failure = Failure::none();
+            Answer {
+                reply: Reply::Done,
+                taken,
+            }
+        }
+        Remade::Refused(refusal) => Answer::of(Reply::Refused(refusal)),
+        Remade::InDoubt(refusal, read) => {
+            *condition = Condition::Doubt(past.len() as u64 + 1);
+            if read.is_some() {
+                failure.found = read;
+            }
+            Answer::of(Reply::Refused(refusal))
+        }
+    }
+}

@@ -1,0 +1,834 @@
+ghost use Rattle.std.specs.Prelude.{◌≡◌, ◌⊎◌, ◌≤◌, ◌<◌, ◌+◌, ◌^◌, ◌++◌, None, Ok, Some, IfOk, IfSome, OnErr, OnOk, false, true, is_some, length, nat_eq, nat_le};
+ghost use Rattle.std.specs.List.{AllByRecursion};
+ghost use Rattle.enq_server.specs.Following.{KeepsOn};
+ghost use Rattle.hall_model.specs.declared.command.Command.TheVariants as command;
+ghost use Rattle.enq_base.specs.declared.unit.Num.{Num as Number};
+ghost use Rattle.hall_model.specs.Acts.{Admits};
+ghost use Rattle.hall_calls.specs.Written.{IsWritten, OnAnswer, IsRegained, OnFailure, OnStoreFailure, locks_posted, post_of, ranges_behind, written_reply};
+ghost use Rattle.hall_calls.specs.Commits.{IsOfCommit, RecordsNumbers, RecordsUnit};
+ghost use Rattle.hall_model.specs.Kept.{HasGoodLocks, HasItsUser, HaveMarks, IsAhead, IsYoung, OfLock, draws_in};
+ghost use Rattle.hall_calls.specs.Leaving.{HasStoreCause, KeepsStore, LeavesWritten};
+ghost use Rattle.hall_model.specs.Sessions.{owners_of};
+ghost use Rattle.hall_model.specs.State.{State};
+ghost use Rattle.hall_model.specs.Step as step;
+ghost use Rattle.hall_calls.specs.Storing.{EndsAs};
+ghost use Rattle.keeper_api.specs.Keeping.{HasFaultCause, IsWithin, UnlessFailed};
+ghost use Rattle.module_effects.specs.Effects.{applied};
+ghost use Rattle.hall_calls.specs.Filing.{ChangesLevels, FilesAs, FreesList, HasOpenLists, IsSaved, IsUnrefused, is_open, locks_ended, ungranted};
+ghost use Rattle.lock_entry.specs.Table.{IsTable, with_entries};
+ghost use Rattle.ledger_steps.specs.Intervals.{with_intervals, MayStore};
+ghost use Rattle.ledger_steps.specs.declared.step.Step.TheVariants.{Record, Note};
+ghost use Rattle.update_records.specs.Growing.{with_unit};
+ghost use Rattle.ledger_steps.specs.Posts as posts;
+ghost use Rattle.hall_calls.specs.Remaking.{no_failure};
+ghost use Rattle.ledger_steps.specs.Posts.{MayCome, WaitsFor, effects_of, kind_for};
+ghost use Rattle.posting.specs.BooksView.{IsReady, IsUnmoved, IsUsable};
+ghost use Rattle.ledger_steps.specs.Steps.{HasMarksLeft, IsDrawing, IsNewUnit, IsOutcome, MayGet};
+ghost use Rattle.ledger_steps.specs.Drawn.{AreDrawnRight, IsStock};
+ghost use Rattle.ledger_steps.specs.Levels.{intervals_of};
+ghost use Rattle.update_records.specs.Business.{numbers_of, tables_of};
+ghost use Rattle.update_records.specs.declared.records.MarkKind.TheVariants.{Again1, Again2};
+
+use crate::locks::table_refusal_of;
+use crate::numbers::{DRAWS_LIMIT, settled_rows};
+use crate::orders::{order_for, worker_of};
+use crate::sessions::{Sessions, session_of, unit_key};
+use crate::writing::{prepare_unit, write, write_numbers};
+use backup_file::WriteFault;
+use bk_disk::Disk;
+use enq_base::{Failed, Items, Key, Name, NoMemory, Num, Owner, Parts, Refusal, Status, UnitKey};
+use enq_server::{EnqServer, ServerFault};
+use hall_model::{Reply, Session};
+use keeper_api::{KeepFault, Keeper};
+use ledger_steps::{Outcome, Step};
+use lock_entry::{Asker, Entry, LockStore, hand_over};
+use posting::{Books, Prepared};
+use range_list::Ranges;
+use replica_link::Link;
+use std::alloc::Global;
+use update_records::{MarkKind, StoredInterval, Unit};
+
+const EFFECTS_LIMIT: usize = 200;
+
+/// How a call ends that uses the store.
+#[derive(Drop)]
+pub(crate) enum Written {
+    Answered(Reply),
+    /// The store failed with this step in flight, if there is one, which it may have taken or not.
+    Failed(Option<Step>),
+    /// The disk of the backup file failed. What the store took before stands.
+    Unfiled,
+}
+
+/// What a restart goes by where the server is in doubt.
+#[derive(Drop)]
+pub(crate) struct Failure {
+    /// The change that the store may have taken or not, if there is one.
+    pub(crate) pending: Option<Step>,
+    /// Whether it has, where a restart that failed later has read it.
+    pub(crate) found: Option<bool>,
+    /// The session in whose call a device failed.
+    pub(crate) caller: Option<Name>,
+}
+
+impl Failure {
+    /// That of a server that isn't in doubt.
+    pub(crate) fn none() -> Failure
+        ensures { result ≡ no_failure }
+    {
+        Failure {
+            pending: None,
+            found: None,
+            caller: None,
+        }
+    }
+}
+
+/// Posts a part of the unit that a worker has an order for, or records where it is refused. With the V1 part the unit's
+/// locks end, in the backup file and then in the table, and the order goes.
+pub(crate) fn post<T: LockStore, K: Keeper, D: Disk, L: Link>(
+    alloc: Global,
+    orders: &mut Vec<Option<UnitKey>>,
+    locks: &mut EnqServer<T, D, L>,
+    books: &mut Books<K>,
+    worker: u8,
+    part: u8,
+    max_marks: u32,
+) -> Written
+    requires usable { IsUsable K.held K.is_open books.old }
+    requires limited { max_marks ≤ 1048576 }
+    requires places { length orders.old.items ≡ 256 }
+    requires part { (part ≡ 1) ⊎ (part ≡ 2) }
+    requires filed { HasOpenLists D.tells D.reads D.may_leave books.old.ledger locks.old.file }
+    ensures act { (s : State) → s.told ≡ is_some (K.held books.old.keeper) → s.orders ≡ orders.old.items
+        → (nat_eq part 1 ≡ true → s.locks ≡ locks.old.table.entries)
+        → s.stored ≡ books.old.ledger → s.mark_limit ≡ max_marks → s.pending ≡ None → Admits s (post_of part worker)
+        → IsWritten s (post_of part worker)
+        (record s {
+          orders = orders.new.items;
+          locks = locks_posted part s.locks locks.new.table.entries;
+          stored = books.new.ledger;
+        })
+        result }
+    ensures limit { locks.new.table.limit ≡ locks.old.table.limit }
+    ensures file { FilesAs D.tells D.reads D.may_leave D.faults books.new.ledger locks.old.file locks.new.file result }
+    ensures unfiled { nat_eq part 1 ≡ false → locks.new.file ≡ locks.old.file }
+    ensures unshipped { nat_eq part 1 ≡ false → locks.new.copy ≡ locks.old.copy }
+    ensures second { nat_eq part 1 ≡ false → locks.new.table.entries ≡ locks.old.table.entries }
+    ensures table { OnFailure result (locks.new.table ≡ locks.old.table) }
+    ensures follower { KeepsOn L.applied L.faults L.refusals locks.old.copy locks.new.copy }
+    ensures orders { OnFailure result (orders.new.items ≡ orders.old.items) }
+    ensures ledger { OnStoreFailure result (books.new.ledger ≡ books.old.ledger) }
+    ensures usable { OnAnswer result (IsUsable K.held K.is_open books.new) }
+    ensures told { is_some (K.held books.new.keeper) ≡ is_some (K.held books.old.keeper) }
+    ensures left { LeavesWritten K.held K.may_leave books.new result }
+    ensures cause { HasStoreCause (K.faults books.old.keeper) (K.faults books.new.keeper) (written_reply result) }
+    ensures kept { KeepsStore K.held K.may_leave books.old.keeper books.new.keeper (written_reply result) }
+{
+    let Some(unit) = order_for(orders.as_slice(), books, worker, part) else {
+        return Written::Answered(Reply::Refused(Refusal::NoOrder));
+    };
+    if is_full(books, max_marks) {
+        return Written::Answered(Reply::Refused(Refusal::StoreFull(max_marks)));
+    }
+    let (prepared, outcome) = match prepare(alloc, books, &unit, part) {
+        Ok(ready) => ready,
+        Err(KeepFault::NoMemory) => return Written::Answered(Reply::Refused(Refusal::NoMemory)),
+        Err(KeepFault::Failed) => return Written::Failed(None),
+    };
+    match books.write(prepared) {
+        Ok(()) => match end_locks(locks, &unit, part == 1) {
+            Ok(()) => {
+                orders[worker as usize] = None;
+                Written::Answered(posted(unit, part, outcome))
+            }
+            Err(Failed) => Written::Unfiled,
+        },
+        Err(_) => {
+            let kind = kind_for(part, outcome);
+            Written::Failed(Some(Step::Note { unit, kind }))
+        }
+    }
+}
+
+/// Ends the locks of a unit, where they are to end: its list in the backup file goes first, and then what stands in the
+/// table.
+fn end_locks<T: LockStore, D: Disk, L: Link>(
+    locks: &mut EnqServer<T, D, L>,
+    unit: &UnitKey,
+    ends: bool,
+) -> Result<(), Failed>
+    requires usable { locks.old.file.failed ≡ false }
+    ensures table { OnOk result
+        (locks.new.table ≡ with_entries locks.old.table (locks_ended ends locks.old.table.entries unit.now)) }
+    ensures apart { ends ≡ false → locks.new.table ≡ locks.old.table }
+    ensures unshipped { ends ≡ false → locks.new.copy ≡ locks.old.copy }
+    ensures kept { OnErr result (locks.new.table ≡ locks.old.table) }
+    ensures limit { locks.new.table.limit ≡ locks.old.table.limit }
+    ensures file { FreesList D.tells D.reads D.may_leave D.faults ends unit.now locks.old.file locks.new.file result }
+    ensures follower { KeepsOn L.applied L.faults L.refusals locks.old.copy locks.new.copy }
+{
+    if ends {
+        locks.end_unit(unit)?;
+    }
+    Ok(())
+}
+
+/// Makes ready to post a part of a unit that waits for it.
+fn prepare<K: Keeper>(
+    alloc: Global,
+    books: &mut Books<K>,
+    unit: &UnitKey,
+    part: u8,
+) -> Result<(Prepared, Outcome), KeepFault>
+    requires usable { IsUsable K.held K.is_open books.old }
+    requires marks { HasMarksLeft books.old.ledger }
+    requires waits { WaitsFor part books.old.ledger unit.now }
+    ensures ready { IfOk result (λ r. IsReady K.held K.has_room books.new r.0) }
+    ensures step { IfOk result (λ r. r.0.step ≡ Note unit.now (kind_for part r.1)) }
+    ensures outcome { IfOk result
+        (λ r. IfSome (K.held books.old.keeper)
+        (λ _. IsOutcome (applied (effects_of part books.old.ledger.units unit.now)
+        (tables_of books.old.ledger.units books.old.ledger.marks)) r.1)) }
+    ensures possible { IfOk result (λ r. MayCome (effects_of part books.old.ledger.units unit.now) r.1) }
+    ensures usable { UnlessFailed result (IsUsable K.held K.is_open books.new) }
+    ensures unmoved { UnlessFailed result (IsUnmoved K.held K.may_leave K.faults books.old books.new) }
+    ensures ledger { books.new.ledger ≡ books.old.ledger }
+    ensures told { is_some (K.held books.new.keeper) ≡ is_some (K.held books.old.keeper) }
+    ensures crash { IsWithin (K.may_leave books.new.keeper) (K.may_leave books.old.keeper) }
+    ensures cause { HasFaultCause (K.faults books.old.keeper) (K.faults books.new.keeper) result }
+{
+    if part == 1 {
+        books.prepare_post1(alloc, unit)
+    } else {
+        books.prepare_post2(alloc, unit)
+    }
+}
+
+/// The mark of a part that is posted or refused.
+fn kind_for(part: u8, outcome: Outcome) -> MarkKind
+    ensures { result ≡ posts.kind_for part outcome }
+{
+    match outcome {
+        Outcome::Done if part == 1 => MarkKind::V1,
+        Outcome::Done => MarkKind::V2,
+        Outcome::Refused { index, reason } if part == 1 => MarkKind::Bad1 { index, reason },
+        Outcome::Refused { index, reason } => MarkKind::Bad2 { index, reason },
+    }
+}
+
+fn posted(unit: UnitKey, part: u8, outcome: Outcome) -> Reply
+    ensures { result ≡ step.posted_reply part unit outcome }
+{
+    match outcome {
+        Outcome::Done if part == 1 => Reply::Posted(unit),
+        Outcome::Done => Reply::Closed(unit),
+        Outcome::Refused { index, reason } if part == 1 => Reply::Bad {
+            unit,
+            index,
+            reason,
+        },
+        Outcome::Refused { index, reason } => Reply::Bad2 {
+            unit,
+            index,
+            reason,
+        },
+    }
+}
+
+/// Records a unit of a session with the effects of its two parts, the numbers that the session has drawn and those of a
+/// stock, or such numbers alone. A unit's locks are handed over to the update, and the session's next unit is open.
+/// Memory hands out what is behind the numbers of the stock then. Without effects and numbers nothing changes.
+pub(crate) fn commit<T: LockStore, K: Keeper, D: Disk, L: Link>(
+    alloc: Global,
+    sessions: &mut Sessions,
+    ranges: &mut Ranges,
+    locks: &mut EnqServer<T, D, L>,
+    books: &mut Books<K>,
+    name: &Name,
+    parts: &Parts,
+    stock: &[Num],
+    max_marks: u32,
+) -> Written
+    requires usable { IsUsable K.held K.is_open books.old }
+    requires limited { max_marks ≤ 1048576 }
+    requires started { 1 ≤ books.old.ledger.start }
+    requires young { AllByRecursion (IsYoung 262145) sessions.old }
+    requires fresh { AllByRecursion (IsAhead books.old.ledger) sessions.old }
+    requires marked { HaveMarks books.old.ledger }
+    requires users { AllByRecursion (OfLock (HasItsUser books.old.ledger.start sessions.old)) locks.old.table.entries }
+    requires drawn { AreDrawnRight ranges.old books.old.ledger.levels (draws_in sessions.old)
+        (numbers_of books.old.ledger.units books.old.ledger.marks) }
+    requires filed { HasOpenLists D.tells D.reads D.may_leave books.old.ledger locks.old.file }
+    requires stock { IsStock (intervals_of ranges.old) books.old.ledger.levels (draws_in sessions.old)
+        (numbers_of books.old.ledger.units books.old.ledger.marks) stock.now }
+    ensures act { (s : State) → s.sessions ≡ sessions.old → s.ranges ≡ ranges.old → s.locks ≡ locks.old.table.entries
+        → s.stored ≡ books.old.ledger → s.mark_limit ≡ max_marks
+        → Admits s (command.Commit name.now parts.now stock.now)
+        → IsWritten s (command.Commit name.now parts.now stock.now)
+        (record s {
+          sessions = sessions.new;
+          ranges = ranges.new;
+          locks = locks.new.table.entries;
+          stored = books.new.ledger;
+        })
+        result }
+    ensures limit { locks.new.table.limit ≡ locks.old.table.limit }
+    ensures file { FilesAs D.tells D.reads D.may_leave D.faults books.new.ledger locks.old.file locks.new.file result }
+    ensures follower { KeepsOn L.applied L.faults L.refusals locks.old.copy locks.new.copy }
+    ensures table { OnFailure result (locks.new.table ≡ locks.old.table) }
+    ensures sessions { OnFailure result (sessions.new ≡ sessions.old) }
+    ensures ranges { OnFailure result (ranges.new ≡ ranges_behind stock.now ranges.old result) }
+    ensures store { EndsAs K.held K.is_open K.may_leave K.faults books.old books.new result }
+{
+    let written = record_commit(
+        alloc, sessions, ranges, locks, books, name, parts, stock, max_marks,
+    );
+    pass_recorded(ranges, stock, &written);
+    written
+}
+
+/// Memory hands out what is behind the numbers of a stock, where they were recorded or the store may have them.
+fn pass_recorded(ranges: &mut Ranges, stock: &[Num], written: &Written)
+    requires { AllByRecursion (λ (num : Number). num.number + 1 < 2 ^ 64) stock.now }
+    ensures { ranges.new ≡ ranges_behind stock.now ranges.old written.now }
+{
+    match written {
+        Written::Answered(Reply::Refused(_)) | Written::Unfiled => {}
+        Written::Answered(_) | Written::Failed(_) => ranges.pass(stock),
+    }
+}
+
+/// What is recorded of a commit, in the store and with the session.
+fn record_commit<T: LockStore, K: Keeper, D: Disk, L: Link>(
+    alloc: Global,
+    sessions: &mut Sessions,
+    ranges: &Ranges,
+    locks: &mut EnqServer<T, D, L>,
+    books: &mut Books<K>,
+    name: &Name,
+    parts: &Parts,
+    stock: &[Num],
+    max_marks: u32,
+) -> Written
+    requires usable { IsUsable K.held K.is_open books.old }
+    requires limited { max_marks ≤ 1048576 }
+    requires started { 1 ≤ books.old.ledger.start }
+    requires young { AllByRecursion (IsYoung 262145) sessions.old }
+    requires fresh { AllByRecursion (IsAhead books.old.ledger) sessions.old }
+    requires marked { HaveMarks books.old.ledger }
+    requires users { AllByRecursion (OfLock (HasItsUser books.old.ledger.start sessions.old)) locks.old.table.entries }
+    requires drawn { AreDrawnRight ranges.now books.old.ledger.levels (draws_in sessions.old)
+        (numbers_of books.old.ledger.units books.old.ledger.marks) }
+    requires filed { HasOpenLists D.tells D.reads D.may_leave books.old.ledger locks.old.file }
+    requires stock { IsStock (intervals_of ranges.now) books.old.ledger.levels (draws_in sessions.old)
+        (numbers_of books.old.ledger.units books.old.ledger.marks) stock.now }
+    ensures act { (s : State) → s.sessions ≡ sessions.old → s.ranges ≡ ranges.now → s.locks ≡ locks.old.table.entries
+        → s.stored ≡ books.old.ledger → s.mark_limit ≡ max_marks
+        → Admits s (command.Commit name.now parts.now stock.now)
+        → IsWritten s (command.Commit name.now parts.now stock.now)
+        (record s {
+          sessions = sessions.new;
+          ranges = ranges_behind stock.now ranges.now result;
+          locks = locks.new.table.entries;
+          stored = books.new.ledger;
+        })
+        result }
+    ensures limit { locks.new.table.limit ≡ locks.old.table.limit }
+    ensures file { FilesAs D.tells D.reads D.may_leave D.faults books.new.ledger locks.old.file locks.new.file result }
+    ensures follower { KeepsOn L.applied L.faults L.refusals locks.old.copy locks.new.copy }
+    ensures table { OnFailure result (locks.new.table ≡ locks.old.table) }
+    ensures sessions { OnFailure result (sessions.new ≡ sessions.old) }
+    ensures store { EndsAs K.held K.is_open K.may_leave K.faults books.old books.new result }
+{
+    let session = match session_of(sessions, name) {
+        Ok(session) => session,
+        Err(refusal) => return Written::Answered(Reply::Refused(refusal)),
+    };
+    let effects = effects_in(parts);
+    let drawn = session.draws.as_slice().len() + stock.len();
+    if drawn > DRAWS_LIMIT || effects > EFFECTS_LIMIT {
+        return Written::Answered(Reply::Refused(Refusal::UnitTooLarge));
+    }
+    if effects == 0 && drawn == 0 {
+        return Written::Answered(Reply::Done);
+    }
+    if is_full(books, max_marks) {
+        return Written::Answered(Reply::Refused(Refusal::StoreFull(max_marks)));
+    }
+    let Ok(numbers) = draws_and(alloc, session, stock) else {
+        return Written::Answered(Reply::Refused(Refusal::NoMemory));
+    };
+    let Ok(levels) = settled_rows(alloc, ranges, books, numbers.as_slice()) else {
+        return Written::Answered(Reply::Refused(Refusal::NoMemory));
+    };
+    if effects == 0 {
+        let key = unit_key(books.start(), session);
+        return record_numbers(alloc, sessions, books, name, key, numbers, levels);
+    }
+    let Ok(unit) = unit_of(alloc, books.start(), locks, session, parts, numbers) else {
+        return Written::Answered(Reply::Refused(Refusal::NoMemory));
+    };
+    record_unit(alloc, sessions, locks, books, name, unit, levels)
+}
+
+/// What a session has drawn, and behind it the numbers of a stock.
+fn draws_and(alloc: Global, session: &Session, stock: &[Num]) -> Result<Vec<Num>, NoMemory>
+    ensures { IfOk result (λ numbers. numbers.items ≡ session.now.draws ++ stock.now) }
+{
+    let mut numbers = Vec::from_slice(alloc, session.draws.as_slice())?;
+    numbers.extend_from_slice(stock)?;
+    Ok(numbers)
+}
+
+/// Records a unit whose locks are handed over: its list goes into the backup file first, and then the unit into the
+/// store.
+fn record_unit<T: LockStore, K: Keeper, D: Disk, L: Link>(
+    alloc: Global,
+    sessions: &mut Sessions,
+    locks: &mut EnqServer<T, D, L>,
+    books: &mut Books<K>,
+    name: &Name,
+    unit: Unit,
+    levels: Vec<StoredInterval>,
+) -> Written
+    requires usable { IsUsable K.held K.is_open books.old }
+    requires marks { HasMarksLeft books.old.ledger }
+    requires new { IsNewUnit books.old.ledger unit }
+    requires store { MayStore books.old.ledger levels.items unit.numbers }
+    requires young { AllByRecursion (IsYoung 262145) sessions.old }
+    requires commits { IsOfCommit books.old.ledger unit locks.old.table.entries }
+    requires filed { HasOpenLists D.tells D.reads D.may_leave books.old.ledger locks.old.file }
+    ensures outcome { RecordsUnit sessions.old sessions.new locks.old.table.entries locks.new.table.entries
+        books.old.ledger books.new.ledger
+        name.now unit levels.items result }
+    ensures limit { locks.new.table.limit ≡ locks.old.table.limit }
+    ensures file { FilesAs D.tells D.reads D.may_leave D.faults books.new.ledger locks.old.file locks.new.file result }
+    ensures follower { KeepsOn L.applied L.faults L.refusals locks.old.copy locks.new.copy }
+    ensures table { OnFailure result (locks.new.table ≡ locks.old.table) }
+    ensures sessions { OnFailure result (sessions.new ≡ sessions.old) }
+    ensures store { EndsAs K.held K.is_open K.may_leave K.faults books.old books.new result }
+{
+    let Ok(prepared) = prepare_unit(alloc, books, &unit, levels.as_slice()) else {
+        return Written::Answered(Reply::Refused(Refusal::NoMemory));
+    };
+    match locks.save(alloc, &unit.key) {
+        Ok(_) => record_saved(alloc, sessions, locks, books, name, unit, levels, prepared),
+        Err(WriteFault::NoMemory) => Written::Answered(Reply::Refused(Refusal::NoMemory)),
+        Err(WriteFault::Failed) => Written::Unfiled,
+    }
+}
+
+/// Records a unit that was made ready and whose list the backup file has. Then its locks are flagged as handed over.
+fn record_saved<T: LockStore, K: Keeper, D: Disk, L: Link>(
+    alloc: Global,
+    sessions: &mut Sessions,
+    locks: &mut EnqServer<T, D, L>,
+    books: &mut Books<K>,
+    name: &Name,
+    unit: Unit,
+    levels: Vec<StoredInterval>,
+    prepared: Prepared,
+) -> Written
+    requires usable { IsUsable K.held K.is_open books.old }
+    requires ready { IsReady K.held K.has_room books.old prepared }
+    requires step { prepared.step ≡ Record unit levels.items }
+    requires young { AllByRecursion (IsYoung 262145) sessions.old }
+    requires saved { IsSaved D.tells D.reads D.may_leave books.old.ledger
+        (with_intervals levels.items (with_unit books.old.ledger unit)) locks.old.file }
+    ensures outcome { RecordsUnit sessions.old sessions.new locks.old.table.entries locks.new.table.entries
+        books.old.ledger books.new.ledger
+        name.now unit levels.items result }
+    ensures limit { locks.new.table.limit ≡ locks.old.table.limit }
+    ensures file { FilesAs D.tells D.reads D.may_leave D.faults books.new.ledger locks.old.file locks.new.file result }
+    ensures answered { IsUnrefused result }
+    ensures follower { KeepsOn L.applied L.faults L.refusals locks.old.copy locks.new.copy }
+    ensures table { OnFailure result (locks.new.table ≡ locks.old.table) }
+    ensures sessions { OnFailure result (sessions.new ≡ sessions.old) }
+    ensures store { EndsAs K.held K.is_open K.may_leave K.faults books.old books.new result }
+{
+    match write(books, prepared) {
+        Ok(()) => {
+            locks.flag(&unit.key);
+            sessions.begin_unit(alloc, name);
+            Written::Answered(Reply::Unit(unit.key))
+        }
+        Err(_) => {
+            let levels = Items::from_vec(levels);
+            Written::Failed(Some(Step::Record { unit, levels }))
+        }
+    }
+}
+
+/// Records numbers alone, and the session has none drawn.
+fn record_numbers<K: Keeper>(
+    alloc: Global,
+    sessions: &mut Sessions,
+    books: &mut Books<K>,
+    name: &Name,
+    unit: UnitKey,
+    numbers: Vec<Num>,
+    levels: Vec<StoredInterval>,
+) -> Written
+    requires usable { IsUsable K.held K.is_open books.old }
+    requires marks { HasMarksLeft books.old.ledger }
+    requires drawing { IsDrawing books.old.ledger unit numbers.items }
+    requires store { MayStore books.old.ledger levels.items numbers.items }
+    ensures outcome { RecordsNumbers sessions.old sessions.new books.old.ledger books.new.ledger name.now unit
+        numbers.items levels.items result }
+    ensures sessions { OnFailure result (sessions.new ≡ sessions.old) }
+    ensures store { EndsAs K.held K.is_open K.may_leave K.faults books.old books.new result }
+{
+    match write_numbers(alloc, books, &unit, numbers.as_slice(), levels.as_slice()) {
+        Ok(()) => {
+            sessions.settle_draws(alloc, name);
+            Written::Answered(Reply::Done)
+        }
+        Err(KeepFault::NoMemory) => Written::Answered(Reply::Refused(Refusal::NoMemory)),
+        Err(KeepFault::Failed) => Written::Failed(Some(Step::Draw {
+            unit,
+            numbers: Items::from_vec(numbers),
+            levels: Items::from_vec(levels),
+        })),
+    }
+}
+
+/// Reads a business row on behalf of a session.
+pub(crate) fn read<K: Keeper>(
+    alloc: Global,
+    sessions: &Sessions,
+    books: &mut Books<K>,
+    name: &Name,
+    table: &Name,
+    key: &Key,
+) -> Written
+    requires usable { IsUsable K.held K.is_open books.old }
+    ensures act { (s : State) → s.sessions ≡ sessions.now → s.told ≡ is_some (K.held books.old.keeper)
+        → s.stored ≡ books.old.ledger → s.pending ≡ None → Admits s (command.Read name.now table.now key.now)
+        → IsWritten s (command.Read name.now table.now key.now) (record s { stored = books.new.ledger }) result }
+    ensures levels { ChangesLevels books.old.ledger books.new.ledger result }
+    ensures ledger { books.new.ledger ≡ books.old.ledger }
+    ensures usable { OnAnswer result (IsUsable K.held K.is_open books.new) }
+    ensures told { is_some (K.held books.new.keeper) ≡ is_some (K.held books.old.keeper) }
+    ensures left { LeavesWritten K.held K.may_leave books.new result }
+    ensures cause { HasStoreCause (K.faults books.old.keeper) (K.faults books.new.keeper) (written_reply result) }
+    ensures kept { KeepsStore K.held K.may_leave books.old.keeper books.new.keeper (written_reply result) }
+{
+    if let Err(refusal) = session_of(sessions, name) {
+        return Written::Answered(Reply::Refused(refusal));
+    }
+    match books.read(alloc, table, key) {
+        Ok(text) => Written::Answered(Reply::Row(text)),
+        Err(KeepFault::NoMemory) => Written::Answered(Reply::Refused(Refusal::NoMemory)),
+        Err(KeepFault::Failed) => Written::Failed(None),
+    }
+}
+
+/// Cancels a unit that waits for its V1 part, or of which a part was refused. The locks of one that waits end, in the
+/// backup file and then in the table.
+pub(crate) fn cancel<T: LockStore, K: Keeper, D: Disk, L: Link>(
+    alloc: Global,
+    orders: &[Option<UnitKey>],
+    locks: &mut EnqServer<T, D, L>,
+    books: &mut Books<K>,
+    unit: UnitKey,
+    max_marks: u32,
+) -> Written
+    requires usable { IsUsable K.held K.is_open books.old }
+    requires limited { max_marks ≤ 1048576 }
+    requires places { length orders.now ≡ 256 }
+    requires filed { HasOpenLists D.tells D.reads D.may_leave books.old.ledger locks.old.file }
+    ensures act { (s : State) → s.orders ≡ orders.now → s.locks ≡ locks.old.table.entries
+        → s.stored ≡ books.old.ledger → s.mark_limit ≡ max_marks → Admits s (command.Cancel unit)
+        → IsWritten s (command.Cancel unit)
+        (record s { locks = locks.new.table.entries; stored = books.new.ledger })
+        result }
+    ensures limit { locks.new.table.limit ≡ locks.old.table.limit }
+    ensures file { FilesAs D.tells D.reads D.may_leave D.faults books.new.ledger locks.old.file locks.new.file result }
+    ensures follower { KeepsOn L.applied L.faults L.refusals locks.old.copy locks.new.copy }
+    ensures table { OnFailure result (locks.new.table ≡ locks.old.table) }
+    ensures ledger { OnStoreFailure result (books.new.ledger ≡ books.old.ledger) }
+    ensures usable { OnAnswer result (IsUsable K.held K.is_open books.new) }
+    ensures told { is_some (K.held books.new.keeper) ≡ is_some (K.held books.old.keeper) }
+    ensures left { LeavesWritten K.held K.may_leave books.new result }
+    ensures cause { HasStoreCause (K.faults books.old.keeper) (K.faults books.new.keeper) (written_reply result) }
+    ensures kept { KeepsStore K.held K.may_leave books.old.keeper books.new.keeper (written_reply result) }
+{
+    let status = match to_cancel(orders, books, &unit, max_marks) {
+        Ok(status) => status,
+        Err(refusal) => return Written::Answered(Reply::Refused(refusal)),
+    };
+    let Ok(prepared) = books.prepare_mark(alloc, &unit, MarkKind::Gone) else {
+        return Written::Answered(Reply::Refused(Refusal::NoMemory));
+    };
+    match books.write(prepared) {
+        Ok(()) => match end_locks(locks, &unit, is_open(status)) {
+            Ok(()) => Written::Answered(Reply::Unit(unit)),
+            Err(Failed) => Written::Unfiled,
+        },
+        Err(_) => Written::Failed(Some(Step::Note {
+            unit,
+            kind: MarkKind::Gone,
+        })),
+    }
+}
+
+/// The status of a unit that can be cancelled, or why it can't be.
+fn to_cancel<K: Keeper>(
+    orders: &[Option<UnitKey>],
+    books: &Books<K>,
+    unit: &UnitKey,
+    max_marks: u32,
+) -> Result<Status, Refusal>
+    requires { length orders.now ≡ 256 }
+    ensures { result ≡ step.to_cancel books.now.ledger orders.now max_marks unit.now }
+{
+    let Some(status) = books.status(unit) else {
+        return Err(Refusal::UnknownUnit);
+    };
+    if !may_cancel(status) {
+        return Err(Refusal::WrongStatus {
+            unit: *unit,
+            status,
+        });
+    }
+    if let Some(worker) = worker_of(orders, unit) {
+        return Err(Refusal::UnitClaimed(worker));
+    }
+    if is_full(books, max_marks) {
+        return Err(Refusal::StoreFull(max_marks));
+    }
+    Ok(status)
+}
+
+fn may_cancel(status: Status) -> bool
+    ensures { result ≡ step.may_cancel status }
+{
+    matches!(status, Status::Open | Status::Bad | Status::Bad2)
+}
+
+fn is_open(status: Status) -> bool
+    ensures { result ≡ is_open status }
+{
+    matches!(status, Status::Open)
+}
+
+/// Tries the part of a unit again that was refused. For its V1 part the unit's stored locks have to stand again, all or
+/// none; the unit waits behind all others.
+pub(crate) fn resubmit<T: LockStore, K: Keeper, D: Disk, L: Link>(
+    alloc: Global,
+    locks: &mut EnqServer<T, D, L>,
+    books: &mut Books<K>,
+    unit: UnitKey,
+    max_marks: u32,
+) -> Written
+    requires usable { IsUsable K.held K.is_open books.old }
+    requires limited { max_marks ≤ 1048576 }
+    requires stored { AllByRecursion HasGoodLocks books.old.ledger.units }
+    requires filed { HasOpenLists D.tells D.reads D.may_leave books.old.ledger locks.old.file }
+    ensures act { (s : State) → s.locks ≡ locks.old.table.entries → s.limit ≡ locks.old.table.limit
+        → s.stored ≡ books.old.ledger → s.mark_limit ≡ max_marks → Admits s (command.Resubmit unit)
+        → IsWritten s (command.Resubmit unit)
+        (record s { locks = locks.new.table.entries; stored = books.new.ledger })
+        result }
+    ensures limit { locks.new.table.limit ≡ locks.old.table.limit }
+    ensures file { FilesAs D.tells D.reads D.may_leave D.faults books.new.ledger locks.old.file locks.new.file result }
+    ensures follower { KeepsOn L.applied L.faults L.refusals locks.old.copy locks.new.copy }
+    ensures table { OnFailure result
+        ((locks.new.table ≡ locks.old.table) ⊎ IsRegained books.old.ledger unit locks.old.table
+        locks.new.table.entries) }
+    ensures ledger { OnStoreFailure result (books.new.ledger ≡ books.old.ledger) }
+    ensures usable { OnAnswer result (IsUsable K.held K.is_open books.new) }
+    ensures told { is_some (K.held books.new.keeper) ≡ is_some (K.held books.old.keeper) }
+    ensures left { LeavesWritten K.held K.may_leave books.new result }
+    ensures cause { HasStoreCause (K.faults books.old.keeper) (K.faults books.new.keeper) (written_reply result) }
+    ensures kept { KeepsStore K.held K.may_leave books.old.keeper books.new.keeper (written_reply result) }
+{
+    match to_resubmit(books, &unit, max_marks) {
+        Ok(Status::Bad) => reopen(alloc, locks, books, unit),
+        Ok(_) => repost(alloc, locks, books, unit),
+        Err(refusal) => Written::Answered(Reply::Refused(refusal)),
+    }
+}
+
+/// The same of a unit whose V1 part was refused.
+fn reopen<T: LockStore, K: Keeper, D: Disk, L: Link>(
+    alloc: Global,
+    locks: &mut EnqServer<T, D, L>,
+    books: &mut Books<K>,
+    unit: UnitKey,
+) -> Written
+    requires usable { IsUsable K.held K.is_open books.old }
+    requires stored { AllByRecursion HasGoodLocks books.old.ledger.units }
+    requires marks { HasMarksLeft books.old.ledger }
+    requires follows { MayGet books.old.ledger unit Again1 }
+    requires filed { HasOpenLists D.tells D.reads D.may_leave books.old.ledger locks.old.file }
+    ensures act { (s : State) → s.locks ≡ locks.old.table.entries → s.limit ≡ locks.old.table.limit
+        → s.stored ≡ books.old.ledger → step.to_resubmit books.old.ledger s.mark_limit unit ≡ Ok Status.Bad
+        → Admits s (command.Resubmit unit)
+        → IsWritten s (command.Resubmit unit)
+        (record s { locks = locks.new.table.entries; stored = books.new.ledger })
+        result }
+    ensures limit { locks.new.table.limit ≡ locks.old.table.limit }
+    ensures file { FilesAs D.tells D.reads D.may_leave D.faults books.new.ledger locks.old.file locks.new.file result }
+    ensures follower { KeepsOn L.applied L.faults L.refusals locks.old.copy locks.new.copy }
+    ensures table { OnFailure result
+        ((locks.new.table ≡ locks.old.table) ⊎ IsRegained books.old.ledger unit locks.old.table
+        locks.new.table.entries) }
+    ensures ledger { OnStoreFailure result (books.new.ledger ≡ books.old.ledger) }
+    ensures usable { OnAnswer result (IsUsable K.held K.is_open books.new) }
+    ensures told { is_some (K.held books.new.keeper) ≡ is_some (K.held books.old.keeper) }
+    ensures left { LeavesWritten K.held K.may_leave books.new result }
+    ensures cause { HasStoreCause (K.faults books.old.keeper) (K.faults books.new.keeper) (written_reply result) }
+    ensures kept { KeepsStore K.held K.may_leave books.old.keeper books.new.keeper (written_reply result) }
+{
+    let Ok(entries) = books.unit_locks(alloc, &unit) else {
+        return Written::Answered(Reply::Refused(Refusal::NoMemory));
+    };
+    let Ok(prepared) = books.prepare_mark(alloc, &unit, MarkKind::Again1) else {
+        return Written::Answered(Reply::Refused(Refusal::NoMemory));
+    };
+    let owners = owners_of(&unit);
+    if let Err(fault) = locks.readmit(alloc, &owners, &unit, entries.as_slice()) {
+        return ungranted(fault);
+    }
+    match books.write(prepared) {
+        Ok(()) => Written::Answered(Reply::Unit(unit)),
+        Err(_) => Written::Failed(Some(Step::Note {
+            unit,
+            kind: MarkKind::Again1,
+        })),
+    }
+}
+
+/// How a call ends whose locks aren't granted again, or aren't written into the backup file.
+fn ungranted(fault: ServerFault) -> Written
+    ensures { result ≡ ungranted fault }
+{
+    match fault {
+        ServerFault::Ask(fault) => Written::Answered(Reply::Refused(table_refusal_of(fault))),
+        ServerFault::Failed => Written::Unfiled,
+        ServerFault::NoMemory => Written::Answered(Reply::Refused(Refusal::NoMemory)),
+    }
+}
+
+/// The same of a unit whose V2 part was refused. It has no locks.
+fn repost<T: LockStore, K: Keeper, D: Disk, L: Link>(
+    alloc: Global,
+    locks: &EnqServer<T, D, L>,
+    books: &mut Books<K>,
+    unit: UnitKey,
+) -> Written
+    requires usable { IsUsable K.held K.is_open books.old }
+    requires marks { HasMarksLeft books.old.ledger }
+    requires follows { MayGet books.old.ledger unit Again2 }
+    requires filed { HasOpenLists D.tells D.reads D.may_leave books.old.ledger locks.now.file }
+    ensures file { FilesAs D.tells D.reads D.may_leave D.faults books.new.ledger locks.now.file locks.now.file result }
+    ensures act { (s : State) → s.locks ≡ locks.now.table.entries → s.stored ≡ books.old.ledger
+        → step.to_resubmit books.old.ledger s.mark_limit unit ≡ Ok Status.Bad2 → Admits s (command.Resubmit unit)
+        → IsWritten s (command.Resubmit unit)
+        (record s { locks = locks.now.table.entries; stored = books.new.ledger })
+        result }
+    ensures ledger { OnFailure result (books.new.ledger ≡ books.old.ledger) }
+    ensures usable { OnAnswer result (IsUsable K.held K.is_open books.new) }
+    ensures told { is_some (K.held books.new.keeper) ≡ is_some (K.held books.old.keeper) }
+    ensures left { LeavesWritten K.held K.may_leave books.new result }
+    ensures cause { HasStoreCause (K.faults books.old.keeper) (K.faults books.new.keeper) (written_reply result) }
+    ensures kept { KeepsStore K.held K.may_leave books.old.keeper books.new.keeper (written_reply result) }
+{
+    let Ok(prepared) = books.prepare_mark(alloc, &unit, MarkKind::Again2) else {
+        return Written::Answered(Reply::Refused(Refusal::NoMemory));
+    };
+    match books.write(prepared) {
+        Ok(()) => Written::Answered(Reply::Unit(unit)),
+        Err(_) => Written::Failed(Some(Step::Note {
+            unit,
+            kind: MarkKind::Again2,
+        })),
+    }
+}
+
+/// The status of a unit that can be tried again, or why it can't be.
+fn to_resubmit<K: Keeper>(
+    books: &Books<K>,
+    unit: &UnitKey,
+    max_marks: u32,
+) -> Result<Status, Refusal>
+    ensures { result ≡ step.to_resubmit books.now.ledger max_marks unit.now }
+{
+    match books.status(unit) {
+        None => Err(Refusal::UnknownUnit),
+        Some(Status::Bad | Status::Bad2) if is_full(books, max_marks) => {
+            Err(Refusal::StoreFull(max_marks))
+        }
+        Some(status @ (Status::Bad | Status::Bad2)) => Ok(status),
+        Some(status) => Err(Refusal::WrongStatus {
+            unit: *unit,
+            status,
+        }),
+    }
+}
+
+/// The dialogue of the session that recorded a unit, and the unit's update.
+fn owners_of(unit: &UnitKey) -> Asker
+    ensures { result ≡ owners_of unit.now }
+{
+    Asker {
+        dialogue: Owner::Dlg {
+            start: unit.start,
+            session: unit.session,
+        },
+        update: Owner::Upd(*unit),
+    }
+}
+
+/// Whether the store has as many marks as it may.
+fn is_full<K: Keeper>(books: &Books<K>, max_marks: u32) -> bool
+    ensures { result ≡ nat_le max_marks (length books.now.ledger.marks) }
+{
+    books.marks() >= max_marks
+}
+
+/// How many effects both parts have.
+fn effects_in(parts: &Parts) -> usize
+    ensures { result ≡ step.effects_in parts.now }
+{
+    parts.v1.as_slice().len() + parts.v2.as_slice().len()
+}
+
+/// The unit that a session has open, with its locks as they are handed over.
+fn unit_of<T: LockStore, D: Disk, L: Link>(
+    alloc: Global,
+    start: u32,
+    locks: &EnqServer<T, D, L>,
+    session: &Session,
+    parts: &Parts,
+    numbers: Vec<Num>,
+) -> Result<Unit, NoMemory>
+    ensures unit { IfOk result
+        (λ unit. unit ≡ step.unit_of start locks.now.table.entries session.now parts.now numbers.items) }
+    ensures good { IfOk result (λ _. IsTable locks.now.table) }
+{
+    let key = unit_key(start, session);
+    Ok(Unit {
+        key,
+        user: session.user,
+        numbers: Items::from_vec(numbers),
+        parts: parts.copy(alloc)?,
+        entries: Items::from_vec(handed_locks(alloc, locks, &key)?),
+    })
+}
+
+/// The locks of a unit as they stand once they are handed over to the update.
+fn handed_locks<T: LockStore, D: Disk, L: Link>(
+    alloc: Global,
+    locks: &EnqServer<T, D, L>,
+    unit: &UnitKey,
+) -> Result<Vec<Entry>, NoMemory>
+    ensures locks { IfOk result (λ entries. entries.items ≡ step.handed_locks locks.now.table.entries unit.now) }
+    ensures good { IfOk result (λ _. IsTable locks.now.table) }
+{
+    let mut entries = locks.entries_of(alloc, &Owner::Upd(*unit))?;
+    hand_over(&mut entries, unit);
+    Ok(entries)
+}

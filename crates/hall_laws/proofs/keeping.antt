@@ -1,0 +1,10 @@
+pub mod WorkerOrders
+pub mod SoundLocks
+pub mod EachCall
+pub mod Unchanged
+pub mod UnitsToCome
+pub mod Owners
+pub mod SessionsAlike
+pub mod DrawnNumbers
+pub mod Restarts
+pub mod InFlight

@@ -1,0 +1,395 @@
+-- With a change in flight there is a state in order; and so all that calls keep is kept by each of them.
+use Rattle.std.proofs.Common.{◌≡◌, ℕ, ◌+◌, ◌≤◌, Bool, true, false, cond, List, [], ◌∷◌, ◌++◌, length, refl, sym, ap, ◌∙◌, subst, arith}
+use Rattle.std.specs.Prelude.{◌&&◌, ◌||◌, if◌then◌else◌, not, IsTrue, Option, Some, None}
+use Rattle.std.specs.List.{AllByRecursion}
+use Rattle.std.proofs.lemmas.Bool.{false≢true}
+use Rattle.std.proofs.lemmas.List.{length-append}
+use Rattle.enq_base.specs.declared.unit.Num.{Num}
+use Rattle.enq_base.specs.declared.unit.Parts.{Parts}
+use Rattle.lock_entry.proofs.Naming.{bytes_eq-same}
+use Rattle.number_ranges.specs.Intervals.{is_buffered}
+use Rattle.ledger_steps.specs.Posts.{kind_for}
+use Rattle.ledger_steps.specs.Drawn.{handed_out, num_of}
+use Rattle.ledger_steps.specs.Levels.{present}
+use Rattle.ledger_steps.specs.declared.range.NumberRange.{NumberRange}
+use Rattle.update_records.specs.Ledger.{Ledger}
+use Rattle.hall_model.specs.declared.command.Command.{Command}
+use Rattle.hall_model.specs.declared.command.PastEntry.{PastEntry}
+use Rattle.hall_model.specs.declared.command.Reply.{Reply}
+use Rattle.hall_model.specs.declared.command.Session.{Session}
+use Rattle.hall_model.specs.Acts.{IsAct}
+use Rattle.hall_model.specs.Calls.{Call, LogsOn, OfSession, OfWorker, OfAdmin, Kills, FailsOver, Restarts, Attaches, Cancels, Resubmits, Takes, Posts, Drops, call_of, only_reads, restarts, LogsOff, Asks, Frees, FreesAll, Converts, Draws, Reserves, Reads, Commits, RollsBack}
+use Rattle.hall_model.specs.Devices.{DeviceOutcome, Event, AllWell, Wanting, StoreFails, BackupFails, LinkFails, NotRemade, IsAllowed, MayHappen, Reading, found_by}
+use Rattle.hall_model.specs.History.{caller_behind, doubted, ends_in, is_unread, judged, pending_after, read_anew, served, step, stored_before_file, takes_flight, unfiled, with_entry, without_stock}
+use Rattle.hall_model.specs.Kept.{AreSameButCaller, HasFew, HasGoodLocks, HasLanding, HasOpenUnits, HasSoundLocks, IsKept, IsMovedOn, MayHaveMoved}
+use Rattle.hall_model.specs.Numbers.{drawn, next_number, raised_to, stocked}
+use Rattle.hall_model.specs.OpenUnits.{OfPending}
+use Rattle.hall_model.specs.Sessions.{is_called, session_at, with_draw, with_next_unit, with_session, without_draws}
+use Rattle.hall_model.specs.State.{State}
+use Rattle.hall_model.specs.Stocks.{MayCall}
+use Rattle.hall_model.specs.Step.{Found, Verdict, Refuses, Leaves, call_verdict, cancelled, committed, is_full, is_taken, leaves, marked, numbered, reopened, reposted, stored_anew}
+use Rattle.hall_model.proofs.ByCall.{CanDraw, OfEach, by_doubt, by_made, by_restart}
+use Rattle.hall_laws.proofs.keeping.SoundLocks.{over_table, served-sound, verdict-sound}
+use Rattle.hall_laws.proofs.keeping.EachCall.{Holds, below_limit, by_condition, each-holds, raises-holds, served-holds, stocked-holds, with_past}
+use Rattle.hall_model.proofs.NotedCalls.{by_noting}
+use Rattle.hall_laws.proofs.keeping.Unchanged.{served-past, verdict_pending}
+use Rattle.hall_model.proofs.FoundSessions.{found_name}
+use Rattle.hall_laws.proofs.open_units.ChangedLocks.{StandTogether, served-open, verdict-together}
+use Rattle.hall_laws.proofs.keeping.Restarts.{may_stay, restart_lands, same_sessions}
+
+-- ---- the session that calls
+
+same_but_changed : (change : Session → Session) → ((x : Session) → IsMovedOn x (change x)) → (name : List ℕ) (xs : List Session)
+    → AreSameButCaller (Some name) xs (with_session name change xs)
+same_but_changed change moves name [] = tt
+same_but_changed change moves name (x ∷ xs) =
+    elim (is_called name x) as (λ b. is_called name x ≡ b → AreSameButCaller (Some name) (x ∷ xs) (cond b (change x ∷ xs) (x ∷ with_session name change xs))) [
+      | true ↦ λ e. (subst (λ b. MayHaveMoved b x (change x)) (sym e) (moves x), same_sessions (Some name) xs)
+      | false ↦ λ e. (may_stay (is_called name x) x, same_but_changed change moves name xs)
+    ] refl
+
+-- it is found by its name
+changed_caller : (s : State) (name : List ℕ) (x : Session) (change : Session → Session) → ((y : Session) → IsMovedOn y (change y))
+    → session_at s.sessions name ≡ Some x → AreSameButCaller (Some name) s.sessions (with_session x.name change s.sessions)
+changed_caller s name x change moves at =
+    let own : x.name ≡ name = bytes_eq-same x.name name (found_name name s.sessions x at) in
+    subst (λ m. AreSameButCaller (Some name) s.sessions (with_session m change s.sessions)) (sym own) (same_but_changed change moves name s.sessions)
+
+next_moves : (y : Session) → IsMovedOn y (with_next_unit y)
+next_moves y = record { name = refl; user = refl; number = refl; low = omega arith; high = omega arith }
+
+numbers_move : (y : Session) → IsMovedOn y (without_draws y)
+numbers_move y = record { name = refl; user = refl; number = refl; low = omega arith; high = omega arith }
+
+-- ---- the change that a call makes
+
+-- the locks of its open units may stand together, and so may those of each unit
+record IsFair (changed : Ledger) : Type 0 where
+  together : StandTogether changed
+  units : AllByRecursion HasGoodLocks changed.units
+
+-- what was stored before is in order
+same_lands : (n : ℕ) (s : State) (call : Call) (pending : Option Ledger) → Holds n s → IsFair s.stored → HasLanding (doubted s call None pending) s.stored
+same_lands n s call pending h fair = record {
+  state = s;
+  stored = refl;
+  ranges = refl;
+  next = refl;
+  sessions = same_sessions (caller_behind s.failed_caller call) s.sessions;
+  steady = h.steady;
+  units = fair.units;
+  together = fair.together.sound;
+  fit = fair.together.fit;
+}
+
+-- a state that the call would have led to, with the same sessions
+other_lands : (n : ℕ) (s t : State) (call : Call) (pending : Option Ledger) → t.ranges ≡ s.ranges
+    → t.next_session ≡ s.next_session → t.sessions ≡ s.sessions → Holds n t → IsFair t.stored
+    → HasLanding (doubted s call None pending) t.stored
+other_lands n s t call pending ranges next sessions h fair = record {
+  state = t;
+  stored = refl;
+  ranges = ranges;
+  next = next;
+  sessions = subst (AreSameButCaller (caller_behind s.failed_caller call) s.sessions) (sym sessions)
+      (same_sessions (caller_behind s.failed_caller call) s.sessions);
+  steady = h.steady;
+  units = fair.units;
+  together = fair.together.sound;
+  fit = fair.together.fit;
+}
+
+-- one with another session that calls, and with memory behind a stock
+commit_lands : (n : ℕ) (s t : State) (name : List ℕ) (parts : Parts) (stock : List Num) (pending : Option Ledger)
+    → t.ranges ≡ (stocked stock s).ranges → t.next_session ≡ s.next_session → AreSameButCaller (Some name) s.sessions t.sessions
+    → Holds n t → IsFair t.stored → HasLanding (doubted (stocked stock s) (OfSession name (Commits parts stock)) None pending) t.stored
+commit_lands n s t name parts stock pending ranges next sessions h fair = record {
+  state = t;
+  stored = refl;
+  ranges = ranges;
+  next = next;
+  sessions = sessions;
+  steady = h.steady;
+  units = fair.units;
+  together = fair.together.sound;
+  fit = fair.together.fit;
+}
+
+-- a draw leaves the level that reserves the number, which is given to nobody
+drawn_lands : (n : ℕ) (s : State) (x : Session) (object nr : List ℕ) (call : Call) (r : NumberRange) (pending : Option Ledger) → CanDraw s x object nr r
+    → s.found ≡ None → Holds n s
+    → IsFair (drawn s x (present s.stored.levels r.interval) (next_number r (present s.stored.levels r.interval) x)).stored
+    → HasLanding (doubted s call None pending) (drawn s x (present s.stored.levels r.interval) (next_number r (present s.stored.levels r.interval) x)).stored
+drawn_lands n s x object nr call r pending can unread h =
+    let i = present s.stored.levels r.interval in
+    let number = next_number r i x in
+    let t : State = record s { sessions = with_session x.name (with_draw (num_of i number)) s.sessions } in
+    let behind : Bool → Ledger = λ b. (if b then record t { ranges = handed_out i t.ranges; stored = raised_to i number t.stored } else t).stored in
+    elim (is_buffered i) as (λ b. is_buffered r.interval ≡ b → IsFair (behind b) → HasLanding (doubted s call None pending) (behind b)) [
+      | true ↦ λ is fair.
+          other_lands (n + 1) s (record s { stored = raised_to i number s.stored }) call pending refl refl refl
+          (raises-holds n s object nr number r can.range is can.within unread h) fair
+      | false ↦ λ is fair. same_lands n s call pending h fair
+    ] refl
+
+-- ---- each call
+
+-- where the store fails in it there is a landing, whatever else is in flight
+abbrev Lands : State → Call → Verdict → Type 0
+Lands s call v =
+    IsTrue (leaves v) → IsFair (judged s v).state.stored → (pending : Option Ledger)
+    → HasLanding (doubted (without_stock call s) call None pending) (judged s v).state.stored
+
+no_leaving : {P : Type 0} → IsTrue false → P
+no_leaving is = absurd (false≢true is)
+
+-- a restart leaves what was stored before, or what was in flight
+anew_doubted : (s : State) (pending : Option Ledger) (changed : Ledger) → HasLanding s changed → HasLanding (doubted s (OfAdmin Restarts) None pending) changed
+anew_doubted s pending changed h = record {
+  state = h.state;
+  stored = h.stored;
+  ranges = h.ranges;
+  next = h.next;
+  sessions = h.sessions;
+  steady = h.steady;
+  units = h.units;
+  together = h.together;
+  fit = h.fit;
+}
+
+landings : (n : ℕ) (found : Found) (s : State) → HasSoundLocks s → HasLanding s (stored_anew (is_taken found.anew) s.stored s.pending) → s.found ≡ None
+    → Holds n s
+    → OfEach (λ call v. MayCall s call → Lands s call v) found s
+landings n found s sound anew unread h =
+    let each = each-holds n found s sound anew unread h in
+    record {
+      refuses = λ call r plain may is. no_leaving is;
+      enters = λ name user free may is fair pending. same_lands n s (LogsOn name user) pending h fair;
+      logs_off = λ name x at may is fair pending. same_lands n s (OfSession name LogsOff) pending h fair;
+      grants = λ name x rs locks at e may is fair pending. same_lands n s (OfSession name (Asks rs)) pending h fair;
+      lowers = λ name x rs at may is fair pending. same_lands n s (OfSession name (Frees rs)) pending h fair;
+      frees = λ name x at may is fair pending. same_lands n s (OfSession name FreesAll) pending h fair;
+      converts = λ name x wanted c at e may is fair pending. same_lands n s (OfSession name (Converts wanted)) pending h fair;
+      draws = λ name x object nr r at can may is fair pending. drawn_lands n s x object nr (OfSession name (Draws object nr)) r pending can unread h fair;
+      reserves = λ name x object nr upto r at can may is fair pending.
+          let i = present s.stored.levels r.interval in
+          other_lands (n + 1) s (record s { stored = raised_to i upto s.stored }) (OfSession name (Reserves object nr upto)) pending
+          refl refl refl (each.reserves name x object nr upto r at can may) fair;
+      reads = λ name x table key at may is fair pending. same_lands n s (OfSession name (Reads table key)) pending h fair;
+      commits_nothing = λ name x parts stock at may is fair pending.
+          commit_lands n s (stocked stock s) name parts stock pending refl refl (same_sessions (Some name) s.sessions)
+          (stocked-holds n s stock may h) fair;
+      commits_numbers = λ name x parts stock at may is fair pending.
+          commit_lands (n + 1) s (stocked stock (numbered s x (x.draws ++ stock))) name parts stock pending refl refl
+          (changed_caller s name x without_draws numbers_move at) (each.commits_numbers name x parts stock at may) fair;
+      commits = λ name x parts stock at may is fair pending.
+          commit_lands (n + 1) s (stocked stock (committed s x parts (x.draws ++ stock))) name parts stock pending refl refl
+          (changed_caller s name x with_next_unit next_moves at) (each.commits name x parts stock at may) fair;
+      rolls_back = λ name x at may is fair pending. same_lands n s (OfSession name RollsBack) pending h fair;
+      takes = λ worker part unit free e may is fair pending. same_lands n s (OfWorker worker (Takes part)) pending h fair;
+      posts = λ worker part unit e may is fair pending.
+          other_lands (n + 1) s (marked part s worker unit (kind_for part (found.part part unit))) (OfWorker worker (Posts part)) pending
+          refl refl refl (each.posts worker part unit e may) fair;
+      drops = λ worker unit e may is fair pending. same_lands n s (OfWorker worker Drops) pending h fair;
+      kills = λ up may is fair pending. same_lands n s (OfAdmin Kills) pending h fair;
+      fails_over = λ list can may is fair pending. same_lands n s (OfAdmin FailsOver) pending h fair;
+      strays = λ first second none may is fair pending. same_lands n s (OfAdmin FailsOver) pending h fair;
+      attaches = λ up may is fair pending. same_lands n s (OfAdmin Attaches) pending h fair;
+      restarts = λ off may is fair pending. anew_doubted s pending (stored_anew (is_taken found.anew) s.stored s.pending) anew;
+      cancels = λ unit status can may is fair pending.
+          other_lands (n + 1) s (cancelled s unit status) (OfAdmin (Cancels unit)) pending refl refl refl (each.cancels unit status can may) fair;
+      reopens = λ unit es here stand may is fair pending.
+          other_lands (n + 1) s (reopened s unit es) (OfAdmin (Resubmits unit)) pending refl refl refl (each.reopens unit es here stand may) fair;
+      reposts = λ unit here may is fair pending.
+          other_lands (n + 1) s (reposted s unit) (OfAdmin (Resubmits unit)) pending refl refl refl (each.reposts unit here may) fair;
+    }
+
+-- nothing is in flight
+nothing_lands : (o : Option Ledger) (Q : Ledger → Type 0) → o ≡ None → OfPending o Q
+nothing_lands o Q none = subst (λ p. OfPending p Q) (sym none) tt
+
+-- what is so of what the call leaves stored is so of the change in flight, if there was none before
+failing_flies : (Q : Ledger → Type 0) (reading : Reading) (s : State) (call : Call) (v : Verdict) → s.pending ≡ None → IsTrue (leaves v)
+    → Q (judged s v).state.stored → OfPending (pending_after reading s call v) Q
+failing_flies Q reading s call (Refuses r) none is h = no_leaving is
+failing_flies Q reading s call (Leaves after r) none is h =
+    elim (only_reads call || is_unread reading call) as (λ b. OfPending (if b then s.pending else Some after.stored) Q) [
+      | true ↦ nothing_lands s.pending Q none
+      | false ↦ h
+    ]
+
+-- ---- a restart that isn't done
+
+of_pending_more : (o : Option Ledger) (Q R : Ledger → Type 0) → ((ledger : Ledger) → Q ledger → R ledger) → OfPending o Q → OfPending o R
+of_pending_more None Q R more h = tt
+of_pending_more (Some ledger) Q R more h = more ledger h
+
+-- with the change in flight there is a state in order
+abbrev pub LandsIn : State → Type 0
+LandsIn s = OfPending s.pending (HasLanding s)
+
+-- the change in flight stays
+reland : (s : State) (read : Option Bool) (changed : Ledger) → HasLanding s changed → HasLanding (doubted s (OfAdmin Restarts) read s.pending) changed
+reland s read changed h = record {
+  state = h.state;
+  stored = h.stored;
+  ranges = h.ranges;
+  next = h.next;
+  sessions = h.sessions;
+  steady = h.steady;
+  units = h.units;
+  together = h.together;
+  fit = h.fit;
+}
+
+unmade_lands : (s : State) (read : Option Bool) → LandsIn s → LandsIn (doubted s (OfAdmin Restarts) read s.pending)
+unmade_lands s read h = of_pending_more s.pending (HasLanding s) (HasLanding (doubted s (OfAdmin Restarts) read s.pending)) (reland s read) h
+
+-- ---- a replica that follows, or none
+
+relink : (s : State) (follows : Bool) (changed : Ledger) → HasLanding s changed → HasLanding (record s { attached = follows }) changed
+relink s follows changed h = record {
+  state = h.state;
+  stored = h.stored;
+  ranges = h.ranges;
+  next = h.next;
+  sessions = h.sessions;
+  steady = h.steady;
+  units = h.units;
+  together = h.together;
+  fit = h.fit;
+}
+
+following_lands : (s : State) (follows : Bool) → LandsIn s → LandsIn (record s { attached = follows })
+following_lands s follows h = of_pending_more s.pending (HasLanding s) (HasLanding (record s { attached = follows })) (relink s follows) h
+
+-- ---- all that is kept, but for the length of the history
+
+pub record HoldsAll (n : ℕ) (s : State) : Type 0 where
+  pub holds : Holds n s
+  pub sound : HasSoundLocks s
+  pub open_units : HasOpenUnits s
+  pub landing : LandsIn s
+
+anew_lands : (n : ℕ) (found : Found) (s : State) → HoldsAll n s → HasLanding s (stored_anew (is_taken found.anew) s.stored s.pending)
+anew_lands n found s h = restart_lands (is_taken found.anew) s h.sound.stored h.holds.steady h.open_units h.landing
+
+-- the store fails
+failing_lands : (n : ℕ) (reading : Reading) (found : Found) (s : State) (call : Call) → MayCall s call → HoldsAll n s
+    → IsTrue (leaves (call_verdict found s call))
+    → LandsIn (doubted (without_stock call s) call None (pending_after reading s call (call_verdict found s call)))
+failing_lands n reading found s call may h =
+    let steady = h.holds.steady in
+    let fair : IsFair (judged s (call_verdict found s call)).state.stored = record {
+      together = verdict-together found s call steady h.sound h.open_units h.landing;
+      units = (verdict-sound found s call steady h.sound h.open_units h.landing).stored;
+    } in
+    let P : Call → Verdict → Type 0 = λ c v. IsTrue (leaves v) → LandsIn (doubted (without_stock c s) c None (pending_after reading s c v)) in
+    by_condition (P call (call_verdict found s call)) s steady
+    (λ quiet is.
+    let v = call_verdict found s call in
+    let pending = pending_after reading s call v in
+    failing_flies (HasLanding (doubted (without_stock call s) call None pending)) reading s call v quiet.pending is
+    (by_made (Lands s) found s (landings n found s h.sound (anew_lands n found s h) quiet.found h.holds) call may is fair pending))
+    (λ k down. by_doubt P found s k call down (λ c r is. no_leaving is) (λ is. unmade_lands s None h.landing))
+
+-- nothing fails
+done_lands : (n : ℕ) (found : Found) (s : State) (call : Call) → HoldsAll n s → LandsIn (judged s (call_verdict found s call)).state
+done_lands n found s call h =
+    let t = (judged s (call_verdict found s call)).state in
+    by_condition (LandsIn t) s h.holds.steady
+    (λ quiet. nothing_lands t.pending (HasLanding t) (verdict_pending (λ o. o ≡ None) found s call quiet.pending refl))
+    (λ k down. by_doubt (λ c v. LandsIn (judged s v).state) found s k call down (λ c r. h.landing) tt)
+
+-- the disk of the backup file fails
+unfiled_lands : (n : ℕ) (read : Option Bool) (found : Found) (s : State) (call : Call) → HoldsAll n s → IsTrue (leaves (call_verdict found s call))
+    → LandsIn (unfiled s call read (stored_before_file s call (call_verdict found s call)))
+unfiled_lands n read found s call h =
+    let P : Call → Verdict → Type 0 = λ c v. IsTrue (leaves v) → LandsIn (unfiled s c read (stored_before_file s c v)) in
+    by_condition (P call (call_verdict found s call)) s h.holds.steady
+    (λ quiet is. nothing_lands s.pending _ quiet.pending)
+    (λ k down. by_doubt P found s k call down (λ c r is. no_leaving is) (λ is. unmade_lands s read h.landing))
+
+-- no lock server could be made anew
+remade_lands : (s : State) (call : Call) (read : Option Bool) → IsTrue (restarts call) → LandsIn s → LandsIn (doubted s call read s.pending)
+remade_lands s call read is h =
+    by_restart (λ c. IsTrue (restarts c) → LandsIn (doubted s c read s.pending)) (λ anew. unmade_lands s read h)
+    (λ c off anew. absurd (false≢true (sym off ∙ anew))) call is
+
+ended_lands : (n : ℕ) (e : Event) (reading : Reading) (s : State) (call : Call) → MayCall s call
+    → MayHappen e s call (call_verdict (found_by reading s) s call) → HoldsAll n s
+    → LandsIn (ends_in e reading s call (call_verdict (found_by reading s) s call)).state
+ended_lands n AllWell reading s call may happens h = done_lands n (found_by reading s) s call h
+ended_lands n Wanting reading s call may happens h = h.landing
+ended_lands n StoreFails reading s call may happens h = failing_lands n reading (found_by reading s) s call may h happens.0
+ended_lands n BackupFails reading s call may happens h = unfiled_lands n (read_anew reading) (found_by reading s) s call h happens.0
+ended_lands n LinkFails reading s call may happens h = following_lands s false h.landing
+ended_lands n (NotRemade fault) reading s call may happens h = remade_lands s call (read_anew reading) happens.1 h.landing
+
+pub served_all : (n : ℕ) (o : DeviceOutcome) (s : State) (c : Command) → IsAllowed o s c → HoldsAll n s → HoldsAll (n + 1) (served o s c).state
+served_all n o s c allowed h =
+    let steady = h.holds.steady in
+    let t = (ends_in o.event o.reading s (call_of c) (call_verdict (found_by o.reading s) s (call_of c))).state in
+    record {
+      holds = served-holds n o s c allowed h.sound h.open_units h.landing h.holds;
+      sound = served-sound o s c steady h.sound h.open_units h.landing;
+      open_units = served-open o s c steady h.sound h.open_units h.landing;
+      landing = following_lands t (not o.lost && t.attached) (ended_lands n o.event o.reading s (call_of c) allowed.call allowed.possible.event h);
+    }
+
+-- ---- the history
+
+past_lands : (s : State) (past : List PastEntry) (changed : Ledger) → HasLanding s changed → HasLanding (record s { past = past }) changed
+past_lands s past changed h = record {
+  state = h.state;
+  stored = h.stored;
+  ranges = h.ranges;
+  next = h.next;
+  sessions = h.sessions;
+  steady = h.steady;
+  units = h.units;
+  together = h.together;
+  fit = h.fit;
+}
+
+pub with_past_all : (n : ℕ) (s : State) (past : List PastEntry) → HoldsAll n s → HoldsAll n (record s { past = past })
+with_past_all n s past h =
+    let units = h.open_units in
+    record {
+      holds = with_past n s past h.holds;
+      sound = over_table h.sound.stored h.sound.table;
+      open_units = record { held = units.held; stored = units.stored; fit = units.fit; pending = units.pending };
+      landing = of_pending_more s.pending (HasLanding s) (HasLanding (record s { past = past })) (past_lands s past) h.landing;
+    }
+
+pub step_all : (n : ℕ) (o : DeviceOutcome) (s : State) (line : ℕ) (c : Command) → IsAllowed o s c → HoldsAll n s → HoldsAll (n + 1) (step o s line c).state
+step_all n o s line c allowed h =
+    let r = served o s c in
+    let all = served_all n o s c allowed h in
+    by_noting (λ x. HoldsAll (n + 1) x.state) line c (takes_flight o) r all (with_past_all (n + 1) r.state _ all)
+
+-- a call with room for it in the history
+pub kept_call : (s : State) (line : ℕ) (c : Command) (taken : Bool) (after : State) (r : Reply) → MayCall s (call_of c) → IsKept s → is_full s ≡ false
+    → IsAct s c after r → IsKept (with_entry line c taken (record { state = after; reply = r }))
+kept_call s line c taken after r may kept room act =
+    let before : HoldsAll (length s.past) s = record {
+      holds = record { few = kept.few; steady = kept.steady };
+      sound = kept.sound;
+      open_units = kept.open_units;
+      landing = kept.landing;
+    } in
+    let all : HoldsAll (length s.past + 1) after =
+    subst (λ x. HoldsAll (length s.past + 1) x.state) act.same
+    (served_all (length s.past) act.outcome s c (record { call = may; possible = act.possible }) before) in
+    let past : after.past ≡ s.past = ap (λ x. x.state.past) (sym act.same) ∙ served-past act.outcome s c in
+    let t : State = with_entry line c taken (record { state = after; reply = r }) in
+    let longer : length t.past ≡ length s.past + 1 = length-append after.past _ ∙ ap (λ es. length es + 1) past in
+    let whole : HoldsAll (length s.past + 1) t = with_past_all (length s.past + 1) after t.past all in
+    record {
+      within = subst (λ n. n ≤ 262144) (sym longer) (below_limit (length s.past) room);
+      few = subst (λ n. HasFew n t) (sym longer) whole.holds.few;
+      steady = whole.holds.steady;
+      sound = whole.sound;
+      open_units = whole.open_units;
+      landing = whole.landing;
+    }

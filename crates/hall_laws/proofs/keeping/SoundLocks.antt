@@ -1,0 +1,217 @@
+-- Each call keeps the locks sound.
+use Rattle.std.proofs.Common.{◌≡◌, ℕ, ◌<◌, ◌≤◌, ◌^◌, arith, ◌&&◌, not, cond, Bool, true, false, List, [], ◌∷◌, ◌++◌, fold, length, refl}
+use Rattle.std.specs.Prelude.{if◌then◌else◌, nat_eq, nat_le, Option, None}
+use Rattle.std.specs.List.{AllByRecursion}
+use Rattle.std.proofs.lemmas.Bool.{and_from, and_parts, eq-eqb}
+use Rattle.std.proofs.lemmas.Bool.Decides.{nat_tests}
+use Rattle.enq_base.specs.declared.owner.Owner.TheVariants.{Upd}
+use Rattle.enq_base.specs.declared.owner.UnitKey.{UnitKey}
+use Rattle.enq_base.specs.declared.unit.Status.{Status}
+use Rattle.enq_base.specs.declared.unit.Status.TheVariants.{Open, Posted, Bad, Closed, Bad2, Cancelled}
+use Rattle.enq_server.specs.Following.{may_replace, same_entry}
+use Rattle.enq_server.specs.Server.{larger, recovered, replicated}
+use Rattle.lock_entry.specs.declared.entry.Entry.{Entry}
+use Rattle.lock_entry.specs.declared.entry.LockName.{LockName}
+use Rattle.lock_entry.specs.Freeing.{freed, freed_owner}
+use Rattle.lock_entry.specs.Names.{halves}
+use Rattle.lock_entry.specs.Pairs.{IsPair}
+use Rattle.lock_entry.specs.Sound.{IsSound}
+use Rattle.lock_entry.specs.Table.{Table, IsTable, with_entries}
+use Rattle.lock_entry.proofs.ConversionSound.{IsTable-converted}
+use Rattle.lock_entry.proofs.Frees.{IsTable-freed, IsTable-freed_owner, IsTable-handed_over}
+use Rattle.lock_entry.proofs.GrantSound.{IsTable-asked}
+use Rattle.lock_entry.proofs.Readmits.{IsTable-readmitted}
+use Rattle.ledger_steps.specs.Posts.{entries_of}
+use Rattle.ledger_steps.specs.Views.{open_locks}
+use Rattle.hall_model.specs.declared.command.Command.{Command}
+use Rattle.hall_model.specs.declared.command.Session.{Session}
+use Rattle.hall_model.specs.Devices.{DeviceOutcome, found_by}
+use Rattle.hall_model.specs.Calls.{Call, call_of}
+use Rattle.hall_model.specs.History.{doubted, judged, read_anew, served, unfiled, without_stock}
+use Rattle.hall_model.specs.Kept.{HasGoodLocks, HasLanding, HasOpenUnits, HasSoundLocks, IsSteady}
+use Rattle.hall_model.specs.OpenUnits.{OfPending, open_entries}
+use Rattle.hall_model.specs.Sessions.{owners_of, pair_of, unit_key, with_draw, with_session}
+use Rattle.hall_model.specs.Numbers.{drawn, raised_to}
+use Rattle.ledger_steps.specs.Drawn.{handed_out, num_of, stored_as}
+use Rattle.hall_model.specs.State.{State}
+use Rattle.number_ranges.specs.Intervals.{block_level, is_buffered, with_level}
+use Rattle.number_ranges.specs.declared.interval.Interval.{Interval}
+use Rattle.ledger_steps.specs.Intervals.{with_intervals}
+use Rattle.ledger_steps.specs.Levels.{present}
+use Rattle.hall_model.specs.Step.{Found, call_verdict, cancelled, is_sound, is_taken, restarted, stored_anew, unit_of}
+use Rattle.update_records.specs.Ledger.{Ledger}
+use Rattle.hall_model.proofs.ByCall.{IsHandedOver, OfEach, by_call, by_event, by_filing, by_stock}
+use Rattle.hall_model.proofs.HandedLocks.{handed_good}
+use Rattle.hall_model.proofs.EachLock.{may_be_readmitted, every_append}
+use Rattle.hall_model.proofs.Resubmissions.{table_in}
+use Rattle.hall_laws.proofs.keeping.Restarts.{restart_lands}
+
+-- the locks of a state, and those that are stored in it
+pub over_table : {s : State} → AllByRecursion HasGoodLocks s.stored.units → IsTable (table_in s) → HasSoundLocks s
+over_table stored table = record { table = table; stored = stored }
+
+pair_of-IsPair : (start : ℕ) (x : Session) → IsPair (pair_of start x)
+pair_of-IsPair start x = and_from _ _ (eq-eqb start start refl) (eq-eqb x.number x.number refl)
+
+freed-good : (t : Table) (names : List LockName) → IsTable t → IsTable (with_entries t (fold freed t.entries names))
+freed-good t [] h = h
+freed-good t (n ∷ ns) h = freed-good (with_entries t (freed t.entries n)) ns (IsTable-freed t n h)
+
+behind-sound : (s : State) (unit : UnitKey) (first : Bool) → IsTable (table_in s) → IsTable (with_entries (table_in s) (if first then freed_owner s.locks (Upd unit) else s.locks))
+behind-sound s unit true good = IsTable-freed_owner (table_in s) (Upd unit) good
+behind-sound s unit false good = good
+
+without-sound : (s : State) (unit : UnitKey) (status : Status) → IsTable (table_in s) → IsTable (table_in (cancelled s unit status))
+without-sound s unit Open good = IsTable-freed_owner (table_in s) (Upd unit) good
+without-sound s unit Posted good = good
+without-sound s unit Bad good = good
+without-sound s unit Closed good = good
+without-sound s unit Bad2 good = good
+without-sound s unit Cancelled good = good
+
+-- the two owners of a unit are a pair
+owners_of-IsPair : (unit : UnitKey) → IsPair (owners_of unit)
+owners_of-IsPair unit = and_from _ _ (eq-eqb unit.start unit.start refl) (eq-eqb unit.session unit.session refl)
+
+both_freed : (s : State) (x : Session) → IsTable (table_in s) → IsTable (with_entries (table_in s) (freed_owner (freed_owner s.locks (pair_of s.stored.start x).dialogue) (pair_of s.stored.start x).update))
+both_freed s x good =
+    let pair = pair_of s.stored.start x in
+    IsTable-freed_owner (with_entries (table_in s) (freed_owner s.locks pair.dialogue)) pair.update (IsTable-freed_owner (table_in s) pair.dialogue good)
+
+-- a level that is raised leaves locks and units
+raised-sound : (s : State) (i : Interval) (upto : ℕ) → HasSoundLocks s → HasSoundLocks (record s { stored = raised_to i upto s.stored })
+raised-sound s i upto good =
+    elim (nat_le upto i.level) as (λ b. HasSoundLocks (record s { stored = if b then s.stored else with_intervals (stored_as (with_level (block_level i upto) i) ∷ []) s.stored })) [
+      | true ↦ over_table good.stored good.table
+      | false ↦ over_table good.stored good.table
+    ]
+
+drawn-sound : (s : State) (x : Session) (i : Interval) (number : ℕ) → HasSoundLocks s → HasSoundLocks (drawn s x i number)
+drawn-sound s x i number good =
+    let t : State = record s { sessions = with_session x.name (with_draw (num_of i number)) s.sessions } in
+    elim (is_buffered i) as (λ b. HasSoundLocks (if b then record t { ranges = handed_out i t.ranges; stored = raised_to i number t.stored } else t)) [
+      | true ↦ let r = raised-sound s i number good in over_table r.stored r.table
+      | false ↦ over_table good.stored good.table
+    ]
+
+pub none_stands : (limit : ℕ) → limit < 2 ^ 32 → IsTable (record { entries = []; limit = limit })
+none_stands limit fits = record { sound = record { names = refl; counts = refl; conflicts = refl }; within = omega arith; limit_fits = fits }
+
+larger_within : (a b : ℕ) → b ≤ larger a b
+larger_within a b =
+    elim (nat_le a b) as (λ t. nat_le a b ≡ t → b ≤ (if t then b else a)) [ true ↦ λ e. omega arith | false ↦ λ e. grind (arith, nat_tests) ] refl
+
+larger_fits : (a b : ℕ) → a < 2 ^ 32 → b < 2 ^ 32 → larger a b < 2 ^ 32
+larger_fits a b h k = elim (nat_le a b) as (λ t. (if t then b else a) < 2 ^ 32) [ true ↦ k | false ↦ h ]
+
+-- the table of a lock server that is made anew
+remade-sound : (max_locks : ℕ) (ledger : Ledger) → max_locks < 2 ^ 32 → IsSound (open_entries ledger) → length (open_entries ledger) < 2 ^ 32
+    → IsTable (recovered max_locks (open_locks ledger))
+remade-sound max_locks ledger limited together fit =
+    let count = length (open_entries ledger) in
+    record { sound = together; within = larger_within max_locks count; limit_fits = larger_fits max_locks count limited fit }
+
+-- ---- a replica's list in place of the table
+
+-- it is no longer than the table
+replacing_length : (table list : List Entry) → may_replace table list ≡ true → length list ≤ length table
+replacing_length [] [] may = omega arith
+replacing_length [] (x ∷ xs) may = absurd (cc)
+replacing_length (e ∷ es) [] may = omega arith
+replacing_length (e ∷ es) (x ∷ xs) may =
+    elim (same_entry e x) as (λ b. cond b (may_replace es xs) (not e.handed && may_replace es (x ∷ xs)) ≡ true → length (x ∷ xs) ≤ length (e ∷ es)) [
+      | true ↦ λ k. let rest = replacing_length es xs k in omega (arith, rest)
+      | false ↦ λ k. let rest = replacing_length es (x ∷ xs) (and_parts (not e.handed) _ k).1 in omega (arith, rest)
+    ] may
+
+sound_list : (list : List Entry) → is_sound list ≡ true → IsSound list
+sound_list list h =
+    let names = and_parts _ _ h in
+    let counts = and_parts _ _ names.1 in
+    record { names = names.0; counts = counts.0; conflicts = counts.1 }
+
+replicated-sound : (s : State) (list : List Entry) → IsHandedOver s list → s.max_locks < 2 ^ 32 → IsTable (table_in s) → IsTable (replicated s.max_locks list)
+replicated-sound s list can limited good =
+    let count = length list in
+    let fewer = replacing_length s.locks list can.replaces in
+    let within = good.within in
+    let fits = good.limit_fits in
+    record {
+      sound = sound_list list can.sound;
+      within = larger_within s.max_locks count;
+      limit_fits = larger_fits s.max_locks count limited (omega (arith, fewer, within, fits));
+    }
+
+-- ---- all calls
+
+restarted-sound : (taken : Bool) (s : State) → IsSteady s → HasLanding s (stored_anew taken s.stored s.pending) → HasSoundLocks (restarted taken s)
+restarted-sound taken s steady l = over_table l.units (remade-sound s.max_locks (stored_anew taken s.stored s.pending) steady.locks_fit l.together l.fit)
+
+sound : (found : Found) (s : State) → IsSteady s → HasOpenUnits s → HasSoundLocks s → OfPending s.pending (HasLanding s)
+    → OfEach (λ call v. HasSoundLocks (judged s v).state) found s
+sound found s steady units good landing = record {
+  refuses = λ call r plain. good;
+  enters = λ name user free. over_table good.stored good.table;
+  logs_off = λ name x at. over_table good.stored (both_freed s x good.table);
+  grants = λ name x rs locks at e.
+      over_table good.stored (IsTable-asked (table_in s) (pair_of s.stored.start x) x.user rs good.table (pair_of-IsPair s.stored.start x) locks e);
+  lowers = λ name x rs at. over_table good.stored (freed-good (table_in s) (halves (pair_of s.stored.start x) rs) good.table);
+  frees = λ name x at. over_table good.stored (both_freed s x good.table);
+  converts = λ name x wanted c at e.
+      over_table good.stored (IsTable-converted (table_in s) (pair_of s.stored.start x) wanted c good.table (pair_of-IsPair s.stored.start x) e);
+  draws = λ name x object nr r at can. drawn-sound s x (present s.stored.levels r.interval) _ good;
+  reserves = λ name x object nr upto r at can. raised-sound s (present s.stored.levels r.interval) upto good;
+  reads = λ name x table key at. good;
+  commits_nothing = λ name x parts stock at. good;
+  commits_numbers = λ name x parts stock at. over_table good.stored good.table;
+  commits = λ name x parts stock at. record {
+    table = IsTable-handed_over (table_in s) (unit_key s.stored.start x) good.table;
+    stored = every_append HasGoodLocks s.stored.units (unit_of s.stored.start s.locks x parts (x.draws ++ stock) ∷ []) good.stored
+        (handed_good (table_in s) s.sessions name s.stored.start x parts (x.draws ++ stock) at steady.owned.users good.table, tt);
+  };
+  rolls_back = λ name x at. over_table good.stored (IsTable-freed_owner (table_in s) (pair_of s.stored.start x).update good.table);
+  takes = λ worker part unit free e. over_table good.stored good.table;
+  posts = λ worker part unit e. over_table good.stored (behind-sound s unit (nat_eq part 1) good.table);
+  drops = λ worker unit e. over_table good.stored good.table;
+  kills = λ up. over_table good.stored good.table;
+  fails_over = λ list can. over_table good.stored (replicated-sound s list can steady.locks_fit good.table);
+  strays = λ first second none. over_table good.stored good.table;
+  attaches = λ up. over_table good.stored good.table;
+  restarts = λ off. let taken = is_taken found.anew in restarted-sound taken s steady (restart_lands taken s good.stored steady units landing);
+  cancels = λ unit status can. over_table good.stored (without-sound s unit status good.table);
+  reopens = λ unit es here stand.
+      over_table good.stored (IsTable-readmitted (table_in s) (owners_of unit) (entries_of s.stored.units unit) es good.table (owners_of-IsPair unit) (may_be_readmitted s.stored.units unit good.stored) stand);
+  reposts = λ unit here. over_table good.stored good.table;
+}
+
+pub verdict-sound : (found : Found) (s : State) (call : Call) → IsSteady s → HasSoundLocks s → HasOpenUnits s → OfPending s.pending (HasLanding s)
+    → HasSoundLocks (judged s (call_verdict found s call)).state
+verdict-sound found s call steady good units landing =
+    by_call (λ call v. HasSoundLocks (judged s v).state) found s (sound found s steady units good landing) call
+
+abbrev StoredGood : State → Call → Option Bool → Ledger → Type 0
+StoredGood s call read stored = HasSoundLocks (unfiled s call read stored)
+
+unfiled-sound : (s : State) (call : Call) (read : Option Bool) (stored : Ledger) → HasSoundLocks s → AllByRecursion HasGoodLocks stored.units
+    → StoredGood s call read stored
+unfiled-sound s call read stored good units = over_table units (none_stands s.limit good.table.limit_fits)
+
+failing-sound : (s : State) (call : Call) (pending : Option Ledger) → HasSoundLocks s → HasSoundLocks (doubted (without_stock call s) call None pending)
+failing-sound s call pending good =
+    by_stock (λ other t. HasSoundLocks (doubted t other None pending)) s
+    (λ name parts stock. over_table good.stored (none_stands s.limit good.table.limit_fits))
+    (λ other. over_table good.stored (none_stands s.limit good.table.limit_fits)) call
+
+pub served-sound : (o : DeviceOutcome) (s : State) (c : Command) → IsSteady s → HasSoundLocks s → HasOpenUnits s → OfPending s.pending (HasLanding s)
+    → HasSoundLocks (served o s c).state
+served-sound o s c steady good units landing =
+    by_event (λ r. HasSoundLocks r.state) o s c
+    (λ lost done h. over_table h.stored h.table)
+    (λ found. verdict-sound found s (call_of c) steady good units landing) good (over_table good.stored good.table)
+    (λ reading. failing-sound s (call_of c) _ good)
+    (λ reading.
+    let found = found_by reading s in
+    let read = read_anew reading in
+    by_filing (StoredGood s (call_of c) read) found s (call_of c) (unfiled-sound s (call_of c) read s.stored good good.stored)
+    (λ worker part unit e. unfiled-sound s (call_of c) read _ good good.stored) (λ unit status can. unfiled-sound s (call_of c) read _ good good.stored))
+    (λ read r. over_table good.stored (none_stands s.limit good.table.limit_fits))

@@ -1,0 +1,3 @@
+pub mod StoredLocks
+pub mod HandedLocks
+pub mod ChangedLocks

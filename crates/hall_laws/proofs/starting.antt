@@ -1,0 +1,2 @@
+pub mod FirstKeeps
+pub mod FirstState

@@ -1,0 +1,16 @@
+pub mod ByCall
+pub mod Cancels
+pub mod HandedLocks
+pub mod OtherStatuses
+pub mod LockLists
+pub mod PlainRefusals
+pub mod Resubmissions
+pub mod WaitingUnits
+pub mod BarredCalls
+pub mod BesideRecorded
+pub mod BlockLevels
+pub mod EachLock
+pub mod FoundSessions
+pub mod PartOrders
+pub mod OutsideDoubt
+pub mod NotedCalls

@@ -1,0 +1,16 @@
+pub mod Acts
+pub mod Calls
+pub mod Devices
+pub mod History
+pub mod Kept
+pub mod Coming
+pub mod Numbers
+pub mod OpenUnits
+pub mod Orders
+pub mod Recall
+pub mod Sessions
+pub mod State
+pub mod Step
+pub mod Stocks
+pub mod Views
+pub mod Unsound

@@ -1,0 +1,3 @@
+pub mod CommittedNumbers
+pub mod UnmarkedUnits
+pub mod RowNames

@@ -1,0 +1,37 @@
+-- What is told of the units of a ledger.
+use Rattle.std.specs.Prelude.{List, length, map}
+use Rattle.std.specs.Option.{unwrap_or}
+use Rattle.enq_base.specs.declared.owner.UnitKey.{UnitKey}
+use Rattle.enq_base.specs.declared.unit.Status.TheVariants.{Open}
+use Rattle.lock_entry.specs.declared.entry.UnitLocks.{UnitLocks}
+use Rattle.update_records.specs.Ledger.{Ledger}
+use Rattle.update_records.specs.Marks.{status_of}
+use Rattle.update_records.specs.declared.records.Unit.{Unit as UnitOfWork}
+use Rattle.ledger_steps.specs.Posts.{entries_of}
+use Rattle.ledger_steps.specs.Errors.{error_of}
+use Rattle.ledger_steps.specs.Steps.{waiting_for}
+use Rattle.update_records.specs.declared.view.UnitView.{UnitView}
+
+-- a recorded unit always has a status, that of its last mark
+abbrev pub view_of : Ledger → UnitOfWork → UnitView
+view_of ledger unit = record {
+  key = unit.key;
+  user = unit.user;
+  status = unwrap_or (status_of ledger.units ledger.marks unit.key) Open;
+  v1 = length unit.parts.v1;
+  v2 = length unit.parts.v2;
+  locks = length unit.entries;
+  numbers = length unit.numbers;
+  error = error_of ledger.marks unit.key;
+}
+
+-- the recorded units, in the order of recording
+abbrev pub views_of : Ledger → List UnitView
+views_of ledger = map (view_of ledger) ledger.units
+
+abbrev pub locks_of : Ledger → UnitKey → UnitLocks
+locks_of ledger key = record { unit = key; entries = entries_of ledger.units key }
+
+-- the units that wait for their V1 part, the one whose last mark is oldest first, with their locks
+abbrev pub open_locks : Ledger → List UnitLocks
+open_locks ledger = map (locks_of ledger) (waiting_for 1 ledger)

@@ -1,0 +1,5 @@
+pub mod InStep
+pub mod Sendings
+pub mod Senders
+pub mod MemWires
+pub mod Follow

@@ -1,0 +1,5 @@
+pub mod Packets
+pub mod Wired
+pub mod Wiring
+pub mod Memory
+pub mod Runs

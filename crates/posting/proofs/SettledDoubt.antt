@@ -1,0 +1,65 @@
+-- What a store that was read anew says of a change in doubt.
+use Rattle.std.specs.Prelude.{IsSomeAnd, IsTrue, is_some}
+use Rattle.std.proofs.Common.{◌≡◌, ◌⊎◌, inl, inr, ⊎_elim, ℕ, true, false, Option, None, Some, IfSome, refl, sym, subst}
+use Rattle.keeper_api.specs.Rows.{Rows}
+use Rattle.store_reading.specs.Good.{IsBadPlace}
+use Rattle.update_records.specs.Ledger.{Ledger, IsGood, StandFor}
+use Rattle.posting.specs.Reopening.{HasStood, IsOpeningFault}
+use Rattle.posting.specs.Settling.{IsOther, OnBooks, OnFound, OnOther, StandForOther}
+use Rattle.ledger_steps.specs.Steps.{after_step}
+use Rattle.posting.specs.declared.opening.BooksFault.TheVariants as why
+use Rattle.ledger_steps.specs.declared.step.Step.{Step}
+use Rattle.posting.specs.declared.settling.SettleFault.{SettleFault}
+use Rattle.posting.specs.declared.settling.SettleFault.TheVariants.{Books, Other}
+
+module _ (held : Option Rows) (before : Rows → Type 0) (ledger read : Ledger) (is : read ≡ ledger) where
+  pub stood_here : IfSome held (λ rows. before rows × StandFor rows ledger) → IfSome held (λ _. HasStood before read)
+  stood_here = by_case held
+    where
+      by_case : (told : Option Rows) → IfSome told (λ rows. before rows × StandFor rows ledger) → IfSome told (λ _. HasStood before read)
+      by_case None h = tt
+      by_case (Some rows) h = subst (HasStood before) (sym is) (rows, h.0, h.1)
+
+  stands_for_other : (told : Option Rows) (old : Ledger) (change : Option Step) → IfSome told (λ rows. before rows × StandFor rows ledger)
+      → IsOther old change read → IfSome told (λ rows. StandForOther rows old change)
+  stands_for_other None old change h other = tt
+  stands_for_other (Some rows) old change h other = (ledger, h.1, subst (IsOther old change) is other)
+
+  pub other_found : (old : Ledger) (change : Option Step) (fault : SettleFault) → IfSome held (λ rows. before rows × StandFor rows ledger)
+      → OnOther fault (IsOther old change read) → OnOther fault (IfSome held (λ rows. StandForOther rows old change))
+  other_found old change (Books f) h other = tt
+  other_found old change Other h other = stands_for_other held old change h other
+
+-- ---- rows that stand for the ledger as it was, or for the one with the change
+
+abbrev pub StandForOneOf : Rows → Ledger → Option Step → Type 0
+StandForOneOf rows old change = StandFor rows old ⊎ IsSomeAnd change (λ step. StandFor rows (after_step old step))
+
+-- They stand for no other, by the law that rows stand for one ledger at most. It is proved above this crate, and handed in.
+pub not_other : (rows : Rows) → ((a b : Ledger) → StandFor rows a → StandFor rows b → a ≡ b) → (old : Ledger) (change : Option Step)
+    → StandForOneOf rows old change → StandForOther rows old change → ⊥
+not_other rows one old None stand other = ⊎_elim (λ was. other.2.before (one other.0 old other.1 was)) (λ h. h) stand
+not_other rows one old (Some step) stand other =
+    ⊎_elim (λ was. other.2.before (one other.0 old other.1 was)) (λ has. other.2.after (one other.0 (after_step old step) other.1 has)) stand
+
+good_one : (rows : Rows) (old : Ledger) (change : Option Step) → StandForOneOf rows old change → IsGood rows
+good_one rows old None stand = ⊎_elim (λ was. (old, was)) (λ h. absurd h) stand
+good_one rows old (Some step) stand = ⊎_elim (λ was. (old, was)) (λ has. (after_step old step, has)) stand
+
+-- A store whose rows are told isn't refused for them, where all that a crash might have left stands for one of the two. By that
+-- law, and by the one that a good store has no bad place.
+pub not_unsound : (held : Option Rows) (before : Rows → Type 0) (old : Ledger) (change : Option Step) (fault : SettleFault)
+    → ((rows : Rows) (a b : Ledger) → StandFor rows a → StandFor rows b → a ≡ b)
+    → ((rows : Rows) (table row : ℕ) → IsBadPlace rows table row → IsGood rows → ⊥)
+    → IsTrue (is_some held) → ((rows : Rows) → before rows → StandForOneOf rows old change)
+    → OnFound fault (IfSome held before) → OnBooks fault (λ f. IfSome held (λ rows. IsOpeningFault false rows f))
+    → OnOther fault (IfSome held (λ rows. StandForOther rows old change))
+    → (fault ≡ Books why.StoreFault) ⊎ (fault ≡ Books why.NoMemory)
+not_unsound None before old change fault one good told stand found books other = absurd (cc)
+not_unsound (Some rows) before old change (Books why.StoreFault) one good told stand found books other = inl refl
+not_unsound (Some rows) before old change (Books (why.BadStore table row)) one good told stand found books other =
+    absurd (good rows table row books (good_one rows old change (stand rows found)))
+not_unsound (Some rows) before old change (Books why.NoStart) one good told stand found books other = let odd : false ≡ true = books.0 in absurd (cc)
+not_unsound (Some rows) before old change (Books why.NoMemory) one good told stand found books other = inr refl
+not_unsound (Some rows) before old change Other one good told stand found books other =
+    absurd (not_other rows (one rows) old change (stand rows found) other)

@@ -1,8 +1,0 @@
-use Rattle.range_list.proofs.Fits.{fit_levels, present_good}
-use Rattle.range_list.proofs.laws.rows_fit_by_name.Goals as goal
-
-pub returns-clause-levels : goal.returns-clause-levels
-returns-clause-levels c = fit_levels
-
-pub returns-clause-present : goal.returns-clause-present
-returns-clause-present c = present_good

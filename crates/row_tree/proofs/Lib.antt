@@ -1,0 +1,4 @@
+pub mod Held
+pub mod Pages
+pub mod Waiting
+pub mod Distinct

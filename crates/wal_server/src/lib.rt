@@ -1,0 +1,58 @@
+//! The server with its store in a journal, and what a stop leaves on its disk and on that of the backup file.
+#![tactic(auto)]
+
+ghost use Rattle.std.specs.Prelude.{◌≡◌, ◌⊎◌, ℕ, None, IsTrue, is_some};
+ghost use Rattle.enq_cmd.specs.Main.{IsLandEnd, IsUntouched};
+ghost use Rattle.enq_cmd.specs.Words.{NamesWork, replay_words};
+ghost use Rattle.enq_cmd.specs.declared.words.Work.TheVariants.{Loads};
+ghost use Rattle.keeper_wal.specs.Wal.{told, all_faults, Leaves};
+ghost use Rattle.script_runner.specs.Replay.{seen};
+ghost use Rattle.wal_server.specs.Pairs.{HasPairs, HasLoadedPairs};
+
+use bk_disk::Disk;
+use enq_base::Items;
+use enq_cmd::{Ended, Site, enqueue_main};
+use io_edge::{Sink, Source};
+use keeper_wal::{WalKeeper, images_tell};
+use replica_link::Link;
+use std::alloc::Global;
+
+/// Does what the words say over a store in a journal, where both disks tell what they hold.
+pub fn journal_main<A: Source, S: Source, T: Sink, E: Disk, D: Disk, L: Link>(
+    alloc: Global,
+    words: &[Items<u8>],
+    landscape: &mut A,
+    script: &mut S,
+    sink: &mut T,
+    site: Site<WalKeeper<E>, D, L>,
+) -> Ended<WalKeeper<E>, D, L>
+    // The whole is one history, and each pair of images that a stop may leave on the two disks is kept for the state to
+    // which its calls led. Where the store isn't opened what stood before remains on both.
+    ensures served { words.now ≡ replay_words → IsTrue E.tells → IsTrue D.tells
+        → HasPairs (A.left landscape.old) (is_some (told E.tells site.keeper.rows)) (is_some (L.applied site.link))
+        (Leaves E.tells E.may_leave site.keeper) (Leaves E.tells E.may_leave result.site.keeper)
+        D.tells (D.reads site.disk) D.may_leave site.disk result.site.disk (L.applied result.site.link)
+        (seen (S.left script.old) (T.written sink.old) (S.faults script.old) (T.faults sink.old)
+        (all_faults E.faults site.keeper) (D.faults site.disk))
+        (seen (S.left script.new) (T.written sink.new) (S.faults script.new) (T.faults sink.new)
+        (all_faults E.faults result.site.keeper) (D.faults result.site.disk))
+        result.past result.why (E.may_leave result.site.keeper.disk)
+        ⊎ (IsLandEnd (A.faults landscape.old) (A.faults landscape.new) result.why
+        × IsUntouched script.old script.new sink.old sink.new site.keeper result.site.keeper site.disk result.site.disk
+        site.link result.site.link result.past) }
+    ensures loaded { (n : ℕ) → NamesWork words.now (Loads n) → IsTrue E.tells → IsTrue D.tells
+        → HasLoadedPairs n (A.left landscape.old) (is_some (told E.tells site.keeper.rows)) (is_some (L.applied site.link))
+        (Leaves E.tells E.may_leave site.keeper) (Leaves E.tells E.may_leave result.site.keeper)
+        D.tells (D.reads site.disk) D.may_leave site.disk result.site.disk (L.applied result.site.link)
+        (seen None (T.written sink.old) 0 (T.faults sink.old) (all_faults E.faults site.keeper) (D.faults site.disk))
+        (seen None (T.written sink.new) 0 (T.faults sink.new) (all_faults E.faults result.site.keeper)
+        (D.faults result.site.disk))
+        result.past result.why (E.may_leave result.site.keeper.disk)
+        ⊎ (IsLandEnd (A.faults landscape.old) (A.faults landscape.new) result.why
+        × IsUntouched script.old script.new sink.old sink.new site.keeper result.site.keeper site.disk result.site.disk
+        site.link result.site.link result.past) }
+{
+    let ended = enqueue_main(alloc, words, landscape, script, sink, site);
+    images_tell(&ended.site.keeper);
+    ended
+}

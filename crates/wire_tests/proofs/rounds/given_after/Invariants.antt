@@ -1,0 +1,6 @@
+use Rattle.std.specs.Prelude.{is_some}
+use Rattle.replica_link.proofs.Links.{Shipped}
+use Rattle.wire_tests.proofs.rounds.given_after.Given as goal
+
+abbrev pub invariant-loop-op : goal.invariant-loop-op
+invariant-loop-op g l = Shipped (is_some (g.L.Link.applied l.fn.link)) (g.L.Link.next l.link) (g.L.Link.applied l.link) l.snapshot l.ops l.op-index l.seq
