@@ -1,8 +1,9 @@
 /* Makes the commits that enqd makes for so many units of one lock and one put, with libsqlite3: two commits a unit, with
    write-ahead log and full sync. Before the first of them it adds the unit's lock to a log beside the database, and behind
    the second that it is gone: a record and a closed gate, a sync, the open gate, a sync. With a third word, whatever it is, it
-   makes those of so many units of `enqd load`: a lock, a number, two rows inserted, and a second part in its own commit.
-   Usage: commits PATH UNITS [load] */
+   makes those of so many units of `enqd load`: a lock, a number, two rows inserted, and a second part in its own commit. With a
+   fourth one, whatever it is, it makes as many syncs as `enqd_wal load`: one more behind each commit, of a byte in a file.
+   Usage: commits PATH UNITS [load [gates]] */
 #include <fcntl.h>
 #include <sqlite3.h>
 #include <stdint.h>
@@ -13,6 +14,7 @@
 
 static sqlite3 *db;
 static int log_file;
+static int gate_file = -1;
 static off_t log_end = 8;
 static sqlite3_stmt *put;
 
@@ -25,6 +27,21 @@ static void check(int code, int wanted) {
 
 static void run(const char *sql) {
     check(sqlite3_exec(db, sql, NULL, NULL, NULL), SQLITE_OK);
+}
+
+static void sync_at(int file, off_t at, const uint8_t *bytes, size_t length) {
+    if (pwrite(file, bytes, length, at) != (ssize_t)length || fdatasync(file) != 0) {
+        perror("commits");
+        exit(1);
+    }
+}
+
+static void commit(void) {
+    uint8_t open = 1;
+    run("COMMIT");
+    if (gate_file >= 0) {
+        sync_at(gate_file, 0, &open, 1);
+    }
 }
 
 static void big_endian(uint8_t *to, int width, uint64_t n) {
@@ -73,7 +90,7 @@ static void commit_unit(uint32_t n, uint8_t *key) {
     big_endian(key + 12, 4, 1);
     put_row(7, key, 16, lock, 24);
     put_mark(2 * (uint64_t)n - 1, key, 2);
-    run("COMMIT");
+    commit();
 }
 
 /* The business row that the unit puts, and its mark. */
@@ -85,7 +102,7 @@ static void commit_post(uint32_t n, const uint8_t *unit) {
     run("BEGIN IMMEDIATE");
     put_row(6, key, 15, (const uint8_t *)"MILLER PUMP", 11);
     put_mark(2 * (uint64_t)n, unit, 3);
-    run("COMMIT");
+    commit();
 }
 
 /* The rows of a unit of `enqd load`, its lock row, the level of the interval and the unit's mark. */
@@ -119,7 +136,7 @@ static void commit_loaded_unit(uint32_t n, uint8_t *key) {
     put_row(7, key, 16, lock, 24);
     put_row(5, interval, 9, level, 8);
     put_mark(3 * (uint64_t)n - 2, key, 2);
-    run("COMMIT");
+    commit();
 }
 
 /* The two rows that its first part inserts, and its mark. */
@@ -133,7 +150,7 @@ static void commit_first_part(uint32_t n, const uint8_t *unit) {
     key[4] = 'P';
     put_row(6, key, 18, (const uint8_t *)"ITEM 1", 6);
     put_mark(3 * (uint64_t)n - 1, unit, 3);
-    run("COMMIT");
+    commit();
 }
 
 /* The counter that its second part raises, and its mark. */
@@ -144,28 +161,28 @@ static void commit_second_part(uint32_t n, const uint8_t *unit) {
     run("BEGIN IMMEDIATE");
     put_row(6, key, 11, (const uint8_t *)digits, (int)strlen(digits));
     put_mark(3 * (uint64_t)n, unit, 4);
-    run("COMMIT");
-}
-
-static void sync_at(off_t at, const uint8_t *bytes, size_t length) {
-    if (pwrite(log_file, bytes, length, at) != (ssize_t)length || fdatasync(log_file) != 0) {
-        perror("commits");
-        exit(1);
-    }
+    commit();
 }
 
 /* One record of the log: its gate is opened once it is on the disk. */
 static void add_record(size_t length) {
     uint8_t record[80] = {0};
     uint8_t open = 1;
-    sync_at(log_end + 1, record, length + 1);
-    sync_at(log_end, &open, 1);
+    sync_at(log_file, log_end + 1, record, length + 1);
+    sync_at(log_file, log_end, &open, 1);
     log_end += 1 + (off_t)length;
 }
 
+/* A file beside the database, with nothing in it. */
+static int new_file(const char *path, const char *name) {
+    char whole[4096];
+    snprintf(whole, sizeof whole, "%s.%s", path, name);
+    return open(whole, O_RDWR | O_CREAT | O_TRUNC, 0666);
+}
+
 int main(int argc, char **argv) {
-    if (argc != 3 && argc != 4) {
-        fprintf(stderr, "usage: commits PATH UNITS [load]\n");
+    if (argc < 3 || argc > 5) {
+        fprintf(stderr, "usage: commits PATH UNITS [load [gates]]\n");
         return 2;
     }
     uint32_t units = (uint32_t)strtoul(argv[2], NULL, 10);
@@ -178,14 +195,15 @@ int main(int argc, char **argv) {
               "ON CONFLICT (number, key) DO UPDATE SET value = excluded.value",
               -1, &put, NULL),
         SQLITE_OK);
-    char log_path[4096];
-    snprintf(log_path, sizeof log_path, "%s.log", argv[1]);
-    log_file = open(log_path, O_RDWR | O_CREAT | O_TRUNC, 0666);
+    log_file = new_file(argv[1], "log");
+    if (argc == 5) {
+        gate_file = new_file(argv[1], "gate");
+    }
     for (uint32_t n = 1; n <= units; n++) {
         uint8_t unit[16] = {0, 0, 0, 1, 0, 0, 0, 1};
         big_endian(unit + 8, 4, n);
         add_record(52);
-        if (argc == 4) {
+        if (argc > 3) {
             commit_loaded_unit(n, unit);
             commit_first_part(n, unit);
         } else {
@@ -193,7 +211,7 @@ int main(int argc, char **argv) {
             commit_post(n, unit);
         }
         add_record(17);
-        if (argc == 4) {
+        if (argc > 3) {
             commit_second_part(n, unit);
         }
     }

@@ -1,8 +1,9 @@
 #!/bin/sh
-# Gives enqd landscapes, scripts, stores, backup files, words and folders that are damaged: flipped bytes, cuts, huge lines, NULs,
-# rows that are changed, files that are missing. bench/hostile_cases.py says what each run has to come to. It ends with status 1
-# where one came to something else, and then leaves the folders of those cases. It wants python3.
-# Usage: bench/hostile.sh ENQD [CASES [SEED]]; ENQD is the program (crates/enqd/out/enqd), CASES is 2,000 where it isn't given.
+# Gives enqd, or enqd_wal, landscapes, scripts, stores, backup files, words and folders that are damaged: flipped bytes, cuts, huge
+# lines, NULs, rows that are changed, files that are missing. bench/hostile_cases.py says what each run has to come to. It ends
+# with status 1 where one came to something else, and then leaves the folders of those cases. It wants python3.
+# Usage: bench/hostile.sh ENQD [CASES [SEED]]; ENQD is the program (crates/enqd/out/enqd or crates/enqd_wal/out/enqd_wal), CASES is
+# 2,000 where it isn't given.
 set -eu
 bench=$(cd "$(dirname "$0")" && pwd)
 enqd=$(realpath "$1")

@@ -1,5 +1,5 @@
 #!/usr/bin/env python3
-"""hostile_cases.py ENQD CASES SEED FOLDER: what bench/hostile.sh runs.
+"""hostile_cases.py ENQD CASES SEED FOLDER: what bench/hostile.sh runs, over enqd or over enqd_wal.
 
 First come cases of which the end is known, then CASES cases by lot, of which the one at a place follows from SEED and the place
 alone. Each begins with what the script FIRST has left in a folder, and in that something is damaged. Of each run this has to hold:
@@ -18,6 +18,8 @@ import signal
 import sqlite3
 import subprocess
 import sys
+
+from stores import Broken, Database, Journal, long, read_journal, store_of
 
 ROOT = pathlib.Path(__file__).resolve().parent.parent
 LANDSCAPE = (ROOT / "demo" / "landscape.toml").read_bytes()
@@ -128,6 +130,7 @@ class Case:
     def __init__(self, folder, base):
         shutil.copytree(base, folder)
         self.folder, self.words, self.script = folder, [b"replay"], USUAL
+        self.store = store_of(folder)
         self.stdin = self.stdout = self.room = self.holder = None
 
     def put(self, name, data):
@@ -141,16 +144,15 @@ class Case:
         if folder_instead:
             (self.folder / name).mkdir()
 
-    def sql(self, statement, *values):
-        """Changes the store, unless the database doesn't allow this change."""
-        connection = sqlite3.connect(self.folder / "enq.db")
+    def rows(self):
+        return self.store.rows(self.folder)
+
+    def change_rows(self, changes):
+        """Changes the store, unless it is too broken for this change."""
         try:
-            with connection:
-                return connection.execute(statement, values).fetchall()
-        except (sqlite3.Error, OverflowError):
-            return []
-        finally:
-            connection.close()
+            self.store.change(self.folder, changes)
+        except (sqlite3.Error, OverflowError, Broken):
+            pass
 
     def files(self):
         return {file.name: file.read_bytes() for file in self.folder.iterdir() if file.is_file()}
@@ -201,30 +203,39 @@ def make_backup_anew(case):
 
 
 def last_start(case):
-    ((marks,),) = case.sql("SELECT substr(value, 5) FROM kept WHERE number = 0")
-    case.sql("UPDATE kept SET value = ? WHERE number = 0", b"\xff" * 4 + marks)
+    case.change_rows({(0, b"S"): b"\xff" * 4 + case.rows()[0, b"S"][4:]})
 
 
 def nul_store(case):
     """The write-ahead log goes too: with it the database has its pages back."""
     for log in case.folder.glob("enq.db-*"):
         log.unlink()
-    case.put("enq.db", bytes(8192))
+    case.put(case.store.name, bytes(8192))
 
 
 def set_script(script):
     return lambda case: setattr(case, "script", script)
 
 
-def known_cases(enqd):
+def set_rows(changes):
+    return lambda case: case.change_rows(changes)
+
+
+def known_cases(enqd, store):
     """What each shows, what is done to it, its status and its line."""
-    long = len(LANDSCAPE) + 1
+    own = known_journals() if store.name == Journal.name else known_databases(enqd)
+    words = [(f"words {words!r:.40}", lambda case, words=words: setattr(case, "words", words), 2, "bad words") for words in WORDS]
+    return known_files(store.name) + own + words
+
+
+def known_files(store):
+    length = len(LANDSCAPE) + 1
     return [
         ("nothing is damaged", lambda case: None, 0, ""),
         ("no landscape", lambda case: case.remove("landscape.toml"), 5, "cannot read"),
         ("a landscape that is a folder", lambda case: case.remove("landscape.toml", True), 5, "cannot read"),
-        ("a landscape of 1 MiB", lambda case: case.put("landscape.toml", LANDSCAPE + b"#" * (2**20 - long) + b"\n"), 0, ""),
-        ("a byte more", lambda case: case.put("landscape.toml", LANDSCAPE + b"#" * (2**20 - long) + b"#\n"), 3, "bad landscape, rule 1 at 0"),
+        ("a landscape of 1 MiB", lambda case: case.put("landscape.toml", LANDSCAPE + b"#" * (2**20 - length) + b"\n"), 0, ""),
+        ("a byte more", lambda case: case.put("landscape.toml", LANDSCAPE + b"#" * (2**20 - length) + b"#\n"), 3, "bad landscape, rule 1 at 0"),
         ("a NUL in a landscape", lambda case: case.change("landscape.toml", lambda old: b"\0" + old), 3, "bad landscape, rule 2 at 0"),
         ("another first number", lambda case: case.change("landscape.toml", lambda old: old.replace(b"from = 1\n", b"from = 2\n", 1)), 3, "bad landscape, rule 15 at 2"),
         ("a NUL in a script", set_script(b"A LOGON MILLER\n\0\n"), 4, "bad line 2"),
@@ -237,20 +248,61 @@ def known_cases(enqd):
         ("a folder as standard input", lambda case: setattr(case, "stdin", case.folder), 5, "cannot read"),
         ("a full disk behind standard output", lambda case: setattr(case, "stdout", "/dev/full"), 6, "cannot write"),
         ("a store of NULs", nul_store, 7, "store fault in command 0"),
-        ("a store that is a folder", lambda case: case.remove("enq.db", True), 7, "store fault in command 0"),
-        ("a table with other columns", lambda case: case.sql("ALTER TABLE kept RENAME COLUMN value TO text"), 7, "store fault in command 0"),
-        ("a store that another program has open", lambda case: hold(enqd, case), 7, "store fault in command 0"),
-        ("a store without its own row", lambda case: case.sql("DELETE FROM kept WHERE number = 0"), 9, "bad store, table 0 row 1"),
-        ("a business row that no part made", lambda case: case.sql("UPDATE kept SET value = x'59' WHERE number = 6 AND key = x'015432'"), 9, "bad store, table 6 row 2"),
+        ("a store that is a folder", lambda case: case.remove(store, True), 7, "store fault in command 0"),
+        ("a store without its own row", set_rows({(0, b"S"): None}), 9, "bad store, table 0 row 1"),
+        ("a business row that no part made", set_rows({(6, b"\1T2"): b"Y"}), 9, "bad store, table 6 row 2"),
+        ("a row of a table that isn't read", set_rows({(8, b"K"): b"V"}), 0, ""),
         ("a store at its last start", last_start, 13, "no start number left"),
-        ("an empty store", lambda case: case.put("enq.db", b""), 0, ""),
+        ("an empty store", lambda case: case.put(store, b""), 0, ""),
         ("a backup file that is a folder", lambda case: case.remove("ENQBCK", True), 8, "backup fault in command 0"),
         ("a backup file of NULs", lambda case: case.put("ENQBCK", bytes(100)), 10, "bad backup at 0"),
         ("no backup file", lambda case: case.remove("ENQBCK"), 10, "backup lacks a lock of unit 1.1.6 at 1"),
         ("a backup file that ends early", lambda case: case.change("ENQBCK", lambda old: old[:-1]), 10, r"bad backup at \d+"),
         ("another lock", lambda case: case.change("ENQBCK", lambda old: old.replace(b"1008 ", b"1009 ")), 10, "backup lacks a lock of unit 1.1.6 at 2"),
         ("a backup file that was made anew", make_backup_anew, 0, ""),
-    ] + [(f"words {words!r:.40}", lambda case, words=words: setattr(case, "words", words), 2, "bad words") for words in WORDS]
+    ]
+
+
+def known_databases(enqd):
+    other = "ALTER TABLE kept RENAME COLUMN value TO text"
+    return [
+        ("a table with other columns", lambda case: case.store.ask(case.folder, other), 7, "store fault in command 0"),
+        ("a store that another program has open", lambda case: hold(enqd, case), 7, "store fault in command 0"),
+    ]
+
+
+def known_journals():
+    """The last batch ends before the last byte of a journal, which is its closed gate."""
+    put = b"\1\6" + long(b"K") + long(b"V")
+    broken = [
+        ("a journal that ends early", lambda old: old[:-1]),
+        ("a journal of another version", lambda old: b"ENQWAL02" + old[8:]),
+        ("a journal of 10 NULs", lambda old: bytes(10)),
+        ("an open gate behind the last batch", lambda old: old[:-1] + b"\1"),
+        ("an open gate with nothing whole behind it", lambda old: old[:-1] + b"\1" + old[9:40]),
+    ] + [(name, lambda old, data=data: old[:-1] + b"\1" + long(data) + b"\0") for name, data in [
+        ("a batch without changes", bytes(8)),
+        ("a batch that counts a change more", counted(2) + put),
+        ("a batch that counts a change less", counted(1) + put + put),
+        ("a batch that counts all that can be", b"\xff" * 8 + put),
+        ("a row that a batch changes twice", counted(2) + put + b"\2\6" + long(b"K")),
+        ("a change of a third kind", counted(1) + b"\3" + put[1:]),
+        ("a row without a key", counted(1) + b"\1\6" + long(b"") + long(b"V")),
+        ("a key that is longer than its batch", counted(1) + b"\1\6" + counted(2**63) + b"K"),
+    ]]
+    good = [
+        ("a journal of 9 bytes", lambda old: b"\1" * 9),
+        ("a journal whose first gate is closed", lambda old: old[:8] + b"\0" + old[9:]),
+        ("a closed gate of another byte", lambda old: old[:-1] + b"\xff"),
+        ("bytes behind the closed gate", lambda old: old + old),
+        ("a removal of a row that isn't there", lambda old: old[:-1] + b"\1" + long(counted(1) + b"\2\6" + long(b"K")) + b"\0"),
+    ]
+    return [(name, lambda case, change=change: case.change(Journal.name, change), status, line)
+            for names, status, line in ((broken, 7, "store fault in command 0"), (good, 0, "")) for name, change in names]
+
+
+def counted(count):
+    return count.to_bytes(8, "big")
 
 
 # ---- cases by lot
@@ -282,7 +334,7 @@ def damage_script(case, chance):
 
 
 def damage_store(case, chance):
-    case.change("enq.db", lambda old: damaged(old, chance))
+    case.change(case.store.name, lambda old: damaged(old, chance))
 
 
 def damage_log(case, chance):
@@ -290,21 +342,25 @@ def damage_log(case, chance):
     case.change("enq.db-wal", lambda old: damaged(old, chance))
 
 
+def leave_half_a_batch(case, chance):
+    """What a stop may leave behind the closed gate of a journal."""
+    case.change(case.store.name, lambda old: old + damaged(old[9:9 + chance.randint(1, 500)], chance))
+
+
 def damage_rows(case, chance):
-    rows = case.sql("SELECT number, key, value FROM kept")
+    rows = sorted(case.rows().items())
     for _ in range(chance.choice([1, 1, 2, 4])):
-        number, key, value = chance.choice(rows)
-        here = " WHERE number = ? AND key = ?"
-        chance.choice([
-            lambda: case.sql("DELETE FROM kept" + here, number, key),
-            lambda: case.sql("DELETE FROM kept WHERE number = ?", number),
-            lambda: case.sql("UPDATE kept SET value = ?" + here, damaged(value, chance), number, key),
-            lambda: case.sql("UPDATE kept SET value = ?" + here, chance.choice(rows)[2], number, key),
-            lambda: case.sql("UPDATE kept SET value = zeroblob(70000)" + here, number, key),
-            lambda: case.sql("UPDATE kept SET key = ?" + here, damaged(key, chance), number, key),
-            lambda: case.sql("UPDATE kept SET number = ?" + here, chance.randint(-1, 9), number, key),
-            lambda: case.sql("INSERT INTO kept VALUES (?, ?, ?)", number, damaged(key, chance), damaged(value, chance)),
-        ])()
+        (table, key), value = chance.choice(rows)
+        case.change_rows(chance.choice([
+            lambda: {(table, key): None},
+            lambda: {spot: None for spot, _ in rows if spot[0] == table},
+            lambda: {(table, key): damaged(value, chance)},
+            lambda: {(table, key): chance.choice(rows)[1]},
+            lambda: {(table, key): bytes(70000)},
+            lambda: {(table, key): None, (table, damaged(key, chance)): value},
+            lambda: {(table, key): None, (chance.randint(-1, 9), key): value},
+            lambda: {(table, damaged(key, chance)): damaged(value, chance)},
+        ])())
 
 
 def damage_backup(case, chance):
@@ -317,11 +373,23 @@ def leave_no_room(case, chance):
     case.script = USUAL + FIRST
 
 
-DAMAGES = [damage_landscape] * 4 + [damage_script] * 5 + [damage_store] * 3 + [damage_log] * 2 + [damage_rows] * 4 + [damage_backup] * 3
-DAMAGES += [leave_no_room] * 2
+def damages(store):
+    own = leave_half_a_batch if store.name == Journal.name else damage_log
+    return ([damage_landscape] * 4 + [damage_script] * 5 + [damage_store] * 3 + [own] * 2 + [damage_rows] * 4 + [damage_backup] * 3
+            + [leave_no_room] * 2)
 
 
 # ---- what has to hold
+
+
+def standing(files):
+    """The files, without what counts as nothing: the bytes behind the closed gate of a journal."""
+    try:
+        journal = files[Journal.name]
+        gate = read_journal(journal)[1]
+    except (KeyError, Broken):
+        return files
+    return files | {Journal.name: journal[:gate + 1]} if gate else files
 
 
 def wrong_files(status, line, before, now):
@@ -329,11 +397,12 @@ def wrong_files(status, line, before, now):
     store, where they were refused."""
     if status in (2, 3, 5) and "rule 15" not in line:
         return [name for name in before.keys() | now.keys() if before.get(name) != now.get(name)]
-    refused = ["enq.db", "ENQBCK"] if status in (9, 13) or line.endswith("store fault in command 0") else []
+    refused = [Database.name, Journal.name, "ENQBCK"] if status in (9, 13) or line.endswith("store fault in command 0") else []
     if status == 3 or status == 10 and len(before.get("ENQBCK", b"")) > 9:
         refused = ["ENQBCK"]
     if "enq.db-wal" in before:
         refused = [name for name in refused if name != "enq.db"]  # to which an opening adds what stands in the log
+    before, now = standing(before), standing(now)
     return [name for name in refused if before.get(name) != now.get(name)]
 
 
@@ -393,7 +462,8 @@ def make_bases(enqd, folder):
 def main(enqd, cases, seed, folder):
     base, killed = make_bases(enqd, folder)
     statuses, wrong = {}, 0
-    known = known_cases(enqd)
+    store = store_of(base)
+    known = known_cases(enqd, store)
     for place in range(len(known) + cases):
         name, case = "", Case(folder / f"case{place}", base)
         if place < len(known):
@@ -401,7 +471,7 @@ def main(enqd, cases, seed, folder):
             damage(case)
         else:
             chance = random.Random(seed * 1000000 + place)
-            damage = chance.choice(DAMAGES)
+            damage = chance.choice(damages(store))
             name = damage.__name__
             if damage is damage_log:
                 shutil.rmtree(case.folder)

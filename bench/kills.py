@@ -1,10 +1,10 @@
 #!/usr/bin/env python3
-"""Kills enqd at moments drawn by lot, and compares what the next start shows with what was answered before the kill.
+"""Kills enqd, or enqd_wal, at moments drawn by lot, and compares what the next start shows with what was answered before the kill.
 
-kills.py ENQD [KILLS [SEED]]: ENQD is the program (crates/enqd/out/enqd), KILLS is 1,000 where it isn't given. Each round gives
-it a script of which every reply is known beforehand: four sessions record units with a lock and two numbers each, workers post
-them or find them refused, and an administrator cancels them, lets them be tried again, has a replica follow the locks, ends the
-lock server, and has it taken over by the replica or made anew.
+kills.py ENQD [KILLS [SEED]]: ENQD is the program (crates/enqd/out/enqd or crates/enqd_wal/out/enqd_wal), KILLS is 1,000 where it
+isn't given. Each round gives it a script of which every reply is known beforehand: four sessions record units with a lock and two
+numbers each, workers post them or find them refused, and an administrator cancels them, lets them be tried again, has a replica
+follow the locks, ends the lock server, and has it taken over by the replica or made anew.
 At some moment between start and end the process is killed, and now and then the starts behind it too. What is answered by then
 has to be the beginning of what was to be answered. The next start has to end with status 0 and to show, line by line, the
 units, locks, levels, counts and rows that the answered lines have made, or those and the one line behind them. It ends with

@@ -1,7 +1,8 @@
 #!/bin/sh
 # Runs each script of demo/rows through enqd, in a folder of its own, and compares its replies, its status and its line on standard
 # error with what has to come. It ends with status 1 where something differs.
-# Usage: demo/rows.sh [ENQD]; ENQD is the program, crates/enqd/out/enqd where it isn't given (demo/run builds it).
+# Usage: demo/rows.sh [ENQD]; ENQD is the program, crates/enqd/out/enqd where it isn't given (demo/run builds it); enqd_wal may be
+# given too.
 #
 # NAME.txt is a script, NAME.out what it has to be answered; `1 to 9: LINE` stands there for nine lines, each with its number for `#`.
 # NAME_2.txt is started in the folder that NAME_1.txt has left. Beside them there may be:
@@ -10,7 +11,7 @@
 #   NAME.toml    the landscape, if it isn't that of the demo
 #   NAME.before  the backup file that is put there before the start, and
 #   NAME.after   the one that has to be there behind it, both as printf takes them
-#   NAME.rows    the rows that the store has to have behind it, where there is a sqlite3 shell
+#   NAME.rows    the rows that the store of enqd has to have behind it, where there is a sqlite3 shell
 set -eu
 export LC_ALL=C
 demo=$(cd "$(dirname "$0")" && pwd)
@@ -54,7 +55,7 @@ found() {
     if [ -f "$row.after" ]; then od -c "$folder/ENQBCK"; fi
     if ! [ -f "$row.rows" ]; then
         :
-    elif command -v sqlite3 > /dev/null; then
+    elif [ -f "$folder/enq.db" ] && command -v sqlite3 > /dev/null; then
         sqlite3 "$folder/enq.db" "SELECT number, hex(key), hex(value) FROM kept ORDER BY number, key"
     else
         cat "$row.rows"

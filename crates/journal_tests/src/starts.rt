@@ -1,0 +1,256 @@
+use bk_disk::{Disk, MemDisk, StopDisk};
+use enq_base::Items;
+use enq_cmd::Site;
+use io_edge::{MemSink, MemSource};
+use keeper_wal::WalKeeper;
+use replica_link::MemLink;
+use std::alloc::Global;
+use std::process::Abort;
+use std::test::Fail;
+use wal_server::journal_main;
+
+const LANDSCAPE: &[u8] = b"max_locks = 1000\n\
+[[object]]\n\
+name = \"EZORDER\"\n\
+fields = [{ name = \"MANDT\", width = 3 }, { name = \"ORDNR\", width = 10 }]\n\
+[[object.table]]\n\
+name = \"ZORDER\"\n\
+keys = [\"MANDT\", \"ORDNR\"]\n\
+[[range]]\n\
+object = \"ZORDNR\"\n\
+nr = \"01\"\n\
+from = 1\n\
+to = 9999999999\n\
+buffer = 0\n\
+percent = 10\n\
+[[range]]\n\
+object = \"ZBUF\"\n\
+nr = \"01\"\n\
+from = 1\n\
+to = 1000\n\
+buffer = 10\n\
+percent = 0\n";
+
+/// What a start has left.
+#[derive(Drop)]
+struct Left<D: Disk + Drop> {
+    replies: Vec<u8>,
+    status: u8,
+    journal: D,
+    backup: MemDisk,
+}
+
+fn disk_of(alloc: Global, bytes: &[u8]) -> Result<MemDisk, Fail> {
+    Ok(MemDisk::new(alloc, bytes.to_vec(alloc)?, Vec::new(alloc))?)
+}
+
+fn source_of(alloc: Global, bytes: &[u8]) -> Result<MemSource, Fail> {
+    Ok(MemSource::new(bytes.to_vec(alloc)?, Vec::new(alloc))?)
+}
+
+/// A start that replays a script, over a journal and a backup file.
+fn start<D: Disk + Drop>(
+    alloc: Global,
+    script: &[u8],
+    journal: D,
+    backup: MemDisk,
+) -> Result<Left<D>, Fail> {
+    let words = [Items::from_vec(b"replay".to_vec(alloc)?)];
+    let mut landscape = source_of(alloc, LANDSCAPE)?;
+    let mut script = source_of(alloc, script)?;
+    let mut sink = MemSink::new(alloc, Vec::new(alloc))?;
+    let link = MemLink::new(alloc, Vec::new(alloc))?;
+    let ended = journal_main(
+        alloc,
+        words.as_slice(),
+        &mut landscape,
+        &mut script,
+        &mut sink,
+        Site {
+            keeper: WalKeeper::new(alloc, journal),
+            disk: backup,
+            link,
+        },
+    );
+    let replies = sink.bytes().to_vec(alloc)?;
+    Ok(Left {
+        replies,
+        status: ended.status,
+        journal: ended.site.keeper.into_disk(),
+        backup: ended.site.disk,
+    })
+}
+
+// A first start without a line. In table 0 the row `S` gets start 1 and no marks.
+const JOURNAL: [u8; 57] = *b"ENQWAL01\x01\0\0\0\0\0\0\0\x27\0\0\0\0\0\0\0\x01\
+    \x01\0\0\0\0\0\0\0\0\x01S\0\0\0\0\0\0\0\x0c\0\0\0\x01\0\0\0\0\0\0\0\0\0";
+
+/// A start over these bytes has this status. Where they are refused they stay.
+fn ends_with(rt: &impl Abort, alloc: Global, bytes: &[u8], status: u8) -> Result<(), Fail> {
+    let left = start(alloc, b"", disk_of(alloc, bytes)?, disk_of(alloc, b"")?)?;
+    assert_eq!(rt; left.status, status);
+    if status != 0 {
+        assert_eq!(rt; left.journal.image(alloc, 1)?.as_slice(), bytes);
+    }
+    Ok(())
+}
+
+#[test]
+fn a_start_writes_the_journal(rt: HostRuntime) -> Result<(), Fail> {
+    let alloc = rt.alloc();
+    let left = start(alloc, b"", disk_of(alloc, b"")?, disk_of(alloc, b"")?)?;
+    assert_eq!(&rt; left.status, 0);
+    assert_eq!(&rt;
+        left.journal.image(alloc, 0)?.as_slice(),
+        JOURNAL.as_slice()
+    );
+    Ok(())
+}
+
+#[test]
+fn a_start_refuses_a_journal_that_is_cut(rt: HostRuntime) -> Result<(), Fail> {
+    let alloc = rt.alloc();
+    for length in 0..58 {
+        let status = if length < 10 || length == 57 { 0 } else { 7 };
+        ends_with(&rt, alloc, &JOURNAL[..length], status)?;
+    }
+    Ok(())
+}
+
+/// The status of a start over the journal with this byte in this place.
+fn status_of(at: usize, byte: u8) -> u8 {
+    match (at, byte) {
+        // A closed gate, a table that isn't read, another start.
+        (8 | 26 | 44..=46 | 56, _) | (47, 0xff) => 0,
+        // Another row than the store's own, start 0, more marks than there are.
+        (35 | 47 | 48..=55, _) => 9,
+        // No journal.
+        _ => 7,
+    }
+}
+
+#[test]
+fn a_start_reads_a_journal_with_another_byte(rt: HostRuntime) -> Result<(), Fail> {
+    let alloc = rt.alloc();
+    for at in 0..57 {
+        for byte in [0, 0xff] {
+            let mut bytes = JOURNAL;
+            if bytes[at] != byte {
+                bytes[at] = byte;
+                ends_with(&rt, alloc, &bytes, status_of(at, byte))?;
+            }
+        }
+    }
+    Ok(())
+}
+
+// Numbers, a unit whose parts are both posted, and one that is refused, tried again and cancelled.
+const SCRIPT: &[u8] = b"A LOGON MILLER\n\
+    A NUM ZORDNR 01 N\n\
+    A NUM ZBUF 01 M\n\
+    A ENQ EZORDER E 2 MANDT=100 ORDNR=0000000001\n\
+    A V1 PUT T 1 X\n\
+    A V2 ADD STAT N 1\n\
+    A COMMIT\n\
+    @1 TAKE1\n\
+    @1 DO1\n\
+    @1 TAKE2\n\
+    @1 DO2\n\
+    A ENQ EZORDER E 2 MANDT=100 ORDNR=0000000002\n\
+    A V1 DEL T 9\n\
+    A COMMIT\n\
+    @1 TAKE1\n\
+    @1 DO1\n\
+    ! RESUBMIT 1.1.2\n\
+    ! CANCEL 1.1.2\n\
+    ? AUDIT\n";
+
+const REPLIES: &[u8] =
+    b"1 OK\n2 OK 1 -\n3 OK 1 -\n4 OK\n5 OK\n6 OK\n7 OK 1.1.1\n8 OK 1.1.1\n9 POSTED 1.1.1\n\
+    10 OK 1.1.1\n11 CLOSED 1.1.1\n12 OK\n13 OK\n14 OK 1.1.2\n15 OK 1.1.2\n16 BAD 1.1.2 1 MISSING\n17 OK 1.1.2\n\
+    18 OK 1.1.2\n19 UNITS 2 OPEN 0 POSTED 0 BAD 0 CLOSED 1 BAD2 0 CANCELLED 1 MARKS 7 NUMBERS 2\n19 END\n";
+
+const NO_UNITS: &[u8] =
+    b"1 UNITS 0 OPEN 0 POSTED 0 BAD 0 CLOSED 0 BAD2 0 CANCELLED 0 MARKS 0 NUMBERS 0\n1 END\n";
+
+// What each line is answered that changes a unit, and the counts behind it.
+const STEPS: [(&[u8], &[u8]); 7] = [
+    (
+        b"\n7 OK 1.1.1\n",
+        b"1 UNITS 1 OPEN 1 POSTED 0 BAD 0 CLOSED 0 BAD2 0 CANCELLED 0 MARKS 1 NUMBERS 2\n1 END\n",
+    ),
+    (
+        b"\n9 POSTED 1.1.1\n",
+        b"1 UNITS 1 OPEN 0 POSTED 1 BAD 0 CLOSED 0 BAD2 0 CANCELLED 0 MARKS 2 NUMBERS 2\n1 END\n",
+    ),
+    (
+        b"\n11 CLOSED 1.1.1\n",
+        b"1 UNITS 1 OPEN 0 POSTED 0 BAD 0 CLOSED 1 BAD2 0 CANCELLED 0 MARKS 3 NUMBERS 2\n1 END\n",
+    ),
+    (
+        b"\n14 OK 1.1.2\n",
+        b"1 UNITS 2 OPEN 1 POSTED 0 BAD 0 CLOSED 1 BAD2 0 CANCELLED 0 MARKS 4 NUMBERS 2\n1 END\n",
+    ),
+    (
+        b"\n16 BAD 1.1.2 1 MISSING\n",
+        b"1 UNITS 2 OPEN 0 POSTED 0 BAD 1 CLOSED 1 BAD2 0 CANCELLED 0 MARKS 5 NUMBERS 2\n1 END\n",
+    ),
+    (
+        b"\n17 OK 1.1.2\n",
+        b"1 UNITS 2 OPEN 1 POSTED 0 BAD 0 CLOSED 1 BAD2 0 CANCELLED 0 MARKS 6 NUMBERS 2\n1 END\n",
+    ),
+    (
+        b"\n18 OK 1.1.2\n",
+        b"1 UNITS 2 OPEN 0 POSTED 0 BAD 0 CLOSED 1 BAD2 0 CANCELLED 1 MARKS 7 NUMBERS 2\n1 END\n",
+    ),
+];
+
+fn contains(bytes: &[u8], part: &[u8]) -> bool {
+    for at in 0..bytes.len() {
+        if bytes[at..].starts_with(part) {
+            return true;
+        }
+    }
+    false
+}
+
+/// Whether the counts are those behind the lines that were answered, or behind the one after them too.
+fn may_be(replies: &[u8], counts: &[u8]) -> bool {
+    let mut answered = NO_UNITS;
+    for (answer, next) in STEPS {
+        if !contains(replies, answer) {
+            return counts == answered || counts == next;
+        }
+        answered = next;
+    }
+    counts == answered
+}
+
+/// Stops at a call of the journal's disk, and starts from each image that a crash then leaves. Tells whether the script
+/// came to its end before.
+fn stop_at(rt: &impl Abort, alloc: Global, k: u64) -> Result<bool, Fail> {
+    let disk = StopDisk::new(disk_of(alloc, b"")?, k);
+    let stopped = start(alloc, SCRIPT, disk, disk_of(alloc, b"")?)?;
+    let is_done = stopped.replies.as_slice() == REPLIES;
+    assert_eq!(rt; stopped.status, if is_done { 0 } else { 7 });
+    let journal = stopped.journal.into_disk();
+    for pick in 0..4 {
+        let image = disk_of(alloc, &journal.image(alloc, pick)?)?;
+        let backup = disk_of(alloc, &stopped.backup.image(alloc, pick)?)?;
+        let next = start(alloc, b"? AUDIT\n", image, backup)?;
+        assert_eq!(rt; next.status, 0);
+        assert!(rt; may_be(&stopped.replies, &next.replies));
+    }
+    Ok(is_done)
+}
+
+#[test]
+fn a_stop_leaves_what_was_answered(rt: HostRuntime) -> Result<(), Fail> {
+    let alloc = rt.alloc();
+    for k in 1..100 {
+        if stop_at(&rt, alloc, k)? {
+            return Ok(());
+        }
+    }
+    Err(Fail::from("the script never came to its end"))
+}

@@ -1,0 +1,2 @@
+pub mod ActorLines
+pub mod ReplyTexts

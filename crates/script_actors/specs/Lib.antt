@@ -1,0 +1,3 @@
+pub mod Doers
+pub mod Texts
+pub mod Actors

@@ -1,0 +1,5 @@
+pub mod Parts
+pub mod Turns
+pub mod Led
+pub mod Ups
+pub mod Wanting

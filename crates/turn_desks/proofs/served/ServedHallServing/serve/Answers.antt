@@ -1,0 +1,57 @@
+use Rattle.std.proofs.Common.{ap, ◌∙◌}
+use Rattle.std.proofs.Math.Logic.{∥∥₁_map}
+use Rattle.hall_model.specs.Unsound.{is_unsound_file, is_unsound_replica, is_unsound_store}
+use Rattle.script_runner.proofs.GoodFiles.{step_sound}
+use Rattle.script_runner.proofs.Kept.{later_counts, linked_call}
+use Rattle.order_laws.specs.Behind.{is_up}
+use Rattle.turn_desks.specs.Led.{counts_of}
+use Rattle.turn_desks.proofs.Led.{CallCounts, begun_is_prefix, desk_step, led_call, no_stock_may}
+use Rattle.turn_desks.proofs.Ups.{up_step}
+use Rattle.turn_desks.proofs.served.ServedHallServing.serve.Goals as goal
+
+pub serve-reply-requires : goal.serve-reply-requires
+serve-reply-requires g c = no_stock_may c.args.self.now.hall.state _ c.requires.stock
+
+pub invariant_of-self : goal.invariant_of-self
+invariant_of-self g c =
+    let was = c.args.self.now in
+    let old = was.hall in
+    let new = c.serve-reply.new.self in
+    let call = c.serve-reply.ensures in
+    let reply = c.serve-reply.result in
+    let n = c.args.line in
+    let cmd = c.args.command in
+    let faults = g.L.Link.faults in
+    let refusals = g.L.Link.refusals in
+    let now = counts_of g.K.Keeper.faults g.D.Disk.faults faults refusals old.keeper old.file.disk old.follower.link in
+    let next = counts_of g.K.Keeper.faults g.D.Disk.faults faults refusals new.keeper new.file.disk new.follower.link in
+    let later = later_counts g.L.Link.applied faults refusals old.follower new.follower call.link in
+    let counts : CallCounts g.J.Origin.told g.D.Disk.tells g.J.Origin.linked old.state new.state now next reply = record {
+      store = call.cause;
+      file = call.file_cause;
+      link = linked_call old.state new.state n cmd reply now.link next.link call.step later call.link_cause call.lost;
+      good_file = λ yes none. step_sound is_unsound_file old.state new.state n cmd reply call.step (call.good_file yes) none;
+      good_store = λ yes none. step_sound is_unsound_store old.state new.state n cmd reply call.step (call.good_store (was.told ∙ yes)) none;
+      good_replica = λ yes none. step_sound is_unsound_replica old.state new.state n cmd reply call.step (call.good_replica (was.linked ∙ yes)) none;
+    } in
+    record {
+      told = call.told ∙ was.told;
+      linked = call.link.told ∙ was.linked;
+      up = up_step old.state new.state n cmd reply call.step was.up;
+      led = ∥∥₁_map was.led
+          (led_call g.J.Origin.told g.D.Disk.tells g.J.Origin.linked g.J.Origin.first g.J.Origin.counts
+          old.state new.state now next n cmd reply call.step counts);
+    }
+
+pub returns-clause-told : goal.returns-clause-told
+returns-clause-told g c = desk_step _ _ _ _ _ c.serve-reply.ensures.step
+
+pub returns-clause-grows : goal.returns-clause-grows
+returns-clause-grows g c = begun_is_prefix _ _ c.serve-reply.ensures.begun
+
+pub returns-clause-up : goal.returns-clause-up
+returns-clause-up g c =
+    let old = c.args.self.now.hall in
+    let new = c.serve-reply.new.self in
+    c.is_up-is_up.ensures
+    ∙ (ap is_up c.condition.ensures ∙ up_step old.state new.state c.args.line c.args.command c.serve-reply.result c.serve-reply.ensures.step c.args.self.now.up)

@@ -1,0 +1,152 @@
+ghost use Rattle.std.specs.Prelude.{◌≡◌, [], Bool, is_some, map};
+ghost use Rattle.enq_base.specs.declared.condition.Condition.TheVariants.{Up};
+ghost use Rattle.hall_model.specs.State.{State};
+ghost use Rattle.hall_model.specs.Calls.{call_of};
+ghost use Rattle.hall_model.specs.History.{IsStep};
+ghost use mathlib.Core.List.{IsPrefix};
+ghost use Rattle.script_actors.specs.Actors.{HasNoStock, desk_call, with_call};
+ghost use Rattle.order_laws.specs.Behind.{is_up, up_after};
+ghost use Rattle.turn_desks.specs.Asking.{Asks};
+ghost use Rattle.turn_desks.specs.Led.{Counts, IsLed, counts_of};
+
+use bk_disk::Disk;
+use enq_base::Condition;
+use hall::Hall;
+use hall_model::{Command, PastEntry};
+use keeper_api::Keeper;
+use lock_entry::LockStore;
+use order_workers::Look;
+use replica_link::Link;
+use std::alloc::Global;
+use std::marker::{Brand, PhantomData};
+use turn_lock::{Act, History};
+
+/// What a hall was opened with: its first state, what its devices had counted then, and whether its store tells its
+/// rows and its link the replica's list. One call of a program picks it.
+pub trait Origin {
+    ghost first: { State };
+
+    ghost counts: { Counts };
+
+    ghost told: { Bool };
+
+    ghost linked: { Bool };
+}
+
+impl Origin for Brand {
+    ghost use Rattle.std.specs.Prelude.{true};
+    ghost use Rattle.script_actors.specs.Actors.{unseen};
+
+    ghost first = { unseen };
+
+    ghost counts = { record { store = 0; file = 0; link = record { faults = 0; refusals = 0 } } };
+
+    ghost told = { true };
+
+    ghost linked = { true };
+}
+
+/// A state under a lock that serves calls, and keeps each in its history.
+pub trait Serving: History<Entry = PastEntry> {
+    /// Serves a call of this line of the script.
+    fn serve(&mut self, alloc: Global, line: u32, command: Command) -> Look
+        requires stock { HasNoStock (call_of command) }
+        ensures told { map desk_call (Self.past self.new) ≡ with_call (map desk_call (Self.past self.old)) line command
+            result.reply }
+        ensures grows { IsPrefix (Self.past self.old) (Self.past self.new) }
+        ensures up { result.is_up ≡ up_after (Self.past self.new) };
+}
+
+/// The hall, to which calls led from the state that it was opened with.
+#[derive(Drop)]
+pub struct ServedHall<J: Origin, T: LockStore, K: Keeper, D: Disk, L: Link> {
+    pub hall: Hall<T, K, D, L>,
+    of: PhantomData<J>,
+    ghost told: { is_some (K.held hall.keeper) ≡ J.told },
+    ghost linked: { is_some (L.applied hall.follower.link) ≡ J.linked },
+    ghost up: { is_up hall.state.condition ≡ up_after hall.state.past },
+    ghost led: { ∥ IsLed J.told D.tells J.linked J.first J.counts hall.state
+        (counts_of K.faults D.faults L.faults L.refusals hall.keeper hall.file.disk hall.follower.link) ∥₁ },
+}
+
+impl<J: Origin, T: LockStore, K: Keeper, D: Disk, L: Link> History for ServedHall<J, T, K, D, L> {
+    type Entry = PastEntry;
+
+    ghost past = { λ s. s.hall.state.past };
+}
+
+impl<J: Origin, T: LockStore, K: Keeper, D: Disk, L: Link> ServedHall<J, T, K, D, L> {
+    /// A hall before its first call.
+    pub fn new(hall: Hall<T, K, D, L>) -> ServedHall<J, T, K, D, L>
+        requires first { hall.state ≡ J.first }
+        requires none { hall.state.past ≡ [] }
+        requires up { hall.state.condition ≡ Up }
+        requires counts { counts_of K.faults D.faults L.faults L.refusals hall.keeper hall.file.disk hall.follower.link
+            ≡ J.counts }
+        requires told { is_some (K.held hall.keeper) ≡ J.told }
+        requires linked { is_some (L.applied hall.follower.link) ≡ J.linked }
+        ensures hall { result.hall ≡ hall }
+    {
+        ServedHall {
+            hall,
+            of: PhantomData,
+        }
+    }
+
+    /// Gives the hall back, and tells what led to it.
+    pub fn into_hall(self) -> Hall<T, K, D, L>
+        ensures hall { result ≡ self.hall }
+        ensures told { is_some (K.held result.keeper) ≡ J.told }
+        ensures linked { is_some (L.applied result.follower.link) ≡ J.linked }
+        ensures up { is_up result.state.condition ≡ up_after result.state.past }
+        ensures led { ∥ IsLed J.told D.tells J.linked J.first J.counts result.state
+            (counts_of K.faults D.faults L.faults L.refusals result.keeper result.file.disk result.follower.link) ∥₁ }
+    {
+        self.hall
+    }
+}
+
+impl<J: Origin, T: LockStore, K: Keeper, D: Disk, L: Link> Serving for ServedHall<J, T, K, D, L> {
+    fn serve(&mut self, alloc: Global, line: u32, command: Command) -> Look
+        requires stock { HasNoStock (call_of command) }
+        ensures told { map desk_call self.new.hall.state.past ≡ with_call (map desk_call self.old.hall.state.past) line
+            command result.reply }
+        ensures grows { IsPrefix self.old.hall.state.past self.new.hall.state.past }
+        ensures up { result.is_up ≡ up_after self.new.hall.state.past }
+        ensures step { IsStep self.old.hall.state self.new.hall.state line command result.reply }
+    {
+        let reply = self.hall.serve(alloc, line, command);
+        let is_up = is_up(self.hall.condition());
+        Look { reply, is_up }
+    }
+}
+
+fn is_up(condition: Condition) -> bool
+    ensures { result ≡ is_up condition }
+{
+    matches!(condition, Condition::Up)
+}
+
+/// One call of the state under the lock.
+#[derive(Drop)]
+pub(crate) struct OneCall {
+    pub(crate) alloc: Global,
+    pub(crate) line: u32,
+    pub(crate) command: Option<Command>,
+}
+
+impl<S: Serving> Act<S, Look> for OneCall {
+    ghost use Rattle.std.specs.Prelude.{IfSome, Some};
+    ghost use Rattle.hall_model.specs.declared.command.Command.{Command};
+
+    ghost can = { λ a s. (c : Command) × ((a.command ≡ Some c) × HasNoStock (call_of c)) };
+
+    ghost does = { λ a s b t look. IfSome a.command (λ c. Asks S.past a.line c look.reply look.is_up s t) };
+
+    fn act(&mut self, state: &mut S) -> Look {
+        let Some(command) = self.command.take() else {
+            unreachable!()
+        };
+        state.serve(self.alloc, self.line, command)
+    }
+}
