@@ -1,0 +1,6 @@
+mod Padding
+mod Names
+mod Watches
+mod Tallied
+mod Found
+mod Walks

@@ -1,0 +1,5 @@
+pub mod Locks
+pub mod Faults
+pub mod Lacks
+pub mod Walked
+pub mod Tallies
