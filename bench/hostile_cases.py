@@ -3,7 +3,7 @@
 
 First come cases of which the end is known, then CASES cases by lot, of which the one at a place follows from SEED and the place
 alone. Each begins with what the script FIRST has left in a folder, and in that something is damaged. Of each run this has to hold:
-it ends by itself within a minute, with a status of the table in docs/COMMANDS.md and the line that belongs to it on standard
+it ends by itself within a minute, with a status of the table in docs/OPERATING.md and the line that belongs to it on standard
 error; it wrote lines of replies and nothing else; files that it doesn't open, or refuses, are as they were (`wrong_files`); what
 was refused is refused again in the same words, and behind a run that was served, or had no room for its files, the next start
 ends with status 0, with just the locks of the units that wait."""

@@ -2,7 +2,7 @@
 use Rattle.std.proofs.Common.{◌≡◌, ℕ, ◌+◌, ◌-◌, ◌^◌, ◌≤◌, ◌<◌, Bool, true, false, cond, ◌||◌, List, [], ◌∷◌, ◌++◌, length, map, set, Option, Some, None, refl, sym, ap, ◌∙◌, subst, arith}
 use Rattle.std.specs.Prelude.{count_by, nat_lt}
 use Rattle.std.specs.Global.{Vec}
-use Rattle.std.specs.List.{AllByRecursion, fold, list_any}
+use Rattle.std.specs.List.{list_any}
 use Rattle.std.proofs.Math.Nat.{min-eq_left}
 use Rattle.std.proofs.lemmas.Bool.{lt-ltb}
 use Rattle.std.proofs.lemmas.List.Sums.{count_by-le-length, sum_by-append}
@@ -19,7 +19,7 @@ use Rattle.coverage.specs.declared.tally.Tally.{Tally}
 use Rattle.coverage.specs.Locks.{covered, covers}
 use Rattle.coverage.specs.Lacks.{Standing, abandons, after_line, commits, committed, met_at_commit, on_table, still_met}
 use Rattle.coverage.specs.Walked.{SessionView, followed, looked_after, new_watch, told, told_by, watches_on}
-use Rattle.coverage.specs.Tallies.{AreMoved, AreTallied, all_turned, collected_after, counted, covering, held_after, looked, moves, new_tally, sum_up, tallied, told_tallies, told_tally, turned, watch_of, watches_of}
+use Rattle.coverage.specs.Tallies.{AreMoved, AreTallied, all_turned, counted, covering, looked, moves, new_tally, sum_up, tallied, told_tallies, told_tally, turned, watches_of}
 
 one_more : (b : Bool) (n : ℕ) (any : Bool) → nat_lt 0 n ≡ any → nat_lt 0 ((0 + cond b 1 0) + n) ≡ (b || any)
 one_more true n any h = lt-ltb 0 ((0 + 1) + n) (omega arith)

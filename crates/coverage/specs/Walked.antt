@@ -7,11 +7,10 @@ use Rattle.enq_base.specs.contracts.name.NamePartialEq.TheImpl as names
 use Rattle.lock_entry.specs.declared.entry.Asked.{Asked}
 use Rattle.lock_objects.specs.Objects.{Object}
 use Rattle.script_lang.specs.declared.script_line.ScriptLine.{ScriptLine}
-use Rattle.script_lang.specs.declared.script_line.ScriptLine.TheVariants as line
 use Rattle.coverage.specs.declared.lack.Finding.{Finding}
 use Rattle.coverage.specs.declared.lack.Watch.{Watch}
 use Rattle.coverage.specs.declared.lack.Wish.{Wish}
-use Rattle.coverage.specs.Lacks.{Course, Fate, Numbered, Standing, Waiting, Dropped, Judged, after_line, abandons, commits, fate_of, findings, fresh, is_guarded, is_kept, is_met, is_of, on_table, own_finding, session_of, standing_of, table_read, uneven, wish_of}
+use Rattle.coverage.specs.Lacks.{Fate, Numbered, Standing, Waiting, Dropped, Judged, after_line, abandons, commits, fate_of, findings, fresh, is_guarded, is_kept, is_met, is_of, on_table, own_finding, session_of, standing_of, table_read, uneven, wish_of}
 
 -- the watch over a wish that still waits
 abbrev pub waiting : (place : ℕ) → Wish → Fate → List Watch

@@ -24,7 +24,7 @@ use Rattle.script_runner.specs.LineFaults.{IsFirstBad, IsFirstLong, IsToBlame}
 use Rattle.script_runner.specs.Lines.{line_in}
 use Rattle.script_runner.specs.Whole.{IsGood, IsScript}
 use Rattle.script_runner.specs.declared.runner.Why.{Why}
-use Rattle.script_runner.specs.declared.runner.Why.TheVariants.{Done, BadWords, BadLandscape, BadLine, SourceFault, SinkFault, LongLine, ManyLines, StoreFault, BackupFault, BadStore, BadBackup, NoStart, NoMemory}
+use Rattle.script_runner.specs.declared.runner.Why.TheVariants.{Done, BadWords, BadLandscape, BadLine, SourceFault, SinkFault, LongLine, ManyLines, StoreFault, BackupFault, BadStore, BadBackup, NoStart, NoMemory, LogFull}
 
 -- ---- bytes of a line
 
@@ -309,3 +309,4 @@ blameless bytes other (BadStore table row) script h = tt
 blameless bytes other (BadBackup place) script h = tt
 blameless bytes other NoStart script h = tt
 blameless bytes other NoMemory script h = tt
+blameless bytes other LogFull script h = tt

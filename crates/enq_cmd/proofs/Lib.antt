@@ -5,3 +5,8 @@ pub mod Lands
 pub mod Numbers
 pub mod Openings
 pub mod Tellings
+pub mod LinkCounts
+pub mod ThreadEnds
+pub mod ThreadRuns
+pub mod Coverings
+pub mod SafeScripts

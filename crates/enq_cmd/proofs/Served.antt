@@ -5,7 +5,7 @@ use Rattle.enq_base.specs.Causes.{Rose}
 use Rattle.hall_calls.specs.Filing.{AllRecover, LeavesLists}
 use Rattle.hall_calls.specs.Leaving.{LeavesState, StandForState}
 use Rattle.hall_model.specs.Kept.{HasOpenUnits}
-use Rattle.hall_model.specs.Recall.{state_after}
+use Rattle.hall_model.specs.Recall.{AreModelAnswers, Made, calls_of, state_after}
 use Rattle.hall_model.specs.State.{State}
 use Rattle.hall_calls.specs.View.{View}
 use Rattle.enq_base.specs.declared.condition.BackupBad.{BackupBad}
@@ -24,37 +24,58 @@ use Rattle.script_runner.specs.Replay.{RunsScript, Seen, seen}
 use Rattle.script_runner.specs.Replicas.{AreLater, CountsLinkEach, GoesOnLinked, HasLinked, LinkCounts, link_counts}
 use Rattle.script_runner.specs.Shown.{audit_shown}
 use Rattle.script_runner.specs.declared.runner.Why.{Why}
-use Rattle.script_runner.specs.declared.runner.Why.TheVariants.{Done, BadWords, BadLandscape, BadLine, SourceFault, SinkFault, LongLine, ManyLines, StoreFault, BackupFault, BadStore, BadBackup, NoStart, NoMemory}
-use Rattle.enq_cmd.proofs.Tellings.{HasRun, first_sound, served_with, where_told}
+use Rattle.script_runner.specs.declared.runner.Why.TheVariants.{Done, BadWords, BadLandscape, BadLine, SourceFault, SinkFault, LongLine, ManyLines, StoreFault, BackupFault, BadStore, BadBackup, NoStart, NoMemory, LogFull}
+use Rattle.enq_cmd.proofs.Tellings.{HasRun, first_sound, promises_with, served_with, where_told}
 use Rattle.enq_cmd.specs.Writing.{WritesText}
-use Rattle.enq_cmd.specs.Main.{EndsComplete, HasLandscape, IsFaultless, IsBadDocument, IsBadStore, IsLandEnd, IsUnfitEnd, IsServed, IsUnopened, IsUntouched, first_state}
+use Rattle.enq_cmd.specs.Main.{AreServed, EndsComplete, HasLandscape, HasNoStart, IsFaultless, IsBadDocument, IsBadStore, IsFirstBroken, IsLandEnd, IsUnfitEnd, IsServed, IsUnopened, IsUntouched, first_state}
 use Rattle.enq_cmd.specs.Loading.{HasLoaded, IsRunEnd, IsSilent, RunsLoad, ShowsCounts, unheard}
 use Rattle.enq_cmd.specs.Opening.{IsLandedAlone, IsOpened, IsUnlanded}
 
--- an open server, whose calls led to another state, and its devices then
-pub served_by : {K D L : Type 0} (held : K → Option Rows) (may_leave : K → Rows → Type 0) (faults : K → ℕ) (tells : Bool) (reads : D → List ℕ) (images : D → List ℕ → Type 0) (file_faults : D → ℕ)
-    (applied : L → Option (List Entry)) (left : Option (List ℕ)) (keeper : K) (disk : D) (link : L) (hall : View K D L) (objects : List Object) (o : IsOpened held may_leave faults tells reads file_faults applied left keeper disk link hall objects)
-    (after : View K D L) (keeper_now : K) (disk_now : D) → keeper_now ≡ after.keeper → disk_now ≡ after.file.disk → is_some (held after.keeper) ≡ is_some (held hall.keeper)
-    → LeavesState held may_leave after → LeavesLists tells images after → HasOpenUnits after.state
-    → (copy : Option (List Entry)) → (after.state.attached ≡ true → IfSome copy (λ list. list ≡ after.state.locks))
-    → (IsTrue tells → NoneUnsound hall.state.past → NoneUnsound after.state.past)
-    → (is_some (held hall.keeper) ≡ true → NoneUnsoundStore hall.state.past → NoneUnsoundStore after.state.past)
-    → (is_some (applied hall.follower.link) ≡ true → NoneUnsoundReplica hall.state.past → NoneUnsoundReplica after.state.past)
-    → (known : List Object) (old new : Seen) (past : List PastEntry) (why : Why) → HasRun o.land (is_some (held keeper)) (is_some (applied link)) hall.state.stored hall.state after.state known old new past why
-    → (s : IsServed o.land (is_some (held keeper)) (is_some (applied link)) (may_leave keeper) (may_leave keeper_now) tells (reads disk) (images disk_now) copy old new past why)
-    × (after.state ≡ state_after (first_state o.land (is_some (held keeper)) (is_some (applied link)) s.stored) s.made)
-served_by held may_leave faults tells reads images file_faults applied left keeper disk link hall objects o after keeper_now disk_now kept kept_disk told leaves lists units copy follows files stores replicas known old new past why run =
-    served_with o.land (is_some (held keeper)) (is_some (applied link)) hall.state.stored (may_leave keeper) (may_leave keeper_now) tells (reads disk) (images disk_now) copy hall.state after.state known old new past why
-    (read_limits o.read.bytes o.land o.read.gives)
-    o.sound
-    (λ yes. where_told _ (held hall.keeper) (subst IsTrue (sym o.told) yes) o.stored)
-    o.fits o.table o.filed run
-    (λ yes. subst (λ k. (rows : Rows) → may_leave k rows → StandForState rows after.state) (sym kept) (where_told _ (held after.keeper) (subst IsTrue (sym (told ∙ o.told)) yes) leaves))
-    (subst (λ d. AllRecover tells images after.state.condition after.state.stored after.state.pending after.state.found (record after.file { disk = d })) (sym kept_disk) lists)
-    units follows
-    (λ yes. subst NoneUnsound (sym run.history) (files yes (first_sound is_unsound_file o.land (is_some (held keeper)) (is_some (applied link)) hall.state.stored hall.state o.first)))
-    (λ yes. subst NoneUnsoundStore (sym run.history) (stores (o.told ∙ yes) (first_sound is_unsound_store o.land (is_some (held keeper)) (is_some (applied link)) hall.state.stored hall.state o.first)))
-    (λ yes. subst NoneUnsoundReplica (sym run.history) (replicas (ap (λ l. is_some (applied l)) o.linked ∙ yes) (first_sound is_unsound_replica o.land (is_some (held keeper)) (is_some (applied link)) hall.state.stored hall.state o.first)))
+module _ {K D L : Type 0} (held : K → Option Rows) (may_leave : K → Rows → Type 0) (faults : K → ℕ) (tells : Bool) (reads : D → List ℕ) (images : D → List ℕ → Type 0) (file_faults : D → ℕ)
+    (applied : L → Option (List Entry)) (left : Option (List ℕ)) (keeper : K) (disk : D) (link : L) (hall : View K D L) (objects : List Object)
+    (o : IsOpened held may_leave faults tells reads file_faults applied left keeper disk link hall objects) where
+  -- an open server, whose calls led to another state, and its devices then
+  pub promises_by : (after : View K D L) (keeper_now : K) (disk_now : D) → keeper_now ≡ after.keeper → disk_now ≡ after.file.disk → is_some (held after.keeper) ≡ is_some (held hall.keeper)
+      → LeavesState held may_leave after → LeavesLists tells images after → HasOpenUnits after.state
+      → (copy : Option (List Entry)) → (after.state.attached ≡ true → IfSome copy (λ list. list ≡ after.state.locks))
+      → (IsTrue tells → NoneUnsound after.state.past)
+      → (is_some (held hall.keeper) ≡ true → NoneUnsoundStore after.state.past)
+      → (is_some (applied hall.follower.link) ≡ true → NoneUnsoundReplica after.state.past)
+      → (past : List PastEntry) → past ≡ after.state.past → (made : List Made) → past ≡ calls_of made
+      → AreModelAnswers (first_state o.land (is_some (held keeper)) (is_some (applied link)) hall.state.stored) made
+      → after.state ≡ state_after (first_state o.land (is_some (held keeper)) (is_some (applied link)) hall.state.stored) made
+      → AreServed o.land (is_some (held keeper)) (is_some (applied link)) (may_leave keeper) (may_leave keeper_now) tells (reads disk) (images disk_now) copy hall.state.stored made past
+  promises_by after keeper_now disk_now kept kept_disk told leaves lists units copy follows files stores replicas past history made calls answers leads =
+      promises_with o.land (is_some (held keeper)) (is_some (applied link)) hall.state.stored (may_leave keeper) (may_leave keeper_now) tells (reads disk) (images disk_now) copy after.state past made
+      (read_limits o.read.bytes o.land o.read.gives)
+      o.sound
+      (λ yes. where_told _ (held hall.keeper) (subst IsTrue (sym o.told) yes) o.stored)
+      o.fits o.table o.filed calls answers leads
+      (λ yes. subst (λ k. (rows : Rows) → may_leave k rows → StandForState rows after.state) (sym kept) (where_told _ (held after.keeper) (subst IsTrue (sym (told ∙ o.told)) yes) leaves))
+      (subst (λ d. AllRecover tells images after.state.condition after.state.stored after.state.pending after.state.found (record after.file { disk = d })) (sym kept_disk) lists)
+      units follows
+      (λ yes. subst NoneUnsound (sym history) (files yes))
+      (λ yes. subst NoneUnsoundStore (sym history) (stores (o.told ∙ yes)))
+      (λ yes. subst NoneUnsoundReplica (sym history) (replicas (ap (λ l. is_some (applied l)) o.linked ∙ yes)))
+
+  -- one that did a script line by line
+  pub served_by : (after : View K D L) (keeper_now : K) (disk_now : D) → keeper_now ≡ after.keeper → disk_now ≡ after.file.disk → is_some (held after.keeper) ≡ is_some (held hall.keeper)
+      → LeavesState held may_leave after → LeavesLists tells images after → HasOpenUnits after.state
+      → (copy : Option (List Entry)) → (after.state.attached ≡ true → IfSome copy (λ list. list ≡ after.state.locks))
+      → (IsTrue tells → NoneUnsound hall.state.past → NoneUnsound after.state.past)
+      → (is_some (held hall.keeper) ≡ true → NoneUnsoundStore hall.state.past → NoneUnsoundStore after.state.past)
+      → (is_some (applied hall.follower.link) ≡ true → NoneUnsoundReplica hall.state.past → NoneUnsoundReplica after.state.past)
+      → (known : List Object) (old new : Seen) (past : List PastEntry) (why : Why) → HasRun o.land (is_some (held keeper)) (is_some (applied link)) hall.state.stored hall.state after.state known old new past why
+      → (s : IsServed o.land (is_some (held keeper)) (is_some (applied link)) (may_leave keeper) (may_leave keeper_now) tells (reads disk) (images disk_now) copy old new past why)
+      × (after.state ≡ state_after (first_state o.land (is_some (held keeper)) (is_some (applied link)) s.stored) s.made)
+  served_by after keeper_now disk_now kept kept_disk told leaves lists units copy follows files stores replicas known old new past why run =
+      served_with o.land (is_some (held keeper)) (is_some (applied link)) hall.state.stored (may_leave keeper) (may_leave keeper_now) tells (reads disk) (images disk_now) copy hall.state after.state known old new past why
+      (promises_by after keeper_now disk_now kept kept_disk told leaves lists units copy follows
+      (λ yes. files yes (first_sound is_unsound_file o.land (is_some (held keeper)) (is_some (applied link)) hall.state.stored hall.state o.first))
+      (λ yes. stores yes (first_sound is_unsound_store o.land (is_some (held keeper)) (is_some (applied link)) hall.state.stored hall.state o.first))
+      (λ yes. replicas yes (first_sound is_unsound_replica o.land (is_some (held keeper)) (is_some (applied link)) hall.state.stored hall.state o.first))
+      past run.history)
+      run
 
 -- a run of a script in memory, with the devices as they were given and as they are given back
 pub load_run : {K D L : Type 0} (held : K → Option Rows) (may_leave : K → Rows → Type 0) (faults : K → ℕ) (tells : Bool) (reads : D → List ℕ) (file_faults : D → ℕ)
@@ -98,6 +119,7 @@ counts_end may_be old new before now text (BackupFault k) h quiet = absurd h
 counts_end may_be old new before now text (BadStore table row) h quiet = absurd h
 counts_end may_be old new before now text (BadBackup place) h quiet = absurd h
 counts_end may_be old new before now text NoStart h quiet = absurd h
+counts_end may_be old new before now text LogFull h quiet = absurd h
 
 -- where a run is done, and its counts are written by a sink that doesn't fail, the program is done
 pub load_ends : (may_be : Rows → Type 0) (end why : Why) (after : State) (old new : Option (List ℕ)) (before now : ℕ) → EndsComplete may_be end → ShowsCounts end after old new before now why → (Rose before now → ⊥) → EndsComplete may_be why
@@ -173,8 +195,9 @@ by_run P (BadStore table row) h done bad source sink long many store file shelf 
 by_run P (BadBackup place) h done bad source sink long many store file shelf shut memory = shut place
 by_run P NoStart h done bad source sink long many store file shelf shut memory = absurd h
 by_run P NoMemory h done bad source sink long many store file shelf shut memory = memory
+by_run P LogFull h done bad source sink long many store file shelf shut memory = absurd h
 
-some_of : {A : Type 0} (P : A → Type 0) (o : Option A) → ((x : A) → P x) → IfSome o P
+pub some_of : {A : Type 0} (P : A → Type 0) (o : Option A) → ((x : A) → P x) → IfSome o P
 some_of P None h = tt
 some_of P (Some x) h = h x
 
@@ -191,6 +214,12 @@ never_placed rows why h =
 pub run_place : (o : Option Rows) (why : Why) → IsRunEnd why → (is_some o ≡ true → (table row : ℕ) → why ≡ BadStore table row → ⊥) → IfSome o (λ rows. IsBadStore rows why)
 run_place None why h none = tt
 run_place (Some rows) why h none = never_placed rows why h (none refl)
+
+pub run_broken : (bytes : List ℕ) (why : Why) → IsRunEnd why → IsFirstBroken bytes why
+run_broken bytes why h = by_run (IsFirstBroken bytes) why h tt (λ n. tt) tt tt (λ n. tt) tt (λ k. tt) (λ k. tt) (λ table row. tt) (λ place. tt) tt
+
+pub run_last : (o : Option Rows) (why : Why) → IsRunEnd why → IfSome o (λ rows. HasNoStart rows why)
+run_last o why h = some_of _ o (λ rows. by_run (HasNoStart rows) why h tt (λ n. tt) tt tt (λ n. tt) tt (λ k. tt) (λ k. tt) (λ table row. tt) (λ place. tt) tt)
 
 pub run_document : (why : Why) → IsRunEnd why → IsBadDocument why → ⊥
 run_document why h = by_run (λ w. IsBadDocument w → ⊥) why h (λ d. d) (λ n d. d) (λ d. d) (λ d. d) (λ n d. d) (λ d. d) (λ k d. d) (λ k d. d) (λ table row d. d) (λ place d. d) (λ d. d)
@@ -210,6 +239,7 @@ ends_so before after objects old new (BadStore table row) run = tt
 ends_so before after objects old new (BadBackup place) run = tt
 ends_so before after objects old new NoStart run = absurd (run.replays.end)
 ends_so before after objects old new NoMemory run = tt
+ends_so before after objects old new LogFull run = absurd (run.replays.end)
 
 -- the kind of such a run's end
 pub run_kind : (before after : State) (objects : List Object) (old new : Seen) (why end : Why) → end ≡ why → RunsScript objects before after old new why → IsRunEnd end

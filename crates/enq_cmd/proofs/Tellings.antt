@@ -9,7 +9,7 @@ use Rattle.hall_model.specs.declared.command.Reply.{Reply}
 use Rattle.hall_model.specs.declared.command.Reply.TheVariants as reply
 use Rattle.hall_model.specs.Devices.{DeviceOutcome, IsAllowed}
 use Rattle.hall_model.specs.History.{step}
-use Rattle.hall_model.specs.Recall.{Made, state_after}
+use Rattle.hall_model.specs.Recall.{AreModelAnswers, Made, calls_of, state_after}
 use Rattle.hall_model.specs.State.{State}
 use Rattle.hall_laws.proofs.starting.FirstKeeps.{AgreeWith}
 use Rattle.hall_laws.proofs.starting.FirstState.{IsFirstTable}
@@ -19,7 +19,7 @@ use Rattle.hall_laws.proofs.histories.StandingLocks.{locks_return, locks_stand, 
 use Rattle.hall_laws.proofs.histories.NotedSteps.{IsTold, answers_before, told_first, told-answers}
 use Rattle.hall.proofs.Told.{told_step}
 use Rattle.script_runner.specs.declared.runner.Why.{Why}
-use Rattle.script_runner.specs.declared.runner.Why.TheVariants.{Done, BadWords, BadLandscape, BadLine, SourceFault, SinkFault, LongLine, ManyLines, StoreFault, BackupFault, BadStore, BadBackup, NoStart, NoMemory}
+use Rattle.script_runner.specs.declared.runner.Why.TheVariants.{Done, BadWords, BadLandscape, BadLine, SourceFault, SinkFault, LongLine, ManyLines, StoreFault, BackupFault, BadStore, BadBackup, NoStart, NoMemory, LogFull}
 use Rattle.lock_objects.specs.Objects.{Object}
 use Rattle.landscape.specs.declared.landscape.Landscape.{Landscape}
 use Rattle.landscape.proofs.Limits.{HasLimits}
@@ -34,7 +34,7 @@ use Rattle.script_runner.specs.World.{World, first_world, world}
 use Rattle.script_runner.proofs.GoodFiles.{answer_sound, never_met}
 use Rattle.script_runner.specs.Faults.{NoneTells, NoneUnsound, NoneUnsoundReplica, NoneUnsoundStore}
 use Rattle.script_runner.specs.Whole.{IsComplete, IsScript}
-use Rattle.enq_cmd.specs.Main.{EndsComplete, HadHanded, HasHanded, IsFaultless, IsGoodFile, IsLedgerBy, IsLedgerOf, IsNextOf, IsServed, Ran, SurvivesStop, first_state}
+use Rattle.enq_cmd.specs.Main.{AreServed, EndsComplete, HadHanded, HasHanded, IsFaultless, IsGoodFile, IsLedgerBy, IsLedgerOf, IsNextOf, IsServed, Ran, SurvivesStop, first_state}
 use Rattle.enq_cmd.proofs.Lands.{landed_intervals}
 use Rattle.enq_cmd.proofs.Numbers.{handed_held, numbers_right}
 use Rattle.ledger_steps.specs.Views.{open_locks}
@@ -147,6 +147,7 @@ complete_ends may_be land t linked l objects before after bytes old new (BadStor
 complete_ends may_be land t linked l objects before after bytes old new (BadBackup place) e none stores (inl h) = absurd (never_in_doubt land t linked l before e h.0)
 complete_ends may_be land t linked l objects before after bytes old new (BadBackup place) e none stores (inr met) = absurd (never_met before after none stores met)
 complete_ends may_be land t linked l objects before after bytes old new NoStart e none stores h = absurd h
+complete_ends may_be land t linked l objects before after bytes old new LogFull e none stores h = absurd h
 
 pub completes_as : (may_be : Rows → Type 0) (land : Landscape) (t linked : Bool) (l : Ledger) (objects : List Object) (before after : State) (bytes : List ℕ) (old new : Option (List ℕ)) (why end : Why) → before ≡ first_state land t linked l → why ≡ end → NoneUnsound after.past → NoneUnsoundStore after.past → IsComplete (first_world objects before) after bytes old new why → EndsComplete may_be end
 completes_as may_be land t linked l objects before after bytes old new why end e w none stores h =
@@ -228,50 +229,60 @@ follows_on may_leave s left next found =
     let one : found.0 ≡ survives.ledger = one_ledger stood.0 found.0 survives.ledger stood.2 survives.stand in
     (survives.ledger, survives.known, found.2 ∙ ap (λ (l : Ledger). with_start l (l.start + 1)) one)
 
--- all that is said of a program that opened its store, and the state to which its calls lead
-pub served_with : (land : Landscape) (t linked : Bool) (l : Ledger) (may_be may_leave : Rows → Type 0) (tells : Bool) (bytes : List ℕ) (images : List ℕ → Type 0)
-    (copy : Option (List Entry)) (before after : State) (objects : List Object) (old new : Seen) (past : List PastEntry) (why : Why)
+-- what is promised of these calls, over a store that was opened
+pub promises_with : (land : Landscape) (t linked : Bool) (l : Ledger) (may_be may_leave : Rows → Type 0) (tells : Bool) (bytes : List ℕ) (images : List ℕ → Type 0)
+    (copy : Option (List Entry)) (after : State) (past : List PastEntry) (made : List Made)
     → HasLimits land → IsRaised IsSound true l → (IsTrue t → IsRaised (HasStood may_be) true l) → FitRows land.ranges l.levels → IsFirstTable land.max_locks l → (IsTrue tells → HadHanded bytes l)
-    → HasRun land t linked l before after objects old new past why
+    → past ≡ calls_of made → AreModelAnswers (first_state land t linked l) made → after ≡ state_after (first_state land t linked l) made
     → (IsTrue t → (rows : Rows) → may_leave rows → StandForState rows after)
     → (IsTrue tells → (image : List ℕ) → images image → RecoversFrom after.condition after.stored after.pending after.found image) → HasOpenUnits after
     → (after.attached ≡ true → IfSome copy (λ list. list ≡ after.locks))
     → (IsTrue tells → NoneUnsound past) → (IsTrue t → NoneUnsoundStore past) → (IsTrue linked → NoneUnsoundReplica past)
-    → (s : IsServed land t linked may_be may_leave tells bytes images copy old new past why) × (after ≡ state_after (first_state land t linked s.stored) s.made)
-served_with land t linked l may_be may_leave tells bytes images copy before after objects old new past why limits good found fit table filed h left lists units follows files stores replicas =
+    → AreServed land t linked may_be may_leave tells bytes images copy l made past
+promises_with land t linked l may_be may_leave tells bytes images copy after past made limits good found fit table filed calls answers leads left lists units follows files stores replicas =
     let first = first_state land t linked l in
-    let told = told_by land t linked l before after objects old new past why h in
-    let made : List Made = told.made in
-    let answers = told-answers first after told in
     let agree : AgreeWith land.ranges l = record { good = landed_intervals land limits; fit = fit } in
     let left_after : IsTrue t → (rows : Rows) → may_leave rows → SurvivesStop rows (state_after first made) =
-    λ yes rows may. subst (SurvivesStop rows) told.state (survives rows after (left yes rows may)) in (
+    λ yes rows may. subst (SurvivesStop rows) leads (survives rows after (left yes rows may)) in
+    record {
+      good = good;
+      found = found;
+      filed = filed;
+      fit = fit;
+      calls = calls;
+      history = answers;
+      sound = stays_sound land.max_locks land.max_marks land.ranges t linked l made table limits.marks agree good answers;
+      stand = locks_stand land.max_locks land.max_marks land.ranges t linked l made table limits.marks agree good answers;
+      back = locks_return land.max_locks land.max_marks land.ranges t linked l made table limits.marks agree good answers;
+      held = λ earlier later whole.
+          handed_held land.max_locks land.max_marks land.ranges t linked l earlier table limits.marks agree good (answers_before first made earlier later answers whole);
+      lost = losers_told first made answers;
+      numbers = λ earlier later whole.
+          numbers_right land.max_locks land.max_marks land.ranges t linked l earlier table limits.marks agree good (answers_before first made earlier later answers whole);
+      left = λ yes rows may. left_after yes rows may;
+      handed = λ yes image may. subst (HasHanded image) leads (handed_in image after units (lists yes image may));
+      replica = subst (λ (s : State). s.attached ≡ true → IfSome copy (λ list. list ≡ s.locks)) leads follows;
+      good_file = files;
+      good_store = stores;
+      good_replica = replicas;
+      opens = λ yes tells image may. good_next may_leave (state_after first made) image (left_after yes) (subst (HasHanded image) leads (handed_in image after units (lists tells image may)));
+      next = λ yes. follows_on may_leave (state_after first made) (left_after yes);
+    }
+
+-- all that is said of a program that opened its store, and the state to which its calls lead
+pub served_with : (land : Landscape) (t linked : Bool) (l : Ledger) (may_be may_leave : Rows → Type 0) (tells : Bool) (bytes : List ℕ) (images : List ℕ → Type 0)
+    (copy : Option (List Entry)) (before after : State) (objects : List Object) (old new : Seen) (past : List PastEntry) (why : Why)
+    → ((made : List Made) → past ≡ calls_of made → AreModelAnswers (first_state land t linked l) made → after ≡ state_after (first_state land t linked l) made
+    → AreServed land t linked may_be may_leave tells bytes images copy l made past)
+    → HasRun land t linked l before after objects old new past why
+    → (s : IsServed land t linked may_be may_leave tells bytes images copy old new past why) × (after ≡ state_after (first_state land t linked s.stored) s.made)
+served_with land t linked l may_be may_leave tells bytes images copy before after objects old new past why promised h =
+    let told = told_by land t linked l before after objects old new past why h in (
       record {
         stored = l;
-        good = good;
-        found = found;
-        filed = filed;
-        fit = fit;
-        made = made;
-        calls = h.history ∙ told.calls;
+        made = told.made;
+        promises = promised told.made (h.history ∙ told.calls) (told-answers (first_state land t linked l) after told) told.state;
         run = ran land t linked l before after objects old new past why h told;
-        history = answers;
-        sound = stays_sound land.max_locks land.max_marks land.ranges t linked l made table limits.marks agree good answers;
-        stand = locks_stand land.max_locks land.max_marks land.ranges t linked l made table limits.marks agree good answers;
-        back = locks_return land.max_locks land.max_marks land.ranges t linked l made table limits.marks agree good answers;
-        held = λ earlier later whole.
-            handed_held land.max_locks land.max_marks land.ranges t linked l earlier table limits.marks agree good (answers_before first made earlier later answers whole);
-        lost = losers_told first made answers;
-        numbers = λ earlier later whole.
-            numbers_right land.max_locks land.max_marks land.ranges t linked l earlier table limits.marks agree good (answers_before first made earlier later answers whole);
-        left = λ yes rows may. left_after yes rows may;
-        handed = λ yes image may. subst (HasHanded image) told.state (handed_in image after units (lists yes image may));
-        replica = subst (λ (s : State). s.attached ≡ true → IfSome copy (λ list. list ≡ s.locks)) told.state follows;
-        good_file = files;
-        good_store = stores;
-        good_replica = replicas;
-        opens = λ yes tells image may. good_next may_leave (state_after first made) image (left_after yes) (subst (HasHanded image) told.state (handed_in image after units (lists tells image may)));
-        next = λ yes. follows_on may_leave (state_after first made) (left_after yes);
       },
       told.state,
     )

@@ -13,7 +13,7 @@ use Rattle.script_runner.specs.Shown.{audit_shown}
 use Rattle.script_runner.specs.Whole.{IsComplete, IsScript}
 use Rattle.script_runner.specs.World.{first_world}
 use Rattle.script_runner.specs.declared.runner.Why.{Why}
-use Rattle.script_runner.specs.declared.runner.Why.TheVariants.{Done, BadWords, BadLandscape, NoStart}
+use Rattle.script_runner.specs.declared.runner.Why.TheVariants.{Done, BadWords, BadLandscape, NoStart, LogFull}
 use Rattle.enq_cmd.specs.Main.{IsFaultless, IsRead, IsServed, IsUnopened, first_state}
 use Rattle.enq_cmd.specs.Writing.{WritesText}
 
@@ -36,6 +36,7 @@ abbrev pub IsRunEnd : Why → Type 0
 IsRunEnd BadWords = ⊥
 IsRunEnd (BadLandscape rule place) = ⊥
 IsRunEnd NoStart = ⊥
+IsRunEnd LogFull = ⊥
 IsRunEnd why = Unit {0}
 
 -- why a program ends whose last text was written so

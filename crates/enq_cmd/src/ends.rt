@@ -66,5 +66,6 @@ fn status_of(why: Why) -> u8
         Why::LongLine(_) | Why::ManyLines => 11,
         Why::NoMemory => 12,
         Why::NoStart => 13,
+        Why::LogFull => 14,
     }
 }

@@ -61,6 +61,7 @@ pub(crate) fn open_hall<A: Source, K: Keeper, D: Disk, L: Link>(
         → ¬ Rose (K.faults site.keeper) (K.faults e.site.keeper) → ¬ Rose (D.faults site.disk) (D.faults e.site.disk)
         → EndsComplete (K.may_leave site.keeper) e.why) }
     ensures words { IfErr result (λ e. e.why ≢ Why.BadWords) }
+    ensures full { IfErr result (λ e. e.why ≢ Why.LogFull) }
     ensures source_fault { IfErr result
         (λ e. e.why ≡ Why.SourceFault → Rose (A.faults landscape.old) (A.faults landscape.new)) }
     ensures sink_fault { IfErr result (λ e. e.why ≢ Why.SinkFault) }

@@ -33,6 +33,7 @@ pub(crate) fn replay_site<A: Source, S: Source, T: Sink, K: Keeper, D: Disk, L: 
 ) -> Ended<K, D, L>
     ensures status { result.status ≡ status_of result.why }
     ensures words { result.why ≢ Why.BadWords }
+    ensures full { result.why ≢ Why.LogFull }
     ensures served { HasLandscape (A.left landscape.old) (is_some (K.held site.keeper)) (is_some (L.applied site.link))
         (K.may_leave site.keeper) (K.may_leave result.site.keeper)
         D.tells (D.reads site.disk) D.may_leave site.disk result.site.disk (L.applied result.site.link)

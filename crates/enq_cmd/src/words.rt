@@ -1,5 +1,5 @@
-ghost use Rattle.std.specs.Prelude.{◌≡◌, ◌≢◌, ℕ, ◌<◌, ◌^◌, [], ◌∷◌, decimal, IfSome, IfNone};
-ghost use Rattle.enq_cmd.specs.Words.{IsCount, NamesNone, NamesWork};
+ghost use Rattle.std.specs.Prelude.{◌≡◌, ◌≢◌, ℕ, ◌<◌, ◌^◌, List, [], ◌∷◌, ◌++◌, codes, decimal, IfSome, IfNone};
+ghost use Rattle.enq_cmd.specs.Words.{IsCount, IsCrew, NamesNone, NamesWork};
 
 use enq_base::{Items, read_number};
 
@@ -12,6 +12,10 @@ pub enum Work {
     Generates(u32),
     /// The same script is done.
     Loads(u32),
+    /// The script that is read is done by threads, with so many workers.
+    Runs(u8),
+    /// What the script that is read lacks in locks is written.
+    Covers,
 }
 
 /// What the words name, if they name anything.
@@ -21,7 +25,8 @@ pub(crate) fn work_of(words: &[Items<u8>]) -> Option<Work>
 {
     match words {
         [word] => plain_work(word.as_slice()),
-        [word, count] => counted_work(word.as_slice(), count.as_slice()),
+        [word, count] => two_words(word.as_slice(), count.as_slice()),
+        [word, option, count] => { run_of(word.as_slice(), option.as_slice(), count.as_slice()) }
         _ => None,
     }
 }
@@ -33,10 +38,77 @@ fn plain_work(word: &[u8]) -> Option<Work>
     if word == b"replay".as_slice() {
         return Some(Work::Replays);
     }
+    if word == b"cover".as_slice() {
+        return Some(Work::Covers);
+    }
+    None
+}
+
+/// `run --workers=N`, and what has a number of units behind it.
+fn two_words(word: &[u8], last: &[u8]) -> Option<Work>
+    ensures named { IfSome result (NamesWork (word.now ∷ last.now ∷ [])) }
+    ensures none { IfNone result (NamesNone (word.now ∷ last.now ∷ [])) }
+{
+    if word == b"run".as_slice() {
+        return joined_run(last);
+    }
+    counted_work(word, last)
+}
+
+fn joined_run(last: &[u8]) -> Option<Work>
+    ensures named { IfSome result (NamesWork (codes "run" ∷ last.now ∷ [])) }
+    ensures none { IfNone result (NamesNone (codes "run" ∷ last.now ∷ [])) }
+{
+    Some(Work::Runs(read_workers(workers_of(last)?)?))
+}
+
+/// What stands behind `--workers=`.
+fn workers_of(word: &[u8]) -> Option<&[u8]>
+    ensures some { IfSome result (λ rest. word.now ≡ codes "--workers=" ++ rest.now) }
+    ensures none { IfNone result ((rest : List ℕ) → word.now ≢ codes "--workers=" ++ rest) }
+{
+    word.strip_prefix(b"--workers=")
+}
+
+/// `run --workers N`
+fn run_of(word: &[u8], option: &[u8], count: &[u8]) -> Option<Work>
+    ensures named { IfSome result (NamesWork (word.now ∷ option.now ∷ count.now ∷ [])) }
+    ensures none { IfNone result (NamesNone (word.now ∷ option.now ∷ count.now ∷ [])) }
+{
+    if word != b"run".as_slice() || option != b"--workers".as_slice() {
+        return None;
+    }
+    spaced_run(count)
+}
+
+fn spaced_run(count: &[u8]) -> Option<Work>
+    ensures named { IfSome result (NamesWork (codes "run" ∷ codes "--workers" ∷ count.now ∷ [])) }
+    ensures none { IfNone result (NamesNone (codes "run" ∷ codes "--workers" ∷ count.now ∷ [])) }
+{
+    Some(Work::Runs(read_workers(count)?))
+}
+
+/// A number of workers, from 1 to 16, in decimal.
+fn read_workers(text: &[u8]) -> Option<u8>
+    ensures spelled { IfSome result (λ n. IsCrew n × (text.now ≡ decimal n)) }
+    ensures none { IfNone result ((n : ℕ) → IsCrew n → text.now ≢ decimal n) }
+{
+    in_crew(read_number(text)?)
+}
+
+fn in_crew(number: u64) -> Option<u8>
+    ensures same { IfSome result (λ n. (n ≡ number) × IsCrew n) }
+    ensures none { IfNone result (¬ IsCrew number) }
+    ensures fits { number < 2 ^ 64 }
+{
+    if number >= 1 && number <= 16 {
+        return Some(number as u8);
+    }
     None
 }
 
 fn counted_work(word: &[u8], count: &[u8]) -> Option<Work>
+    requires other { word.now ≢ codes "run" }
     ensures named { IfSome result (NamesWork (word.now ∷ count.now ∷ [])) }
     ensures none { IfNone result (NamesNone (word.now ∷ count.now ∷ [])) }
 {

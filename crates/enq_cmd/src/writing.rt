@@ -12,6 +12,7 @@ use std::alloc::Global;
 pub(crate) fn write_script<T: Sink>(alloc: Global, units: u32, sink: &mut T) -> Why
     ensures written { WritesText (T.written sink.old) (T.written sink.new) (T.faults sink.old) (T.faults sink.new)
         (script_of units) result }
+    ensures full { result ≢ Why.LogFull }
     ensures sink_fault { result ≡ Why.SinkFault → Rose (T.faults sink.old) (T.faults sink.new) }
 {
     let Ok(text) = script_of(alloc, units) else {

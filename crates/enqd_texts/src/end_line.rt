@@ -40,6 +40,7 @@ impl fmt::Display for EndLine {
                 write!(f, "enqd: bad store, table {table} row {row}")
             }
             Why::NoStart => f.write_str("enqd: no start number left"),
+            Why::LogFull => f.write_str("enqd: history full"),
             Why::NoMemory => f.write_str("enqd: no memory"),
         }
     }

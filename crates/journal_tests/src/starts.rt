@@ -6,7 +6,9 @@ use keeper_wal::WalKeeper;
 use replica_link::MemLink;
 use std::alloc::Global;
 use std::process::Abort;
+use std::sync::Wait;
 use std::test::Fail;
+use std::thread::Threads;
 use wal_server::journal_main;
 
 const LANDSCAPE: &[u8] = b"max_locks = 1000\n\
@@ -49,7 +51,8 @@ fn source_of(alloc: Global, bytes: &[u8]) -> Result<MemSource, Fail> {
 }
 
 /// A start that replays a script, over a journal and a backup file.
-fn start<D: Disk + Drop>(
+fn start<R: Threads + Wait + Sync, D: Disk + Send + Drop>(
+    rt: &R,
     alloc: Global,
     script: &[u8],
     journal: D,
@@ -61,6 +64,7 @@ fn start<D: Disk + Drop>(
     let mut sink = MemSink::new(alloc, Vec::new(alloc))?;
     let link = MemLink::new(alloc, Vec::new(alloc))?;
     let ended = journal_main(
+        rt,
         alloc,
         words.as_slice(),
         &mut landscape,
@@ -86,8 +90,13 @@ const JOURNAL: [u8; 57] = *b"ENQWAL01\x01\0\0\0\0\0\0\0\x27\0\0\0\0\0\0\0\x01\
     \x01\0\0\0\0\0\0\0\0\x01S\0\0\0\0\0\0\0\x0c\0\0\0\x01\0\0\0\0\0\0\0\0\0";
 
 /// A start over these bytes has this status. Where they are refused they stay.
-fn ends_with(rt: &impl Abort, alloc: Global, bytes: &[u8], status: u8) -> Result<(), Fail> {
-    let left = start(alloc, b"", disk_of(alloc, bytes)?, disk_of(alloc, b"")?)?;
+fn ends_with<R: Abort + Threads + Wait + Sync>(
+    rt: &R,
+    alloc: Global,
+    bytes: &[u8],
+    status: u8,
+) -> Result<(), Fail> {
+    let left = start(rt, alloc, b"", disk_of(alloc, bytes)?, disk_of(alloc, b"")?)?;
     assert_eq!(rt; left.status, status);
     if status != 0 {
         assert_eq!(rt; left.journal.image(alloc, 1)?.as_slice(), bytes);
@@ -98,7 +107,7 @@ fn ends_with(rt: &impl Abort, alloc: Global, bytes: &[u8], status: u8) -> Result
 #[test]
 fn a_start_writes_the_journal(rt: HostRuntime) -> Result<(), Fail> {
     let alloc = rt.alloc();
-    let left = start(alloc, b"", disk_of(alloc, b"")?, disk_of(alloc, b"")?)?;
+    let left = start(&rt, alloc, b"", disk_of(alloc, b"")?, disk_of(alloc, b"")?)?;
     assert_eq!(&rt; left.status, 0);
     assert_eq!(&rt;
         left.journal.image(alloc, 0)?.as_slice(),
@@ -228,16 +237,16 @@ fn may_be(replies: &[u8], counts: &[u8]) -> bool {
 
 /// Stops at a call of the journal's disk, and starts from each image that a crash then leaves. Tells whether the script
 /// came to its end before.
-fn stop_at(rt: &impl Abort, alloc: Global, k: u64) -> Result<bool, Fail> {
+fn stop_at<R: Abort + Threads + Wait + Sync>(rt: &R, alloc: Global, k: u64) -> Result<bool, Fail> {
     let disk = StopDisk::new(disk_of(alloc, b"")?, k);
-    let stopped = start(alloc, SCRIPT, disk, disk_of(alloc, b"")?)?;
+    let stopped = start(rt, alloc, SCRIPT, disk, disk_of(alloc, b"")?)?;
     let is_done = stopped.replies.as_slice() == REPLIES;
     assert_eq!(rt; stopped.status, if is_done { 0 } else { 7 });
     let journal = stopped.journal.into_disk();
     for pick in 0..4 {
         let image = disk_of(alloc, &journal.image(alloc, pick)?)?;
         let backup = disk_of(alloc, &stopped.backup.image(alloc, pick)?)?;
-        let next = start(alloc, b"? AUDIT\n", image, backup)?;
+        let next = start(rt, alloc, b"? AUDIT\n", image, backup)?;
         assert_eq!(rt; next.status, 0);
         assert!(rt; may_be(&stopped.replies, &next.replies));
     }

@@ -56,7 +56,7 @@ fn main(rt: HostRuntime) -> Result<()> {
     let cases = read_cases(alloc, text.as_str())?;
     let mut output = rt.stdout();
     for case in cases {
-        let shown = play(alloc, case)?;
+        let shown = play(&rt, alloc, case)?;
         output.write_all(shown.as_slice())?;
     }
     Ok(())

@@ -9,6 +9,8 @@ use io_edge::{MemSink, MemSource};
 use keeper_api::{Change, Keeper, Row};
 use keeper_mem::{MemKeeper, Stop};
 use std::alloc::Global;
+use std::sync::Wait;
+use std::thread::Threads;
 
 // The most rows that are read in one call.
 const PAGE: u32 = 1000;
@@ -17,7 +19,11 @@ const PAGE: u32 = 1000;
 type Place = Site<MemKeeper, MemDisk, TestLink>;
 
 /// Plays a case, and tells what it shows.
-pub(crate) fn play(alloc: Global, case: Case) -> Result<Vec<u8>, CaseFault> {
+pub(crate) fn play<R: Threads + Wait + Sync>(
+    rt: &R,
+    alloc: Global,
+    case: Case,
+) -> Result<Vec<u8>, CaseFault> {
     let Case { headline, steps } = case;
     let mut shown = headline;
     let mut site = Site {
@@ -26,19 +32,20 @@ pub(crate) fn play(alloc: Global, case: Case) -> Result<Vec<u8>, CaseFault> {
         link: TestLink::new(alloc, Vec::new(alloc), Hands::All)?,
     };
     for step in steps {
-        site = do_step(alloc, step, site, &mut shown)?;
+        site = do_step(rt, alloc, step, site, &mut shown)?;
     }
     Ok(shown)
 }
 
-fn do_step(
+fn do_step<R: Threads + Wait + Sync>(
+    rt: &R,
     alloc: Global,
     step: Step,
     site: Place,
     shown: &mut Vec<u8>,
 ) -> Result<Place, CaseFault> {
     if let Step::Start(start) = step {
-        return play_start(alloc, start, site, shown);
+        return play_start(rt, alloc, start, site, shown);
     }
     let Site { keeper, disk, link } = site;
     let mut keeper = rested(alloc, keeper);
@@ -56,7 +63,8 @@ fn do_step(
 }
 
 /// Starts the program, and shows what it was answered and how it ended.
-fn play_start(
+fn play_start<R: Threads + Wait + Sync>(
+    rt: &R,
     alloc: Global,
     start: Start,
     site: Place,
@@ -78,6 +86,7 @@ fn play_start(
         link: TestLink::new(alloc, faults.link, faults.hands)?,
     };
     let ended = enqueue_main(
+        rt,
         alloc,
         words.as_slice(),
         &mut landscape,

@@ -7,7 +7,7 @@ use Rattle.std.proofs.lemmas.List.{length-map}
 use Rattle.script_lang.specs.declared.script_line.ScriptLine.{ScriptLine}
 use Rattle.io_edge.specs.Lines.{lines_of}
 use Rattle.script_runner.specs.declared.runner.Why.{Why}
-use Rattle.script_runner.specs.declared.runner.Why.TheVariants.{Done, BadWords, BadLandscape, BadLine, SourceFault, SinkFault, LongLine, ManyLines, StoreFault, BackupFault, BadStore, BadBackup, NoStart, NoMemory}
+use Rattle.script_runner.specs.declared.runner.Why.TheVariants.{Done, BadWords, BadLandscape, BadLine, SourceFault, SinkFault, LongLine, ManyLines, StoreFault, BackupFault, BadStore, BadBackup, NoStart, NoMemory, LogFull}
 use Rattle.script_runner.specs.Lines.{line_in}
 use Rattle.script_runner.specs.LineFaults.{IsKnown, IsToBlame}
 use Rattle.script_runner.specs.Replay.{Replays, Seen, IsEnd}
@@ -142,6 +142,7 @@ blames before bytes left rest turns old new (BackupFault call) all end = tt
 blames before bytes left rest turns old new (BadBackup place) all end = tt
 blames before bytes left rest turns old new NoStart all end = tt
 blames before bytes left rest turns old new NoMemory all end = tt
+blames before bytes left rest turns old new LogFull all end = tt
 
 -- a run over bytes that the source told
 pub blamed_line : (before after : World) (old new : Seen) (why : Why) (bytes : List ℕ) → Replays before after old new why → old.left ≡ Some bytes → IsToBlame why bytes

@@ -8,7 +8,7 @@ use Rattle.std.specs.List.{AllByRecursion, list_any}
 use Rattle.io_edge.specs.Lines.{lines_of, onto_first, is_ended, IsUnbroken}
 use Rattle.script_lang.specs.Memory.{holds_lists}
 use Rattle.script_runner.specs.declared.runner.Why.{Why}
-use Rattle.script_runner.specs.declared.runner.Why.TheVariants.{Done, BadWords, BadLandscape, BadLine, SourceFault, SinkFault, LongLine, ManyLines, StoreFault, BackupFault, BadStore, BadBackup, NoStart, NoMemory}
+use Rattle.script_runner.specs.declared.runner.Why.TheVariants.{Done, BadWords, BadLandscape, BadLine, SourceFault, SinkFault, LongLine, ManyLines, StoreFault, BackupFault, BadStore, BadBackup, NoStart, NoMemory, LogFull}
 use Rattle.script_runner.specs.Run.{AreAllowed, Turn, Progress, begun, next, run, moved, after_turn, file_fails_in, line_does, store_fails_in}
 use Rattle.script_runner.specs.World.{World}
 use Rattle.script_runner.specs.Replay.{Replays, Seen, HasBadCause, IsEnd, IsReadToEnd, MeetsBad}
@@ -232,6 +232,7 @@ ends before after bytes left lines rest turns old new (BadBackup place) allowed 
     doubted_or_bad before after bytes old.written new.written (bad.Backup place) refl (subst (λ (w : World). HasBadCause before.hall w.hall (bad.Backup place)) (sym hall) cause)
     (done_or_bad before after bytes left rest turns old new allowed is all off unfiled (run_made before turns end.0.2 allowed) hall end.0)
 ends before after bytes left lines rest turns old new NoStart allowed is all script quiet_source quiet_sink off unfiled hall end = absurd end
+ends before after bytes left lines rest turns old new LogFull allowed is all script quiet_source quiet_sink off unfiled hall end = absurd end
 ends before after bytes left lines rest turns old new BadWords allowed is all script quiet_source quiet_sink off unfiled hall end = absurd end
 ends before after bytes left lines rest turns old new (BadLandscape rule place) allowed is all script quiet_source quiet_sink off unfiled hall end = absurd end
 ends before after bytes left lines rest turns old new (BadLine n) allowed is all script quiet_source quiet_sink off unfiled hall end =

@@ -6,7 +6,7 @@ use Rattle.hall_model.specs.Devices.{AllWell, LinkFails}
 use Rattle.hall_model.specs.State.{State}
 use Rattle.io_edge.specs.Lines.{lines_of, IsLine}
 use Rattle.script_runner.specs.declared.runner.Why.{Why}
-use Rattle.script_runner.specs.declared.runner.Why.TheVariants.{Done, BadWords, BadLandscape, BadLine, SourceFault, SinkFault, LongLine, ManyLines, StoreFault, BackupFault, BadStore, BadBackup, NoStart, NoMemory}
+use Rattle.script_runner.specs.declared.runner.Why.TheVariants.{Done, BadWords, BadLandscape, BadLine, SourceFault, SinkFault, LongLine, ManyLines, StoreFault, BackupFault, BadStore, BadBackup, NoStart, NoMemory, LogFull}
 use Rattle.script_runner.specs.Lines.{line_in}
 use Rattle.script_runner.specs.Replay.{MeetsBad, doubt_of}
 use Rattle.script_runner.specs.Run.{AreAllowed, Called, LineOutcome, NoRoom, Turn, begun, run}
@@ -65,3 +65,4 @@ IsComplete before after bytes old new SinkFault = ⊥
 IsComplete before after bytes old new (LongLine n) = ⊥
 IsComplete before after bytes old new ManyLines = ⊥
 IsComplete before after bytes old new NoStart = ⊥
+IsComplete before after bytes old new LogFull = ⊥

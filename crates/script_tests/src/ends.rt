@@ -2,7 +2,9 @@ use crate::runs::{empty_disk, empty_store, new_link, source_of, word};
 use enq_cmd::{Site, Why, enqueue_main};
 use io_edge::{MemSink, Source};
 use std::alloc::Global;
+use std::sync::Wait;
 use std::test::*;
+use std::thread::Threads;
 
 const SCRIPT: &[u8] = b"A LOGON MILLER\nA LOGOFF\n";
 
@@ -68,7 +70,11 @@ const ENDINGS: [Ending; 6] = [
 ];
 
 // Why a run ended, how many calls its history has, and how many bytes of its script are left.
-fn end_of(alloc: Global, run: Ending) -> Result<(Why, usize, usize), Fail> {
+fn end_of<R: Threads + Wait + Sync>(
+    rt: &R,
+    alloc: Global,
+    run: Ending,
+) -> Result<(Why, usize, usize), Fail> {
     let [landscape_fails, script_fails, sink_fails] = run.fails;
     let words = word(alloc, run.word)?;
     let mut landscape = source_of(alloc, run.landscape, landscape_fails)?;
@@ -80,6 +86,7 @@ fn end_of(alloc: Global, run: Ending) -> Result<(Why, usize, usize), Fail> {
         link: new_link(alloc)?,
     };
     let ended = enqueue_main(
+        rt,
         alloc,
         words.as_slice(),
         &mut landscape,
@@ -96,7 +103,7 @@ fn end_of(alloc: Global, run: Ending) -> Result<(Why, usize, usize), Fail> {
 fn an_end_leaves_the_calls_before_it_and_the_rest_unread(rt: HostRuntime) -> Result<(), Fail> {
     for run in ENDINGS {
         let wanted = (run.why, run.calls, run.left);
-        assert_eq!(rt; end_of(rt.alloc(), run)?, wanted);
+        assert_eq!(rt; end_of(&rt, rt.alloc(), run)?, wanted);
     }
     Ok(())
 }

@@ -6,7 +6,9 @@ use io_edge::MemSink;
 use keeper_mem::MemKeeper;
 use std::alloc::Global;
 use std::process::Abort;
+use std::sync::Wait;
 use std::test::*;
+use std::thread::Threads;
 
 // What a start has left over these devices.
 #[derive(Drop)]
@@ -19,7 +21,8 @@ struct Left<D: Disk + Drop> {
 }
 
 // A start that replays a script over a store and a backup file.
-fn start<D: Disk + Drop>(
+fn start<R: Threads + Wait + Sync, D: Disk + Send + Drop>(
+    rt: &R,
     alloc: Global,
     script: &[u8],
     keeper: MemKeeper,
@@ -31,6 +34,7 @@ fn start<D: Disk + Drop>(
     let mut sink = MemSink::new(alloc, Vec::new(alloc))?;
     let link = new_link(alloc)?;
     let ended = enqueue_main(
+        rt,
         alloc,
         words.as_slice(),
         &mut landscape,
@@ -92,14 +96,14 @@ fn waits(replies: &[u8], kept: bool) -> Option<bool> {
 }
 
 // The next start: no lock is lost, and none stands too many.
-fn goes_on(
-    rt: &impl Abort,
+fn goes_on<R: Abort + Threads + Wait + Sync>(
+    rt: &R,
     alloc: Global,
     keeper: MemKeeper,
     disk: MemDisk,
     waits: Option<bool>,
 ) -> Result<(), Fail> {
-    let next = start(alloc, ASKED, rested(alloc, keeper), disk)?;
+    let next = start(rt, alloc, ASKED, rested(alloc, keeper), disk)?;
     assert_eq!(rt; next.why, Why::Done);
     let is_open = contains(next.replies.as_slice(), b"3 1.1.1 MILLER OPEN ");
     let replies = if is_open { BARRED } else { GRANTED };
@@ -121,7 +125,7 @@ fn a_stop_at_any_call_of_the_store_leaves_just_the_locks_of_the_unit(
     for call in 1..CALLS {
         for kept in [false, true] {
             let keeper = empty_store(alloc)?.stop(call, kept);
-            let stopped = start(alloc, ORDER, keeper, empty_disk(alloc)?)?;
+            let stopped = start(&rt, alloc, ORDER, keeper, empty_disk(alloc)?)?;
             let waits = waits(stopped.replies.as_slice(), kept);
             goes_on(&rt, alloc, stopped.keeper, stopped.disk, waits)?;
         }
@@ -138,7 +142,7 @@ fn a_stop_at_any_call_of_the_disk_leaves_just_the_locks_of_the_unit(
     for call in 1..CALLS {
         for pick in 0..4 {
             let disk = StopDisk::new(empty_disk(alloc)?, call);
-            let stopped = start(alloc, ORDER, empty_store(alloc)?, disk)?;
+            let stopped = start(&rt, alloc, ORDER, empty_store(alloc)?, disk)?;
             let waits = waits(stopped.replies.as_slice(), true);
             let image = stopped.disk.into_disk().image(alloc, pick)?;
             let disk = disk_of(alloc, image.as_slice())?;
@@ -155,7 +159,7 @@ fn a_disk_that_fails_in_a_commit_puts_the_server_in_doubt(rt: HostRuntime) -> Re
     let mut met = false;
     for call in 1..CALLS {
         let disk = StopDisk::new(empty_disk(alloc)?, call);
-        let stopped = start(alloc, ORDER, empty_store(alloc)?, disk)?;
+        let stopped = start(&rt, alloc, ORDER, empty_store(alloc)?, disk)?;
         if contains(stopped.replies.as_slice(), b"\n4 BACKUP_FAULT\n") {
             met = true;
             assert!(&rt;
@@ -168,6 +172,7 @@ fn a_disk_that_fails_in_a_commit_puts_the_server_in_doubt(rt: HostRuntime) -> Re
             assert_eq!(&rt; stopped.status, 8);
             let shown = b"? SM12\n? SM13\n";
             let next = start(
+                &rt,
                 alloc,
                 shown,
                 rested(alloc, stopped.keeper),
@@ -185,9 +190,10 @@ fn a_disk_that_fails_in_a_commit_puts_the_server_in_doubt(rt: HostRuntime) -> Re
 #[test]
 fn the_locks_of_a_unit_that_waits_stand_at_the_next_start(rt: HostRuntime) -> Result<(), Fail> {
     let alloc = rt.alloc();
-    let first = start(alloc, COMMIT, empty_store(alloc)?, empty_disk(alloc)?)?;
+    let first = start(&rt, alloc, COMMIT, empty_store(alloc)?, empty_disk(alloc)?)?;
     assert_eq!(&rt; first.why, Why::Done);
     let next = start(
+        &rt,
         alloc,
         b"? SM12\n? SM13\n",
         rested(alloc, first.keeper),
@@ -202,6 +208,7 @@ fn the_locks_of_a_unit_that_waits_stand_at_the_next_start(rt: HostRuntime) -> Re
         )
     );
     let posted = start(
+        &rt,
         alloc,
         b"@1 TAKE1\n@1 DO1\n",
         rested(alloc, next.keeper),
@@ -231,7 +238,7 @@ fn read_file(alloc: Global, disk: MemDisk) -> Result<Vec<u8>, Fail> {
 fn a_list_without_its_unit_is_freed(rt: HostRuntime) -> Result<(), Fail> {
     let alloc = rt.alloc();
     assert_eq!(&rt; FILE.len(), 62);
-    let next = start(alloc, b"", empty_store(alloc)?, disk_of(alloc, FILE)?)?;
+    let next = start(&rt, alloc, b"", empty_store(alloc)?, disk_of(alloc, FILE)?)?;
     assert_eq!(&rt; next.status, 0);
     let bytes = read_file(alloc, next.disk)?;
     assert_eq!(&rt; bytes.as_slice(), FREED);
@@ -258,14 +265,14 @@ const BROKEN: [(&[u8], u64); 4] = [
 ];
 
 // The program ends, no line is read, and the file is as it was.
-fn is_refused(
-    rt: &impl Abort,
+fn is_refused<R: Abort + Threads + Wait + Sync>(
+    rt: &R,
     alloc: Global,
     keeper: MemKeeper,
     bytes: &[u8],
     bad: BackupBad,
 ) -> Result<(), Fail> {
-    let ended = start(alloc, ASKED, keeper, disk_of(alloc, bytes)?)?;
+    let ended = start(rt, alloc, ASKED, keeper, disk_of(alloc, bytes)?)?;
     assert_eq!(rt; ended.why, Why::BadBackup(bad));
     assert_eq!(rt; ended.status, 10);
     assert_eq!(rt; ended.replies.len(), 0);
@@ -296,7 +303,7 @@ fn a_file_that_breaks_is_left_as_it_was(rt: HostRuntime) -> Result<(), Fail> {
 fn a_closed_gate_ends_the_file(rt: HostRuntime) -> Result<(), Fail> {
     let alloc = rt.alloc();
     let cut = b"ENQBCK01\0\x01\0\0\0\x2f\0\0\0\x01\0\0\0\x01\0\0\0\x01\x06MILLER\0\0\0\x01\x06ZO";
-    let next = start(alloc, b"", empty_store(alloc)?, disk_of(alloc, cut)?)?;
+    let next = start(&rt, alloc, b"", empty_store(alloc)?, disk_of(alloc, cut)?)?;
     assert_eq!(&rt; next.status, 0);
     Ok(())
 }
@@ -310,7 +317,7 @@ fn a_file_that_lacks_a_lock_is_told(rt: HostRuntime) -> Result<(), Fail> {
         session: 1,
         luw: 1,
     };
-    let first = start(alloc, COMMIT, empty_store(alloc)?, empty_disk(alloc)?)?;
+    let first = start(&rt, alloc, COMMIT, empty_store(alloc)?, empty_disk(alloc)?)?;
     let bad = BackupBad::Missing { unit, at: 1 };
     is_refused(&rt, alloc, rested(alloc, first.keeper), b"ENQBCK01\0", bad)?;
     let two = b"A LOGON MILLER\n\
@@ -318,7 +325,7 @@ fn a_file_that_lacks_a_lock_is_told(rt: HostRuntime) -> Result<(), Fail> {
         A ENQ EZORDER E 2 MANDT=100 ORDNR=0000000002\n\
         A V1 PUT ZORDER 1 X\n\
         A COMMIT\n";
-    let longer = start(alloc, two, empty_store(alloc)?, empty_disk(alloc)?)?;
+    let longer = start(&rt, alloc, two, empty_store(alloc)?, empty_disk(alloc)?)?;
     let bad = BackupBad::Missing { unit, at: 2 };
     is_refused(&rt, alloc, rested(alloc, longer.keeper), FILE, bad)
 }

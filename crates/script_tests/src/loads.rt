@@ -4,7 +4,9 @@ use enq_cmd::{Site, Why, enqueue_main};
 use io_edge::MemSink;
 use std::alloc::Global;
 use std::process::Abort;
+use std::sync::Wait;
 use std::test::*;
+use std::thread::Threads;
 
 // The words of a command line, which writes fail, how the program then ends, after so many calls of the hall, and what
 // it has written.
@@ -73,7 +75,7 @@ const ROWS: [Row; 5] = [
     },
 ];
 
-const BAD_WORDS: [&[u8]; 12] = [
+const BAD_WORDS: [&[u8]; 24] = [
     b"gen",
     b"load",
     b"gen 0",
@@ -86,6 +88,18 @@ const BAD_WORDS: [&[u8]; 12] = [
     b"gen 1 2",
     b"Gen 1",
     b"replay 1",
+    b"run",
+    b"run 1",
+    b"run --workers",
+    b"run --workers 0",
+    b"run --workers 17",
+    b"run --workers 01",
+    b"run --workers=",
+    b"run --workers=17",
+    b"run --workers=1 1",
+    b"run --worker 1",
+    b"Run --workers 1",
+    b"replay --workers 1",
 ];
 
 fn words_of(alloc: Global, text: &[u8]) -> Result<Vec<Items<u8>>, Fail> {
@@ -106,7 +120,12 @@ struct Run {
 }
 
 // Does these words, with a script that nobody is to read.
-fn run_row(alloc: Global, text: &[u8], writes: &[u64]) -> Result<Run, Fail> {
+fn run_row<R: Threads + Wait + Sync>(
+    rt: &R,
+    alloc: Global,
+    text: &[u8],
+    writes: &[u64],
+) -> Result<Run, Fail> {
     let words = words_of(alloc, text)?;
     let mut landscape = source_of(alloc, LANDSCAPE.as_bytes(), &[])?;
     let mut script = source_of(alloc, b"A LOGON MILLER\n", &[])?;
@@ -117,7 +136,15 @@ fn run_row(alloc: Global, text: &[u8], writes: &[u64]) -> Result<Run, Fail> {
         link: new_link(alloc)?,
     };
     let words = words.as_slice();
-    let ended = enqueue_main(alloc, words, &mut landscape, &mut script, &mut sink, site);
+    let ended = enqueue_main(
+        rt,
+        alloc,
+        words,
+        &mut landscape,
+        &mut script,
+        &mut sink,
+        site,
+    );
     Ok(Run {
         replies: sink.bytes().to_vec(alloc)?,
         calls: ended.past.as_slice().len(),
@@ -126,8 +153,8 @@ fn run_row(alloc: Global, text: &[u8], writes: &[u64]) -> Result<Run, Fail> {
     })
 }
 
-fn ends_so(rt: &impl Abort, alloc: Global, row: &Row) -> Result<(), Fail> {
-    let run = run_row(alloc, row.words, row.writes)?;
+fn ends_so<R: Abort + Threads + Wait + Sync>(rt: &R, alloc: Global, row: &Row) -> Result<(), Fail> {
+    let run = run_row(rt, alloc, row.words, row.writes)?;
     assert_eq!(rt; run.replies.as_slice(), row.text);
     assert_eq!(rt; run.why, row.why);
     assert_eq!(rt; (run.status, run.calls), (row.status, row.calls));
@@ -146,7 +173,7 @@ fn scripts_are_written_and_done(rt: HostRuntime) -> Result<(), Fail> {
 fn other_numbers_of_units_are_refused(rt: HostRuntime) -> Result<(), Fail> {
     let alloc = rt.alloc();
     for words in BAD_WORDS {
-        let run = run_row(alloc, words, &[])?;
+        let run = run_row(&rt, alloc, words, &[])?;
         assert_eq!(rt; (run.status, run.calls, run.replies.len()), (2, 0, 0));
     }
     Ok(())

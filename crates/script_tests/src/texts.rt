@@ -45,6 +45,7 @@ fn each_end_has_its_line(rt: HostRuntime) -> Result<(), Fail> {
             "enqd: bad store, table 6 row 1",
         ),
         (Why::NoStart, "enqd: no start number left"),
+        (Why::LogFull, "enqd: history full"),
         (Why::NoMemory, "enqd: no memory"),
     ] {
         let line_of_end = EndLine(why).to_string(rt.alloc())?;
@@ -57,7 +58,23 @@ fn each_end_has_its_line(rt: HostRuntime) -> Result<(), Fail> {
 fn texts_name_program_command_and_files(rt: HostRuntime) -> Result<(), Fail> {
     let alloc = rt.alloc();
     let help = help_text(alloc)?;
-    for word in ["replay", "landscape.toml", "enq.db", "gen", "load"] {
+    for word in [
+        "replay",
+        "landscape.toml",
+        "enq.db",
+        "run",
+        "--workers",
+        "cover",
+        "gen",
+        "load",
+        "A LOGON MILLER                                  1 OK\n  A ENQ EZORDER E 1",
+        "A LOGOFF                                        3 OK\n\n",
+        "README.md",
+        "docs/COMMANDS.md",
+        "docs/LANDSCAPE.md",
+        "docs/OPERATING.md",
+        "docs/GLOSSARY.md",
+    ] {
         assert!(rt; help.contains(word), "{word}");
     }
     assert!(rt; !help.contains("Print this message"));

@@ -2,4 +2,4 @@ pub mod Parts
 pub mod Turns
 pub mod Led
 pub mod Ups
-pub mod Wanting
+pub mod Stocks

@@ -1,8 +1,9 @@
 -- What a turn does to a pass whose entries stand in order.
-use Rattle.std.proofs.Common.{◌≡◌, ℕ, Bool, true, false, List, [], ◌∷◌, ◌++◌, drop, length, map, refl, sym, ap, ◌∙◌, subst, append-nil}
+use Rattle.std.proofs.Common.{◌≡◌, ℕ, ◌+◌, Bool, true, false, ◌≤◌, List, [], ◌∷◌, ◌++◌, drop, length, map, refl, sym, ap, ◌∙◌, subst, append-nil, arith, length-append}
 use Rattle.std.proofs.Math.Logic.{∥∥₁_map}
 use Rattle.std.proofs.lemmas.List.{map-append}
-use Rattle.std.specs.Prelude.{if◌then◌else◌}
+use Rattle.std.specs.Prelude.{if◌then◌else◌, Option, Some, is_some, IsTrue}
+use mathlib.Core.List.{IsPrefix}
 use Rattle.hall_model.specs.History.{is_unrecorded}
 use Rattle.hall_model.specs.declared.command.Command.{Command}
 use Rattle.hall_model.specs.declared.command.PastEntry.{PastEntry}
@@ -10,7 +11,7 @@ use Rattle.hall_model.specs.declared.command.Reply.{Reply}
 use Rattle.turn_lock.specs.declared.view.View.{View}
 use Rattle.turn_lock.specs.Passes.{IsTurn}
 use Rattle.turn_lock.specs.Rule.{own_entries}
-use Rattle.script_actors.specs.Actors.{DeskCall, desk_call, with_call}
+use Rattle.script_actors.specs.Actors.{DeskCall, desk_call, full_after, is_full, with_call}
 use Rattle.order_laws.specs.Behind.{up_after}
 use Rattle.turn_desks.specs.Asking.{Asks, IsAsked}
 use Rattle.turn_desks.specs.Parts.{IsPart}
@@ -69,8 +70,37 @@ module _ {S : Type 0} (past : S → List PastEntry) where
     turn = t;
     own = told_turn n c r (Asks past n c r up) v w (λ x y h. h.0) t;
     seen = t.ran.1 ∙ ap (λ (x : View PastEntry). up_after x.seen) (sym t.knows);
+    full = λ yes. subst (λ (x : View PastEntry). 262144 ≤ length x.seen) (sym t.knows) (t.ran.2 yes);
+    posts = t.ran.3;
   }
 
   -- its pass has as many parts as before
   pub same_parts : (does : S → S → Type 0) (v w : View PastEntry) → IsTurn past does v w → w.parts ≡ v.parts
   same_parts does v w t = ap (λ (x : View PastEntry). x.parts) t.knows
+
+  grown : (xs ys : List PastEntry) → IsPrefix xs ys → length xs ≤ length ys
+  grown xs ys p =
+      let n : length ys ≡ length xs + length p.0 = ap length (sym p.1) ∙ length-append xs p.0 in
+      omega (arith, n)
+
+  -- what a pass has seen gets no shorter
+  seen_grows : (does : S → S → Type 0) (v w : View PastEntry) → IsTurn past does v w → length v.seen ≤ length w.seen
+  seen_grows does v w t =
+      let one = grown v.seen (past t.before) t.began in
+      let two = grown (past t.before) (past t.after) t.grew in
+      let knows : length w.seen ≡ length (past t.after) = ap (λ (x : View PastEntry). length x.seen) t.knows in
+      omega (arith, one, two, knows)
+
+  either : (P : Type 0) (b : Bool) → (b ≡ true → P) → (b ≡ false → P) → P
+  either P true f g = f refl
+  either P false f g = g refl
+
+  -- where a call found the history full, the pass has seen one that is as long as it may be
+  pub full_kept : (n : ℕ) (c : Command) (r : Reply) (up : Bool) (v w : View PastEntry) (before : Option ℕ) → IsAsked past n c r up v w
+      → (IsTrue (is_some before) → 262144 ≤ length v.seen) → IsTrue (is_some (full_after before n r)) → 262144 ≤ length w.seen
+  full_kept n c r up v w before asked was now =
+      either (262144 ≤ length w.seen) (is_full r) asked.full
+      (λ off. let same : full_after before n r ≡ before = ap (λ b. if b then Some n else before) off in
+      let had : 262144 ≤ length v.seen = was (subst (λ o. IsTrue (is_some o)) same now) in
+      let more = seen_grows (Asks past n c r up) v w asked.turn in
+      omega (arith, had, more))

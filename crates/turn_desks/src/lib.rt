@@ -7,4 +7,4 @@ mod turn_desk;
 
 pub use gate::{Gate, HoldGate, NoGate};
 pub use served::{Origin, ServedHall, Serving};
-pub use turn_desk::{LockName, TurnDesk};
+pub use turn_desk::{LockName, Notes, TurnDesk};

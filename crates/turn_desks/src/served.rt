@@ -1,11 +1,12 @@
-ghost use Rattle.std.specs.Prelude.{◌≡◌, [], Bool, is_some, map};
+ghost use Rattle.std.specs.Prelude.{◌≡◌, ◌≤◌, ◌&&◌, [], Bool, false, is_some, length, map, true};
 ghost use Rattle.enq_base.specs.declared.condition.Condition.TheVariants.{Up};
 ghost use Rattle.hall_model.specs.State.{State};
 ghost use Rattle.hall_model.specs.Calls.{call_of};
 ghost use Rattle.hall_model.specs.History.{IsStep};
 ghost use mathlib.Core.List.{IsPrefix};
-ghost use Rattle.script_actors.specs.Actors.{HasNoStock, desk_call, with_call};
-ghost use Rattle.order_laws.specs.Behind.{is_up, up_after};
+ghost use Rattle.script_actors.specs.Actors.{HasNoStock, desk_call, is_full, with_call};
+ghost use Rattle.order_laws.specs.Behind.{is_post, is_up, up_after};
+ghost use Rattle.order_workers.specs.Orders.{is_idle};
 ghost use Rattle.turn_desks.specs.Asking.{Asks};
 ghost use Rattle.turn_desks.specs.Led.{Counts, IsLed, counts_of};
 
@@ -16,6 +17,7 @@ use hall_model::{Command, PastEntry};
 use keeper_api::Keeper;
 use lock_entry::LockStore;
 use order_workers::Look;
+use past_laws::{histories_end, posts_are_not_idle};
 use replica_link::Link;
 use std::alloc::Global;
 use std::marker::{Brand, PhantomData};
@@ -54,7 +56,9 @@ pub trait Serving: History<Entry = PastEntry> {
         ensures told { map desk_call (Self.past self.new) ≡ with_call (map desk_call (Self.past self.old)) line command
             result.reply }
         ensures grows { IsPrefix (Self.past self.old) (Self.past self.new) }
-        ensures up { result.is_up ≡ up_after (Self.past self.new) };
+        ensures up { result.is_up ≡ up_after (Self.past self.new) }
+        ensures full { is_full result.reply ≡ true → 262144 ≤ length (Self.past self.new) }
+        ensures posts { (is_post (call_of command) && is_idle result.reply) ≡ false };
 }
 
 /// The hall, to which calls led from the state that it was opened with.
@@ -113,8 +117,12 @@ impl<J: Origin, T: LockStore, K: Keeper, D: Disk, L: Link> Serving for ServedHal
             command result.reply }
         ensures grows { IsPrefix self.old.hall.state.past self.new.hall.state.past }
         ensures up { result.is_up ≡ up_after self.new.hall.state.past }
+        ensures full { is_full result.reply ≡ true → 262144 ≤ length self.new.hall.state.past }
+        ensures posts { (is_post (call_of command) && is_idle result.reply) ≡ false }
         ensures step { IsStep self.old.hall.state self.new.hall.state line command result.reply }
     {
+        histories_end();
+        posts_are_not_idle();
         let reply = self.hall.serve(alloc, line, command);
         let is_up = is_up(self.hall.condition());
         Look { reply, is_up }

@@ -1,8 +1,8 @@
-ghost use Rattle.std.specs.Prelude.{◌≡◌, ◌||◌, [], None, map};
+ghost use Rattle.std.specs.Prelude.{◌≡◌, ◌≤◌, [], None, is_some, length, map, IsTrue};
 ghost use Rattle.atomic_table.specs.Seated.{TableId};
 ghost use Rattle.hall_model.specs.Calls.{call_of};
 ghost use Rattle.script_actors.specs.Actors.{HasNoStock, desk_call, full_after, with_call};
-ghost use Rattle.turn_desks.specs.Asking.{IsAsked, is_wanting, table_of, wants_memory};
+ghost use Rattle.turn_desks.specs.Asking.{IsAsked, table_of};
 ghost use Rattle.turn_desks.specs.Parts.{IsPart};
 ghost use Rattle.turn_lock.specs.Passes.{known, IsPassOf};
 ghost use Rattle.turn_lock.specs.Rule.{own_entries};
@@ -29,25 +29,20 @@ impl LockName for Brand {
 
 /// What a desk notes of its calls.
 #[derive(Clone, Copy, Debug)]
-struct Notes {
+pub struct Notes {
     /// How many it made.
-    calls: u64,
+    pub calls: u64,
     /// The line of the last one that found the history full.
-    full_at: Option<u32>,
-    /// Whether memory was wanting in one.
-    is_wanting: bool,
+    pub full_at: Option<u32>,
 }
 
 impl Notes {
     /// Notes what a call of this line was answered.
     fn note(&mut self, line: u32, reply: &Reply)
         ensures full_at { self.new.full_at ≡ full_after self.old.full_at line reply.now }
-        ensures wanting { self.new.is_wanting ≡ (self.old.is_wanting || is_wanting reply.now) }
     {
-        match reply {
-            Reply::Refused(Refusal::LogFull) => self.full_at = Some(line),
-            Reply::Refused(Refusal::NoMemory) => self.is_wanting = true,
-            _ => {}
+        if matches!(reply, Reply::Refused(Refusal::LogFull)) {
+            self.full_at = Some(line);
         }
     }
 }
@@ -60,14 +55,15 @@ pub struct TurnDesk<'a, N: LockName, S: Serving, R: Wait, G: Gate> {
     gate: &'a G,
     lock: &'a TurnLock<S>,
     pub pass: Pass<S>,
-    notes: Notes,
+    pub notes: Notes,
     of: PhantomData<N>,
     ghost of_lock: { table_of lock.now ≡ N.table },
     ghost own: { pass.seat.table_id ≡ N.table },
     ghost one: { (known pass).parts ≡ 1 },
     // The pass's own entries stand in what it has seen, in order.
     ghost part: { ∥ IsPart (own_entries (known pass)) (known pass).seen ∥₁ },
-    ghost wanting: { notes.is_wanting ≡ wants_memory (map desk_call (own_entries (known pass))) },
+    // Where a call found the history full, it is as long as it may be.
+    ghost full: { IsTrue (is_some notes.full_at) → 262144 ≤ length (known pass).seen },
 }
 
 impl<'a, N: LockName, S: Serving, R: Wait, G: Gate> TurnDesk<'a, N, S, R, G> {
@@ -95,7 +91,6 @@ impl<'a, N: LockName, S: Serving, R: Wait, G: Gate> TurnDesk<'a, N, S, R, G> {
             notes: Notes {
                 calls: 0,
                 full_at: None,
-                is_wanting: false,
             },
             of: PhantomData,
         }
@@ -121,26 +116,13 @@ impl<'a, N: LockName, S: Serving, R: Wait, G: Gate> TurnDesk<'a, N, S, R, G> {
         look
     }
 
-    /// The line of its last call that found the history full.
-    pub fn full_at(&self) -> Option<u32>
-        ensures { result ≡ self.now.notes.full_at }
-    {
-        self.notes.full_at
-    }
-
-    /// Whether memory was wanting in one of its calls.
-    pub fn is_wanting(&self) -> bool
-        ensures { result ≡ wants_memory (map desk_call (own_entries (known self.now.pass))) }
-    {
-        self.notes.is_wanting
-    }
-
     /// Gives its pass back.
     pub fn into_pass(self) -> Pass<S>
         ensures pass { result ≡ self.entry.pass }
         ensures own { result.seat.table_id ≡ N.table }
         ensures one { (known result).parts ≡ 1 }
         ensures part { ∥ IsPart (own_entries (known result)) (known result).seen ∥₁ }
+        ensures full { IsTrue (is_some self.entry.notes.full_at) → 262144 ≤ length (known result).seen }
     {
         self.pass
     }
@@ -162,7 +144,8 @@ impl<'a, N: LockName, S: Serving, R: Wait, G: Gate> Desk for TurnDesk<'a, N, S, 
 }
 
 impl<'a, N: LockName, S: Serving, R: Wait, G: Gate> OrderDesk for TurnDesk<'a, N, S, R, G> {
-    ghost leads = { λ d m e. IsAsked S.past 0 m.command m.reply m.is_up (known d.pass) (known e.pass) };
+    ghost leads = { λ d m e. IsAsked S.past 0 m.command m.reply m.is_up (known d.pass) (known e.pass)
+        × (e.notes.full_at ≡ full_after d.notes.full_at 0 m.reply) };
 
     fn order(&mut self, worker: u8, command: Command) -> Look {
         self.ask(0, &Who::Worker(worker), command)

@@ -2,9 +2,10 @@
 use Rattle.std.proofs.Common.{ℕ, Bool, true, false, List, Option, refl, inl, inr}
 use Rattle.std.specs.Prelude.{IsTrue, is_some}
 use Rattle.enq_cmd.specs.Loading.{HasLoaded}
-use Rattle.enq_cmd.specs.Main.{HasLandscape, IsServed, IsUnopened, first_state}
+use Rattle.enq_cmd.specs.Main.{AreServed, HasLandscape, IsUnopened, first_state}
+use Rattle.enq_cmd.specs.Running.{HasThreads}
 use Rattle.gate_log.specs.Grammars.{IsBytes}
-use Rattle.hall_model.specs.Recall.{state_after}
+use Rattle.hall_model.specs.Recall.{Made, state_after}
 use Rattle.hall_model.specs.declared.command.PastEntry.{PastEntry}
 use Rattle.keeper_api.specs.Rows.{Rows}
 use Rattle.keeper_wal.specs.Journal.{Stands, IsBad}
@@ -15,8 +16,9 @@ use Rattle.lock_entry.specs.declared.entry.Entry.{Entry}
 use Rattle.posting.specs.Reopening.{HasStood}
 use Rattle.script_runner.specs.Replay.{Seen}
 use Rattle.script_runner.specs.declared.runner.Why.{Why}
+use Rattle.turn_desks.specs.Led.{Counts}
 use Rattle.update_records.specs.Ledger.{Ledger}
-use Rattle.wal_server.specs.Pairs.{SurviveAll, RemainsUnopened, HasPairs, HasLoadedPairs}
+use Rattle.wal_server.specs.Pairs.{HasLoadedPairs, HasPairs, HasThreadPairs, RemainsUnopened, SurviveAll}
 use Rattle.wal_server.proofs.Broken.{not_all}
 
 pub told_some : (tells : Bool) (rows : Rows) → IsTrue tells → IsTrue (is_some (told tells rows))
@@ -36,8 +38,8 @@ stood journal stands ledger h = (h.0, stands h.0 h.1, h.2)
 
 module _ {told : Bool} {before after : Rows → Type 0} {tells : Bool} {past : List PastEntry} (is_told : IsTrue told) (is_tells : IsTrue tells) (journals : List ℕ → Type 0)
     (stands : (journal : List ℕ) → journals journal → (rows : Rows) → Stands journal rows → after rows) (breaks : (journal : List ℕ) → journals journal → (at : ℕ) → IsBad journal at → (rows : Rows) → after rows) where
-  of_served : {land : Landscape} {linked : Bool} {bytes : List ℕ} {images : List ℕ → Type 0} {copy : Option (List Entry)} {old new : Seen} {why : Why}
-      → (s : IsServed land told linked before after tells bytes images copy old new past why) → SurviveAll journals images (state_after (first_state land told linked s.stored) s.made)
+  of_served : {land : Landscape} {linked : Bool} {bytes : List ℕ} {images : List ℕ → Type 0} {copy : Option (List Entry)} {stored : Ledger} {made : List Made}
+      → AreServed land told linked before after tells bytes images copy stored made past → SurviveAll journals images (state_after (first_state land told linked stored) made)
   of_served s journal backup left filed =
       let unbroken : (at : ℕ) → IsBad journal at → ⊥ = λ at bad. not_all _ (λ rows. s.left is_told rows (breaks journal left at bad rows)) in
       record {
@@ -59,7 +61,7 @@ module _ {told : Bool} {before after : Rows → Type 0} {tells : Bool} {past : L
     land = h.land;
     read = h.read;
     serves = elim h.serves [
-      | inl s ↦ inl (record { served = s; pairs = of_served s })
+      | inl s ↦ inl (record { served = s; pairs = of_served s.promises })
       | inr u ↦ inr (of_unopened u)
     ];
   }
@@ -70,7 +72,19 @@ module _ {told : Bool} {before after : Rows → Type 0} {tells : Bool} {past : L
     land = h.land;
     read = h.read;
     loads = elim h.loads [
-      | inl l ↦ inl (record { loaded = l; pairs = of_served l.served })
+      | inl l ↦ inl (record { loaded = l; pairs = of_served l.served.promises })
+      | inr u ↦ inr (of_unopened u)
+    ];
+  }
+
+  pub of_threads : {D : Type 0} {workers : ℕ} {left : Option (List ℕ)} {linked : Bool} {bytes : List ℕ} {may_leave : D → List ℕ → Type 0} {disk disk_now : D} {copy : Option (List Entry)} {old new : Seen}
+      {counts counts_now : Counts} {why : Why} → HasThreads workers left told linked before after tells bytes may_leave disk disk_now copy old new counts counts_now past why
+      → HasThreadPairs workers left told linked before after tells bytes may_leave disk disk_now copy old new counts counts_now past why journals
+  of_threads h = record {
+    land = h.land;
+    read = h.read;
+    serves = elim h.serves [
+      | inl s ↦ inl (record { served = s; pairs = of_served s.promises })
       | inr u ↦ inr (of_unopened u)
     ];
   }

@@ -1,6 +1,7 @@
 -- What a stop leaves on both disks: that of the journal, and that of the backup file.
 use Rattle.std.specs.Prelude.{◌⊎◌, ℕ, Bool, true, List, Option}
 use Rattle.enq_cmd.specs.Loading.{IsLoaded}
+use Rattle.enq_cmd.specs.Running.{IsServedByThreads}
 use Rattle.enq_cmd.specs.Main.{HasHanded, IsGoodFile, IsNextOf, IsRead, IsServed, IsUnopened, MayRemain, SurvivesStop, first_state}
 use Rattle.gate_log.specs.Grammars.{IsBytes}
 use Rattle.hall_model.specs.Recall.{state_after}
@@ -14,6 +15,7 @@ use Rattle.lock_entry.specs.declared.entry.Entry.{Entry}
 use Rattle.posting.specs.Reopening.{HasStood}
 use Rattle.script_runner.specs.Replay.{Seen}
 use Rattle.script_runner.specs.declared.runner.Why.{Why}
+use Rattle.turn_desks.specs.Led.{Counts}
 use Rattle.update_records.specs.Ledger.{Ledger}
 
 -- A journal and a backup file that a stop has left of a state.
@@ -44,6 +46,12 @@ pub record LoadsPairs (n : ℕ) (land : Landscape) (told linked : Bool) (before 
   pub loaded : IsLoaded n land told linked before after tells bytes images copy old new past why
   pub pairs : SurviveAll journals images (state_after (first_state land told linked loaded.served.stored) loaded.served.made)
 
+-- the same where the script is done by threads
+pub record ThreadsPairs (land : Landscape) (workers : ℕ) (told linked : Bool) (before after : Rows → Type 0) (tells : Bool) (bytes : List ℕ) (images : List ℕ → Type 0)
+    (copy : Option (List Entry)) (old new : Seen) (counts counts_now : Counts) (past : List PastEntry) (why : Why) (journals : List ℕ → Type 0) : Type 0 where
+  pub served : IsServedByThreads land workers told linked before after tells bytes images copy old new counts counts_now past why
+  pub pairs : SurviveAll journals images (state_after (first_state land told linked served.stored) served.made)
+
 -- what a program does that doesn't open its store: each journal that a stop may leave then stands for rows that might have been
 -- left before, or for those with the number of the start that wasn't made, and of the backup file just what is said is left
 pub record RemainsUnopened {D : Type 0} (told : Bool) (before after : Rows → Type 0) (tells : Bool) (may_leave : D → List ℕ → Type 0) (disk disk_now : D) (old new : Seen)
@@ -65,4 +73,12 @@ pub record HasLoadedPairs {D : Type 0} (n : ℕ) (left : Option (List ℕ)) (tol
   pub land : Landscape
   pub read : IsRead left land
   pub loads : LoadsPairs n land told linked before after tells bytes (may_leave disk_now) copy old new past why journals
+      ⊎ RemainsUnopened told before after tells may_leave disk disk_now old new past why journals
+
+-- and has the script done by threads
+pub record HasThreadPairs {D : Type 0} (workers : ℕ) (left : Option (List ℕ)) (told linked : Bool) (before after : Rows → Type 0) (tells : Bool) (bytes : List ℕ) (may_leave : D → List ℕ → Type 0) (disk disk_now : D)
+    (copy : Option (List Entry)) (old new : Seen) (counts counts_now : Counts) (past : List PastEntry) (why : Why) (journals : List ℕ → Type 0) : Type 0 where
+  pub land : Landscape
+  pub read : IsRead left land
+  pub serves : ThreadsPairs land workers told linked before after tells bytes (may_leave disk_now) copy old new counts counts_now past why journals
       ⊎ RemainsUnopened told before after tells may_leave disk disk_now old new past why journals

@@ -4,10 +4,11 @@
 ghost use Rattle.std.specs.Prelude.{◌≡◌, ◌⊎◌, ℕ, None, IsTrue, is_some};
 ghost use Rattle.enq_cmd.specs.Main.{IsLandEnd, IsUntouched};
 ghost use Rattle.enq_cmd.specs.Words.{NamesWork, replay_words};
-ghost use Rattle.enq_cmd.specs.declared.words.Work.TheVariants.{Loads};
+ghost use Rattle.enq_cmd.specs.declared.words.Work.TheVariants.{Loads, Runs};
 ghost use Rattle.keeper_wal.specs.Wal.{told, all_faults, Leaves};
 ghost use Rattle.script_runner.specs.Replay.{seen};
-ghost use Rattle.wal_server.specs.Pairs.{HasPairs, HasLoadedPairs};
+ghost use Rattle.turn_desks.specs.Led.{counts_of};
+ghost use Rattle.wal_server.specs.Pairs.{HasLoadedPairs, HasPairs, HasThreadPairs};
 
 use bk_disk::Disk;
 use enq_base::Items;
@@ -16,9 +17,20 @@ use io_edge::{Sink, Source};
 use keeper_wal::{WalKeeper, images_tell};
 use replica_link::Link;
 use std::alloc::Global;
+use std::sync::Wait;
+use std::thread::Threads;
 
 /// Does what the words say over a store in a journal, where both disks tell what they hold.
-pub fn journal_main<A: Source, S: Source, T: Sink, E: Disk, D: Disk, L: Link>(
+pub fn journal_main<
+    R: Threads + Wait + Sync,
+    A: Source,
+    S: Source,
+    T: Sink,
+    E: Disk + Send,
+    D: Disk + Send,
+    L: Link + Send,
+>(
+    rt: &R,
     alloc: Global,
     words: &[Items<u8>],
     landscape: &mut A,
@@ -51,8 +63,24 @@ pub fn journal_main<A: Source, S: Source, T: Sink, E: Disk, D: Disk, L: Link>(
         ⊎ (IsLandEnd (A.faults landscape.old) (A.faults landscape.new) result.why
         × IsUntouched script.old script.new sink.old sink.new site.keeper result.site.keeper site.disk result.site.disk
         site.link result.site.link result.past) }
+    ensures threads { (n : ℕ) → NamesWork words.now (Runs n) → IsTrue E.tells → IsTrue D.tells
+        → ∥ HasThreadPairs n (A.left landscape.old) (is_some (told E.tells site.keeper.rows))
+        (is_some (L.applied site.link)) (Leaves E.tells E.may_leave site.keeper)
+        (Leaves E.tells E.may_leave result.site.keeper)
+        D.tells (D.reads site.disk) D.may_leave site.disk result.site.disk (L.applied result.site.link)
+        (seen (S.left script.old) (T.written sink.old) (S.faults script.old) (T.faults sink.old)
+        (all_faults E.faults site.keeper) (D.faults site.disk))
+        (seen (S.left script.new) (T.written sink.new) (S.faults script.new) (T.faults sink.new)
+        (all_faults E.faults result.site.keeper) (D.faults result.site.disk))
+        (counts_of (all_faults E.faults) D.faults L.faults L.refusals site.keeper site.disk site.link)
+        (counts_of (all_faults E.faults) D.faults L.faults L.refusals result.site.keeper result.site.disk
+        result.site.link)
+        result.past result.why (E.may_leave result.site.keeper.disk) ∥₁
+        ⊎ (IsLandEnd (A.faults landscape.old) (A.faults landscape.new) result.why
+        × IsUntouched script.old script.new sink.old sink.new site.keeper result.site.keeper site.disk result.site.disk
+        site.link result.site.link result.past) }
 {
-    let ended = enqueue_main(alloc, words, landscape, script, sink, site);
+    let ended = enqueue_main(rt, alloc, words, landscape, script, sink, site);
     images_tell(&ended.site.keeper);
     ended
 }

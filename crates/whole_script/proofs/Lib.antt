@@ -1,3 +1,5 @@
 mod Adding
+mod Ends
 mod Loop
+mod MoreBytes
 mod Numbering

@@ -1,25 +1,27 @@
 -- What the loop over the lines of a script keeps.
-use Rattle.std.proofs.Common.{◌≡◌, ◌≢◌, ℕ, ◌+◌, ◌<◌, ◌≤◌, List, [], ◌∷◌, ◌++◌, length, refl, sym, ap, ◌∙◌, subst, arith, true, false}
-use Rattle.std.specs.Prelude.{Bool, Option, Result, Ok, Err, All, if◌then◌else◌, nat_eq}
+use Rattle.std.proofs.Common.{inl, inr, ◌≡◌, ◌≢◌, ℕ, ◌+◌, ◌<◌, ◌≤◌, List, [], ◌∷◌, ◌++◌, length, refl, sym, ap, ◌∙◌, subst, arith, true, false}
+use Rattle.std.specs.Prelude.{Bool, Option, Result, Ok, Err, All}
 use Rattle.std.specs.Io.KnownBytes.{Consumes, IsAtEnd}
 use Rattle.std.proofs.KnownBytes.{Consumes-nil, Consumes-trans}
 use Rattle.std.proofs.lemmas.List.{append-nil, length-append}
 use Rattle.std.proofs.lemmas.List.Elements.{All-append, All-cons}
-use Rattle.io_edge.specs.Lines.{IsLine, IsUnbroken, lines_of, onto_first}
+use Rattle.io_edge.specs.Lines.{IsLine, IsUnbroken, is_ended, lines_of}
 use Rattle.io_edge.specs.Reading.{IsHalt, IsTakenAs, LineView, ReadsOn, Repeats}
 use Rattle.io_edge.specs.declared.reader.LineFault.{LineFault}
 use Rattle.io_edge.specs.declared.reader.LineFault.TheVariants.{Failed, TooLong, TooMany}
 use Rattle.io_edge.specs.declared.reader.Standing.{Standing}
 use Rattle.io_edge.specs.declared.reader.Standing.TheVariants.{Reading, Ended, Halted}
-use Rattle.io_edge.proofs.LineLemmas.{ended, ended-push, lines_of-ended, lines_of-last}
+use Rattle.io_edge.proofs.LineLemmas.{ended, ended-push, is_ended-ended, lines_of-ended, lines_of-last}
 use Rattle.script_runner.specs.Faults.{why_of}
 use Rattle.script_runner.specs.Lines.{line_in}
 use Rattle.script_runner.specs.declared.runner.Why.{Why}
-use Rattle.script_runner.specs.declared.runner.Why.TheVariants.{Done, BadWords, BadLandscape, BadLine, SourceFault, SinkFault, LongLine, ManyLines, StoreFault, BackupFault, BadStore, BadBackup, NoStart, NoMemory}
+use Rattle.script_runner.specs.declared.runner.Why.TheVariants.{Done, BadWords, BadLandscape, BadLine, SourceFault, SinkFault}
+use Rattle.script_runner.specs.declared.runner.Why.TheVariants.{LongLine, ManyLines, StoreFault, BackupFault, BadStore, BadBackup, NoStart, NoMemory, LogFull}
 use Rattle.whole_script.specs.Adding.{Adds, Refuses}
 use Rattle.whole_script.specs.Lines.{AreRunnable, ComesTo, HaveParts, before_lines, is_runnable, names_in, numbered, runs_behind}
-use Rattle.whole_script.specs.Reading.{IsRead, IsReadingEnd, ReadsAll}
+use Rattle.whole_script.specs.Reading.{AreRunnableBefore, IsRead, IsReadingEnd, IsUncut, ReadsAll}
 use Rattle.whole_script.specs.declared.script.Script.{Script}
+use Rattle.whole_script.proofs.MoreBytes.{some_line}
 use Rattle.whole_script.proofs.Numbering.{are_more, numbered-push}
 
 -- the bytes read so far are whole lines; at the end the last line may lack its end
@@ -81,19 +83,6 @@ behind bytes taken lines later e all are = ap (λ x. lines_of (x ++ taken)) e �
 one_line : (line : List ℕ) → IsUnbroken line → 0 < length line → lines_of line ≡ line ∷ []
 one_line [] h some = absurd (omega arith)
 one_line (b ∷ line) h some = lines_of-last b line h
-
--- some bytes behind whole lines begin one line more
-some_line : (bs : List ℕ) → 0 < length bs → (line : List ℕ) × (rest : List (List ℕ)) × (lines_of bs ≡ line ∷ rest)
-some_line [] h = absurd (omega arith)
-some_line (b ∷ bs) h =
-    elim (nat_eq b 10) as (λ v. (line : List ℕ) × (rest : List (List ℕ)) × ((if v then [] ∷ lines_of bs else onto_first b (lines_of bs)) ≡ line ∷ rest)) [
-      | true ↦ ([], lines_of bs, refl)
-      | false ↦ onto (lines_of bs)
-    ]
-  where
-    onto : (ls : List (List ℕ)) → (line : List ℕ) × (rest : List (List ℕ)) × (onto_first b ls ≡ line ∷ rest)
-    onto [] = (b ∷ [], [], refl)
-    onto (l ∷ ls) = (b ∷ l, ls, refl)
 
 all_push : (lines : List (List ℕ)) (line : List ℕ) → All IsLine lines → IsLine line → All IsLine (lines ++ line ∷ [])
 all_push lines line h k = All-append IsLine lines (line ∷ []) h (All-cons IsLine line [] k none_all)
@@ -189,25 +178,32 @@ abbrev comes_to : (n : ℕ) (bytes : List ℕ) (lines later : List (List ℕ)) (
 comes_to n bytes lines later line runnable each place =
     record { earlier = lines; line = line; at = record { later = later; lines = each; place = place }; runnable = runnable }
 
+-- a line that was taken was read to its end
+uncut : (bytes : List ℕ) (lines : List (List ℕ)) (left : Option (List ℕ)) (s : Standing) → IsReadAs bytes lines left s → IsUncut bytes left
+uncut bytes lines left Reading h = inl (ap is_ended h ∙ is_ended-ended lines)
+uncut bytes lines left Ended h = inr h.1
+uncut bytes lines left (Halted fault) h = absurd h
+
 -- why a line that wasn't added ends the reading
-ends_at : (bytes : List ℕ) (f g n : ℕ) (lines : List (List ℕ)) (line : List ℕ) (can : Bool) (why : Why) → AreRunnable lines
-    → lines_of bytes ≡ lines ++ line ∷ [] → n ≡ length lines + 1 → IsLine line → can ≡ runs_behind lines line → Refuses n can why
-    → IsReadingEnd bytes f g why
-ends_at bytes f g n lines line can (BadLine m) runnable each place fits same h =
-    (comes_to m bytes lines [] line runnable each (h.0 ∙ place), fits, sym same ∙ h.1)
-ends_at bytes f g n lines line can NoMemory runnable each place fits same h = tt
-ends_at bytes f g n lines line can Done runnable each place fits same h = absurd h
-ends_at bytes f g n lines line can BadWords runnable each place fits same h = absurd h
-ends_at bytes f g n lines line can (BadLandscape rule k) runnable each place fits same h = absurd h
-ends_at bytes f g n lines line can SourceFault runnable each place fits same h = absurd h
-ends_at bytes f g n lines line can SinkFault runnable each place fits same h = absurd h
-ends_at bytes f g n lines line can (LongLine m) runnable each place fits same h = absurd h
-ends_at bytes f g n lines line can ManyLines runnable each place fits same h = absurd h
-ends_at bytes f g n lines line can (StoreFault k) runnable each place fits same h = absurd h
-ends_at bytes f g n lines line can (BackupFault k) runnable each place fits same h = absurd h
-ends_at bytes f g n lines line can (BadStore table row) runnable each place fits same h = absurd h
-ends_at bytes f g n lines line can (BadBackup k) runnable each place fits same h = absurd h
-ends_at bytes f g n lines line can NoStart runnable each place fits same h = absurd h
+ends_at : (bytes : List ℕ) (left : Option (List ℕ)) (f g n : ℕ) (lines : List (List ℕ)) (line : List ℕ) (can : Bool) (why : Why) → AreRunnable lines
+    → lines_of bytes ≡ lines ++ line ∷ [] → IsUncut bytes left → n ≡ length lines + 1 → IsLine line → can ≡ runs_behind lines line
+    → Refuses n can why → IsReadingEnd bytes left f g why
+ends_at bytes left f g n lines line can (BadLine m) runnable each whole place fits same h =
+    ((comes_to m bytes lines [] line runnable each (h.0 ∙ place), fits, sym same ∙ h.1), whole)
+ends_at bytes left f g n lines line can NoMemory runnable each whole place fits same h = tt
+ends_at bytes left f g n lines line can Done runnable each whole place fits same h = absurd h
+ends_at bytes left f g n lines line can BadWords runnable each whole place fits same h = absurd h
+ends_at bytes left f g n lines line can (BadLandscape rule k) runnable each whole place fits same h = absurd h
+ends_at bytes left f g n lines line can SourceFault runnable each whole place fits same h = absurd h
+ends_at bytes left f g n lines line can SinkFault runnable each whole place fits same h = absurd h
+ends_at bytes left f g n lines line can (LongLine m) runnable each whole place fits same h = absurd h
+ends_at bytes left f g n lines line can ManyLines runnable each whole place fits same h = absurd h
+ends_at bytes left f g n lines line can (StoreFault k) runnable each whole place fits same h = absurd h
+ends_at bytes left f g n lines line can (BackupFault k) runnable each whole place fits same h = absurd h
+ends_at bytes left f g n lines line can (BadStore table row) runnable each whole place fits same h = absurd h
+ends_at bytes left f g n lines line can (BadBackup k) runnable each whole place fits same h = absurd h
+ends_at bytes left f g n lines line can NoStart runnable each whole place fits same h = absurd h
+ends_at bytes left f g n lines line can LogFull runnable each whole place fits same h = absurd h
 
 -- a line was read that wasn't added
 pub ends_line : (old now next : Option (List ℕ)) (f g g' n : ℕ) (given : List ℕ) (reader reader' : LineView) (script : Script) (why : Why)
@@ -217,16 +213,35 @@ pub ends_line : (old now next : Option (List ℕ)) (f g g' n : ℕ) (given : Lis
 ends_line old now next f g g' n given reader reader' script why h reads again counted is refused =
     let got = got_line old now next f g g' reader reader' script h reads again in
     let same = ap (λ x. is_runnable script.names.items (line_in x)) is ∙ same_runs h.lines script reader'.line h.known h.names in
-    (got.bytes, got.read, ends_at got.bytes f g' n h.lines reader'.line _ why h.runnable got.each (counted ∙ got.number) got.fits same refused)
+    let whole = uncut got.bytes (h.lines ++ reader'.line ∷ []) next reader'.standing got.read_as in (
+      got.bytes,
+      got.read,
+      ends_at got.bytes next f g' n h.lines reader'.line _ why h.runnable got.each whole (counted ∙ got.number) got.fits same refused,
+    )
+
+-- a part of a line was read behind whole ones
+before_fault : (bytes taken : List ℕ) (lines : List (List ℕ)) → bytes ≡ ended lines → All IsLine lines → AreRunnable lines → IsLine taken
+    → AreRunnableBefore (bytes ++ taken)
+before_fault bytes [] lines e fit runnable part =
+    record { earlier = lines; last = []; all = behind bytes [] lines [] e fit refl; one = omega arith; runnable = runnable }
+before_fault bytes (b ∷ taken) lines e fit runnable part =
+    let last = lines_of-last b taken part.unbroken in
+    record {
+      earlier = lines;
+      last = (b ∷ taken) ∷ [];
+      all = behind bytes (b ∷ taken) lines ((b ∷ taken) ∷ []) e fit last;
+      one = omega arith;
+      runnable = runnable;
+    }
 
 -- why a line that can't be read ends the reading
-halts : (f g n : ℕ) (bytes taken : List ℕ) (lines : List (List ℕ)) (fault : LineFault) → bytes ≡ ended lines → All IsLine lines → AreRunnable lines
-    → length lines ≡ n → IsHalt f g taken n fault → IsReadingEnd (bytes ++ taken) f g (why_of fault)
-halts f g n bytes taken lines Failed e fit runnable number h = h.0
-halts f g n bytes taken lines (TooLong m) e fit runnable number h =
+halts : (left : Option (List ℕ)) (f g n : ℕ) (bytes taken : List ℕ) (lines : List (List ℕ)) (fault : LineFault) → bytes ≡ ended lines → All IsLine lines
+    → AreRunnable lines → length lines ≡ n → IsHalt f g taken n fault → IsReadingEnd (bytes ++ taken) left f g (why_of fault)
+halts left f g n bytes taken lines Failed e fit runnable number h = (h.0, before_fault bytes taken lines e fit runnable h.1)
+halts left f g n bytes taken lines (TooLong m) e fit runnable number h =
     let each : lines_of (bytes ++ taken) ≡ lines ++ taken ∷ [] = behind bytes taken lines (taken ∷ []) e fit (one_line taken h.2 (omega (arith, h.1))) in
     (comes_to m (bytes ++ taken) lines [] taken runnable each (h.0 ∙ ap (λ k. k + 1) (sym number)), omega (arith, h.1))
-halts f g n bytes taken lines TooMany e fit runnable number h =
+halts left f g n bytes taken lines TooMany e fit runnable number h =
     let l = some_line taken (omega (arith, h.1)) in
     comes_to 200001 (bytes ++ taken) lines l.1 l.0 runnable (behind bytes taken lines (l.0 ∷ l.1) e fit l.2) (omega (arith, number, h.0))
 
@@ -238,10 +253,10 @@ ends_fault old now next f g g' reader reader' script fault why is h reads again 
     let s = still_reading h.bytes h.lines now reader.standing (Err fault) (fault_goes fault) h.read_as again in
     let n = reads s.0 in
     let halt = subst (λ x. IsHalt x g' n.taken reader.number fault) h.quiet n.reading.0 in
-    let end = halts f g' reader.number h.bytes n.taken h.lines fault s.1 h.fit h.runnable h.number halt in (
+    let end = halts next f g' reader.number h.bytes n.taken h.lines fault s.1 h.fit h.runnable h.number halt in (
       h.bytes ++ n.taken,
       Consumes-trans old now next h.bytes n.taken h.read n.consumed,
-      subst (λ w. IsReadingEnd (h.bytes ++ n.taken) f g' w) (sym is) end,
+      subst (λ w. IsReadingEnd (h.bytes ++ n.taken) next f g' w) (sym is) end,
     )
 
 few_lines : (lines : List (List ℕ)) (n : ℕ) → length lines ≡ n → n ≤ 200000 → length lines ≤ 200000

@@ -1,10 +1,11 @@
-ghost use Rattle.std.specs.Prelude.{◌≡◌, ◌≤◌, ◌++◌, ◌∷◌, [], true, Some, IfOk, OnOk};
+ghost use Rattle.std.specs.Prelude.{◌≡◌, ◌≤◌, ◌++◌, ◌∷◌, [], ℕ, List, true, Some, IfErr, IfOk, OnOk};
 ghost use Rattle.std.specs.List.{AllByRecursion};
+ghost use Rattle.enq_base.specs.Causes.{Rose};
 ghost use Rattle.script_runner.specs.Lines.{line_in};
 ghost use Rattle.script_runner.specs.Preparing.{has_part};
 ghost use Rattle.whole_script.specs.Adding.{Adds, Notes};
 ghost use Rattle.whole_script.specs.Lines.{is_among, is_blank};
-ghost use Rattle.whole_script.specs.Reading.{ReadsAll};
+ghost use Rattle.whole_script.specs.Reading.{BlamesFirst, IsWholeScript, ReadsAll};
 
 use enq_base::{Name, NoMemory};
 use hall_model::Who;
@@ -32,6 +33,11 @@ pub fn read_script<S: Source>(alloc: Global, source: &mut S) -> Result<Script, W
         (S.faults source.old) (S.faults source.new) result }
     ensures parts { IfOk result (λ script. AllByRecursion (λ l. has_part l.line ≡ true) script.lines.items) }
     ensures faults { S.faults source.old ≤ S.faults source.new }
+    // Where the source tells its bytes, a line is to blame only where it is the first such line of them all.
+    ensures blamed { (bytes : List ℕ) → S.left source.old ≡ Some bytes → IfErr result (BlamesFirst bytes) }
+    // A script all of whose lines can be done is read to its end, unless the source fails or memory is wanting.
+    ensures complete { (bytes : List ℕ) → S.left source.old ≡ Some bytes → IsWholeScript bytes
+        → ¬ Rose (S.faults source.old) (S.faults source.new) → IfErr result (λ why. why ≡ Why.NoMemory) }
 {
     let mut script = Script {
         lines: Vec::new(alloc),

@@ -26,7 +26,7 @@ fn main(rt: HostRuntime) -> Result<()> {
     let mut parts = text.as_str().split("\n== ");
     let landscape = parts.next().unwrap_or("");
     for case in parts {
-        let shown = play_case(alloc, landscape, case)?;
+        let shown = play_case(&rt, alloc, landscape, case)?;
         output.write_all(shown.as_slice())?;
     }
     Ok(())

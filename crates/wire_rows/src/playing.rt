@@ -6,12 +6,19 @@ use io_edge::{MemSink, SureSource};
 use keeper_mem::MemKeeper;
 use lossy_link::{Fate, LossyLink, MemWire};
 use std::alloc::Global;
+use std::sync::Wait;
+use std::thread::Threads;
 
 /// What outlives the program.
 type Place = Site<MemKeeper, MemDisk, LossyLink<MemWire>>;
 
 /// Plays a case, from its headline on, and tells what it shows.
-pub(crate) fn play_case(alloc: Global, landscape: &str, case: &str) -> Result<Vec<u8>, CaseFault> {
+pub(crate) fn play_case<R: Threads + Wait + Sync>(
+    rt: &R,
+    alloc: Global,
+    landscape: &str,
+    case: &str,
+) -> Result<Vec<u8>, CaseFault> {
     let Some((headline, rest)) = case.split_once('\n') else {
         return Err(CaseFault::NoForm);
     };
@@ -19,11 +26,12 @@ pub(crate) fn play_case(alloc: Global, landscape: &str, case: &str) -> Result<Ve
         return Err(CaseFault::NoForm);
     };
     let plans = read_plans(alloc, wire)?;
-    Ok(play_plans(alloc, landscape, script, headline, plans)?)
+    Ok(play_plans(rt, alloc, landscape, script, headline, plans)?)
 }
 
 /// Plays a script over each of these plans, and tells what is shown of them below the headline.
-fn play_plans(
+fn play_plans<R: Threads + Wait + Sync>(
+    rt: &R,
     alloc: Global,
     landscape: &str,
     script: &str,
@@ -35,7 +43,7 @@ fn play_plans(
     let mut last = Vec::new(alloc);
     for plan in plans {
         let name = format!(in alloc; "{plan:?}\n")?;
-        let answers = play(alloc, landscape, script, plan)?;
+        let answers = play(rt, alloc, landscape, script, plan)?;
         if answers.as_slice() != last.as_slice() {
             shown.extend_from_slice(name.as_bytes())?;
             shown.extend_from_slice(answers.as_slice())?;
@@ -46,7 +54,8 @@ fn play_plans(
 }
 
 /// What a script is answered over a wire whose first turns have these fates, and the status.
-fn play(
+fn play<R: Threads + Wait + Sync>(
+    rt: &R,
     alloc: Global,
     landscape: &str,
     script: &str,
@@ -58,6 +67,7 @@ fn play(
     let words = replay_words(alloc)?;
     let place = fresh_place(alloc, plan)?;
     let status = status_after(
+        rt,
         alloc,
         words.as_slice(),
         &mut landscape,
@@ -85,7 +95,8 @@ fn fresh_place(alloc: Global, plan: Vec<Fate>) -> Result<Place, NoMemory> {
     })
 }
 
-fn status_after(
+fn status_after<R: Threads + Wait + Sync>(
+    rt: &R,
     alloc: Global,
     words: &[Items<u8>],
     landscape: &mut SureSource,
@@ -93,7 +104,7 @@ fn status_after(
     sink: &mut MemSink,
     place: Place,
 ) -> u8 {
-    enqueue_main(alloc, words, landscape, script, sink, place).status
+    enqueue_main(rt, alloc, words, landscape, script, sink, place).status
 }
 
 fn answers_of(alloc: Global, replies: &[u8], status: u8) -> Result<Vec<u8>, NoMemory> {

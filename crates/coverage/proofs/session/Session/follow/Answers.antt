@@ -3,7 +3,7 @@ use Rattle.lock_entry.specs.declared.entry.Asked.{Asked}
 use Rattle.coverage.specs.Lacks.{Standing}
 use Rattle.coverage.specs.Tallies.{all_turned}
 use Rattle.coverage.specs.Walked.{followed, wish_in}
-use Rattle.coverage.proofs.Tallied.{Follows, follows, vec_fits}
+use Rattle.coverage.proofs.Tallied.{follows, vec_fits}
 use Rattle.coverage.proofs.session.Session.follow.Goals as goal
 
 pub invariant_of-result : goal.invariant_of-result

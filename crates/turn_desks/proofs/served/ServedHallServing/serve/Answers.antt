@@ -55,3 +55,9 @@ returns-clause-up g c =
     let new = c.serve-reply.new.self in
     c.is_up-is_up.ensures
     ∙ (ap is_up c.condition.ensures ∙ up_step old.state new.state c.args.line c.args.command c.serve-reply.result c.serve-reply.ensures.step c.args.self.now.up)
+
+pub returns-clause-full : goal.returns-clause-full
+returns-clause-full g c = c.histories_end.ensures.full _ _ _ _ _ c.serve-reply.ensures.step
+
+pub returns-clause-posts : goal.returns-clause-posts
+returns-clause-posts g c = c.posts_are_not_idle.ensures.posts _ _ _ _ _ c.serve-reply.ensures.step

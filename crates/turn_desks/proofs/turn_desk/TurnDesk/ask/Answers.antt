@@ -1,8 +1,6 @@
-use Rattle.std.proofs.Common.{ap, sym, ◌∙◌}
-use Rattle.std.specs.Prelude.{◌||◌}
-use Rattle.turn_desks.specs.Asking.{is_wanting, wants_memory}
-use Rattle.turn_desks.proofs.Turns.{asked_turn, part_kept, same_parts}
-use Rattle.turn_desks.proofs.Wanting.{wants_more}
+use Rattle.std.proofs.Common.{◌∙◌, subst}
+use Rattle.std.specs.Prelude.{is_some, IsTrue}
+use Rattle.turn_desks.proofs.Turns.{asked_turn, full_kept, part_kept, same_parts}
 use Rattle.turn_desks.proofs.turn_desk.TurnDesk.ask.Goals as goal
 
 pub invariant_of-self : goal.invariant_of-self
@@ -11,16 +9,16 @@ invariant_of-self g c =
     let was = c.args.self.now in
     let ran = c.with-look.ensures.ran in
     let r = c.with-look.result.reply in
-    let asked = asked_turn past c.args.at c.args.command r c.with-look.result.is_up _ _ ran in
+    let up = c.with-look.result.is_up in
+    let asked = asked_turn past c.args.at c.args.command r up _ _ ran in
     record {
       of_lock = was.of_lock;
       own = c.with-look.ensures.own ∙ was.of_lock;
       one = same_parts past _ _ _ ran ∙ was.one;
       part = part_kept past _ _ _ ran was.part;
-      wanting =
-          c.note.ensures.wanting
-          ∙ (ap (λ b. b || is_wanting r) was.wanting
-          ∙ (sym (wants_more _ c.args.at c.args.command r) ∙ ap wants_memory (sym asked.own)));
+      full = λ yes.
+          full_kept past c.args.at c.args.command r up _ _ was.notes.full_at asked was.full
+          (subst (λ o. IsTrue (is_some o)) c.note.ensures.full_at yes);
     }
 
 pub returns-clause-asked : goal.returns-clause-asked

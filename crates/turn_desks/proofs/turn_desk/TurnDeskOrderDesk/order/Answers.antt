@@ -1,4 +1,4 @@
-use Rattle.turn_desks.proofs.Wanting.{worker_no_stock}
+use Rattle.turn_desks.proofs.Stocks.{worker_no_stock}
 use Rattle.turn_desks.proofs.turn_desk.TurnDeskOrderDesk.order.Goals as goal
 
 pub ask-requires : goal.ask-requires

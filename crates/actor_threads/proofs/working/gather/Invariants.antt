@@ -1,0 +1,19 @@
+use Rattle.std.proofs.Common.{◌≡◌, ◌+◌, ◌≤◌, ◌++◌, length, vec_capacity}
+use Rattle.std.specs.List.Sorted.{IsPermutation}
+use Rattle.turn_lock.specs.Passes.{known, IsPassOf}
+use Rattle.turn_lock.specs.Rule.{own_entries}
+use Rattle.actor_threads.specs.Working.{AreDeeds, entries_in}
+use Rattle.actor_threads.proofs.Gathered.{AllSeen}
+use Rattle.actor_threads.proofs.working.gather.Given as goal
+
+abbrev pub invariant-loop-actor : goal.invariant-loop-actor
+invariant-loop-actor g l = record {
+  own : IsPassOf l.lock l.pass;
+  parts : (known l.pass).parts + length l.actors.items ≡ (known l.fn.pass).parts + length l.fn.actors.items;
+  entries : IsPermutation (own_entries (known l.fn.pass) ++ entries_in l.fn.actors.items) (own_entries (known l.pass) ++ entries_in l.actors.items);
+  joined : (done : _) × (l.fn.actors.items ≡ l.actors.items ++ done) × AllSeen (known l.pass).seen done × AreDeeds done l.deeds.items;
+  room : length l.deeds.items + length l.actors.items ≤ vec_capacity l.deeds;
+}
+
+abbrev pub decreases-loop-actor : goal.decreases-loop-actor
+decreases-loop-actor g l = length l.actors.items

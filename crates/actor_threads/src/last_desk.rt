@@ -1,0 +1,45 @@
+ghost use Rattle.std.specs.Prelude.{◌≡◌, ◌≤◌, is_some, length, IsTrue};
+ghost use Rattle.actor_threads.specs.Last.{LeadsServed};
+ghost use Rattle.script_actors.specs.Actors.{full_after};
+
+use bk_disk::Disk;
+use enq_base::Refusal;
+use hall_model::{Command, Reply};
+use keeper_api::Keeper;
+use lock_entry::LockStore;
+use order_workers::{Look, OrderDesk};
+use replica_link::Link;
+use std::alloc::Global;
+use turn_desks::{Origin, ServedHall, Serving};
+
+/// The desk at which a worker looks once more when all threads are joined. The hall is its own then, and no gate holds
+/// it.
+#[derive(Drop)]
+pub struct LastDesk<J: Origin, T: LockStore, K: Keeper, D: Disk, L: Link> {
+    pub alloc: Global,
+    pub served: ServedHall<J, T, K, D, L>,
+    /// The line of the worker's last call that found the history full.
+    pub full_at: Option<u32>,
+    ghost full: { IsTrue (is_some full_at) → 262144 ≤ length served.hall.state.past },
+}
+
+impl<J: Origin, T: LockStore, K: Keeper, D: Disk, L: Link> OrderDesk for LastDesk<J, T, K, D, L> {
+    ghost leads = { λ d m e. LeadsServed (record { state = d.served.hall.state; full_at = d.full_at }) m
+        (record { state = e.served.hall.state; full_at = e.full_at }) };
+
+    fn order(&mut self, worker: u8, command: Command) -> Look {
+        let _ = worker;
+        let look = self.served.serve(self.alloc, 0, command);
+        note(&mut self.full_at, &look.reply);
+        look
+    }
+}
+
+/// Notes what a call was answered.
+fn note(full_at: &mut Option<u32>, reply: &Reply)
+    ensures { full_at.new ≡ full_after full_at.old 0 reply.now }
+{
+    if matches!(reply, Reply::Refused(Refusal::LogFull)) {
+        *full_at = Some(0);
+    }
+}

@@ -1,0 +1,5 @@
+mod Ends
+mod Loop
+mod MoreBytes
+mod Outcomes
+mod Walking

@@ -1,0 +1,9 @@
+mod Lists
+mod needed
+mod script
+mod lines
+mod locks
+mod calls
+mod sessions
+mod holding
+mod theorem

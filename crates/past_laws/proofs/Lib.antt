@@ -1,0 +1,3 @@
+mod FullAnswers
+mod Lengths
+mod Posts

@@ -1,0 +1,5 @@
+pub mod Splits
+pub mod LastCalls
+pub mod Histories
+pub mod LastLook
+pub mod Ending

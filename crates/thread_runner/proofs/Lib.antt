@@ -1,0 +1,13 @@
+pub mod Ends
+pub mod Stopped
+pub mod Hired
+pub mod Crews
+pub mod Done
+pub mod Looks
+pub mod Worked
+pub mod Written
+pub mod Runs
+pub mod Resting
+pub mod Acted
+pub mod Refilled
+pub mod Stood

@@ -1,0 +1,43 @@
+-- What becomes of a hall and of a sink where threads do the lines of a script.
+use Rattle.std.specs.Prelude.{◌≡◌, ◌⊎◌, ℕ, ◌<◌, true, List}
+use Rattle.std.specs.List.{AllByRecursion, list_any}
+use Rattle.hall_model.specs.State.{State}
+use Rattle.hall_model.specs.declared.command.Who.{Who}
+use Rattle.hall_model.specs.declared.command.Who.TheVariants as caller
+use Rattle.lock_objects.specs.Objects.{Object}
+use Rattle.script_actors.specs.declared.line.NumberedLine.{NumberedLine}
+use Rattle.script_runner.specs.declared.runner.Why.{Why}
+use Rattle.script_runner.specs.declared.runner.Why.TheVariants.{NoMemory}
+use Rattle.actor_threads.specs.declared.actor.Deed.{Deed}
+use Rattle.caller_laws.specs.Callers.{AreAmong}
+use Rattle.thread_report.specs.Writing.{is_worker}
+use Rattle.thread_runner.specs.Hiring.{AreDone}
+use Rattle.thread_runner.specs.Looking.{LeavesNone}
+use Rattle.thread_runner.specs.Threads.{HaveDone, Output}
+
+-- some worker is among them
+abbrev pub HasWorker : List Who → Type 0
+HasWorker callers = list_any is_worker callers ≡ true
+
+-- the number of a worker is one of 8 bits
+abbrev pub IsSmall : Who → Type 0
+IsSmall (caller.Worker w) = w < 256
+IsSmall w = Unit {0}
+
+abbrev pub AreSmall : List Who → Type 0
+AreSmall callers = AllByRecursion IsSmall callers
+
+-- all these callers did their work, and these are their deeds
+pub record HasActed (objects : List Object) (lines : List NumberedLine) (callers : List Who) (s : State) (deeds : List Deed) : Type 0 where
+  pub among : AreAmong callers s.past
+  pub done : AreDone objects lines callers s.past deeds
+  pub worked : LeavesNone s deeds
+
+-- memory was wanting before any call
+pub record IsUnbegun (s t : State) (old new : Output) (why : Why) : Type 0 where
+  pub end : why ≡ NoMemory
+  pub same : t ≡ s
+  pub still : new ≡ old
+
+abbrev pub DoesScript : List Object → List NumberedLine → ℕ → State → State → Output → Output → Why → Type 0
+DoesScript objects lines workers s t old new why = IsUnbegun s t old new why ⊎ HaveDone objects lines workers t old new why

@@ -1,0 +1,78 @@
+-- The actors of a run before their work, and behind it.
+use Rattle.std.specs.Prelude.{◌≡◌, ◌≤◌, List, [], ◌∷◌, length, map, None, is_some, IsTrue}
+use Rattle.std.specs.List.{AllByRecursion}
+use Rattle.std.specs.List.Sorted.{IsPermutation}
+use Rattle.hall_model.specs.declared.command.PastEntry.{PastEntry}
+use Rattle.hall_model.specs.declared.command.Who.{Who}
+use Rattle.lock_objects.specs.Objects.{Object}
+use Rattle.script_actors.specs.declared.line.NumberedLine.{NumberedLine}
+use Rattle.actor_threads.specs.declared.actor.Actor.{Actor}
+use Rattle.actor_threads.specs.declared.actor.Deed.{Deed}
+use Rattle.caller_laws.specs.Doing.{Did, IsThread, Left, Thread, entries_of}
+use Rattle.turn_desks.specs.declared.turn_desk.LockName.{Ghosts as Names}
+use Rattle.turn_lock.specs.declared.history.History.{Ghosts}
+use Rattle.turn_lock.specs.declared.view.View.{View}
+use Rattle.turn_lock.specs.Passes.{known}
+use Rattle.turn_lock.specs.Rule.{own_entries}
+
+-- ---- before their work
+
+module _ {N S R G : Type 0} {n : Names N} {g : Ghosts S PastEntry} where
+  -- an actor of this caller that made no call
+  pub record IsHired (w : Who) (a : Actor N S R G n g) : Type 0 where
+    pub who : a.who ≡ w
+    pub fresh : (known a.desk.pass).own ≡ []
+    pub none_full : a.desk.notes.full_at ≡ None
+
+  -- an actor of each of these callers, in their order
+  abbrev pub AreHired : List Who → List (Actor N S R G n g) → Type 0
+  AreHired [] actors = actors ≡ []
+  AreHired (w ∷ ws) [] = ⊥
+  AreHired (w ∷ ws) (a ∷ rest) = IsHired w a × AreHired ws rest
+
+-- ---- behind it, at the lock
+
+abbrev pub left_of : Deed → Left
+left_of d = record { said = d.said; rests = d.rests }
+
+-- where an actor found the history full, it is as long as it may be
+abbrev pub IsLong : List PastEntry → Deed → Type 0
+IsLong past d = IsTrue (is_some d.full_at) → 262144 ≤ length past
+
+-- what is kept of a thread once its pass is gone
+pub record IsKeptOf (log : List PastEntry) (t : Thread) (d : Deed) : Type 0 where
+  pub who : d.who ≡ t.who
+  pub left : left_of d ≡ t.left
+  pub full_at : d.full_at ≡ t.now.full_at
+  pub long : IsLong log d
+
+-- of each of them, in their order
+abbrev pub AreKept : List PastEntry → List Thread → List Deed → Type 0
+AreKept log [] [] = Unit {0}
+AreKept log [] (d ∷ ds) = ⊥
+AreKept log (t ∷ ts) [] = ⊥
+AreKept log (t ∷ ts) (d ∷ ds) = IsKeptOf log t d × AreKept log ts ds
+
+abbrev pub callers_in : List Thread → List Who
+callers_in threads = map (λ (t : Thread). t.who) threads
+
+-- The pass has the calls of all these callers' threads, and has seen what each of them has.
+pub record HasGathered {S : Type 0} (past : S → List PastEntry) (objects : List Object) (lines : List NumberedLine) (callers : List Who)
+    (v : View PastEntry) (deeds : List Deed) : Type 0 where
+  pub threads : List Thread
+  pub who : callers ≡ callers_in threads
+  pub each : AllByRecursion (IsThread past objects lines v.seen) threads
+  pub entries : IsPermutation (entries_of threads) (own_entries v)
+  pub kept : AreKept v.seen threads deeds
+
+-- ---- behind it, as the history has it
+
+-- what an actor has done
+pub record DidDeed (objects : List Object) (lines : List NumberedLine) (past : List PastEntry) (d : Deed) : Type 0 where
+  pub did : Did objects lines past d.who (left_of d) d.full_at
+  pub long : IsLong past d
+
+-- what each of these callers has done, in their order
+pub record AreDone (objects : List Object) (lines : List NumberedLine) (callers : List Who) (past : List PastEntry) (deeds : List Deed) : Type 0 where
+  pub who : map (λ (d : Deed). d.who) deeds ≡ callers
+  pub did : AllByRecursion (DidDeed objects lines past) deeds

@@ -1,0 +1,4 @@
+pub mod Threads
+pub mod Hiring
+pub mod Looking
+pub mod Acting
