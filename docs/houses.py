@@ -46,7 +46,11 @@ HOUSES = {
     ),
     "Coverage": (
         "what a script lacks in locks",
-        "coverage cover_cmd cover_laws",
+        "coverage cover_cmd cover_laws cover_example",
+    ),
+    "Remote calls": (
+        "a second system that executes each call once",
+        "remote_target",
     ),
     "Programs": (
         "enqueue_main, journal_main, enqd, enqd_wal",
@@ -55,7 +59,7 @@ HOUSES = {
     "Tests and loads": (
         "nothing stands on them",
         "line_tests dialogue_tests text_tests lock_tests table_tests wire_tests record_tests store_tests books_tests "
-        "wal_tests journal_tests sqlite_tests device_tests hall_tests script_tests turn_tests script_rows wire_rows coverage_rows "
+        "wal_tests journal_tests sqlite_tests device_tests hall_tests script_tests turn_tests thread_tests script_rows wire_rows coverage_rows "
         "turn_load lock_load run_load",
     ),
 }
@@ -104,7 +108,8 @@ def main():
     reach = {house: below(house, stands_on) for house in HOUSES}
     print("flowchart TB")
     for house, (what, names) in reversed(HOUSES.items()):
-        print(f'    {house.split()[0]}["{house}: {len(names.split())} crates<br>{what}"]')
+        count = len(names.split())
+        print(f'    {house.split()[0]}["{house}: {count} crate{"" if count == 1 else "s"}<br>{what}"]')
     for house in reversed(HOUSES):
         for other in HOUSES:
             if other in stands_on[house] and not any(other in reach[way] for way in stands_on[house]):

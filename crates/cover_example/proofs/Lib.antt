@@ -1,0 +1,4 @@
+mod Lists
+mod Script
+mod Chains
+mod History

@@ -1,0 +1,14 @@
+mod Lists
+mod Executions
+mod Outboxes
+mod Worlds
+mod Batches
+mod Stands
+mod Applies
+mod Calling
+mod Pages
+mod Found
+mod Placed
+mod Parts
+mod Texts
+mod Standing

@@ -1,0 +1,8 @@
+pub mod Calls
+pub mod Runs
+pub mod Once
+pub mod Rows
+pub mod Targets
+pub mod TableRows
+pub mod Reading
+pub mod Carrying

@@ -1,0 +1,17 @@
+//! Runs of scripts by threads: actors that wait for one another, many of them, devices that fail on the way.
+#![tactic(auto)]
+
+#[cfg(test)]
+mod again;
+#[cfg(test)]
+mod crowds;
+#[cfg(test)]
+mod faults;
+#[cfg(test)]
+mod gates;
+#[cfg(test)]
+mod halls;
+#[cfg(test)]
+mod runs;
+#[cfg(test)]
+mod servers;
