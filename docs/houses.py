@@ -17,7 +17,7 @@ HOUSES = {
     ),
     "Devices": (
         "streams, disks, logs, keepers of rows",
-        "io_edge bk_disk gate_log keeper_api keeper_sqlite sorted_rows row_tree keeper_wal keeper_mem",
+        "io_edge bk_disk folder_disk gate_log keeper_api keeper_sqlite sorted_rows row_tree keeper_wal keeper_mem",
     ),
     "Locks": (
         "the lock table, its backup file, its replica",
@@ -50,16 +50,16 @@ HOUSES = {
     ),
     "Remote calls": (
         "a second system that executes each call once",
-        "remote_target",
+        "remote_target remote_sending",
     ),
     "Programs": (
-        "enqueue_main, journal_main, enqd, enqd_wal",
-        "enq_cmd enqd_texts enqd wal_server enqd_wal",
+        "enqueue_main, journal_main, enqd, enqd_wal, trfcd",
+        "enq_cmd enqd_texts enqd wal_server enqd_wal trfcd_texts trfcd",
     ),
     "Tests and loads": (
         "nothing stands on them",
-        "line_tests dialogue_tests text_tests lock_tests table_tests wire_tests record_tests store_tests books_tests "
-        "wal_tests journal_tests sqlite_tests device_tests hall_tests script_tests turn_tests thread_tests script_rows wire_rows coverage_rows "
+        "base_tests table_tests wire_tests books_tests "
+        "wal_tests journal_tests sqlite_tests device_tests hall_tests script_tests turn_tests thread_tests remote_tests script_rows wire_rows coverage_rows "
         "turn_load lock_load run_load",
     ),
 }

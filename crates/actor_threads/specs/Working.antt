@@ -19,7 +19,8 @@ module _ {N S R G : Type 0} {n : Names N} {g : Ghosts S PastEntry} where
   left_by a = record { said = a.said; rests = a.rests }
 
   -- an actor did its work
-  pub record HasWorked (past : S → List PastEntry) (objects : List Object) (lines : List NumberedLine) (before after : Actor N S R G n g) : Type 0 where
+  pub record HasWorked (past : S → List PastEntry) (objects : List Object) (lines : List NumberedLine)
+      (before after : Actor N S R G n g) : Type 0 where
     pub who : after.who ≡ before.who
     pub did : DidAs past objects lines before.who (left_by after) (known_to before) (known_to after)
 
@@ -28,7 +29,8 @@ module _ {N S R G : Type 0} {n : Names N} {g : Ghosts S PastEntry} where
   entries_in [] = []
   entries_in (a ∷ rest) = own_entries (known a.desk.pass) ++ entries_in rest
 
-  -- What is kept of an actor once its pass is gone. Where it found the history full, what it had seen then is as long as a history may be.
+  -- What is kept of an actor once its pass is gone. Where it found the history full, what it had seen then is as long
+  -- as a history may be.
   pub record IsDeedOf (a : Actor N S R G n g) (d : Deed) : Type 0 where
     pub who : d.who ≡ a.who
     pub said : d.said ≡ a.said
@@ -39,4 +41,5 @@ module _ {N S R G : Type 0} {n : Names N} {g : Ghosts S PastEntry} where
   -- these are the deeds of the actors, the last of them first
   abbrev pub AreDeeds : List (Actor N S R G n g) → List Deed → Type 0
   AreDeeds [] deeds = deeds ≡ []
-  AreDeeds (a ∷ rest) deeds = (earlier : List Deed) × (d : Deed) × (deeds ≡ earlier ++ d ∷ []) × IsDeedOf a d × AreDeeds rest earlier
+  AreDeeds (a ∷ rest) deeds = (earlier : List Deed) × (d : Deed) × (deeds ≡ earlier ++ d ∷ []) × IsDeedOf a d
+      × AreDeeds rest earlier

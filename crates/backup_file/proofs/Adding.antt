@@ -18,11 +18,15 @@ module _ (l : List Handed) (r : Record) (front : List ℕ) (is_front : IsFront f
   either c (inr shut) = inr (shut_stands grammar (front ++ 1 ∷ spelling r) c (after l r) next_front shut)
 
 -- a file at rest stands for its lists
-pub rest_stands : (l : List Handed) (front bytes : List ℕ) (images : List ℕ → Type 0) (gate : ℕ) → IsFront front l → IsAtRest bytes images gate front → Stands bytes l
-rest_stands l front bytes images gate f rest = shut_stands grammar front bytes l f (record { byte = rest.byte; rest = rest.more; whole = rest.whole; closed = rest.closed })
+pub rest_stands : (l : List Handed) (front bytes : List ℕ) (images : List ℕ → Type 0) (gate : ℕ) → IsFront front l → IsAtRest bytes images gate front
+    → Stands bytes l
+rest_stands l front bytes images gate f rest = shut_stands grammar front bytes l f
+    (record { byte = rest.byte; rest = rest.more; whole = rest.whole; closed = rest.closed })
 
 -- a file that was at rest and got a record is ready for the lists after it
-pub ready_after : {D : Type 0} (reads : D → List ℕ) (may_leave : D → List ℕ → Type 0) (l : List Handed) (r : Record) (front : List ℕ) → IsFront front l → IsRecord r → IsLegal l r → (b : BackupView D) → IsAtRest (reads b.disk) (may_leave b.disk) b.gate (front ++ 1 ∷ spelling r) → AreUnits b.units (after l r) → IsReady reads may_leave b (after l r)
+pub ready_after : {D : Type 0} (reads : D → List ℕ) (may_leave : D → List ℕ → Type 0) (l : List Handed) (r : Record) (front : List ℕ) → IsFront front l
+    → IsRecord r → IsLegal l r → (b : BackupView D) → IsAtRest (reads b.disk) (may_leave b.disk) b.gate (front ++ 1 ∷ spelling r) → AreUnits b.units (after l r)
+    → IsReady reads may_leave b (after l r)
 ready_after reads may_leave l r front is_front is legal b rest units =
     let next = next_front l r front is_front is legal in
     record {
@@ -34,11 +38,13 @@ ready_after reads may_leave l r front is_front is legal b rest units =
     }
 
 -- the same file is ready too
-pub ready_same : {D : Type 0} (reads : D → List ℕ) (may_leave : D → List ℕ → Type 0) (l : List Handed) (old new : BackupView D) → IsSame old new → IsReady reads may_leave old l → IsReady reads may_leave new l
+pub ready_same : {D : Type 0} (reads : D → List ℕ) (may_leave : D → List ℕ → Type 0) (l : List Handed) (old new : BackupView D) → IsSame old new
+    → IsReady reads may_leave old l → IsReady reads may_leave new l
 ready_same reads may_leave l old new same ready = record {
   stands = subst (λ d. Stands (reads d) l) (sym same.disk) ready.stands;
   front = ready.front;
   is_front = ready.is_front;
-  at_rest = subst (λ g. IsAtRest (reads new.disk) (may_leave new.disk) g ready.front) (sym same.gate) (subst (λ d. IsAtRest (reads d) (may_leave d) old.gate ready.front) (sym same.disk) ready.at_rest);
+  at_rest = subst (λ g. IsAtRest (reads new.disk) (may_leave new.disk) g ready.front) (sym same.gate)
+      (subst (λ d. IsAtRest (reads d) (may_leave d) old.gate ready.front) (sym same.disk) ready.at_rest);
   units = λ u. same.units u ∙ ready.units u;
 }

@@ -80,15 +80,20 @@ wide32 = record {
   below = λ bytes fits. omega (arith, fits 0, fits 1, fits 2, fits 3);
 }
 
-pub number_takes : (w : Width) (limit : ℕ) (wide : IsWide w limit) (bytes : List ℕ) (n : ℕ) (rest : List ℕ) → IsBytes bytes → number_at w bytes ≡ Some (n, rest) → Takes bytes (to_be_bytes w n) rest × (n < limit)
+pub number_takes : (w : Width) (limit : ℕ) (wide : IsWide w limit) (bytes : List ℕ) (n : ℕ) (rest : List ℕ) → IsBytes bytes → number_at w bytes ≡ Some (n, rest)
+    → Takes bytes (to_be_bytes w n) rest × (n < limit)
 unfolding number_at
 number_takes w limit wide bytes n rest fits e =
     let g = guard_some (ltb (length bytes) (byte_len w)) (from_be_bytes w (take (byte_len w) bytes), drop (byte_len w) bytes) (n, rest) e in
     let long : byte_len w ≤ length bytes = ltb-false _ _ g.0 in
     let n-is : from_be_bytes w (take (byte_len w) bytes) ≡ n = ap (λ (p : ℕ × List ℕ). p.0) g.1 in
     let rest-is : drop (byte_len w) bytes ≡ rest = ap (λ (p : ℕ × List ℕ). p.1) g.1 in
-    let front : to_be_bytes w n ≡ take (byte_len w) bytes = rw (← n-is) (wide.back (take (byte_len w) bytes) (omega (arith, length-take (byte_len w) bytes)) (IsBytes-take (byte_len w) bytes fits)) in
-    (record { parts = rw (front, ← rest-is) (sym (take-append-drop (byte_len w) bytes)); rest_fits = rw (← rest-is) (IsBytes-drop (byte_len w) bytes fits) }, rw (← n-is) (wide.below (take (byte_len w) bytes) (IsBytes-take (byte_len w) bytes fits)))
+    let front : to_be_bytes w n ≡ take (byte_len w) bytes =
+    rw (← n-is) (wide.back (take (byte_len w) bytes) (omega (arith, length-take (byte_len w) bytes)) (IsBytes-take (byte_len w) bytes fits)) in (
+      record { parts = rw (front, ← rest-is) (sym (take-append-drop (byte_len w) bytes)); rest_fits = rw (← rest-is) (IsBytes-drop (byte_len w) bytes fits) },
+      rw
+          (← n-is) (wide.below (take (byte_len w) bytes) (IsBytes-take (byte_len w) bytes fits)),
+    )
 
 pub number_again : (w : Width) (limit : ℕ) (wide : IsWide w limit) (n : ℕ) (rest : List ℕ) → n < limit → number_at w (to_be_bytes w n ++ rest) ≡ Some (n, rest)
 unfolding number_at
@@ -106,7 +111,8 @@ text_takes (n ∷ more) text rest fits e =
     let g = guard_some (ltb (length more) n) (take n more, drop n more) (text, rest) e in
     let long : n ≤ length more = ltb-false _ _ g.0 in
     let len : length (take n more) ≡ n = omega (arith, length-take n more) in
-    let whole : Takes (n ∷ more) (short (take n more)) (drop n more) = record { parts = rw len (ap (λ (l : List ℕ). n ∷ l) (sym (take-append-drop n more))); rest_fits = IsBytes-drop n more (IsBytes-rest n more fits) } in
+    let whole : Takes (n ∷ more) (short (take n more)) (drop n more) =
+    record { parts = rw len (ap (λ (l : List ℕ). n ∷ l) (sym (take-append-drop n more))); rest_fits = IsBytes-drop n more (IsBytes-rest n more fits) } in
     subst (λ (p : List ℕ × List ℕ). Takes (n ∷ more) (short p.0) p.1) g.1 whole
 
 text_again : (text rest : List ℕ) → text_at (short text ++ rest) ≡ Some (text, rest)
@@ -115,7 +121,8 @@ text_again text rest =
     let long : ltb (length (text ++ rest)) (length text) ≡ false = le-ltb _ _ (omega (arith, length-append text rest)) in
     rw (long, take_at text rest (length text) refl, drop_at text rest (length text) refl) refl
 
-pub short_takes : (p : List ℕ → Bool) (bytes text rest : List ℕ) → IsBytes bytes → short_at p bytes ≡ Some (text, rest) → Takes bytes (short text) rest × IsTrue (p text)
+pub short_takes : (p : List ℕ → Bool) (bytes text rest : List ℕ) → IsBytes bytes → short_at p bytes ≡ Some (text, rest) → Takes bytes (short text) rest
+    × IsTrue (p text)
 unfolding short_at
 short_takes p bytes text rest fits e =
     let b = bind_some (text_at bytes) (λ t. cond (p t.0) (Some t) None) (text, rest) e in
@@ -129,12 +136,14 @@ short_again p text rest h = rw (text_again text rest, h) refl
 
 -- ---- modes and counts
 
-pub mode_takes : (bytes : List ℕ) (m : Mode) (rest : List ℕ) → IsBytes bytes → mode_at bytes ≡ Some (m, rest) → Takes bytes (mode_byte m ∷ []) rest × (0 < mode_byte m)
+pub mode_takes : (bytes : List ℕ) (m : Mode) (rest : List ℕ) → IsBytes bytes → mode_at bytes ≡ Some (m, rest) → Takes bytes (mode_byte m ∷ []) rest
+    × (0 < mode_byte m)
 unfolding mode_at
 mode_takes [] m rest fits e = absurd cc
 mode_takes (b ∷ more) m rest fits e =
     let Q : Mode × List ℕ → Type 0 = λ p. Takes (b ∷ more) (mode_byte p.0 ∷ []) p.1 × (0 < mode_byte p.0) in
-    let one : (m : Mode) → b ≡ mode_byte m → 0 < mode_byte m → Q (m, more) = λ m is some. (record { parts = ap (λ (k : ℕ). k ∷ more) is; rest_fits = IsBytes-rest b more fits }, some) in
+    let one : (m : Mode) → b ≡ mode_byte m → 0 < mode_byte m → Q (m, more) =
+    λ m is some. (record { parts = ap (λ (k : ℕ). k ∷ more) is; rest_fits = IsBytes-rest b more fits }, some) in
     elim (chosen (eqb b 1) (Some (S, more)) (cond (eqb b 2) (Some (E, more)) (cond (eqb b 3) (Some (X, more)) None)) (Some (m, rest)) e) [
       | inl h ↦ subst Q (some_is (S, more) (m, rest) h.1) (one S (eqb-true b 1 h.0) (omega arith))
       | inr h ↦ elim (chosen (eqb b 2) (Some (E, more)) (cond (eqb b 3) (Some (X, more)) None) (Some (m, rest)) h.1) [
@@ -150,14 +159,16 @@ mode_again E rest h = refl
 mode_again X rest h = refl
 mode_again O rest h = absurd (omega arith)
 
-pub count_takes : (bytes : List ℕ) (n : ℕ) (rest : List ℕ) → IsBytes bytes → count_at bytes ≡ Some (n, rest) → Takes bytes (to_be_bytes w16 n) rest × (0 < n) × (n ≤ 9999)
+pub count_takes : (bytes : List ℕ) (n : ℕ) (rest : List ℕ) → IsBytes bytes → count_at bytes ≡ Some (n, rest) → Takes bytes (to_be_bytes w16 n) rest × (0 < n)
+    × (n ≤ 9999)
 unfolding count_at
 count_takes bytes n rest fits e =
     let b = bind_some (number_at w16 bytes) (λ x. cond (leb 1 x.0 && leb x.0 9999) (Some x) None) (n, rest) e in
     let g = pass_some (leb 1 b.0.0 && leb b.0.0 9999) b.0 (n, rest) b.2 in
     let t = number_takes w16 (2 ^ 16) wide16 bytes b.0.0 b.0.1 fits b.1 in
     let h = both_true (leb 1 b.0.0) (leb b.0.0 9999) g.0 in
-    subst (λ (q : ℕ × List ℕ). Takes bytes (to_be_bytes w16 q.0) q.1 × (0 < q.0) × (q.0 ≤ 9999)) g.1 (t.0, omega (arith, leb-true 1 b.0.0 h.0), leb-true b.0.0 9999 h.1)
+    subst (λ (q : ℕ × List ℕ). Takes bytes (to_be_bytes w16 q.0) q.1 × (0 < q.0) × (q.0 ≤ 9999)) g.1
+    (t.0, omega (arith, leb-true 1 b.0.0 h.0), leb-true b.0.0 9999 h.1)
 
 pub count_again : (n : ℕ) (rest : List ℕ) → 0 < n → n ≤ 9999 → count_at (to_be_bytes w16 n ++ rest) ≡ Some (n, rest)
 unfolding count_at
@@ -169,8 +180,11 @@ count_again n rest some few =
 pub unit_takes : (bytes : List ℕ) (u : UnitKey) (rest : List ℕ) → IsBytes bytes → unit_at bytes ≡ Some (u, rest) → Takes bytes (unit_bytes u) rest × IsUnit u
 unfolding unit_at
 unit_takes bytes u rest fits e =
-    let a = bind_some (number_at w32 bytes) (λ start. number_at w32 start.1 >>= λ session. number_at w32 session.1 >>= λ luw. Some (record { start = start.0; session = session.0; luw = luw.0 }, luw.1)) (u, rest) e in
-    let b = bind_some (number_at w32 a.0.1) (λ session. number_at w32 session.1 >>= λ luw. Some (record { start = a.0.0; session = session.0; luw = luw.0 }, luw.1)) (u, rest) a.2 in
+    let a = bind_some (number_at w32 bytes)
+    (λ start. number_at w32 start.1 >>= λ session. number_at w32 session.1 >>= λ luw. Some
+    (record { start = start.0; session = session.0; luw = luw.0 }, luw.1)) (u, rest) e in
+    let b = bind_some (number_at w32 a.0.1)
+    (λ session. number_at w32 session.1 >>= λ luw. Some (record { start = a.0.0; session = session.0; luw = luw.0 }, luw.1)) (u, rest) a.2 in
     let c = bind_some (number_at w32 b.0.1) (λ luw. Some (record { start = a.0.0; session = b.0.0; luw = luw.0 }, luw.1)) (u, rest) b.2 in
     let t0 = number_takes w32 (2 ^ 32) wide32 bytes a.0.0 a.0.1 fits a.1 in
     let t1 = number_takes w32 (2 ^ 32) wide32 a.0.1 b.0.0 b.0.1 t0.0.rest_fits b.1 in
@@ -178,9 +192,15 @@ unit_takes bytes u rest fits e =
     let t01 = Takes-then bytes (to_be_bytes w32 a.0.0) a.0.1 (to_be_bytes w32 b.0.0) b.0.1 t0.0 t1.0 in
     let t02 = Takes-then bytes (to_be_bytes w32 a.0.0 ++ to_be_bytes w32 b.0.0) b.0.1 (to_be_bytes w32 c.0.0) c.0.1 t01 t2.0 in
     let made : UnitKey × List ℕ = (record { start = a.0.0; session = b.0.0; luw = c.0.0 }, c.0.1) in
-    subst (λ (y : UnitKey × List ℕ). Takes bytes (unit_bytes y.0) y.1 × IsUnit y.0) (some_is made (u, rest) c.2) (t02, record { start = t0.1; session = t1.1; luw = t2.1 })
+    subst (λ (y : UnitKey × List ℕ). Takes bytes (unit_bytes y.0) y.1 × IsUnit y.0) (some_is made (u, rest) c.2)
+    (t02, record { start = t0.1; session = t1.1; luw = t2.1 })
 
 pub unit_again : (u : UnitKey) (rest : List ℕ) → IsUnit u → unit_at (unit_bytes u ++ rest) ≡ Some (u, rest)
 unfolding unit_at
 unit_again u rest fits =
-    rw (number_again w32 (2 ^ 32) wide32 u.start (to_be_bytes w32 u.session ++ (to_be_bytes w32 u.luw ++ rest)) fits.start, number_again w32 (2 ^ 32) wide32 u.session (to_be_bytes w32 u.luw ++ rest) fits.session, number_again w32 (2 ^ 32) wide32 u.luw rest fits.luw) refl
+    rw (
+      number_again w32 (2 ^ 32) wide32 u.start (to_be_bytes w32 u.session ++ (to_be_bytes w32 u.luw ++ rest)) fits.start,
+      number_again w32
+          (2 ^ 32) wide32 u.session (to_be_bytes w32 u.luw ++ rest) fits.session,
+      number_again w32 (2 ^ 32) wide32 u.luw rest fits.luw,
+    ) refl

@@ -83,12 +83,14 @@ repeated_behind zero es h = h
 repeated_behind (suc n) [] h = cc
 repeated_behind (suc n) (e ∷ es) h = ap (λ b. list_all (names_differ e) es && b) (repeated_behind n es h) ∙ and_false (list_all (names_differ e) es)
 
-pub repeated : (es : List Entry) (left : ℕ) (e : Entry) → 0 < left → left ≤ length es → e ≡ get_or es (left - 1) e → has_lock (drop left es) (lock_id e) ≡ true → has_distinct_names es ≡ false
+pub repeated : (es : List Entry) (left : ℕ) (e : Entry) → 0 < left → left ≤ length es → e ≡ get_or es (left - 1) e → has_lock (drop left es) (lock_id e) ≡ true
+    → has_distinct_names es ≡ false
 repeated es left e some within is h =
     repeated_behind (left - 1) es
     (ap has_distinct_names (drop_before es left e some within is) ∙ ap (λ b. b && has_distinct_names (drop left es)) (some_has e (drop left es) h))
 
-pub distinct_more : (es : List Entry) (left : ℕ) (e : Entry) → 0 < left → left ≤ length es → e ≡ get_or es (left - 1) e → has_lock (drop left es) (lock_id e) ≡ false → has_distinct_names (drop left es) ≡ true → has_distinct_names (drop (left - 1) es) ≡ true
+pub distinct_more : (es : List Entry) (left : ℕ) (e : Entry) → 0 < left → left ≤ length es → e ≡ get_or es (left - 1) e
+    → has_lock (drop left es) (lock_id e) ≡ false → has_distinct_names (drop left es) ≡ true → has_distinct_names (drop (left - 1) es) ≡ true
 distinct_more es left e some within is h rest =
     ap has_distinct_names (drop_before es left e some within is) ∙ (λ i. none_has e (drop left es) h i && rest i)
 
@@ -96,6 +98,7 @@ or_cond : (b x : Bool) → cond b true x ≡ (b || x)
 or_cond true x = refl
 or_cond false x = refl
 
-pub locks_more : (es : List Entry) (left : ℕ) (e : Entry) → 0 < left → left ≤ length es → e ≡ get_or es (left - 1) e → (name : LockId) → cond (same_lock (lock_id e) name) true (has_lock (drop left es) name) ≡ has_lock (drop (left - 1) es) name
+pub locks_more : (es : List Entry) (left : ℕ) (e : Entry) → 0 < left → left ≤ length es → e ≡ get_or es (left - 1) e → (name : LockId)
+    → cond (same_lock (lock_id e) name) true (has_lock (drop left es) name) ≡ has_lock (drop (left - 1) es) name
 locks_more es left e some within is name =
     or_cond (same_lock (lock_id e) name) (has_lock (drop left es) name) ∙ ap (λ xs. has_lock xs name) (sym (drop_before es left e some within is))

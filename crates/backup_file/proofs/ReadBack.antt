@@ -58,7 +58,8 @@ pub hands_stand : (rs : List Record) → fold after [] rs ≡ hands rs
 hands_stand rs = after_all rs []
 
 -- one more unit is noted
-pub touched_more : (old new : List UnitId) (r : Record) (rs : List Record) → AreTouched old rs → ((u : UnitKey) → is_known u new ≡ (same_unit (unit_of r) u || is_known u old)) → AreTouched new (r ∷ rs)
+pub touched_more : (old new : List UnitId) (r : Record) (rs : List Record) → AreTouched old rs
+    → ((u : UnitKey) → is_known u new ≡ (same_unit (unit_of r) u || is_known u old)) → AreTouched new (r ∷ rs)
 touched_more old new r rs are more = λ u. more u ∙ ap (λ b. same_unit (unit_of r) u || b) (are u)
 
 pub hands_put : (b : Bool) (h : Handed) (rs : List Record) → is_touched h.unit rs ≡ false → h ∷ hands rs ≡ hands (Hand h ∷ rs)

@@ -69,11 +69,13 @@ has-hand u l h =
     ∙ added (same_unit h.unit u) (has_unit u l)
 
 -- once a unit is added these are the units of the lists with its own
-pub units-hand : (old new : List UnitId) (l : List Handed) (h : Handed) → AreUnits old l → ((u : UnitKey) → is_known u new ≡ (same_unit h.unit u || is_known u old)) → AreUnits new (after l (Hand h))
+pub units-hand : (old new : List UnitId) (l : List Handed) (h : Handed) → AreUnits old l
+    → ((u : UnitKey) → is_known u new ≡ (same_unit h.unit u || is_known u old)) → AreUnits new (after l (Hand h))
 units-hand old new l h are more = λ u. more u ∙ ap (λ b. same_unit h.unit u || b) (are u) ∙ sym (has-hand u l h)
 
 -- and once one is taken away, of the lists without its own
-pub units-free : (old new : List UnitId) (l : List Handed) (v : UnitKey) → AreUnits old l → ((u : UnitKey) → is_known u new ≡ (not (same_unit v u) && is_known u old)) → AreUnits new (after l (Free v))
+pub units-free : (old new : List UnitId) (l : List Handed) (v : UnitKey) → AreUnits old l
+    → ((u : UnitKey) → is_known u new ≡ (not (same_unit v u) && is_known u old)) → AreUnits new (after l (Free v))
 units-free old new l v are less = λ u. less u ∙ ap (λ b. not (same_unit v u) && b) (are u) ∙ sym (has-without u v l)
 
 pub stands_among : (u : UnitKey) (l : List Handed) (ids : List UnitId) → AreUnits ids l → IsTrue (is_known u ids) → IsTrue (has_unit u l)

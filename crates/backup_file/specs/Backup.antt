@@ -15,7 +15,8 @@ use Rattle.backup_file.specs.File.{Stands, IsFront}
 use Rattle.lock_entry.specs.Names.{has_distinct_names}
 use Rattle.lock_entry.specs.declared.entry.Entry.{Entry}
 
--- the disk, where the closed gate stands, the units whose lists stand, in no order, for how many more there is room, and whether a write has failed
+-- the disk, where the closed gate stands, the units whose lists stand, in no order, for how many more there is room,
+-- and whether a write has failed
 pub record BackupView (D : Type 0) : Type 0 where
   pub disk : D
   pub gate : ℕ
@@ -31,7 +32,8 @@ pub record IsSame {D : Type 0} (old new : BackupView D) : Type 0 where
   pub failed : new.failed ≡ old.failed
 
 -- the file, as read and in every image, stands for these lists, and may be written
-pub record IsReady {D : Type 0} (reads : D → List ℕ) (may_leave : D → List ℕ → Type 0) (b : BackupView D) (l : List Handed) : Type 0 where
+pub record IsReady {D : Type 0} (reads : D → List ℕ) (may_leave : D → List ℕ → Type 0) (b : BackupView D)
+    (l : List Handed) : Type 0 where
   pub stands : Stands (reads b.disk) l
   pub front : List ℕ
   pub is_front : IsFront front l

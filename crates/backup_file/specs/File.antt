@@ -16,9 +16,18 @@ abbrev pub new_file : List ℕ
 new_file = name ++ 0 ∷ []
 
 abbrev pub grammar : Grammar Record (List Handed)
-grammar = record { name = name; first = []; spelling = spelling; is_record = IsRecord; is_legal = IsLegal; after = after }
+grammar = record {
+  name = name;
+  first = [];
+  spelling = spelling;
+  is_record = IsRecord;
+  is_legal = IsLegal;
+  after =
+      after;
+}
 
--- The bytes stand for these lists: at most 9 bytes for none, and a longer file where its name and open records lead to them and then a closed gate stands.
+-- The bytes stand for these lists: at most 9 bytes for none, and a longer file where its name and open records lead to
+-- them and then a closed gate stands.
 abbrev pub Stands : List ℕ → List Handed → Type 0
 Stands bytes l = logs.Stands grammar bytes l
 

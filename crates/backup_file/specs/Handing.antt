@@ -28,7 +28,17 @@ pub record IsHandable (unit : UnitKey) (entries : List Entry) : Type 0 where
 
 -- the entry as the file has it
 abbrev pub as_handed : List ℕ → Entry → Entry
-as_handed user e = record { owner = e.owner; user = user; table = e.table; pattern = e.pattern; mode = e.mode; count = e.count; handed = true }
+as_handed user e =
+    record {
+      owner = e.owner;
+      user = user;
+      table = e.table;
+      pattern = e.pattern;
+      mode = e.mode;
+      count =
+          e.count;
+      handed = true;
+    }
 
 -- the list as the file has it: each entry is handed, and has the user of the first
 abbrev pub handed_of : UnitKey → List Entry → Handed

@@ -27,7 +27,15 @@ numbers_of (Upd unit) = id_of unit
 
 -- what names an entry
 abbrev pub lock_id : Entry → LockId
-lock_id e = record { kind = kind_of e.owner; numbers = numbers_of e.owner; table = e.table; pattern = e.pattern; mode = mode_byte e.mode }
+lock_id e = record {
+  kind = kind_of e.owner;
+  numbers = numbers_of e.owner;
+  table = e.table;
+  pattern = e.pattern;
+  mode =
+      mode_byte e.mode;
+}
 
 abbrev pub same_lock : LockId → LockId → Bool
-same_lock a b = (a.kind == b.kind && same_id a.numbers b.numbers) && ((bytes_eq a.table b.table && bytes_eq a.pattern b.pattern) && a.mode == b.mode)
+same_lock a b = (a.kind == b.kind && same_id a.numbers b.numbers)
+    && ((bytes_eq a.table b.table && bytes_eq a.pattern b.pattern) && a.mode == b.mode)

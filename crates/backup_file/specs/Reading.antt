@@ -1,5 +1,6 @@
 -- Reading a record from left to right.
-use Rattle.std.specs.Prelude.{◌≡◌, ℕ, zero, suc, Bool, true, List, [], ◌∷◌, length, take, drop, Option, Some, None, Result, Ok, Err, option_and_then, nat_lt, nat_le, ◌==◌, ◌&&◌, if◌then◌else◌}
+use Rattle.std.specs.Prelude.{◌≡◌, ℕ, zero, suc, Bool, true, List, [], ◌∷◌, length, take, drop, Option, Some, None}
+use Rattle.std.specs.Prelude.{Result, Ok, Err, option_and_then, nat_lt, nat_le, ◌==◌, ◌&&◌, if◌then◌else◌}
 use Rattle.std.specs.Int.{Width, w16, w32, byte_len, from_be_bytes}
 use Rattle.enq_base.specs.Grammar.{is_name, is_pattern}
 use Rattle.enq_base.specs.declared.owner.UnitKey.{UnitKey}
@@ -27,7 +28,8 @@ Gives view (Err e) read = Fails e read
 
 -- A field is a value and the bytes after it.
 unfoldable pub number_at : Width → List ℕ → Option (ℕ × List ℕ)
-number_at w bytes = if nat_lt (length bytes) (byte_len w) then None else Some (from_be_bytes w (take (byte_len w) bytes), drop (byte_len w) bytes)
+number_at w bytes = if nat_lt (length bytes) (byte_len w) then None else Some
+    (from_be_bytes w (take (byte_len w) bytes), drop (byte_len w) bytes)
 
 unfoldable pub text_at : List ℕ → Option (List ℕ × List ℕ)
 text_at [] = None
@@ -47,7 +49,8 @@ unit_at bytes = do
 
 unfoldable pub mode_at : List ℕ → Option (Mode × List ℕ)
 mode_at [] = None
-mode_at (b ∷ rest) = if b == 1 then Some (S, rest) else (if b == 2 then Some (E, rest) else (if b == 3 then Some (X, rest) else None))
+mode_at (b ∷ rest) = if b == 1 then Some (S, rest) else
+    (if b == 2 then Some (E, rest) else (if b == 3 then Some (X, rest) else None))
 
 unfoldable pub count_at : List ℕ → Option (ℕ × List ℕ)
 count_at bytes = do
@@ -60,7 +63,19 @@ entry_at unit user bytes = do
   mode ← mode_at table.1
   count ← count_at mode.1
   pattern ← short_at is_pattern count.1
-  Some (record { owner = Upd unit; user = user; table = table.0; pattern = pattern.0; mode = mode.0; count = count.0; handed = true }, pattern.1)
+  Some (
+    record {
+      owner = Upd unit;
+      user = user;
+      table = table.0;
+      pattern = pattern.0;
+      mode = mode.0;
+      count =
+          count.0;
+      handed = true;
+    },
+    pattern.1,
+  )
 
 unfoldable pub entries_at : UnitKey → List ℕ → ℕ → List ℕ → Option (List Entry × List ℕ)
 entries_at unit user zero bytes = Some ([], bytes)

@@ -34,7 +34,8 @@ user_of [] = []
 user_of (e ∷ es) = e.user
 
 abbrev pub hand_bytes : Handed → List ℕ
-hand_bytes h = unit_bytes h.unit ++ short (user_of h.entries) ++ to_be_bytes w32 (length h.entries) ++ flat_map entry_bytes h.entries
+hand_bytes h = unit_bytes h.unit ++ short (user_of h.entries) ++ to_be_bytes w32
+    (length h.entries) ++ flat_map entry_bytes h.entries
 
 abbrev pub kind_byte : Record → ℕ
 kind_byte (Hand h) = 1

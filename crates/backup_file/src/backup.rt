@@ -61,7 +61,8 @@ impl<D> Model for Backup<D> {
 
     ghost Value = { BackupView D };
 
-    ghost view = { λ b. record { disk = b.disk; gate = b.gate; units = b.units.keys; room = spare b.units; failed = b.failed } };
+    ghost view = { λ b. record
+        { disk = b.disk; gate = b.gate; units = b.units.keys; room = spare b.units; failed = b.failed } };
 }
 
 impl<D: Disk> Backup<D> {
@@ -125,7 +126,8 @@ impl<D: Disk> Backup<D> {
 
         // Where the file stands for nothing its bytes stay.
         ensures bad { IsTrue D.tells
-            → IfErr result (OnBad (λ at. IsBad (D.reads self.old.disk) at × (D.reads self.new.disk ≡ D.reads self.old.disk))) }
+            → IfErr result (OnBad
+            (λ at. IsBad (D.reads self.old.disk) at × (D.reads self.new.disk ≡ D.reads self.old.disk))) }
 
         // Each image stands for the lists of an image before the call.
         ensures images { IsTrue D.tells → Follows Keeps (D.may_leave self.old.disk) (D.may_leave self.new.disk) }
@@ -164,7 +166,9 @@ impl<D: Disk> Backup<D> {
         requires handable { IsHandable unit.now entries.now }
         ensures handed { IsTrue D.tells → (l : List Handed) → IsReady D.reads D.may_leave self.old l
             → OnOk result (IsReady D.reads D.may_leave self.new (after l (Hand (handed_of unit.now entries.now)))) }
-        ensures units { OnOk result ((other : UnitKey) → is_known other self.new.units ≡ (same_unit unit.now other || is_known other self.old.units)) }
+        ensures units { OnOk result
+            ((other : UnitKey) → is_known other
+            self.new.units ≡ (same_unit unit.now other || is_known other self.old.units)) }
         ensures usable { OnOk result (self.new.failed ≡ false) }
         ensures failed { IsErrOf result WriteFault.Failed → self.new.failed ≡ true }
 
@@ -216,7 +220,8 @@ impl<D: Disk> Backup<D> {
             → (l : List Handed) → IsReady D.reads D.may_leave self.old l
             → OnOk result (IsReady D.reads D.may_leave self.new (after l (Hand (handed_of unit entries)))) }
         ensures units { (unit : UnitKey) (entries : List Entry) → IsHandFor unit entries ready
-            → OnOk result ((other : UnitKey) → is_known other self.new.units ≡ (same_unit unit other || is_known other self.old.units)) }
+            → OnOk result ((other : UnitKey)
+            → is_known other self.new.units ≡ (same_unit unit other || is_known other self.old.units)) }
         ensures usable { OnOk result (self.new.failed ≡ false) }
         ensures failed { OnErr result (self.new.failed ≡ true) }
 
@@ -240,7 +245,9 @@ impl<D: Disk> Backup<D> {
         requires stands { IsTrue (is_known unit.now self.old.units) }
         ensures freed { IsTrue D.tells → (l : List Handed) → IsReady D.reads D.may_leave self.old l
             → OnOk result (IsReady D.reads D.may_leave self.new (after l (Free unit.now))) }
-        ensures units { OnOk result ((other : UnitKey) → is_known other self.new.units ≡ (not (same_unit unit.now other) && is_known other self.old.units)) }
+        ensures units { OnOk result
+            ((other : UnitKey) → is_known other
+            self.new.units ≡ (not (same_unit unit.now other) && is_known other self.old.units)) }
         ensures usable { OnOk result (self.new.failed ≡ false) }
         ensures failed { OnErr result (self.new.failed ≡ true) }
 
@@ -264,7 +271,8 @@ impl<D: Disk> Backup<D> {
         ensures added { IsTrue D.tells → (front body : List ℕ)
             → IsAtRest (D.reads self.old.disk) (D.may_leave self.old.disk) self.old.gate front
             → text.now ≡ 1 ∷ (body ++ 0 ∷ [])
-            → OnOk result (IsAtRest (D.reads self.new.disk) (D.may_leave self.new.disk) self.new.gate (front ++ 1 ∷ body)) }
+            → OnOk result (IsAtRest (D.reads self.new.disk) (D.may_leave self.new.disk) self.new.gate
+            (front ++ 1 ∷ body)) }
         ensures images { IsTrue D.tells → (front body : List ℕ)
             → IsAtRest (D.reads self.old.disk) (D.may_leave self.old.disk) self.old.gate front
             → text.now ≡ 1 ∷ (body ++ 0 ∷ [])
@@ -285,7 +293,8 @@ impl<D: Disk> Backup<D> {
 
     fn keep(&mut self, unit: &UnitKey)
         requires { 1 ≤ self.old.room }
-        ensures units { (other : UnitKey) → is_known other self.new.units ≡ (same_unit unit.now other || is_known other self.old.units) }
+        ensures units { (other : UnitKey)
+            → is_known other self.new.units ≡ (same_unit unit.now other || is_known other self.old.units) }
         ensures disk { self.new.disk ≡ self.old.disk }
         ensures gate { self.new.gate ≡ self.old.gate }
         ensures failed { self.new.failed ≡ self.old.failed }
@@ -294,7 +303,8 @@ impl<D: Disk> Backup<D> {
     }
 
     fn forget(&mut self, unit: &UnitKey)
-        ensures units { (other : UnitKey) → is_known other self.new.units ≡ (not (same_unit unit.now other) && is_known other self.old.units) }
+        ensures units { (other : UnitKey)
+            → is_known other self.new.units ≡ (not (same_unit unit.now other) && is_known other self.old.units) }
         ensures disk { self.new.disk ≡ self.old.disk }
         ensures gate { self.new.gate ≡ self.old.gate }
         ensures failed { self.new.failed ≡ self.old.failed }

@@ -16,7 +16,8 @@ use std::collections::HashSet;
 
 /// Notes what the record does to the units whose lists stand.
 pub fn follow(units: &mut HashSet<UnitId>, step: &Record) -> Result<(), NoMemory>
-    ensures { (l : List Handed) → AreUnits units.old.keys l → OnOk result (AreUnits units.new.keys (kept.after l step.now)) }
+    ensures { (l : List Handed) → AreUnits units.old.keys l
+        → OnOk result (AreUnits units.new.keys (kept.after l step.now)) }
 {
     match step {
         Record::Hand(handed) => add(units, &handed.unit)?,
@@ -27,7 +28,8 @@ pub fn follow(units: &mut HashSet<UnitId>, step: &Record) -> Result<(), NoMemory
 
 /// Whether the record may follow, where the lists of these units stand.
 pub fn may_follow(alloc: Global, units: &HashSet<UnitId>, step: &Record) -> Result<bool, NoMemory>
-    ensures { (l : List Handed) → AreUnits units.now.keys l → IfOk result (λ may. IsTrue may ↔ kept.IsLegal l step.now) }
+    ensures { (l : List Handed) → AreUnits units.now.keys l
+        → IfOk result (λ may. IsTrue may ↔ kept.IsLegal l step.now) }
 {
     match step {
         Record::Hand(handed) => are_distinct(alloc, handed.entries.as_slice()),
@@ -59,7 +61,8 @@ fn read_back(
     step: Record,
 ) -> Result<(), NoMemory>
     ensures { (later : List Record) → AreTouched seen.old.keys later → reverse lists.old.items ≡ kept.hands later
-        → OnOk result (AreTouched seen.new.keys (step ∷ later) × (reverse lists.new.items ≡ kept.hands (step ∷ later))) }
+        → OnOk result (AreTouched seen.new.keys (step ∷ later)
+        × (reverse lists.new.items ≡ kept.hands (step ∷ later))) }
 {
     match step {
         Record::Hand(handed) => put_first(seen, lists, handed),
@@ -73,7 +76,8 @@ fn put_first(
     handed: Handed,
 ) -> Result<(), NoMemory>
     ensures { (later : List Record) → AreTouched seen.old.keys later → reverse lists.old.items ≡ kept.hands later
-        → OnOk result (AreTouched seen.new.keys (Record.Hand handed ∷ later) × (reverse lists.new.items ≡ kept.hands (Record.Hand handed ∷ later))) }
+        → OnOk result (AreTouched seen.new.keys (Record.Hand handed ∷ later)
+        × (reverse lists.new.items ≡ kept.hands (Record.Hand handed ∷ later))) }
 {
     let unit: UnitKey = handed.unit;
     if !holds(seen, &unit) {

@@ -16,7 +16,9 @@ pub fn holds(units: &HashSet<UnitId>, unit: &UnitKey) -> bool
 
 /// Adds the unit.
 pub fn add(units: &mut HashSet<UnitId>, unit: &UnitKey) -> Result<(), NoMemory>
-    ensures { OnOk result ((other : UnitKey) → is_known other units.new.keys ≡ (same_unit unit.now other || is_known other units.old.keys)) }
+    ensures { OnOk result
+        ((other : UnitKey) → is_known other
+        units.new.keys ≡ (same_unit unit.now other || is_known other units.old.keys)) }
 {
     units.insert(id_of(unit))?;
     Ok(())
@@ -24,7 +26,8 @@ pub fn add(units: &mut HashSet<UnitId>, unit: &UnitKey) -> Result<(), NoMemory>
 
 /// Takes the unit away.
 pub fn forget(units: &mut HashSet<UnitId>, unit: &UnitKey)
-    ensures { (other : UnitKey) → is_known other units.new.keys ≡ (not (same_unit unit.now other) && is_known other units.old.keys) }
+    ensures { (other : UnitKey)
+        → is_known other units.new.keys ≡ (not (same_unit unit.now other) && is_known other units.old.keys) }
 {
     units.remove(&id_of(unit));
 }

@@ -24,11 +24,14 @@ Torn-written at old bytes =
     let zeros : List ℕ = replicate (at - length old) 0 in
     let tail : List ℕ = drop (at + length bytes) old in
     let short : length (take at old) ≡ min at (length old) = omega (arith, length-take at old) in
-    let size : length (take at old ++ zeros ++ bytes) ≡ at + length bytes = omega (arith, short, length-append (take at old ++ zeros) bytes, length-append (take at old) zeros, length-replicate {A = ℕ} (at - length old) 0) in
+    let size : length (take at old ++ zeros ++ bytes) ≡ at + length bytes =
+    omega (arith, short, length-append (take at old ++ zeros) bytes, length-append (take at old) zeros, length-replicate {A = ℕ} (at - length old) 0) in
     let all : length (written old at bytes) ≡ at + length bytes + length tail = omega (arith, size, length-append (take at old ++ zeros ++ bytes) tail) in
     let rest : length tail ≡ length old - (at + length bytes) = length-drop (at + length bytes) old in
     record {
-      before = ap (λ (l : List ℕ). take (min at (length old)) l) (append_assoc (take at old ++ zeros) bytes tail ∙ append_assoc (take at old) zeros (bytes ++ tail)) ∙ take_at (take at old) (zeros ++ (bytes ++ tail)) (min at (length old)) short;
+      before = ap (λ (l : List ℕ). take (min at (length old)) l)
+          (append_assoc (take at old ++ zeros) bytes tail ∙ append_assoc (take at old) zeros (bytes ++ tail))
+          ∙ take_at (take at old) (zeros ++ (bytes ++ tail)) (min at (length old)) short;
       after = drop_at (take at old ++ zeros ++ bytes) tail (at + length bytes) size;
       no_shorter = omega (arith, all, rest);
       no_longer = omega (arith, all, rest);
@@ -40,9 +43,11 @@ length-resized n old = omega (arith, length-take n old, length-append (take n ol
 resized_same : (n : ℕ) (old : List ℕ) → take (length old) (resized old n) ≡ take n old
 resized_same n old = elim (cases_lt (length old) n) [
   | inl lt ↦ (let whole : take n old ≡ old = take_all n old (omega arith) in
-      ap (λ (l : List ℕ). take (length old) (l ++ replicate (n - length old) 0)) whole ∙ take_at old (replicate (n - length old) 0) (length old) refl ∙ sym whole)
+      ap (λ (l : List ℕ). take (length old) (l ++ replicate (n - length old) 0)) whole ∙ take_at old (replicate (n - length old) 0) (length old) refl
+      ∙ sym whole)
   | inr le ↦ (let none : n - length old ≡ 0 = omega arith in
-      ap (λ (k : ℕ). take (length old) (take n old ++ replicate k 0)) none ∙ ap (λ (l : List ℕ). take (length old) l) (append-nil (take n old)) ∙ take_all (length old) (take n old) (omega (arith, length-take n old)))
+      ap (λ (k : ℕ). take (length old) (take n old ++ replicate k 0)) none ∙ ap (λ (l : List ℕ). take (length old) l) (append-nil (take n old))
+      ∙ take_all (length old) (take n old) (omega (arith, length-take n old)))
 ]
 
 pub Cut-resized : (n : ℕ) (old : List ℕ) → Cut n old (resized old n)
@@ -67,7 +72,8 @@ MayLeave-same (Write at len) old = Torn-same at len old
 MayLeave-same (Resize to) old = Cut-same to old
 
 MayLeave-filled : (byte : ℕ) (c : Change) (old : List ℕ) → MayLeave c old (filled byte old c)
-MayLeave-filled byte (Write at len) old = subst (λ (k : ℕ). Torn at k old (written old at (replicate len byte))) (length-replicate len byte) (Torn-written at old (replicate len byte))
+MayLeave-filled byte (Write at len) old = subst (λ (k : ℕ). Torn at k old (written old at (replicate len byte))) (length-replicate len byte)
+    (Torn-written at old (replicate len byte))
 MayLeave-filled byte (Resize to) old = Cut-resized to old
 
 pub LeftBy-base : (cs : List Change) (base : List ℕ) → LeftBy cs base base
@@ -79,11 +85,13 @@ LeftBy-filled byte [] base = refl
 LeftBy-filled byte (c ∷ cs) base = (filled byte base c, MayLeave-filled byte c base, LeftBy-filled byte cs (filled byte base c))
 
 -- a change whose whole effect is known joins those that a crash may have cut short
-pub IsImage-push : (cs after : List Change) (c : Change) (old new base image : List ℕ) → after ≡ cs ++ c ∷ [] → MayLeave c old new → IsImage new base after image → (d : List ℕ) × IsImage old base cs d × MayLeave c d image
+pub IsImage-push : (cs after : List Change) (c : Change) (old new base image : List ℕ) → after ≡ cs ++ c ∷ [] → MayLeave c old new
+    → IsImage new base after image → (d : List ℕ) × IsImage old base cs d × MayLeave c d image
 IsImage-push cs after c old new base image e may (inl is) = (old, inl refl, subst (λ (l : List ℕ). MayLeave c old l) (sym is) may)
 IsImage-push cs after c old new base image e may (inr left) =
     let from = LeftBy-push cs c base image (subst (λ (l : List Change). LeftBy l base image) e left) in
     (from.0, inr from.1, from.2)
 
-pub IsImage-unchanged : (cs after : List Change) (c : Change) (old base image : List ℕ) → after ≡ cs ++ c ∷ [] → IsImage old base after image → (d : List ℕ) × IsImage old base cs d × MayLeave c d image
+pub IsImage-unchanged : (cs after : List Change) (c : Change) (old base image : List ℕ) → after ≡ cs ++ c ∷ [] → IsImage old base after image → (d : List ℕ)
+    × IsImage old base cs d × MayLeave c d image
 IsImage-unchanged cs after c old base image e is = IsImage-push cs after c old old base image e (MayLeave-same c old) is

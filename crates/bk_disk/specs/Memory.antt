@@ -20,7 +20,8 @@ pub record MemView : Type 0 where
 
 -- all bytes are synced, and no call was made
 abbrev pub fresh : List ℕ → List ℕ → MemView
-fresh bytes fails = record { reads = bytes; synced = bytes; changes = []; fails = fails; calls = 0; faults = 0; refused = 0 }
+fresh bytes fails =
+    record { reads = bytes; synced = bytes; changes = []; fails = fails; calls = 0; faults = 0; refused = 0 }
 
 -- what a crash may leave
 abbrev pub MayBeLeft : MemView → List ℕ → Type 0

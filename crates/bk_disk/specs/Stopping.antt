@@ -15,4 +15,5 @@ all_faults faults s = faults s.disk + s.faults
 
 -- a call failed: the disk had stopped and the one below was left alone, or the one below failed
 abbrev pub FailsStopped : {D : Type 0} → (D → ℕ) → StopView D → StopView D → Type 0
-FailsStopped faults old new = ((old.left ≡ 0) × (new.disk ≡ old.disk) × (new.faults ≡ one_more old.faults)) ⊎ Rose (faults old.disk) (faults new.disk)
+FailsStopped faults old new = ((old.left ≡ 0) × (new.disk ≡ old.disk) × (new.faults ≡ one_more old.faults))
+    ⊎ Rose (faults old.disk) (faults new.disk)

@@ -9,7 +9,8 @@ use Rattle.hall_model.specs.declared.command.Who.TheVariants as caller
 use Rattle.lock_objects.specs.Objects.{Object}
 use Rattle.order_laws.specs.Behind.{is_post, up_after}
 use Rattle.order_workers.specs.Orders.{DidWork, Made, Rests, Stops, is_idle}
-use Rattle.script_actors.specs.Actors.{AddsDone, AddsPart, DeskView, desk_call, full_after, is_full, lines_of_actor, with_call}
+use Rattle.script_actors.specs.Actors.{AddsDone, AddsPart, DeskView, desk_call, full_after, is_full, lines_of_actor}
+use Rattle.script_actors.specs.Actors.{with_call}
 use Rattle.script_actors.specs.declared.actor.Said.{Said}
 use Rattle.script_actors.specs.declared.line.NumberedLine.{NumberedLine}
 use Rattle.turn_desks.specs.Asking.{IsAsked}
@@ -29,8 +30,8 @@ pub record Known : Type 0 where
 abbrev pub desk_known : Known → DeskView
 desk_known k = record { calls = map desk_call (own_entries k.view); full_at = k.full_at }
 
--- What an actor leaves: what its lines were answered that came to no call, None where memory was wanting for one, and of a worker;
--- and whether a worker ended because nothing was left to do.
+-- What an actor leaves: what its lines were answered that came to no call, None where memory was wanting for one, and
+-- of a worker; and whether a worker ended because nothing was left to do.
 pub record Left : Type 0 where
   pub said : Option (List Said)
   pub rests : Bool
@@ -46,10 +47,13 @@ DidLines objects lines w None a b = AddsPart objects (lines_of_actor w lines) a 
 DidLines objects lines w (Some said) a b = AddsDone objects (lines_of_actor w lines) a b said
 
 -- what one of the threads has done
-abbrev pub DidAs : {S : Type 0} → (S → List PastEntry) → List Object → List NumberedLine → Who → Left → Known → Known → Type 0
+abbrev pub DidAs : {S : Type 0} → (S → List PastEntry) → List Object → List NumberedLine → Who → Left → Known → Known
+    → Type 0
 DidAs past objects lines (caller.Worker w) left k l = DidWork (LeadsTurn past) w left.rests k l
-DidAs past objects lines (caller.Session s) left k l = DidLines objects lines (caller.Session s) left.said (desk_known k) (desk_known l)
-DidAs past objects lines caller.Admin left k l = DidLines objects lines caller.Admin left.said (desk_known k) (desk_known l)
+DidAs past objects lines (caller.Session s) left k l =
+    DidLines objects lines (caller.Session s) left.said (desk_known k) (desk_known l)
+DidAs past objects lines caller.Admin left k l = DidLines objects lines caller.Admin left.said (desk_known k)
+    (desk_known l)
 
 pub record Thread : Type 0 where
   pub who : Who
@@ -58,7 +62,8 @@ pub record Thread : Type 0 where
   pub now : Known
 
 -- a thread that began with no calls did its work, and its calls stand in this history
-pub record IsThread {S : Type 0} (past : S → List PastEntry) (objects : List Object) (lines : List NumberedLine) (log : List PastEntry) (t : Thread) : Type 0 where
+pub record IsThread {S : Type 0} (past : S → List PastEntry) (objects : List Object) (lines : List NumberedLine)
+    (log : List PastEntry) (t : Thread) : Type 0 where
   pub did : DidAs past objects lines t.who t.left t.began t.now
   pub fresh : t.began.view.own ≡ []
   pub none_full : t.began.full_at ≡ None
@@ -100,7 +105,8 @@ LinesDid objects lines past w said full_at = DidLines objects lines w said nothi
 
 abbrev pub Did : List Object → List NumberedLine → List PastEntry → Who → Left → Option ℕ → Type 0
 Did objects lines past (caller.Worker w) left full_at = WorkerDid past w left.rests full_at
-Did objects lines past (caller.Session s) left full_at = LinesDid objects lines past (caller.Session s) left.said full_at
+Did objects lines past (caller.Session s) left full_at =
+    LinesDid objects lines past (caller.Session s) left.said full_at
 Did objects lines past caller.Admin left full_at = LinesDid objects lines past caller.Admin left.said full_at
 
 -- ---- behind all threads

@@ -37,7 +37,8 @@ pub record IsBroken (left : Option (List ℕ)) (rule place : ℕ) : Type 0 where
   pub told : IfSome left (λ all. all ≡ bytes)
 
 -- the text that tells what the script lacks, which was read to its end
-pub record IsTextOf (objects : List Object) (left after : Option (List ℕ)) (before now : ℕ) (text : List ℕ) : Type 0 where
+pub record IsTextOf (objects : List Object) (left after : Option (List ℕ)) (before now : ℕ)
+    (text : List ℕ) : Type 0 where
   pub bytes : List ℕ
   pub consumed : Consumes left after bytes
   pub read : IsRead bytes after
@@ -50,9 +51,10 @@ Puts old new before now text Done = Appends old new text × (now ≡ before)
 Puts old new before now text SinkFault = AppendsFirst old new text × Rose before now
 Puts old new before now text why = ⊥
 
--- The whole text was written; or some of its first bytes, and then the sink failed; or there is none, since the reading of the
--- script ended so, or memory was wanting.
-abbrev pub Tells : List Object → (left after : Option (List ℕ)) → (before now : ℕ) → (old new : Option (List ℕ)) → (faults faults_now : ℕ) → Why → Type 0
+-- The whole text was written; or some of its first bytes, and then the sink failed; or there is none, since the reading
+-- of the script ended so, or memory was wanting.
+abbrev pub Tells : List Object → (left after : Option (List ℕ)) → (before now : ℕ) → (old new : Option (List ℕ))
+    → (faults faults_now : ℕ) → Why → Type 0
 Tells objects left after before now old new faults faults_now Done =
     (text : List ℕ) × IsTextOf objects left after before now text × Puts old new faults faults_now text Done
 Tells objects left after before now old new faults faults_now SinkFault =
@@ -60,14 +62,18 @@ Tells objects left after before now old new faults faults_now SinkFault =
 Tells objects left after before now old new faults faults_now why =
     (bytes : List ℕ) × Consumes left after bytes × IsReadingEnd bytes after before now why
 
--- With the landscape that was read, the script was told of; or the landscape breaks a rule, or its source failed, or memory was
--- wanting.
-abbrev pub Covers : (land_left : Option (List ℕ)) → (land_before land_now : ℕ) → (left after : Option (List ℕ)) → (before now : ℕ)
+-- With the landscape that was read, the script was told of; or the landscape breaks a rule, or its source failed, or
+-- memory was wanting.
+abbrev pub Covers : (land_left : Option (List ℕ)) → (land_before land_now : ℕ) → (left after : Option (List ℕ))
+    → (before now : ℕ)
     → (old new : Option (List ℕ)) → (faults faults_now : ℕ) → Why → Type 0
-Covers land_left land_before land_now left after before now old new faults faults_now (BadLandscape rule place) = IsBroken land_left rule place
+Covers land_left land_before land_now left after before now old new faults faults_now (BadLandscape rule place) =
+    IsBroken land_left rule place
 Covers land_left land_before land_now left after before now old new faults faults_now NoMemory = Unit {0}
 Covers land_left land_before land_now left after before now old new faults faults_now SourceFault =
     Rose land_before land_now
-    ⊎ ((land : Landscape) × IsLanded land_left land_before land_now land × Tells land.objects left after before now old new faults faults_now SourceFault)
+    ⊎ ((land : Landscape) × IsLanded land_left land_before land_now land
+    × Tells land.objects left after before now old new faults faults_now SourceFault)
 Covers land_left land_before land_now left after before now old new faults faults_now why =
-    (land : Landscape) × IsLanded land_left land_before land_now land × Tells land.objects left after before now old new faults faults_now why
+    (land : Landscape) × IsLanded land_left land_before land_now land
+    × Tells land.objects left after before now old new faults faults_now why

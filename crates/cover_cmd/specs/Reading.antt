@@ -48,14 +48,17 @@ IsReadingEnd bytes left old new SourceFault = Rose old new × AreGoodBefore byte
 IsReadingEnd bytes left old new NoMemory = Unit {0}
 IsReadingEnd bytes left old new why = ⊥
 
--- Of a source some bytes were read: all there are, and then the lines that they are have this outcome, or as many as it took
--- to see why not.
-abbrev pub IsOutcome : {X : Type 0} → (List Numbered → X → Type 0) → List ℕ → Option (List ℕ) → ℕ → ℕ → Result X Why → Type 0
+-- Of a source some bytes were read: all there are, and then the lines that they are have this outcome, or as many as it
+-- took to see why not.
+abbrev pub IsOutcome : {X : Type 0} → (List Numbered → X → Type 0) → List ℕ → Option (List ℕ) → ℕ → ℕ → Result X Why
+    → Type 0
 IsOutcome Has bytes left old new (Ok x) = IsRead bytes left × Has (numbered 0 (lines_of bytes)) x × (new ≡ old)
 IsOutcome Has bytes left old new (Err why) = IsReadingEnd bytes left old new why
 
-abbrev pub ReadsAll : {X : Type 0} → (List Numbered → X → Type 0) → Option (List ℕ) → Option (List ℕ) → ℕ → ℕ → Result X Why → Type 0
-ReadsAll Has before after old new r = (bytes : List ℕ) × Consumes before after bytes × IsOutcome Has bytes after old new r
+abbrev pub ReadsAll : {X : Type 0} → (List Numbered → X → Type 0) → Option (List ℕ) → Option (List ℕ) → ℕ → ℕ
+    → Result X Why → Type 0
+ReadsAll Has before after old new r = (bytes : List ℕ) × Consumes before after bytes
+    × IsOutcome Has bytes after old new r
 
 abbrev pub HasLacks : List Object → List Numbered → Vec Lack → Type 0
 HasLacks objects lines found = found.items ≡ lacks objects lines

@@ -23,7 +23,8 @@ use Rattle.hall_model.specs.declared.command.Who.TheVariants as who
 
 -- the unit was posted wholly, or cancelled
 abbrev pub IsDone : Ledger → UnitKey → Type 0
-IsDone ledger unit = (status_of ledger.units ledger.marks unit ≡ Some Closed) ⊎ (status_of ledger.units ledger.marks unit ≡ Some Cancelled)
+IsDone ledger unit = (status_of ledger.units ledger.marks unit ≡ Some Closed)
+    ⊎ (status_of ledger.units ledger.marks unit ≡ Some Cancelled)
 
 abbrev pub is_by : List ℕ → PastEntry → Bool
 is_by s e = by e.who
@@ -61,7 +62,8 @@ abbrev pub open_unit : State → List ℕ → Option UnitKey
 open_unit s name = option_map (unit_key s.stored.start) (session_at s.sessions name)
 
 -- the session reads a row of this text while it has the unit open
-pub record IsReadOf (s : State) (name : List ℕ) (unit : UnitKey) (table key : List ℕ) (text : Option (List ℕ)) (e : PastEntry) : Type 0 where
+pub record IsReadOf (s : State) (name : List ℕ) (unit : UnitKey) (table key : List ℕ) (text : Option (List ℕ))
+    (e : PastEntry) : Type 0 where
   pub open_then : open_unit s name ≡ Some unit
   pub asks : e.command ≡ command.Read name table key
   pub answered : e.reply ≡ reply.Row text

@@ -17,12 +17,14 @@ use Rattle.hall_model.specs.declared.command.PastEntry.{PastEntry}
 use Rattle.script_runner.specs.Lines.{Silent, Shows, Calls, Declines, Changes, meaning, settled}
 use Rattle.script_runner.specs.World.{world}
 use Rattle.coverage.specs.Lacks.{Numbered}
-use Rattle.cover_laws.specs.Histories.{IsCommitBy, IsDone, IsReadOf, NoneSettles, fails_a_session, is_by, settles, tries_again}
+use Rattle.cover_laws.specs.Histories.{IsCommitBy, IsDone, IsReadOf, NoneSettles, fails_a_session, is_by, settles}
+use Rattle.cover_laws.specs.Histories.{tries_again}
 use Rattle.cover_laws.specs.Own.{own_lines}
 
 -- ---- which histories are meant
 
--- A start over a store in order, before any call. The store tells its rows, and the link its list; each unit of the store is done with.
+-- A start over a store in order, before any call. The store tells its rows, and the link its list; each unit of the
+-- store is done with.
 pub record IsBegun (first : State) : Type 0 where
   pub max_locks : ℕ
   pub mark_limit : ℕ
@@ -36,8 +38,8 @@ pub record IsBegun (first : State) : Type 0 where
 abbrev pub unseen : State
 unseen = opened 0 0 [] true true no_ledger
 
--- The calls of a session are those that its lines make, one after another, as far as they were done; no line is refused before its
--- call.
+-- The calls of a session are those that its lines make, one after another, as far as they were done; no line is refused
+-- before its call.
 abbrev pub AreCallsOf : List Object → List Private → List ScriptLine → List PastEntry → Type 0
 AreCallsOf objects sides [] calls = calls ≡ []
 AreCallsOf objects sides (l ∷ ls) calls =
@@ -60,9 +62,9 @@ abbrev pub StaysSure : State → List Made → Type 0
 StaysSure first made =
     (earlier later : List Made) (k : ℕ) → made ≡ earlier ++ later → (state_after first earlier).condition ≢ Doubt k
 
--- A history of the script: it goes on from a start as the model does, each session makes the calls of its own lines, in whichever
--- turns, none of these is refused, no part of a unit is tried again, and no device fails so that the server is in doubt. Lock servers
--- may be ended and made anew, and calls of workers and of the administrator may be refused.
+-- A history of the script: it goes on from a start as the model does, each session makes the calls of its own lines, in
+-- whichever turns, none of these is refused, no part of a unit is tried again, and no device fails so that the server
+-- is in doubt. Lock servers may be ended and made anew, and calls of workers and of the administrator may be refused.
 pub record IsWithin (objects : List Object) (lines : List Numbered) (first : State) (made : List Made) : Type 0 where
   pub begun : IsBegun first
   pub answers : AreModelAnswers first made
@@ -76,7 +78,8 @@ pub record IsWithin (objects : List Object) (lines : List Numbered) (first : Sta
 -- What a unit has read of a row stands there until its V1 part is posted or refused.
 abbrev pub KeepsReads : State → List Made → Type 0
 KeepsReads first made =
-    (earlier between waiting later : List Made) (r c d : Made) (name : List ℕ) (unit : UnitKey) (table key : List ℕ) (text : Option (List ℕ))
+    (earlier between waiting later : List Made) (r c d : Made) (name : List ℕ) (unit : UnitKey) (table key : List ℕ)
+    (text : Option (List ℕ))
     → made ≡ earlier ++ r ∷ (between ++ c ∷ (waiting ++ d ∷ later))
     → IsReadOf (state_after first earlier) name unit table key text r.call
     → IsCommitBy name unit c.call → NoneSettles unit (between ++ c ∷ waiting) → IsTrue (settles unit d.call.reply)

@@ -69,7 +69,8 @@ left_false false h = h
 looked_right : (st : Standing) (t : Tally) → AreCounted st.held st.container t → looked t ≡ tallied st t.watch
 looked_right st t h =
     let w = t.watch.wish in
-    let met : still_met w.want t.watch.met (nat_lt 0 t.held) ≡ still_met w.want t.watch.met (covered w.table w.key st.held) = ap (still_met w.want t.watch.met) (ap (nat_lt 0) h.held ∙ any_counted (covers w.table w.key) st.held) in
+    let met : still_met w.want t.watch.met (nat_lt 0 t.held) ≡ still_met w.want t.watch.met (covered w.table w.key st.held) =
+    ap (still_met w.want t.watch.met) (ap (nat_lt 0) h.held ∙ any_counted (covers w.table w.key) st.held) in
     λ i. record {
       watch = record { place = t.watch.place; wish = w; met = met i };
       held = h.held i;
@@ -77,7 +78,9 @@ looked_right st t h =
     }
 
 -- the tally over a watch that is new
-pub first_right : (st : Standing) (x : Watch) (held collected : ℕ) (met : Bool) → held ≡ covering x.wish st.held → collected ≡ covering x.wish st.container → met ≡ still_met x.wish.want x.met (nat_lt 0 held) → (let t : Tally = record { watch = record { place = x.place; wish = x.wish; met = met }; held = held; collected = collected } in t) ≡ tallied st x
+pub first_right : (st : Standing) (x : Watch) (held collected : ℕ) (met : Bool) → held ≡ covering x.wish st.held → collected ≡ covering x.wish st.container
+    → met ≡ still_met x.wish.want x.met (nat_lt 0 held)
+    → (let t : Tally = record { watch = record { place = x.place; wish = x.wish; met = met }; held = held; collected = collected } in t) ≡ tallied st x
 first_right st x held collected met h g m =
     (λ i. record { watch = record { place = x.place; wish = x.wish; met = m i }; held = held; collected = collected })
     ∙ looked_right st (record { watch = x; held = held; collected = collected }) (record { held = h; collected = g })
@@ -103,15 +106,25 @@ twice st x =
 module _ (os : List Object) (st : Standing) where
   module _ (t : Tally) (h : AreCounted st.held st.container t) (moved : List Asked) where
     -- the numbers after a line that doesn't end the unit
-    counts_after : (l : ScriptLine) → (commits st l || abandons l) ≡ false → AreMoved l st (after_line os st l) moved → length ((after_line os st l).held) < 2 ^ 63 → length ((after_line os st l).container) < 2 ^ 63 → AreCounted ((after_line os st l).held) ((after_line os st l).container) (counted l moved t)
+    counts_after : (l : ScriptLine) → (commits st l || abandons l) ≡ false → AreMoved l st (after_line os st l) moved
+        → length ((after_line os st l).held) < 2 ^ 63 → length ((after_line os st l).container) < 2 ^ 63
+        → AreCounted ((after_line os st l).held) ((after_line os st l).container) (counted l moved t)
     counts_after (line.Enq s o m sc vs) e by hf cf =
         let w = t.watch.wish in
         let now = (after_line os st (line.Enq s o m sc vs)).held in
-        record { held = sum_fits t.held (covering w moved) (covering w now) (length now) (ap (λ (n : ℕ). n + covering w moved) h.held ∙ sym (by w)) (count_by-le-length (covers w.table w.key) now) hf; collected = h.collected }
+        record {
+          held = sum_fits t.held (covering w moved) (covering w now) (length now) (ap (λ (n : ℕ). n + covering w moved) h.held ∙ sym (by w))
+              (count_by-le-length (covers w.table w.key) now) hf;
+          collected = h.collected;
+        }
     counts_after (line.Collect s o m sc vs) e by hf cf =
         let w = t.watch.wish in
         let now = (after_line os st (line.Collect s o m sc vs)).container in
-        record { held = h.held; collected = sum_fits t.collected (covering w moved) (covering w now) (length now) (ap (λ (n : ℕ). n + covering w moved) h.collected ∙ sym (by w)) (count_by-le-length (covers w.table w.key) now) cf }
+        record {
+          held = h.held;
+          collected = sum_fits t.collected (covering w moved) (covering w now) (length now)
+              (ap (λ (n : ℕ). n + covering w moved) h.collected ∙ sym (by w)) (count_by-le-length (covers w.table w.key) now) cf;
+        }
     counts_after (line.Deq s o m sc vs) e by hf cf =
         let w = t.watch.wish in
         let was : t.held ≡ covering w ((after_line os st (line.Deq s o m sc vs)).held) + covering w moved = h.held ∙ by w in
@@ -120,11 +133,20 @@ module _ (os : List Object) (st : Standing) where
     counts_after (line.Flush s) e by hf cf =
         let w = t.watch.wish in
         let now = st.held ++ st.container in
-        record { held = sum_fits t.held t.collected (covering w now) (length now) ((λ i. h.held i + h.collected i) ∙ sym (covering_more w st.held st.container)) (count_by-le-length (covers w.table w.key) now) hf; collected = refl }
+        record {
+          held = sum_fits t.held t.collected (covering w now) (length now) ((λ i. h.held i + h.collected i) ∙ sym (covering_more w st.held st.container))
+              (count_by-le-length (covers w.table w.key) now) hf;
+          collected = refl;
+        }
     counts_after (line.Reset s) e by hf cf = record { held = h.held; collected = refl }
     counts_after (line.Commit s) e by hf cf =
-        let still : st ≡ committed st = sym (ap (λ (b : Bool). cond b (record { effects = false; held = []; container = st.container }) st) (left_false st.effects e)) in
-        record { held = h.held ∙ ap (λ (x : Standing). covering t.watch.wish x.held) still; collected = h.collected ∙ ap (λ (x : Standing). covering t.watch.wish x.container) still }
+        let still : st ≡ committed st =
+        sym (ap (λ (b : Bool). cond b (record { effects = false; held = []; container = st.container }) st) (left_false st.effects e)) in
+        record {
+          held = h.held ∙ ap (λ (x : Standing). covering t.watch.wish x.held) still;
+          collected =
+              h.collected ∙ ap (λ (x : Standing). covering t.watch.wish x.container) still;
+        }
     counts_after (line.Rollback s) e by hf cf = absurd (cc)
     counts_after (line.Logoff s) e by hf cf = absurd (cc)
     counts_after _ e by hf cf = record { held = h.held; collected = h.collected }
@@ -148,7 +170,8 @@ module _ (os : List Object) (st : Standing) where
   all_stay l moved [] e is = refl
   all_stay l moved (t ∷ ts) e is = λ i. stays l moved t e is.0 i ∷ all_stay l moved ts e is.1 i
 
-  module _ (l : ScriptLine) (moved : List Asked) (e : (commits st l || abandons l) ≡ false) (by : AreMoved l st (after_line os st l) moved) (hf : length ((after_line os st l).held) < 2 ^ 63) (cf : length ((after_line os st l).container) < 2 ^ 63) where
+  module _ (l : ScriptLine) (moved : List Asked) (e : (commits st l || abandons l) ≡ false) (by : AreMoved l st (after_line os st l) moved)
+      (hf : length ((after_line os st l).held) < 2 ^ 63) (cf : length ((after_line os st l).container) < 2 ^ 63) where
     abbrev now : Standing
     now = after_line os st l
 
@@ -178,7 +201,8 @@ new_tallied : (place : ℕ) (o : Option Wish) (st : Standing) → AreTallied st 
 new_tallied place None st = tt
 new_tallied place (Some w) st = (twice st (record { place = place; wish = w; met = true }), tt)
 
-seen : (st : Standing) (ts more : List Tally) → watches_of (map (λ (t : Tally). tallied st t.watch) ts ++ more) ≡ map (looked_after st.held) (watches_of ts) ++ watches_of more
+seen : (st : Standing) (ts more : List Tally) → watches_of (map (λ (t : Tally). tallied st t.watch) ts ++ more) ≡ map (looked_after st.held)
+    (watches_of ts) ++ watches_of more
 seen st [] more = refl
 seen st (t ∷ ts) more = ap (λ (xs : List Watch). looked_after st.held t.watch ∷ xs) (seen st ts more)
 
@@ -188,7 +212,8 @@ new_seen place (Some w) st = refl
 
 module _ (os : List Object) (st : Standing) (l : ScriptLine) (moved : List Asked) (ts : List Tally) (right : AreTallied st ts) where
   pub record Follows (place : ℕ) (o : Option Wish) (st' : Standing) (new : List Tally) : Type 0 where
-    pub is : (let v : SessionView = record { standing = st'; watches = watches_of new } in v) ≡ followed os place o l (record { standing = st; watches = watches_of ts })
+    pub is : (let v : SessionView = record { standing = st'; watches = watches_of new } in v) ≡ followed os place o l
+        (record { standing = st; watches = watches_of ts })
     pub good : AreTallied st' new
 
   abbrev after : Standing
@@ -207,24 +232,30 @@ module _ (os : List Object) (st : Standing) (l : ScriptLine) (moved : List Asked
     turned_by more false e =
         let on = goes_on os st l moved e by hf cf ts right in
         record {
-          is = ap (λ (xs : List Tally). watches_of (xs ++ more)) on ∙ seen after ts more ∙ ap (λ (b : Bool). cond b [] (map (looked_after after.held) (watches_of ts)) ++ watches_of more) (sym e);
+          is = ap (λ (xs : List Tally). watches_of (xs ++ more)) on ∙ seen after ts more
+              ∙ ap (λ (b : Bool). cond b [] (map (looked_after after.held) (watches_of ts)) ++ watches_of more) (sym e);
           good = subst (AreTallied after) (sym on) (still_tallied after ts);
         }
 
-    then_follows : (place : ℕ) (o : Option Wish) (ends : Bool) (mid new : List Tally) → ends ≡ (commits st l || abandons l) → mid ≡ all_turned ends l moved ts → new ≡ mid ++ new_tally place o after → Follows place o after new
+    then_follows : (place : ℕ) (o : Option Wish) (ends : Bool) (mid new : List Tally) → ends ≡ (commits st l || abandons l) → mid ≡ all_turned ends l moved ts
+        → new ≡ mid ++ new_tally place o after → Follows place o after new
     then_follows place o ends mid new e m n =
         let more = new_tally place o after in
         let t = turned_by more ends (sym e) in
         let all : new ≡ all_turned ends l moved ts ++ more = n ∙ ap (λ (xs : List Tally). xs ++ more) m in
-        let shown : watches_of new ≡ watches_on os st l (watches_of ts) ++ new_watch place o after.held = ap watches_of all ∙ t.is ∙ ap (λ (xs : List Watch). watches_on os st l (watches_of ts) ++ xs) (new_seen place o after) in
+        let shown : watches_of new ≡ watches_on os st l (watches_of ts) ++ new_watch place o after.held =
+        ap watches_of all ∙ t.is ∙ ap (λ (xs : List Watch). watches_on os st l (watches_of ts) ++ xs) (new_seen place o after) in
         record {
           is = λ i. record { standing = after; watches = shown i };
           good = subst (AreTallied after) (sym all) (both_tallied after _ more t.good (new_tallied place o after));
         }
 
-  pub follows : (place : ℕ) (o : Option Wish) (ends : Bool) (st' : Standing) (mid new : List Tally) → ends ≡ (commits st l || abandons l) → st' ≡ after → AreMoved l st st' moved → length st'.held < 2 ^ 63 → length st'.container < 2 ^ 63 → mid ≡ all_turned ends l moved ts → new ≡ mid ++ new_tally place o st' → Follows place o st' new
+  pub follows : (place : ℕ) (o : Option Wish) (ends : Bool) (st' : Standing) (mid new : List Tally) → ends ≡ (commits st l || abandons l) → st' ≡ after
+      → AreMoved l st st' moved → length st'.held < 2 ^ 63 → length st'.container < 2 ^ 63 → mid ≡ all_turned ends l moved ts
+      → new ≡ mid ++ new_tally place o st' → Follows place o st' new
   follows place o ends st' mid new e a by hf cf m n =
-      subst (λ (x : Standing). AreMoved l st x moved → length x.held < 2 ^ 63 → length x.container < 2 ^ 63 → new ≡ mid ++ new_tally place o x → Follows place o x new) (sym a)
+      subst (λ (x : Standing). AreMoved l st x moved → length x.held < 2 ^ 63 → length x.container < 2 ^ 63 → new ≡ mid ++ new_tally place o x
+      → Follows place o x new) (sym a)
       (λ by' hf' cf' n'. then_follows by' hf' cf' place o ends mid new e m n') by hf cf n
 
 told_one : (st : Standing) (found : List (Option Finding)) (t : Tally) → t ≡ tallied st t.watch → told_tally found t ≡ told_by st.held found t.watch
@@ -235,7 +266,8 @@ told_one st found t is =
     (ap (nat_lt 0) h.held ∙ any_counted (covers w.table w.key) st.held)
 
 -- what a COMMIT tells
-pub told_right : (st : Standing) (ts : List Tally) (found : List (Option Finding)) → AreTallied st ts → told_tallies ts found ≡ told st.held (watches_of ts) found
+pub told_right : (st : Standing) (ts : List Tally) (found : List (Option Finding)) → AreTallied st ts
+    → told_tallies ts found ≡ told st.held (watches_of ts) found
 told_right st [] found is = refl
 told_right st (t ∷ ts) found is =
     ap (told_tallies ts) (told_one st found t is.0) ∙ told_right st ts (told_by st.held found t.watch) is.1

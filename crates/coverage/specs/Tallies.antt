@@ -1,5 +1,6 @@
 -- How many locks of a session cover the row of each of its watches, line by line.
-use Rattle.std.specs.Prelude.{◌≡◌, ⊤, ℕ, ◌+◌, ◌-◌, ◌^◌, min, Bool, true, false, cond, nat_lt, List, [], ◌∷◌, map, set, count_by, Option, Some, None}
+use Rattle.std.specs.Prelude.{◌≡◌, ⊤, ℕ, ◌+◌, ◌-◌, ◌^◌, min, Bool, true, false, cond, nat_lt, List, [], ◌∷◌, map, set}
+use Rattle.std.specs.Prelude.{count_by, Option, Some, None}
 use Rattle.std.specs.List.{AllByRecursion, fold}
 use Rattle.lock_entry.specs.declared.entry.Asked.{Asked}
 use Rattle.script_lang.specs.declared.script_line.ScriptLine.{ScriptLine}
@@ -39,12 +40,15 @@ abbrev pub new_tally : (place : ℕ) → Option Wish → Standing → List Tally
 new_tally place None st = []
 new_tally place (Some w) st = tallied st (record { place = place; wish = w; met = true }) ∷ []
 
--- What a line moves: the locks that an ENQ or a COLLECT adds, or those that a DEQ found and took away. They count for any row.
+-- What a line moves: the locks that an ENQ or a COLLECT adds, or those that a DEQ found and took away. They count for
+-- any row.
 abbrev pub AreMoved : ScriptLine → (before after : Standing) → List Asked → Type 0
-AreMoved (line.Enq s object m scope values) st st' moved = (w : Wish) → covering w st'.held ≡ covering w st.held + covering w moved
+AreMoved (line.Enq s object m scope values) st st' moved =
+    (w : Wish) → covering w st'.held ≡ covering w st.held + covering w moved
 AreMoved (line.Collect s object m scope values) st st' moved =
     (w : Wish) → covering w st'.container ≡ covering w st.container + covering w moved
-AreMoved (line.Deq s object m scope values) st st' moved = (w : Wish) → covering w st.held ≡ covering w st'.held + covering w moved
+AreMoved (line.Deq s object m scope values) st st' moved =
+    (w : Wish) → covering w st.held ≡ covering w st'.held + covering w moved
 AreMoved _ st st' moved = ⊤
 
 -- a line that may change the locks of its session, and may not end its unit
@@ -103,7 +107,8 @@ all_turned ends l moved ts = cond ends [] (cond (moves l) (map (turned l moved) 
 -- what was found, with what a COMMIT tells of a tally
 abbrev pub told_tally : List (Option Finding) → Tally → List (Option Finding)
 told_tally found t =
-    cond (met_at_commit t.watch.wish.want t.watch.met (nat_lt 0 t.held)) found (set found t.watch.place (Some (on_table t.watch.wish.table t.watch.wish.lack)))
+    cond (met_at_commit t.watch.wish.want t.watch.met (nat_lt 0 t.held)) found
+    (set found t.watch.place (Some (on_table t.watch.wish.table t.watch.wish.lack)))
 
 abbrev pub told_tallies : List Tally → List (Option Finding) → List (Option Finding)
 told_tallies ts found = fold told_tally found ts

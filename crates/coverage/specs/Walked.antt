@@ -1,5 +1,6 @@
 -- What a cover has kept of the lines that it has walked.
-use Rattle.std.specs.Prelude.{◌≡◌, ℕ, Bool, true, false, cond, ◌||◌, List, [], ◌∷◌, ◌++◌, length, map, set, Option, Some, None, is_some}
+use Rattle.std.specs.Prelude.{◌≡◌, ℕ, Bool, true, false, cond, ◌||◌, List, [], ◌∷◌, ◌++◌, length, map, set, Option}
+use Rattle.std.specs.Prelude.{Some, None, is_some}
 use Rattle.std.specs.List.{fold, list_any}
 use Rattle.std.specs.Map.{lookup}
 use Rattle.std.specs.Option.{option_map_or}
@@ -10,7 +11,9 @@ use Rattle.script_lang.specs.declared.script_line.ScriptLine.{ScriptLine}
 use Rattle.coverage.specs.declared.lack.Finding.{Finding}
 use Rattle.coverage.specs.declared.lack.Watch.{Watch}
 use Rattle.coverage.specs.declared.lack.Wish.{Wish}
-use Rattle.coverage.specs.Lacks.{Fate, Numbered, Standing, Waiting, Dropped, Judged, after_line, abandons, commits, fate_of, findings, fresh, is_guarded, is_kept, is_met, is_of, on_table, own_finding, session_of, standing_of, table_read, uneven, wish_of}
+use Rattle.coverage.specs.Lacks.{Fate, Numbered, Standing, Waiting, Dropped, Judged, after_line, abandons, commits}
+use Rattle.coverage.specs.Lacks.{fate_of, findings, fresh, is_guarded, is_kept, is_met, is_of, on_table, own_finding}
+use Rattle.coverage.specs.Lacks.{session_of, standing_of, table_read, uneven, wish_of}
 
 -- the watch over a wish that still waits
 abbrev pub waiting : (place : ℕ) → Wish → Fate → List Watch
@@ -107,7 +110,9 @@ pub record StepsOn (x : Numbered) (before after : CoverView) : Type 0 where
   pub same_objects : after.objects ≡ before.objects
   pub same_lengths : after.uneven ≡ before.uneven
   pub guarded : (t : List ℕ) → is_among after.guards t ≡ (is_named t (table_read x.1) || is_among before.guards t)
-  pub each_session : (s : List ℕ) → session_named after.sessions s ≡ cond (is_named s (session_of x.1)) (followed before.objects (length before.found) (wish_in before.objects x) x.1 (session_named before.sessions s)) (session_named before.sessions s)
+  pub each_session : (s : List ℕ) → session_named after.sessions s ≡ cond (is_named s (session_of x.1))
+      (followed before.objects (length before.found) (wish_in before.objects x) x.1 (session_named before.sessions s))
+      (session_named before.sessions s)
   pub all_found : after.found ≡ told_at before x.1 ++ own_finding before.objects x ∷ []
 
 -- it is what these lines make of it

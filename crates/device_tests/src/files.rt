@@ -1,7 +1,8 @@
-ghost use Rattle.std.specs.Prelude.{IfOk};
+ghost use Rattle.std.specs.Prelude.{◌≡◌, ◌<◌, ◌≤◌, false, IfOk};
 ghost use Rattle.backup_file.specs.Handing.{MayBeHanded};
 
-use backup_file::{BackFault, Backup};
+use crate::locks::disk_of;
+use backup_file::{BackFault, Backup, Handed};
 use bk_disk::{Disk, MemDisk, StopDisk};
 use enq_base::{Owner, Pattern, UnitKey, read_name};
 use lock_entry::{Entry, Mode};
@@ -47,69 +48,189 @@ fn lock_of(unit: &UnitKey) -> Result<Entry, Fail>
     })
 }
 
-fn disk_of(alloc: Global, bytes: &[u8], fails: &[u64]) -> Result<MemDisk, Fail> {
-    Ok(MemDisk::new(alloc, bytes.to_vec(alloc)?, fails.to_vec(alloc)?)?)
+/// How many lists a disk stands for, or the offset where it breaks.
+fn lists_on<D: Disk + Drop>(alloc: Global, disk: D) -> Result<usize, BackFault> {
+    match Backup::open(alloc, disk) {
+        Ok((_, lists)) => Ok(lists.len()),
+        Err((fault, _)) => Err(fault),
+    }
 }
 
 /// How many lists a file stands for, or the offset where it breaks.
 fn opened(alloc: Global, bytes: &[u8]) -> Result<Result<usize, BackFault>, Fail> {
-    match Backup::open(alloc, disk_of(alloc, bytes, &[])?) {
-        Ok((_, lists)) => Ok(Ok(lists.len())),
-        Err((fault, _)) => Ok(Err(fault)),
+    let disk = disk_of(alloc, bytes, &[])?;
+    Ok(lists_on(alloc, disk))
+}
+
+/// Hands a lock over to a file that has so many lists.
+fn hand_in<D: Disk>(
+    rt: &impl Abort,
+    alloc: Global,
+    backup: &mut Backup<D>,
+    unit: &UnitKey,
+    lock: &Entry,
+) -> bool
+    requires usable { backup.old.failed ≡ false }
+    requires lock { MayBeHanded unit.now lock.now }
+{
+    assert!(rt; !backup.stands(unit));
+    let done = backup.hand(alloc, unit, &[*lock]).is_ok();
+    assert!(rt; !done || backup.stands(unit));
+    done
+}
+
+/// Hands a unit's lock over where the file has so many lists, and gives the disk back.
+fn hand_over<D: Disk>(
+    rt: &impl Abort,
+    alloc: Global,
+    disk: D,
+    unit: &UnitKey,
+    lock: &Entry,
+    known: usize,
+) -> (D, bool)
+    requires { MayBeHanded unit.now lock.now }
+{
+    match Backup::open(alloc, disk) {
+        Ok((mut backup, lists)) => {
+            assert_eq!(rt; lists.len(), known);
+            let done = hand_in(rt, alloc, &mut backup, unit, lock);
+            (backup.into_disk(), done)
+        }
+        Err((fault, disk)) => {
+            assert_eq!(rt; fault, BackFault::Failed);
+            (disk, false)
+        }
     }
+}
+
+/// Whether this is the one list, with a lock that was handed over.
+fn is_handed(lists: &[Handed], lock: &Entry) -> bool {
+    let mut wanted = *lock;
+    wanted.handed = true;
+    match lists {
+        [list] => list.unit == UNIT && list.entries.as_slice() == [wanted].as_slice(),
+        _ => false,
+    }
+}
+
+/// Frees the unit.
+fn free_in<D: Disk>(rt: &impl Abort, backup: &mut Backup<D>) -> bool
+    requires { backup.old.failed ≡ false }
+{
+    let stands = backup.stands(&UNIT);
+    assert!(rt; stands);
+    let done = backup.free(&UNIT).is_ok();
+    assert!(rt; !done || !backup.stands(&UNIT));
+    done
+}
+
+/// Frees the unit, whose list has this lock, and gives the disk back.
+fn free_unit<D: Disk>(rt: &impl Abort, alloc: Global, disk: D, lock: &Entry) -> (D, bool) {
+    match Backup::open(alloc, disk) {
+        Ok((mut backup, lists)) => {
+            assert!(rt; is_handed(lists.as_slice(), lock));
+            let done = free_in(rt, &mut backup);
+            (backup.into_disk(), done)
+        }
+        Err((fault, disk)) => {
+            assert_eq!(rt; fault, BackFault::Failed);
+            (disk, false)
+        }
+    }
+}
+
+/// A unit, and the number of lists that stand where it hands its lock over, or none where it is freed.
+type Change = (UnitKey, Option<usize>);
+
+const FIRST: Change = (UNIT, Some(0));
+
+const SECOND: Change = (OTHER, Some(1));
+
+const FREED: Change = (UNIT, None);
+
+fn change<D: Disk>(
+    rt: &impl Abort,
+    alloc: Global,
+    disk: D,
+    change: &Change,
+    lock: &Entry,
+) -> (D, bool)
+    requires { MayBeHanded change.now.0 lock.now }
+{
+    let (unit, known) = change;
+    match known {
+        Some(known) => hand_over(rt, alloc, disk, unit, lock, *known),
+        None => free_unit(rt, alloc, disk, lock),
+    }
+}
+
+/// The disk behind a change of a file, where the call of this number and all behind it fail, and whether it was done.
+fn changed(
+    rt: &impl Abort,
+    alloc: Global,
+    file: &[u8],
+    made: &Change,
+    stop: u64,
+) -> Result<(MemDisk, bool), Fail> {
+    let lock = lock_of(&made.0)?;
+    let disk = disk_of(alloc, file, &[])?;
+    let (stopped, done) = change(rt, alloc, StopDisk::new(disk, stop), made, &lock);
+    Ok((stopped.into_disk(), done))
+}
+
+// No change makes so many calls.
+const NEVER: u64 = 100;
+
+/// The file behind a change that is done.
+fn bytes_after(
+    rt: &impl Abort,
+    alloc: Global,
+    file: &[u8],
+    made: &Change,
+) -> Result<Vec<u8>, Fail> {
+    let (disk, done) = changed(rt, alloc, file, made, NEVER)?;
+    assert!(rt; done);
+    Ok(disk.image(alloc, 0)?)
 }
 
 #[test]
 fn a_hand_writes_the_file(rt: HostRuntime) -> Result<(), Fail> {
-    let alloc = rt.alloc();
-    let Ok((mut backup, lists)) = Backup::open(alloc, disk_of(alloc, b"", &[])?) else {
-        panic!(rt; "not opened");
-    };
-    assert!(rt; lists.is_empty());
-    assert!(rt; !backup.stands(&UNIT));
-    let lock = lock_of(&UNIT)?;
-    assert_eq!(rt; backup.hand(alloc, &UNIT, &[lock]), Ok(()));
-    assert!(rt; backup.stands(&UNIT));
-    let bytes = backup.into_disk().image(alloc, 0)?;
+    let bytes = bytes_after(&rt, rt.alloc(), b"", &FIRST)?;
     assert_eq!(rt; bytes.as_slice(), FILE.as_slice());
     Ok(())
 }
 
+/// Whether these are the bytes of the file up to its gate, and those of a free.
+fn is_freed(bytes: &[u8]) -> bool {
+    bytes.len() == 80 && bytes.starts_with(&FILE[..61]) && bytes.ends_with(&FREE)
+}
+
 #[test]
 fn the_file_is_read_and_freed(rt: HostRuntime) -> Result<(), Fail> {
-    let alloc = rt.alloc();
-    let Ok((mut backup, lists)) = Backup::open(alloc, disk_of(alloc, &FILE, &[])?) else {
-        panic!(rt; "not opened");
-    };
-    let mut lock = lock_of(&UNIT)?;
-    lock.handed = true;
-    assert_eq!(rt; lists.len(), 1);
-    assert_eq!(rt; lists[0].unit, UNIT);
-    assert_eq!(rt; lists[0].entries.as_slice(), [lock].as_slice());
-    assert!(rt; backup.stands(&UNIT));
-    assert_eq!(rt; backup.free(&UNIT), Ok(()));
-    assert!(rt; !backup.stands(&UNIT));
-    let bytes = backup.into_disk().image(alloc, 0)?;
-    assert_eq!(rt; bytes.len(), 80);
-    assert!(rt; bytes.as_slice().starts_with(&FILE[..61]));
-    assert!(rt; bytes.as_slice().ends_with(&FREE));
+    let bytes = bytes_after(&rt, rt.alloc(), &FILE, &FREED)?;
+    assert!(rt; is_freed(bytes.as_slice()), "{bytes:?}");
     Ok(())
+}
+
+/// What the file stands for that is cut after so many bytes.
+fn meaning_cut(length: usize) -> Result<usize, BackFault> {
+    match length {
+        0..=9 => Ok(0),
+        10..=60 => Err(BackFault::Bad(8)),
+        61 => Err(BackFault::Bad(61)),
+        _ => Ok(1),
+    }
 }
 
 #[test]
 fn a_file_that_is_cut_breaks(rt: HostRuntime) -> Result<(), Fail> {
     let alloc = rt.alloc();
+    let mut closed = FILE;
+    closed[8] = 0;
     for length in 0..63 {
-        let wanted = match length {
-            0..=9 => Ok(0),
-            10..=60 => Err(BackFault::Bad(8)),
-            61 => Err(BackFault::Bad(61)),
-            _ => Ok(1),
-        };
-        assert_eq!(rt; opened(alloc, &FILE[..length])?, wanted, "{length}");
-        let mut closed = FILE;
-        closed[8] = 0;
-        assert_eq!(rt; opened(alloc, &closed[..length])?, Ok(0), "{length}");
+        let whole = opened(alloc, &FILE[..length])?;
+        let shut = opened(alloc, &closed[..length])?;
+        assert_eq!(rt; (whole, shut), (meaning_cut(length), Ok(0)), "{length}");
     }
     Ok(())
 }
@@ -127,95 +248,75 @@ fn meaning_of(at: usize, byte: u8) -> Result<usize, BackFault> {
     }
 }
 
+/// What becomes of the file with this byte in this place.
+fn opened_with(alloc: Global, at: usize, byte: u8) -> Result<Result<usize, BackFault>, Fail>
+    requires { at < 62 }
+{
+    let mut file = FILE;
+    file[at] = byte;
+    opened(alloc, &file)
+}
+
 #[test]
 fn a_file_with_another_byte_is_read_as_its_grammar_says(rt: HostRuntime) -> Result<(), Fail> {
     let alloc = rt.alloc();
     for at in 0..62 {
-        for byte in [0, 0xff] {
-            let mut file = FILE;
-            file[at] = byte;
-            assert_eq!(rt;
-                opened(alloc, &file)?,
-                meaning_of(at, byte),
-                "{byte} at {at}"
-            );
-        }
+        let low = opened_with(alloc, at, 0)?;
+        let high = opened_with(alloc, at, 0xff)?;
+        assert_eq!(rt;
+            (low, high),
+            (meaning_of(at, 0), meaning_of(at, 0xff)),
+            "{at}"
+        );
     }
-    let mut long = FILE;
-    long[12] = 0xff;
-    long[13] = 0xff;
-    assert_eq!(rt; opened(alloc, &long)?, Err(BackFault::Bad(8)));
     Ok(())
 }
 
-/// Hands the other unit's lock over, and gives the disk back.
-fn hand_other<D: Disk>(rt: &impl Abort, alloc: Global, disk: D, lock: &Entry, done: bool) -> D
-    requires { MayBeHanded OTHER lock.now }
+#[test]
+fn a_file_with_a_long_record_breaks(rt: HostRuntime) -> Result<(), Fail> {
+    let mut long = FILE;
+    long[12] = 0xff;
+    long[13] = 0xff;
+    assert_eq!(rt; opened(rt.alloc(), &long)?, Err(BackFault::Bad(8)));
+    Ok(())
+}
+
+/// How many lists an image of a disk stands for.
+fn image_opened(alloc: Global, disk: &MemDisk, pick: u8) -> Result<Result<usize, BackFault>, Fail>
+    requires { pick ≤ 3 }
 {
-    match Backup::open(alloc, disk) {
-        Ok((mut backup, _)) => {
-            let answer = backup.hand(alloc, &OTHER, &[*lock]);
-            assert_eq!(rt; answer.is_ok(), done);
-            backup.into_disk()
-        }
-        Err((fault, disk)) => {
-            assert_eq!(rt; fault, BackFault::Failed);
-            disk
-        }
-    }
-}
-
-/// Frees the unit, and gives the disk back.
-fn free_unit<D: Disk>(rt: &impl Abort, alloc: Global, disk: D, done: bool) -> D {
-    match Backup::open(alloc, disk) {
-        Ok((mut backup, _)) => {
-            assert!(rt; backup.stands(&UNIT));
-            assert_eq!(rt; backup.free(&UNIT).is_ok(), done);
-            backup.into_disk()
-        }
-        Err((fault, disk)) => {
-            assert_eq!(rt; fault, BackFault::Failed);
-            disk
-        }
-    }
-}
-
-/// How many lists each image of a disk stands for.
-fn counts_of(alloc: Global, disk: &MemDisk) -> Result<[Result<usize, BackFault>; 4], Fail> {
-    Ok([
-        opened(alloc, &disk.image(alloc, 0)?)?,
-        opened(alloc, &disk.image(alloc, 1)?)?,
-        opened(alloc, &disk.image(alloc, 2)?)?,
-        opened(alloc, &disk.image(alloc, 3)?)?,
-    ])
+    let image = disk.image(alloc, pick)?;
+    opened(alloc, image.as_slice())
 }
 
 // An opening makes three calls, and a record four: the write of the record, a sync, the write of the gate, a sync.
 // Until the last sync the gate may be closed or open.
+fn check_stop(
+    rt: &impl Abort,
+    alloc: Global,
+    made: &Change,
+    after: usize,
+    stop: u64,
+) -> Result<(), Fail> {
+    let (disk, done) = changed(rt, alloc, &FILE, made, stop)?;
+    assert_eq!(rt; done, stop > 7, "stopped at {stop}");
+    let wanted = match stop {
+        0..=6 => [1, 1, 1, 1],
+        7 => [1, after, 1, after],
+        _ => [after, after, after, after],
+    };
+    for pick in 0..4 {
+        let lists = image_opened(alloc, &disk, pick)?;
+        assert_eq!(rt; lists, Ok(wanted[pick as usize]), "stopped at {stop}");
+    }
+    Ok(())
+}
+
 #[test]
 fn a_stop_leaves_the_lists_before_or_after(rt: HostRuntime) -> Result<(), Fail> {
-    let alloc = rt.alloc();
-    let lock = lock_of(&OTHER)?;
-    for (after, is_hand) in [(2, true), (0, false)] {
-        for k in 1..9 {
-            let done = k > 7;
-            let stopping = StopDisk::new(disk_of(alloc, &FILE, &[])?, k);
-            let stopped = if is_hand {
-                hand_other(&rt, alloc, stopping, &lock, done)
-            } else {
-                free_unit(&rt, alloc, stopping, done)
-            };
-            let wanted = match k {
-                0..=6 => [Ok(1); 4],
-                7 => [Ok(1), Ok(after), Ok(1), Ok(after)],
-                _ => [Ok(after); 4],
-            };
-            assert_eq!(rt;
-                counts_of(alloc, &stopped.into_disk())?,
-                wanted,
-                "stopped at {k}"
-            );
-        }
+    for stop in 1..9 {
+        check_stop(&rt, rt.alloc(), &SECOND, 2, stop)?;
+        check_stop(&rt, rt.alloc(), &FREED, 0, stop)?;
     }
     Ok(())
 }

@@ -2,12 +2,18 @@
 #![tactic(auto)]
 
 #[cfg(test)]
+mod calls;
+#[cfg(test)]
 mod disks;
 #[cfg(test)]
 mod files;
+#[cfg(test)]
+mod locks;
 #[cfg(test)]
 mod misled;
 #[cfg(test)]
 mod replicas;
 #[cfg(test)]
 mod servers;
+#[cfg(test)]
+mod steps;

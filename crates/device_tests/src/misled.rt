@@ -1,10 +1,13 @@
-use crate::servers::{F1, UNIT, asked, asker, disk_of, link_of, lock_of, user};
+use crate::calls::Answer;
+use crate::locks::{F1, Row, disk_of, link_of, list_of};
+use crate::steps::{Act, Life, Step, live};
 use bk_disk::MemDisk;
-use enq_server::{EnqServer, OverFault};
-use lock_entry::{Entry, Mode, Request};
+use enq_server::OverFault;
+use lock_entry::{Entry, Mode};
 use lock_table::ListTable;
 use replica_link::{Link, LinkFault, MemLink, TableOp};
 use std::alloc::Global;
+use std::process::Abort;
 use std::test::*;
 
 /// A link over which a replica gets another table than the one that is sent. It doesn't tell its list.
@@ -42,70 +45,81 @@ impl Link for Misleading {
     }
 }
 
-type Server = EnqServer<ListTable, MemDisk, Misleading>;
+const ASKED: Row = (1, F1, Mode::E, 1, false);
 
-#[derive(Clone, Copy, PartialEq)]
-enum Locks {
-    None,
-    Asked,
-    Handed,
-}
+const HANDED: Row = (1, F1, Mode::E, 1, true);
 
-/// The lock of the table, that of the replica, what comes of the takeover, and how many locks stand then.
-const CASES: [(Locks, Locks, Result<(), OverFault>, u32); 5] = [
-    (Locks::Handed, Locks::Handed, Ok(()), 1),
-    (Locks::Asked, Locks::None, Ok(()), 0),
-    (Locks::Handed, Locks::None, Err(OverFault::Other), 1),
-    (Locks::None, Locks::Asked, Err(OverFault::Other), 0),
-    (Locks::Asked, Locks::Handed, Err(OverFault::Other), 1),
+const OTHER: Answer = Answer::NotTakenOver(OverFault::Other);
+
+const ASK: Step = (Act::Ask(1, F1, Mode::E), Answer::Done, &[ASKED]);
+
+const FLAG: Step = (Act::Flag, Answer::Done, &[HANDED]);
+
+/// The table of the replica, and steps of the server.
+const CASES: [(&[Row], &[Step]); 5] = [
+    (
+        &[HANDED],
+        &[
+            ASK,
+            FLAG,
+            (Act::Attach, Answer::Done, &[HANDED]),
+            (Act::FailOver, Answer::Done, &[HANDED]),
+            (Act::IsAttached, Answer::Detached, &[HANDED]),
+        ],
+    ),
+    (
+        &[],
+        &[
+            ASK,
+            (Act::Attach, Answer::Done, &[ASKED]),
+            (Act::FailOver, Answer::Done, &[]),
+            (Act::IsAttached, Answer::Detached, &[]),
+        ],
+    ),
+    (
+        &[],
+        &[
+            ASK,
+            FLAG,
+            (Act::Attach, Answer::Done, &[HANDED]),
+            (Act::FailOver, OTHER, &[HANDED]),
+            (Act::IsAttached, Answer::Detached, &[HANDED]),
+        ],
+    ),
+    (
+        &[ASKED],
+        &[
+            (Act::Attach, Answer::Done, &[]),
+            (Act::FailOver, OTHER, &[]),
+            (Act::IsAttached, Answer::Detached, &[]),
+        ],
+    ),
+    (
+        &[HANDED],
+        &[
+            ASK,
+            (Act::Attach, Answer::Done, &[ASKED]),
+            (Act::FailOver, OTHER, &[ASKED]),
+            (Act::IsAttached, Answer::Detached, &[ASKED]),
+        ],
+    ),
 ];
 
-fn list_of(alloc: Global, locks: Locks) -> Result<Vec<Entry>, Fail> {
-    let mut list = Vec::new(alloc);
-    if locks != Locks::None {
-        let mut lock = lock_of(&UNIT, F1, Mode::E)?;
-        lock.handed = locks == Locks::Handed;
-        list.push(lock)?;
-    }
-    Ok(list)
-}
-
-/// A server with the lock of a table, whose replica has another one.
-fn server_with(alloc: Global, own: Locks, table: Vec<Entry>) -> Result<Server, Fail> {
-    let link = Misleading {
-        link: link_of(alloc, &[])?,
-        table,
-    };
-    let Ok(mut server) = EnqServer::open(alloc, disk_of(alloc, b"")?, link, 100, &[]) else {
-        return Err(Fail::from("not opened"));
-    };
-    if own != Locks::None {
-        let request = Request {
-            asked: asked(F1, Mode::E)?,
-            dialogue: false,
-            update: true,
-        };
-        let Ok(()) = server.ask(alloc, &asker(1), &user()?, &[request]) else {
-            return Err(Fail::from("refused"));
-        };
-    }
-    if own == Locks::Handed {
-        server.flag(&UNIT);
-    }
-    let Ok(()) = server.attach(alloc) else {
-        return Err(Fail::from("not attached"));
-    };
-    Ok(server)
+/// Takes the steps with a replica that has this table.
+fn check_misled(rt: &impl Abort, alloc: Global, rows: &[Row], steps: &[Step]) -> Result<(), Fail> {
+    let table = list_of(alloc, rows)?;
+    let disk = disk_of(alloc, b"", &[])?;
+    let link = link_of(alloc, &[])?;
+    let misleading = Misleading { link, table };
+    let life: Life = (&[], None, steps);
+    let _disk = live::<ListTable, MemDisk, Misleading>(rt, alloc, disk, misleading, &life)?;
+    Ok(())
 }
 
 #[test]
 fn a_list_is_taken_over_where_it_may_replace_the_table(rt: HostRuntime) -> Result<(), Fail> {
-    let alloc = rt.alloc();
-    for (own, other, comes, left) in CASES {
-        let mut server = server_with(alloc, own, list_of(alloc, other)?)?;
-        assert_eq!(rt; server.fail_over(alloc, 100), comes);
-        assert_eq!(rt; server.len(), left);
-        assert!(rt; !server.attached());
+    for (rows, steps) in &CASES {
+        check_misled(&rt, rt.alloc(), rows, steps)?;
     }
     Ok(())
 }

@@ -1,73 +1,111 @@
-use crate::servers::{Act, F1, F2, Server, disk_of, link_of, make, opened_over};
+use crate::calls::Answer;
+use crate::locks::{F1, F2, Row};
+use crate::steps::{Act, Devices, Life, Step, check};
 use enq_server::OverFault;
-use lock_entry::{Entry, Mode};
-use std::alloc::Global;
+use lock_entry::Mode;
+use std::alloc::{AllocError, Global};
+use std::process::Abort;
 use std::test::*;
 
-/// Acts, each of which sends the replica operations of its own kind.
-const ACTS: [Act; 7] = [
-    Act::Ask(F1, Mode::O),
-    Act::Convert(F1),
-    Act::Ask(F2, Mode::S),
-    Act::Ask(F2, Mode::S),
-    Act::Free(F2, Mode::S),
-    Act::Flag,
-    Act::FreeAll,
+const NEW: Devices = (b"", &[], &[]);
+
+// The third call of the link fails.
+const FAILING: Devices = (b"", &[], &[3]);
+
+const OPTIMISTIC: Row = (1, F1, Mode::O, 1, false);
+
+const EXCLUSIVE: Row = (1, F1, Mode::E, 1, false);
+
+const SHARED: Row = (1, F2, Mode::S, 1, false);
+
+const FLAGGED: [Row; 2] = [(1, F1, Mode::E, 1, true), (1, F2, Mode::S, 1, true)];
+
+const ATTACH: Step = (Act::Attach, Answer::Done, &[]);
+
+const ASK: Step = (Act::Ask(1, F1, Mode::O), Answer::Done, &[OPTIMISTIC]);
+
+/// Steps, each of which sends the replica operations of its own kind.
+const STEPS: [Step; 8] = [
+    ATTACH,
+    ASK,
+    (Act::Convert(F1), Answer::Done, &[EXCLUSIVE]),
+    (Act::Ask(1, F2, Mode::S), Answer::Done, &[EXCLUSIVE, SHARED]),
+    (
+        Act::Ask(1, F2, Mode::S),
+        Answer::Done,
+        &[EXCLUSIVE, (1, F2, Mode::S, 2, false)],
+    ),
+    (Act::Free(F2, Mode::S), Answer::Done, &[EXCLUSIVE, SHARED]),
+    (Act::Flag, Answer::Done, &FLAGGED),
+    (Act::FreeAll(1), Answer::Done, &[]),
 ];
 
-/// A server whose replica was attached before these acts. The calls of the link with these numbers fail.
-fn followed(alloc: Global, fails: &[u64], acts: &[Act]) -> Result<Server, Fail> {
-    let mut server = opened_over(alloc, disk_of(alloc, b"")?, link_of(alloc, fails)?, &[])?;
-    let _ = server.attach(alloc);
-    for act in acts {
-        let _ = make(alloc, &mut server, *act)?;
-    }
-    Ok(server)
+/// These steps, and behind them those of a takeover that leaves the table.
+fn with_takeover(alloc: Global, steps: &[Step]) -> Result<Vec<Step>, Fail> {
+    let (_, _, rows) = *steps.last().ok_or("a step")?;
+    let takeover = [
+        (Act::IsAttached, Answer::Attached, rows),
+        (Act::FailOver, Answer::Done, rows),
+        (Act::IsAttached, Answer::Detached, rows),
+    ];
+    Ok(joined(alloc, steps, &takeover)?)
 }
 
-/// The table after these acts, and the one that the replica gives.
-fn both(alloc: Global, acts: &[Act]) -> Result<(Vec<Entry>, Vec<Entry>), Fail> {
-    let mut server = followed(alloc, &[], acts)?;
-    let table = server.list(alloc)?;
-    if !server.attached() {
-        return Err(Fail::from("not attached"));
-    }
-    let Ok(()) = server.fail_over(alloc, 100) else {
-        return Err(Fail::from("not taken over"));
-    };
-    if server.attached() {
-        return Err(Fail::from("still attached"));
-    }
-    let given = server.list(alloc)?;
-    Ok((table, given))
+fn joined(alloc: Global, steps: &[Step], more: &[Step]) -> Result<Vec<Step>, AllocError> {
+    let mut list = Vec::from_slice(alloc, steps)?;
+    list.extend_from_slice(more)?;
+    Ok(list)
+}
+
+/// Takes the steps of one server, which is opened without units.
+fn check_one(
+    rt: &impl Abort,
+    alloc: Global,
+    devices: &Devices,
+    steps: &[Step],
+) -> Result<(), Fail> {
+    let life: Life = (&[], None, steps);
+    check(rt, alloc, devices, &[life])
 }
 
 #[test]
 fn the_table_is_taken_over_from_the_replica(rt: HostRuntime) -> Result<(), Fail> {
-    for count in 0..8 {
-        let (table, given) = both(rt.alloc(), &ACTS[..count])?;
-        assert_eq!(rt; table.as_slice(), given.as_slice(), "after {count}");
-        assert_eq!(rt; table.len(), [0, 1, 1, 2, 2, 2, 2, 0][count]);
+    let alloc = rt.alloc();
+    for count in 1..9 {
+        let steps = with_takeover(alloc, &STEPS[..count])?;
+        check_one(&rt, alloc, &NEW, steps.as_slice())?;
     }
     Ok(())
 }
 
+const MISSED: [Step; 2] = [
+    (Act::IsAttached, Answer::Detached, &[]),
+    (
+        Act::FailOver,
+        Answer::NotTakenOver(OverFault::NotAttached),
+        &[],
+    ),
+];
+
 #[test]
 fn a_replica_that_missed_a_change_is_not_asked(rt: HostRuntime) -> Result<(), Fail> {
     let alloc = rt.alloc();
-    let mut server = followed(alloc, &[3], &ACTS)?;
-    assert!(rt; !server.attached());
-    assert_eq!(rt; server.fail_over(alloc, 100), Err(OverFault::NotAttached));
-    Ok(())
+    let steps = joined(alloc, &STEPS, &MISSED)?;
+    check_one(&rt, alloc, &FAILING, steps.as_slice())
 }
+
+const WITHOUT_LINK: [Step; 4] = [
+    ATTACH,
+    ASK,
+    (
+        Act::FailOver,
+        Answer::NotTakenOver(OverFault::Link),
+        &[OPTIMISTIC],
+    ),
+    (Act::Restart(&[]), Answer::Done, &[]),
+];
 
 #[test]
 fn a_server_is_made_anew_where_the_link_fails(rt: HostRuntime) -> Result<(), Fail> {
-    let alloc = rt.alloc();
-    let mut server = followed(alloc, &[3], &ACTS[..1])?;
-    assert_eq!(rt; server.fail_over(alloc, 100), Err(OverFault::Link));
-    assert_eq!(rt; server.len(), 1);
-    assert_eq!(rt; server.restart(alloc, 100, &[]), Ok(()));
-    assert_eq!(rt; server.len(), 0);
-    Ok(())
+    check_one(&rt, rt.alloc(), &FAILING, &WITHOUT_LINK)
 }

@@ -50,17 +50,20 @@ next vs b bytes name =
     ]
 
 -- a byte that stands for itself
-pub plain-step : (vs : List Variable) (b : ℕ) (bytes old : List ℕ) → name_behind b bytes ≡ None → joined (Ok (old ++ b ∷ [])) (filled_from vs 0 bytes) ≡ joined (Ok old) (filled vs (b ∷ bytes))
+pub plain-step : (vs : List Variable) (b : ℕ) (bytes old : List ℕ) → name_behind b bytes ≡ None
+    → joined (Ok (old ++ b ∷ [])) (filled_from vs 0 bytes) ≡ joined (Ok old) (filled vs (b ∷ bytes))
 plain-step vs b bytes old none =
     joined-twice old (b ∷ []) (filled_from vs 0 bytes) ∙ ap (joined (Ok old)) (sym (ap (next vs b bytes) none))
 
 -- a name that a text stands for
-pub name-step : (vs : List Variable) (b : ℕ) (bytes name old text : List ℕ) → name_behind b bytes ≡ Some name → joined (Ok old) (text_for vs name) ≡ Ok text → joined (Ok text) (filled_from vs (length name) bytes) ≡ joined (Ok old) (filled vs (b ∷ bytes))
+pub name-step : (vs : List Variable) (b : ℕ) (bytes name old text : List ℕ) → name_behind b bytes ≡ Some name → joined (Ok old) (text_for vs name) ≡ Ok text
+    → joined (Ok text) (filled_from vs (length name) bytes) ≡ joined (Ok old) (filled vs (b ∷ bytes))
 name-step vs b bytes name old text some known =
     joined-over old text (text_for vs name) (filled_from vs (length name) bytes) known ∙ ap (joined (Ok old)) (sym (ap (next vs b bytes) some))
 
 -- a name that isn't known
-pub name-stop : (vs : List Variable) (b : ℕ) (bytes name : List ℕ) (r : Refusal) → name_behind b bytes ≡ Some name → IsRefusedAs (text_for vs name) r → IsRefusedAs (filled vs (b ∷ bytes)) r
+pub name-stop : (vs : List Variable) (b : ℕ) (bytes name : List ℕ) (r : Refusal) → name_behind b bytes ≡ Some name → IsRefusedAs (text_for vs name) r
+    → IsRefusedAs (filled vs (b ∷ bytes)) r
 name-stop vs b bytes name r some unknown =
     subst (λ rule. IsRefusedAs rule r) (sym (ap (next vs b bytes) some)) (refused-first (text_for vs name) (filled_from vs (length name) bytes) r unknown)
 

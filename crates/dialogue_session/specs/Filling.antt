@@ -1,5 +1,6 @@
 -- Parts of a line with texts in place of the names of variables.
-use Rattle.std.specs.Prelude.{◌≡◌, ◌⊎◌, ℕ, zero, suc, Bool, nat_eq, List, [], ◌∷◌, ◌++◌, length, take, take_while, if◌then◌else◌, Option, Some, None, Result, Ok, Err}
+use Rattle.std.specs.Prelude.{◌≡◌, ◌⊎◌, ℕ, zero, suc, Bool, nat_eq, List, [], ◌∷◌, ◌++◌, length, take, take_while}
+use Rattle.std.specs.Prelude.{if◌then◌else◌, Option, Some, None, Result, Ok, Err}
 use Rattle.std.specs.List.{list_any}
 use Rattle.enq_base.specs.Grammar.{is_name, is_name_byte}
 use Rattle.enq_base.specs.declared.refusal.Refusal.{Refusal}
@@ -44,8 +45,8 @@ filled_from variables zero (b ∷ bytes) =
     ]
 
 -- The bytes of a part of a line, from left to right: a `$` with a name behind it gives way, with that name, to the text
--- that stands for the name, and each other byte stands for itself. A text isn't looked through for names. The first name
--- that no text stands for refuses the part.
+-- that stands for the name, and each other byte stands for itself. A text isn't looked through for names. The first
+-- name that no text stands for refuses the part.
 abbrev pub filled : List Variable → List ℕ → Result (List ℕ) Refusal
 filled variables bytes = filled_from variables 0 bytes
 

@@ -89,7 +89,8 @@ distinct_once (x ∷ xs) h =
     let whole = count_cons (nat_eq x) x xs in
     let most = h x in
     let none : count_by (nat_eq x) xs ≡ 0 = omega (arith, whole, here, most) in
-    IsDistinct-cons nat_eq x xs (none_counted (nat_eq x) xs none) (distinct_once xs (λ n. let all = count_cons (nat_eq n) x xs in let few = h n in omega (arith, all, few)))
+    IsDistinct-cons nat_eq x xs (none_counted (nat_eq x) xs none)
+    (distinct_once xs (λ n. let all = count_cons (nat_eq n) x xs in let few = h n in omega (arith, all, few)))
 
 -- what holds of each number that stands there holds of all
 pub all_counted : (P : ℕ → Type 0) (xs : List ℕ) → ((n : ℕ) → 1 ≤ count_by (nat_eq n) xs → P n) → AllByRecursion P xs
@@ -113,7 +114,8 @@ counted_all P (x ∷ xs) h n there =
 -- ---- runs
 
 pub run_append : (a m k : ℕ) → range_with_len a (m + k) ≡ range_with_len a m ++ range_with_len (a + m) k
-run_append a zero k = let start : a ≡ a + 0 = omega arith in let many : 0 + k ≡ k = omega arith in ap (range_with_len a) many ∙ ap (λ b. range_with_len b k) start
+run_append a zero k = let start : a ≡ a + 0 = omega arith in let many : 0 + k ≡ k = omega arith in
+    ap (range_with_len a) many ∙ ap (λ b. range_with_len b k) start
 run_append a (suc m) k =
     let next : a + 1 + m ≡ a + suc m = omega arith in
     let many : suc m + k ≡ suc (m + k) = omega arith in

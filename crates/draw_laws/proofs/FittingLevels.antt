@@ -31,7 +31,8 @@ same_entries (e ∷ es) = ap (λ rest. e ∷ rest) (same_entries es)
 
 -- the stored interval of a name, as it stands in row order
 abbrev row_at : Levels → RowName → Option StoredInterval
-row_at levels name = find (slice_cmp nat_cmp) (row_name name) (entries (from_entries {R = slice_cmp nat_cmp} (map keyed (map interval_of_entry (entries levels)))))
+row_at levels name =
+    find (slice_cmp nat_cmp) (row_name name) (entries (from_entries {R = slice_cmp nat_cmp} (map keyed (map interval_of_entry (entries levels)))))
 
 called_first : (name : RowName) (rows : List StoredInterval) → find (slice_cmp nat_cmp) (row_name name) (map keyed rows) ≡ first (is_called name) rows
 called_first name [] = refl
@@ -75,9 +76,11 @@ passes_found test key (e ∷ es) row all h =
       | false ↦ λ is. passes_found test key es row both.1 is
     ] h
 
-row_fits : (intervals : List Interval) (levels : Levels) (name : RowName) (row : StoredInterval) → FitRows intervals levels → row_at levels name ≡ Some row → fits intervals row ≡ true
+row_fits : (intervals : List Interval) (levels : Levels) (name : RowName) (row : StoredInterval) → FitRows intervals levels → row_at levels name ≡ Some row
+    → fits intervals row ≡ true
 row_fits intervals levels name row all h =
-    passes_found (fits intervals) (row_name name) (entries (from_entries {R = slice_cmp nat_cmp} (map keyed (map interval_of_entry (entries levels))))) row all h
+    passes_found (fits intervals) (row_name name) (entries (from_entries {R = slice_cmp nat_cmp} (map keyed (map interval_of_entry (entries levels))))) row all
+    h
 
 -- where no row fails all pass
 none_from : {X : Type 0} (test : X → Bool) (n : ℕ) (xs : List X) → position_from (λ x. not (test x)) n xs ≡ None → list_all test xs ≡ true
@@ -126,10 +129,16 @@ row_of_one row i h =
     let ends = and_parts (beq row.buffered (is_buffered i)) (nat_le row.level i.to) both.1 in
     record {
       name = named_is row.object row.nr i begins.0;
-      is = record { first = eqb-true row.from i.from begins.1; buffered = same_flag row.buffered (is_buffered i) ends.0; within = leb-true row.level i.to ends.1 };
+      is = record {
+        first = eqb-true row.from i.from begins.1;
+        buffered = same_flag row.buffered (is_buffered i) ends.0;
+        within =
+            leb-true row.level i.to ends.1;
+      };
     }
 
-fit_found : (intervals : List Interval) (levels : Levels) (name : RowName) → FitRows intervals levels → (found : Option StoredInterval) → row_at levels name ≡ found
+fit_found : (intervals : List Interval) (levels : Levels) (name : RowName) → FitRows intervals levels → (found : Option StoredInterval)
+    → row_at levels name ≡ found
     → IfSome (option_map level_of found) (λ l. (i : Interval) × Contains intervals i × (name_of i ≡ name) × IsRowOf i l)
 fit_found intervals levels name all None h = tt
 fit_found intervals levels name all (Some row) h =
@@ -145,11 +154,13 @@ fit_levels intervals levels all name =
 
 -- ---- the present level
 
-pub found_level : (levels : Levels) (i : Interval) (found : Option Level) → get levels (name_of i) ≡ found → level_in levels i ≡ option_map_or (λ (l : Level). l.level) found i.level
+pub found_level : (levels : Levels) (i : Interval) (found : Option Level) → get levels (name_of i) ≡ found
+    → level_in levels i ≡ option_map_or (λ (l : Level). l.level) found i.level
 found_level levels i found h = ap (λ o. option_map_or (λ (l : Level). l.level) o i.level) h
 
 -- what a store has of an interval of a landscape is a row of that interval
-pub row_of_its_own : (intervals : List Interval) (levels : Levels) (i : Interval) (l : Level) → AreApart intervals → FitLevels intervals levels → Contains intervals i → get levels (name_of i) ≡ Some l → IsRowOf i l
+pub row_of_its_own : (intervals : List Interval) (levels : Levels) (i : Interval) (l : Level) → AreApart intervals → FitLevels intervals levels
+    → Contains intervals i → get levels (name_of i) ≡ Some l → IsRowOf i l
 row_of_its_own intervals levels i l apart fit among has =
     let found : (j : Interval) × Contains intervals j × (name_of j ≡ name_of i) × IsRowOf j l =
     subst (λ o. IfSome o (λ x. (j : Interval) × Contains intervals j × (name_of j ≡ name_of i) × IsRowOf j x)) has (fit (name_of i)) in
@@ -158,25 +169,32 @@ row_of_its_own intervals levels i l apart fit among has =
 pub unused_in : (intervals : List Interval) (i : Interval) → AreIntervals intervals → Contains intervals i → IsUnused i
 unused_in intervals i are among = All-contains IsUnused intervals i (All-from_recursion IsUnused intervals are.each) among
 
-within_by : (levels : Levels) (i : Interval) (found : Option Level) → get levels (name_of i) ≡ found → IfSome found (IsRowOf i) → i.level ≤ i.to → level_in levels i ≤ i.to
+within_by : (levels : Levels) (i : Interval) (found : Option Level) → get levels (name_of i) ≡ found → IfSome found (IsRowOf i) → i.level ≤ i.to
+    → level_in levels i ≤ i.to
 within_by levels i None is row own = subst (λ n. n ≤ i.to) (sym (found_level levels i None is)) own
 within_by levels i (Some l) is row own = subst (λ n. n ≤ i.to) (sym (found_level levels i (Some l) is)) row.within
 
-pub if_row : (intervals : List Interval) (levels : Levels) (i : Interval) → AreApart intervals → FitLevels intervals levels → Contains intervals i → (found : Option Level) → get levels (name_of i) ≡ found → IfSome found (IsRowOf i)
+pub if_row : (intervals : List Interval) (levels : Levels) (i : Interval) → AreApart intervals → FitLevels intervals levels → Contains intervals i
+    → (found : Option Level) → get levels (name_of i) ≡ found → IfSome found (IsRowOf i)
 if_row intervals levels i apart fit among None is = tt
 if_row intervals levels i apart fit among (Some l) is = row_of_its_own intervals levels i l apart fit among is
 
 -- no level is past the end of its interval
-pub level_fits : (intervals : List Interval) (levels : Levels) (i : Interval) → AreIntervals intervals → FitLevels intervals levels → Contains intervals i → level_in levels i ≤ i.to
+pub level_fits : (intervals : List Interval) (levels : Levels) (i : Interval) → AreIntervals intervals → FitLevels intervals levels → Contains intervals i
+    → level_in levels i ≤ i.to
 level_fits intervals levels i are fit among =
-    within_by levels i (get levels (name_of i)) refl (if_row intervals levels i are.apart fit among (get levels (name_of i)) refl) (unused_in intervals i are among).interval.within
+    within_by levels i (get levels (name_of i)) refl (if_row intervals levels i are.apart fit among (get levels (name_of i)) refl)
+    (unused_in intervals i are among).interval.within
 
-pub level_within : (intervals : List Interval) (levels : Levels) (i : Interval) → AreIntervals intervals → FitRows intervals levels → Contains intervals i → level_in levels i ≤ i.to
+pub level_within : (intervals : List Interval) (levels : Levels) (i : Interval) → AreIntervals intervals → FitRows intervals levels → Contains intervals i
+    → level_in levels i ≤ i.to
 level_within intervals levels i are all among = level_fits intervals levels i are (fit_levels intervals levels all) among
 
-begun_by : (levels : Levels) (i : Interval) (found : Option Level) → get levels (name_of i) ≡ found → IfSome found (IsRowOf i) → IfSome found (λ l. l.from ≤ l.level + 1) → i.from ≤ i.level + 1 → i.from ≤ level_in levels i + 1
+begun_by : (levels : Levels) (i : Interval) (found : Option Level) → get levels (name_of i) ≡ found → IfSome found (IsRowOf i)
+    → IfSome found (λ l. l.from ≤ l.level + 1) → i.from ≤ i.level + 1 → i.from ≤ level_in levels i + 1
 begun_by levels i None is row begun own = subst (λ n. i.from ≤ n + 1) (sym (found_level levels i None is)) own
-begun_by levels i (Some l) is row begun own = subst (λ n. i.from ≤ n + 1) (sym (found_level levels i (Some l) is)) (subst (λ n. n ≤ l.level + 1) row.first begun)
+begun_by levels i (Some l) is row begun own = subst (λ n. i.from ≤ n + 1) (sym (found_level levels i (Some l) is))
+    (subst (λ n. n ≤ l.level + 1) row.first begun)
 
 -- with its present level an interval is one still
 pub present_fits : (intervals : List Interval) (levels : Levels) (i : Interval) → AreIntervals intervals → FitLevels intervals levels

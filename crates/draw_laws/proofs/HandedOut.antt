@@ -45,10 +45,12 @@ module _ (change : NumberRange → NumberRange) (keeps : (r : NumberRange) → (
       by true b e f = cc
       by false b e f = ap (λ rs. r ∷ rs) (f e)
 
-  none_from : (object nr : List ℕ) (is : List Interval) (first : ℕ) → position_from (is_named object nr) first is ≡ None → list_any (is_named object nr) is ≡ false
+  none_from : (object nr : List ℕ) (is : List Interval) (first : ℕ) → position_from (is_named object nr) first is ≡ None
+      → list_any (is_named object nr) is ≡ false
   none_from object nr [] first h = refl
   none_from object nr (i ∷ is) first h =
-      elim (is_named object nr i) as (λ b. cond b (Some first) (position_from (is_named object nr) (first + 1) is) ≡ None → (b || list_any (is_named object nr) is) ≡ false) [
+      elim (is_named object nr i)
+      as (λ b. cond b (Some first) (position_from (is_named object nr) (first + 1) is) ≡ None → (b || list_any (is_named object nr) is) ≡ false) [
         | true ↦ λ e. cc
         | false ↦ λ e. none_from object nr is (first + 1) e
       ] h
@@ -73,7 +75,8 @@ module _ (change : NumberRange → NumberRange) (keeps : (r : NumberRange) → (
       → is_named object nr r.interval ≡ true → Some first ≡ Some place → IsChangedFrom object nr (r ∷ ranges) first place
   first_changed object nr r ranges first place none e is =
       let name = named_is object nr r.interval e in
-      let others : list_any (is_named object nr) (intervals_of ranges) ≡ false = subst (λ n. list_any (is_named n.0 n.1) (intervals_of ranges) ≡ false) name none in
+      let others : list_any (is_named object nr) (intervals_of ranges) ≡ false =
+      subst (λ n. list_any (is_named n.0 n.1) (intervals_of ranges) ≡ false) name none in
       let same : first ≡ place = cc in
       record {
         behind = 0;
@@ -106,7 +109,8 @@ module _ (change : NumberRange → NumberRange) (keeps : (r : NumberRange) → (
   changed_from object nr [] first place apart h = cc
   changed_from object nr (r ∷ ranges) first place apart h =
       elim (is_named object nr r.interval) as (λ b. is_named object nr r.interval ≡ b
-      → cond b (Some first) (position_from (is_named object nr) (first + 1) (intervals_of ranges)) ≡ Some place → IsChangedFrom object nr (r ∷ ranges) first place) [
+      → cond b (Some first) (position_from (is_named object nr) (first + 1) (intervals_of ranges)) ≡ Some place
+      → IsChangedFrom object nr (r ∷ ranges) first place) [
         | true ↦ λ e is. first_changed object nr r ranges first place apart.0 e is
         | false ↦ λ e is. later_changed object nr r ranges first place e (changed_from object nr ranges (first + 1) place apart.1 is)
       ] refl h
@@ -124,7 +128,8 @@ module _ (change : NumberRange → NumberRange) (keeps : (r : NumberRange) → (
   changed_at object nr ranges place apart h =
       let from = changed_from object nr ranges 0 place apart h in
       let same : from.behind ≡ place = omega (arith, from.at) in
-      subst (λ n. IsChangedAt object nr ranges n) same (record { range = from.range; within = from.within; found = from.found; called = from.called; changed = from.changed })
+      subst (λ n. IsChangedAt object nr ranges n) same
+      (record { range = from.range; within = from.within; found = from.found; called = from.called; changed = from.changed })
 
 -- ---- a number is handed out
 
@@ -156,7 +161,8 @@ passed_intervals [] ranges = refl
 passed_intervals (num ∷ nums) ranges = passed_intervals nums (map (passed_by num) ranges) ∙ passed_by_intervals num ranges
 
 -- one number of a list after the other
-pub passed_next : (nums : List Num) (k : ℕ) (num : Num) (ranges now : List NumberRange) → k < length nums → num ≡ get_or nums k num → now ≡ map (passed_by num) ranges
+pub passed_next : (nums : List Num) (k : ℕ) (num : Num) (ranges now : List NumberRange) → k < length nums → num ≡ get_or nums k num
+    → now ≡ map (passed_by num) ranges
     → passed (drop (k + 1) nums) now ≡ passed (drop k nums) ranges
 passed_next nums k num ranges now within at is =
     let next : suc k ≡ k + 1 = omega arith in

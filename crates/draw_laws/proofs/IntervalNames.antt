@@ -40,7 +40,8 @@ contains_first is i = (0, omega arith, refl)
 
 -- ---- intervals of a list
 
-pub none_named : (object nr : List ℕ) (is : List Interval) (x : Interval) → list_any (is_named object nr) is ≡ false → Contains is x → name_of x ≡ (object, nr) → ⊥
+pub none_named : (object nr : List ℕ) (is : List Interval) (x : Interval) → list_any (is_named object nr) is ≡ false → Contains is x → name_of x ≡ (object, nr)
+    → ⊥
 none_named object nr [] x none among same = contains_none x among
 none_named object nr (i ∷ is) x none among same =
     elim (contains_cases i is x among) as (λ _. ⊥) [

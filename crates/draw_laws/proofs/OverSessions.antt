@@ -76,13 +76,15 @@ module _ {S : Type 0} where
       later false e = e
   none_found p (s ∷ before) x after h = by (p s) h (λ e. none_found p before x after e)
     where
-      by : (b : Bool) → cond b (Some s) (find p (before ++ x ∷ after)) ≡ None → (find p (before ++ x ∷ after) ≡ None → (find p before ≡ None) × (find p after ≡ None))
+      by : (b : Bool) → cond b (Some s) (find p (before ++ x ∷ after)) ≡ None
+          → (find p (before ++ x ∷ after) ≡ None → (find p before ≡ None) × (find p after ≡ None))
           → (cond b (Some s) (find p before) ≡ None) × (find p after ≡ None)
       by true e f = cc
       by false e f = f e
 
   -- where none but those that pass has something, and none of these does, nobody has
-  none_beside : (draws_of : S → List Num) (test : S → Bool) (i : Interval) (sessions : List S) → count_by test sessions ≡ 0 → find (λ s. not (test s) && has_drawn i (draws_of s)) sessions ≡ None
+  none_beside : (draws_of : S → List Num) (test : S → Bool) (i : Interval) (sessions : List S) → count_by test sessions ≡ 0
+      → find (λ s. not (test s) && has_drawn i (draws_of s)) sessions ≡ None
       → list_any (has_drawn i) (map draws_of sessions) ≡ false
   none_beside draws_of test i [] none h = refl
   none_beside draws_of test i (s ∷ sessions) none h =
@@ -98,7 +100,8 @@ module _ {S : Type 0} where
       by false true e is f = cc
       by false false e is f = f is
 
-  others_count : (test : S → Bool) (change : S → S) (sessions : List S) (x : S) (r : IsSplit test change sessions x) → count_by test sessions ≤ 1 → (count_by test r.before ≡ 0) × (count_by test r.after ≡ 0)
+  others_count : (test : S → Bool) (change : S → S) (sessions : List S) (x : S) (r : IsSplit test change sessions x) → count_by test sessions ≤ 1
+      → (count_by test r.before ≡ 0) × (count_by test r.after ≡ 0)
   others_count test change sessions x r one =
       let all : count_by test sessions ≡ count_by test r.before + (bit (test x) + count_by test r.after) =
       ap (count_by test) r.whole ∙ count_append test r.before (x ∷ r.after) ∙ ap (λ n. count_by test r.before + n) (count_cons test x r.after) in
@@ -116,24 +119,28 @@ module _ {S : Type 0} (draws_of : S → List Num) (test : S → Bool) (change : 
   draws_before = ap (map draws_of) split.whole ∙ map-append draws_of split.before (x ∷ split.after)
 
   draws_now : (own : List Num) → draws_of (change x) ≡ own → map draws_of now ≡ map draws_of split.before ++ own ∷ map draws_of split.after
-  draws_now own is = ap (map draws_of) split.changed ∙ map-append draws_of split.before (change x ∷ split.after) ∙ ap (λ ds. map draws_of split.before ++ ds ∷ map draws_of split.after) is
+  draws_now own is = ap (map draws_of) split.changed ∙ map-append draws_of split.before (change x ∷ split.after)
+      ∙ ap (λ ds. map draws_of split.before ++ ds ∷ map draws_of split.after) is
 
   -- it gives back what it drew
   pub session_gives_back : (ranges : List NumberRange) (levels : Levels) (committed : List Num) → draws_of (change x) ≡ []
       → AreDrawnRight ranges levels (map draws_of sessions) committed → AreDrawnRight ranges levels (map draws_of now) committed
   session_gives_back ranges levels committed none h =
       subst (λ ds. AreDrawnRight ranges levels ds committed) (sym (draws_now [] none))
-      (fewer_drawn ranges levels (map draws_of split.before ++ draws_of x ∷ map draws_of split.after) (map draws_of split.before ++ [] ∷ map draws_of split.after) committed
+      (fewer_drawn ranges levels (map draws_of split.before ++ draws_of x ∷ map draws_of split.after)
+      (map draws_of split.before ++ [] ∷ map draws_of split.after) committed
       (fewer_given_back (map draws_of split.before) (draws_of x) (map draws_of split.after))
       (subst (λ ds. AreDrawnRight ranges levels ds committed) draws_before h))
 
   -- it draws a number of an interval without a buffer, from which no other session has drawn
-  pub session_draws_plain : (ranges : List NumberRange) (levels : Levels) (committed : List Num) (i : Interval) (number : ℕ) → Contains (intervals_of ranges) i → is_buffered i ≡ false
+  pub session_draws_plain : (ranges : List NumberRange) (levels : Levels) (committed : List Num) (i : Interval) (number : ℕ) → Contains (intervals_of ranges) i
+      → is_buffered i ≡ false
       → count_by test sessions ≤ 1 → find (λ s. not (test s) && has_drawn i (draws_of s)) sessions ≡ None
       → number ≡ level_in levels i + drawn_of i (draws_of x) + 1 → number ≤ i.to → draws_of (change x) ≡ draws_of x ++ num_of i number ∷ []
       → AreDrawnRight ranges levels (map draws_of sessions) committed → AreDrawnRight ranges levels (map draws_of now) committed
   session_draws_plain ranges levels committed i number among is one nobody next within more h =
-      let none = none_found (λ s. not (test s) && has_drawn i (draws_of s)) split.before x split.after (ap (find (λ s. not (test s) && has_drawn i (draws_of s))) (sym split.whole) ∙ nobody) in
+      let none = none_found (λ s. not (test s) && has_drawn i (draws_of s)) split.before x split.after
+      (ap (find (λ s. not (test s) && has_drawn i (draws_of s))) (sym split.whole) ∙ nobody) in
       let others = others_count test change sessions x split one in
       subst (λ ds. AreDrawnRight ranges levels ds committed) (sym (draws_now (draws_of x ++ num_of i number ∷ []) more))
       (plain_drawn ranges levels (map draws_of split.before) (draws_of x) (map draws_of split.after) committed i number among is
@@ -141,7 +148,8 @@ module _ {S : Type 0} (draws_of : S → List Num) (test : S → Bool) (change : 
       (subst (λ ds. AreDrawnRight ranges levels ds committed) draws_before h))
 
   -- it takes the next number of an interval out of memory
-  pub session_draws_buffered : (ranges : List NumberRange) (levels : Levels) (committed : List Num) (r : NumberRange) → Contains ranges r → is_buffered r.interval ≡ true → r.next ≤ level_in levels r.interval
+  pub session_draws_buffered : (ranges : List NumberRange) (levels : Levels) (committed : List Num) (r : NumberRange) → Contains ranges r
+      → is_buffered r.interval ≡ true → r.next ≤ level_in levels r.interval
       → draws_of (change x) ≡ draws_of x ++ num_of r.interval r.next ∷ []
       → AreDrawnRight ranges levels (map draws_of sessions) committed → AreDrawnRight (handed_out r.interval ranges) levels (map draws_of now) committed
   session_draws_buffered ranges levels committed r among is reserved more h =
@@ -159,14 +167,16 @@ module _ {S : Type 0} (draws_of : S → List Num) (test : S → Bool) (change : 
       (subst (λ ds. AreDrawnRight ranges levels ds committed) draws_before h))
 
   -- and they may be
-  pub session_may_commit : (ledger : Ledger) (ranges : List NumberRange) → AreDrawnRight ranges ledger.levels (map draws_of sessions) (numbers_of ledger.units ledger.marks)
+  pub session_may_commit : (ledger : Ledger) (ranges : List NumberRange)
+      → AreDrawnRight ranges ledger.levels (map draws_of sessions) (numbers_of ledger.units ledger.marks)
       → MayStore ledger (settled_rows ledger.levels ranges (draws_of x)) (draws_of x)
   session_may_commit ledger ranges h =
       may_commit ledger ranges (map draws_of split.before) (draws_of x) (map draws_of split.after)
       (subst (λ ds. AreDrawnRight ranges ledger.levels ds (numbers_of ledger.units ledger.marks)) draws_before h)
 
   -- its numbers have two digits for their intervals
-  pub session_has_digits : (ranges : List NumberRange) (levels : Levels) (committed : List Num) → AreDrawnRight ranges levels (map draws_of sessions) committed → All HasDigits (draws_of x)
+  pub session_has_digits : (ranges : List NumberRange) (levels : Levels) (committed : List Num) → AreDrawnRight ranges levels (map draws_of sessions) committed
+      → All HasDigits (draws_of x)
   session_has_digits ranges levels committed h =
       let known = subst (AllByRecursion (AreOfOne (intervals_of ranges))) draws_before h.known in
       All-from_recursion HasDigits (draws_of x) (all_of (IsOfOne (intervals_of ranges)) HasDigits (has_digits (intervals_of ranges) h.intervals) (draws_of x)
@@ -174,7 +184,8 @@ module _ {S : Type 0} (draws_of : S → List Num) (test : S → Bool) (change : 
 
   -- ---- the same with numbers of a stock behind those that it drew
 
-  module _ (ranges : List NumberRange) (levels : Levels) (committed stock : List Num) (fits : IsStock (intervals_of ranges) levels (map draws_of sessions) committed stock)
+  module _ (ranges : List NumberRange) (levels : Levels) (committed stock : List Num)
+      (fits : IsStock (intervals_of ranges) levels (map draws_of sessions) committed stock)
       (h : AreDrawnRight ranges levels (map draws_of sessions) committed) where
     abbrev numbers : List Num
     numbers = draws_of x ++ stock
@@ -188,16 +199,21 @@ module _ {S : Type 0} (draws_of : S → List Num) (test : S → Bool) (change : 
     pub session_commits_stock : draws_of (change x) ≡ []
         → AreDrawnRight (passed stock ranges) (with_levels (settled_rows levels ranges numbers) levels) (map draws_of now) (committed ++ numbers)
     session_commits_stock none =
-        subst (λ rows. AreDrawnRight (passed stock ranges) (with_levels rows levels) (map draws_of now) (committed ++ numbers)) (settled_passed levels ranges stock numbers)
-        (subst (λ ds. AreDrawnRight (passed stock ranges) (with_levels (settled_rows levels (passed stock ranges) numbers) levels) ds (committed ++ numbers)) (sym (draws_now [] none))
+        subst (λ rows. AreDrawnRight (passed stock ranges) (with_levels rows levels) (map draws_of now) (committed ++ numbers))
+        (settled_passed levels ranges stock numbers)
+        (subst (λ ds. AreDrawnRight (passed stock ranges) (with_levels (settled_rows levels (passed stock ranges) numbers) levels) ds (committed ++ numbers))
+        (sym (draws_now [] none))
         (commit_drawn (passed stock ranges) levels (map draws_of split.before) numbers (map draws_of split.after) committed with_stock))
 
     -- they don't pass the end of an interval without a buffer
-    pub session_stock_fits : (i : Interval) → Contains (intervals_of ranges) i → is_buffered i ≡ false → level_in levels i + drawn_of (present levels i) numbers ≤ i.to
+    pub session_stock_fits : (i : Interval) → Contains (intervals_of ranges) i → is_buffered i ≡ false
+        → level_in levels i + drawn_of (present levels i) numbers ≤ i.to
     session_stock_fits i among plain =
         let takes = subst (AllByRecursion (Takes levels numbers committed)) (passed_intervals stock ranges)
         (all_take levels (map draws_of split.before) numbers (map draws_of split.after) committed (passed stock ranges) with_stock.each) in
-        run_of (is_buffered i) plain (All-contains (Takes levels numbers committed) (intervals_of ranges) i (All-from_recursion (Takes levels numbers committed) (intervals_of ranges) takes) among)
+        run_of (is_buffered i) plain
+        (All-contains (Takes levels numbers committed) (intervals_of ranges) i
+        (All-from_recursion (Takes levels numbers committed) (intervals_of ranges) takes) among)
       where
         run_of : (b : Bool) → b ≡ false → TakesAs b (present levels i) numbers committed → level_in levels i + drawn_of (present levels i) numbers ≤ i.to
         run_of true e take = cc
@@ -205,7 +221,8 @@ module _ {S : Type 0} (draws_of : S → List Num) (test : S → Bool) (change : 
 
     pub session_stock_digits : All HasDigits numbers
     session_stock_digits =
-        All-from_recursion HasDigits numbers (all_of (IsOfOne (intervals_of (passed stock ranges))) HasDigits (has_digits (intervals_of (passed stock ranges)) with_stock.intervals) numbers
+        All-from_recursion HasDigits numbers
+        (all_of (IsOfOne (intervals_of (passed stock ranges))) HasDigits (has_digits (intervals_of (passed stock ranges)) with_stock.intervals) numbers
         (all_right (AreOfOne (intervals_of (passed stock ranges))) (map draws_of split.before) (numbers ∷ map draws_of split.after) with_stock.known).0)
 
   pub session_may_commit_stock : (ledger : Ledger) (ranges : List NumberRange) (stock : List Num)

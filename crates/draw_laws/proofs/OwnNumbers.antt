@@ -54,9 +54,11 @@ pub append_none : {X : Type 0} (xs : List X) → xs ++ [] ≡ xs
 append_none [] = refl
 append_none (x ∷ xs) = ap (λ ys. x ∷ ys) (append_none xs)
 
-pub others_same : (i j : Interval) (draws : List Num) (number : ℕ) → (name_of i ≡ name_of j → ⊥) → drawn_from j (draws ++ num_of i number ∷ []) ≡ drawn_from j draws
+pub others_same : (i j : Interval) (draws : List Num) (number : ℕ) → (name_of i ≡ name_of j → ⊥)
+    → drawn_from j (draws ++ num_of i number ∷ []) ≡ drawn_from j draws
 others_same i j draws number apart =
-    numbers_append (name_of j) draws (num_of i number ∷ []) ∙ ap (λ ns. drawn_from j draws ++ ns) (from_other i j number apart) ∙ append_none (drawn_from j draws)
+    numbers_append (name_of j) draws (num_of i number ∷ []) ∙ ap (λ ns. drawn_from j draws ++ ns) (from_other i j number apart)
+    ∙ append_none (drawn_from j draws)
 
 -- where none has the name there are no numbers of it
 pub none_from : (name : RowName) (nums : List Num) → AllByRecursion (λ num. interval_of num ≡ name → ⊥) nums → numbers_from name nums ≡ []
@@ -66,7 +68,8 @@ none_from name (num ∷ nums) h =
     ∙ none_from name nums h.1
 
 -- a number of the name is among them
-pub counts_in : (name : RowName) (num : Num) (nums : List Num) → Contains nums num → interval_of num ≡ name → 1 ≤ count_by (nat_eq num.number) (numbers_from name nums)
+pub counts_in : (name : RowName) (num : Num) (nums : List Num) → Contains nums num → interval_of num ≡ name
+    → 1 ≤ count_by (nat_eq num.number) (numbers_from name nums)
 counts_in name num [] among is = absurd (contains_none num among)
 counts_in name num (n ∷ nums) among is =
     elim (contains_cases n nums num among) as (λ _. 1 ≤ count_by (nat_eq num.number) (numbers_from name (n ∷ nums))) [
@@ -76,7 +79,8 @@ counts_in name num (n ∷ nums) among is =
   where
     first_counts : (x : Num) → is_from name n ≡ true → x.number ≡ n.number → 1 ≤ count_by (nat_eq x.number) (numbers_from name (n ∷ nums))
     first_counts x own same =
-        let whole : count_by (nat_eq x.number) (numbers_from name (n ∷ nums)) ≡ bit (nat_eq x.number n.number) + count_by (nat_eq x.number) (numbers_from name nums) =
+        let whole : count_by (nat_eq x.number) (numbers_from name (n ∷ nums)) ≡ bit (nat_eq x.number n.number) + count_by (nat_eq x.number)
+        (numbers_from name nums) =
         ap (λ b. count_by (nat_eq x.number) (map (λ (y : Num). y.number) (cond b (n ∷ filter (is_from name) nums) (filter (is_from name) nums)))) own
         ∙ count_cons (nat_eq x.number) n.number (numbers_from name nums) in
         let here : bit (nat_eq x.number n.number) ≡ 1 = ap bit (eq-eqb x.number n.number same) in
@@ -88,7 +92,8 @@ counts_in name num (n ∷ nums) among is =
     later_counts k false h = h
 
 pub times_append : (i : Interval) (number : ℕ) (xs ys : List Num) → times i number (xs ++ ys) ≡ times i number xs + times i number ys
-times_append i number xs ys = ap (count_by (nat_eq number)) (numbers_append (name_of i) xs ys) ∙ count_append (nat_eq number) (drawn_from i xs) (drawn_from i ys)
+times_append i number xs ys = ap (count_by (nat_eq number)) (numbers_append (name_of i) xs ys)
+    ∙ count_append (nat_eq number) (drawn_from i xs) (drawn_from i ys)
 
 same_test : (i : Interval) (num : Num) → is_named num.object num.nr i ≡ is_from (name_of i) num
 same_test i num = elim (is_from (name_of i) num) as (λ b. is_from (name_of i) num ≡ b → is_named num.object num.nr i ≡ b) [
@@ -106,7 +111,9 @@ drawn_length i (num ∷ nums) =
     count_cons (λ (n : Num). is_named n.object n.nr i) num nums
     ∙ ap (λ b. bit b + drawn_of i nums) (same_test i num)
     ∙ ap (λ n. bit (is_from (name_of i) num) + n) (drawn_length i nums)
-    ∙ elim (is_from (name_of i) num) as (λ b. bit b + length (drawn_from i nums) ≡ length (map (λ (n : Num). n.number) (cond b (num ∷ filter (is_from (name_of i)) nums) (filter (is_from (name_of i)) nums)))) [
+    ∙ elim (is_from (name_of i) num)
+    as (λ b. bit b + length (drawn_from i nums) ≡ length
+    (map (λ (n : Num). n.number) (cond b (num ∷ filter (is_from (name_of i)) nums) (filter (is_from (name_of i)) nums)))) [
       | true ↦ one_more (length (drawn_from i nums))
       | false ↦ none_more (length (drawn_from i nums))
     ]
@@ -146,7 +153,8 @@ pub record IsIn (intervals : List Interval) (num : Num) : Type 0 where
 pub one_of_these : (intervals : List Interval) (num : Num) → IsOfOne intervals num → IsIn intervals num
 one_of_these [] num h = cc
 one_of_these (i ∷ intervals) num h =
-    elim (is_named num.object num.nr i) as (λ b. is_named num.object num.nr i ≡ b → (b || list_any (is_named num.object num.nr) intervals) ≡ true → IsIn (i ∷ intervals) num) [
+    elim (is_named num.object num.nr i)
+    as (λ b. is_named num.object num.nr i ≡ b → (b || list_any (is_named num.object num.nr) intervals) ≡ true → IsIn (i ∷ intervals) num) [
       | true ↦ λ e t. record { one = i; among = contains_first intervals i; name = named_is num.object num.nr i e }
       | false ↦ λ e t.
           let found = one_of_these intervals num t in

@@ -52,8 +52,10 @@ no_run i within = record { follows = refl; within = omega (arith, within) }
 
 pub fewer_new : (old new : List (List Num)) → AreFewer old new → AreFewer old ([] ∷ new)
 fewer_new old new f = record {
-  holders = λ i. let a : count_by (has_drawn i) ([] ∷ new) ≡ 0 + count_by (has_drawn i) new = count_cons (has_drawn i) [] new in let h = f.holders i in omega (arith, a, h);
-  given = λ i n. let a : sum_by (times i n) ([] ∷ new) ≡ 0 + sum_by (times i n) new = sum_by-cons (times i n) [] new in let h = f.given i n in omega (arith, a, h);
+  holders = λ i. let a : count_by (has_drawn i) ([] ∷ new) ≡ 0 + count_by (has_drawn i) new = count_cons (has_drawn i) [] new in let h = f.holders i in
+      omega (arith, a, h);
+  given = λ i n. let a : sum_by (times i n) ([] ∷ new) ≡ 0 + sum_by (times i n) new = sum_by-cons (times i n) [] new in let h = f.given i n in
+      omega (arith, a, h);
   runs = λ i within h. (no_run i within, f.runs i within h);
   known = λ is h. (tt, f.known is h);
 }
@@ -81,12 +83,14 @@ fewer_without (y ∷ before) x after = fewer_same y (before ++ x ∷ after) (bef
 module _ {S : Type 0} (draws_of : S → List Num) where
   pub fewer_left : (stays : S → Bool) (sessions : List S) → AreFewer (map draws_of sessions) (map draws_of (filter stays sessions))
   fewer_left stays [] = fewer_none
-  fewer_left stays (s ∷ sessions) = elim (stays s) as (λ b. AreFewer (map draws_of (s ∷ sessions)) (map draws_of (cond b (s ∷ filter stays sessions) (filter stays sessions)))) [
-    | true ↦ fewer_same (draws_of s) (map draws_of sessions) (map draws_of (filter stays sessions)) (fewer_left stays sessions)
-    | false ↦ fewer_gone (draws_of s) (map draws_of sessions) (map draws_of (filter stays sessions)) (fewer_left stays sessions)
-  ]
+  fewer_left stays (s ∷ sessions) =
+      elim (stays s) as (λ b. AreFewer (map draws_of (s ∷ sessions)) (map draws_of (cond b (s ∷ filter stays sessions) (filter stays sessions)))) [
+        | true ↦ fewer_same (draws_of s) (map draws_of sessions) (map draws_of (filter stays sessions)) (fewer_left stays sessions)
+        | false ↦ fewer_gone (draws_of s) (map draws_of sessions) (map draws_of (filter stays sessions)) (fewer_left stays sessions)
+      ]
 
-fewer_as : (buffered : Bool) (i : Interval) (next : ℕ) (old new : List (List Num)) (committed : List Num) → i.level ≤ i.to → AreFewer old new → IsDrawnAs buffered i next old committed → IsDrawnAs buffered i next new committed
+fewer_as : (buffered : Bool) (i : Interval) (next : ℕ) (old new : List (List Num)) (committed : List Num) → i.level ≤ i.to → AreFewer old new
+    → IsDrawnAs buffered i next old committed → IsDrawnAs buffered i next new committed
 fewer_as false i next old new committed within f h =
     let few = f.holders i in
     let most = h.sole in
@@ -98,16 +102,19 @@ fewer_as true i next old new committed within f h = record {
   high = h.high;
 }
 
-fewer_each : (levels : Levels) (old new : List (List Num)) (committed : List Num) (ranges : List NumberRange) → AreFewer old new → ((i : Interval) → Contains (intervals_of ranges) i → level_in levels i ≤ i.to)
+fewer_each : (levels : Levels) (old new : List (List Num)) (committed : List Num) (ranges : List NumberRange) → AreFewer old new
+    → ((i : Interval) → Contains (intervals_of ranges) i → level_in levels i ≤ i.to)
     → AllByRecursion (IsDrawnRight levels old committed) ranges → AllByRecursion (IsDrawnRight levels new committed) ranges
 fewer_each levels old new committed [] f within h = tt
 fewer_each levels old new committed (r ∷ ranges) f within h = (
-  fewer_as (is_buffered r.interval) (present levels r.interval) r.next old new committed (within r.interval (contains_first (intervals_of ranges) r.interval)) f h.0,
+  fewer_as (is_buffered r.interval) (present levels r.interval) r.next old new committed
+      (within r.interval (contains_first (intervals_of ranges) r.interval)) f h.0,
   fewer_each levels old new committed ranges f (λ i among. within i (contains_more (intervals_of ranges) r.interval i among)) h.1,
 )
 
 -- so sessions come, go and give back what they drew
-pub fewer_drawn : (ranges : List NumberRange) (levels : Levels) (old new : List (List Num)) (committed : List Num) → AreFewer old new → AreDrawnRight ranges levels old committed → AreDrawnRight ranges levels new committed
+pub fewer_drawn : (ranges : List NumberRange) (levels : Levels) (old new : List (List Num)) (committed : List Num) → AreFewer old new
+    → AreDrawnRight ranges levels old committed → AreDrawnRight ranges levels new committed
 fewer_drawn ranges levels old new committed f h = record {
   intervals = h.intervals;
   fit = h.fit;
@@ -141,12 +148,14 @@ none_known : (intervals : List Interval) (draws : List (List Num)) → AllByRecu
 none_known intervals [] h = tt
 none_known intervals (x ∷ draws) h = (subst (AreOfOne intervals) (sym h.0) tt, none_known intervals draws h.1)
 
-module _ (intervals : List Interval) (levels : Levels) (draws : List (List Num)) (committed : List Num) (are : AreIntervals intervals) (fit : FitLevels intervals levels) (agree : LevelsAgree levels committed)
+module _ (intervals : List Interval) (levels : Levels) (draws : List (List Num)) (committed : List Num) (are : AreIntervals intervals)
+    (fit : FitLevels intervals levels) (agree : LevelsAgree levels committed)
     (none : AllByRecursion (λ x. x ≡ []) draws) where
   abbrev Inside : Interval → List ℕ → Type 0
   Inside i numbers = IsDistinct nat_eq numbers × AllByRecursion (λ n. (i.from ≤ n) × (n ≤ level_in levels i)) numbers
 
-  inside_of : (i : Interval) → is_buffered i ≡ true → (found : Option Level) → get levels (name_of i) ≡ found → IfSome found (IsRowOf i) → IfSome found (IsRightLevel (name_of i) committed) → Inside i (drawn_from i committed)
+  inside_of : (i : Interval) → is_buffered i ≡ true → (found : Option Level) → get levels (name_of i) ≡ found → IfSome found (IsRowOf i)
+      → IfSome found (IsRightLevel (name_of i) committed) → Inside i (drawn_from i committed)
   unfolding IsDistinct
   inside_of i is None has row right = subst (Inside i) (sym (none_committed levels committed (name_of i) agree has)) (tt, tt)
   inside_of i is (Some l) has row right = as_buffered l.buffered (row.buffered ∙ is) right.drawn
@@ -154,10 +163,14 @@ module _ (intervals : List Interval) (levels : Levels) (draws : List (List Num))
       as_buffered : (b : Bool) → b ≡ true → AreDrawn b l (drawn_from i committed) → Inside i (drawn_from i committed)
       as_buffered false e h = cc
       as_buffered true e h =
-          let same : l.level ≡ level_in levels i = sym (found_level levels i (Some l) has) in
-          (h.0, subst (λ (bounds : ℕ × ℕ). AllByRecursion (λ n. (bounds.0 ≤ n) × (n ≤ bounds.1)) (drawn_from i committed)) (λ k. (row.first k, same k)) (recursion_from_All (λ n. (l.from ≤ n) × (n ≤ l.level)) (drawn_from i committed) h.1))
+          let same : l.level ≡ level_in levels i = sym (found_level levels i (Some l) has) in (
+            h.0,
+            subst (λ (bounds : ℕ × ℕ). AllByRecursion (λ n. (bounds.0 ≤ n) × (n ≤ bounds.1)) (drawn_from i committed)) (λ k. (row.first k, same k))
+                (recursion_from_All (λ n. (l.from ≤ n) × (n ≤ l.level)) (drawn_from i committed) h.1),
+          )
 
-  low_of : (i : Interval) → i.level + 1 ≡ i.from → (found : Option Level) → get levels (name_of i) ≡ found → IfSome found (IsRowOf i) → IfSome found (IsRightLevel (name_of i) committed) → i.from ≤ level_in levels i + 1
+  low_of : (i : Interval) → i.level + 1 ≡ i.from → (found : Option Level) → get levels (name_of i) ≡ found → IfSome found (IsRowOf i)
+      → IfSome found (IsRightLevel (name_of i) committed) → i.from ≤ level_in levels i + 1
   low_of i first None has row right = let same = found_level levels i None has in omega (arith, same, first)
   low_of i first (Some l) has row right =
       let same = found_level levels i (Some l) has in
@@ -169,7 +182,12 @@ module _ (intervals : List Interval) (levels : Levels) (draws : List (List Num))
   first_as i among false is =
       let none_of = none_hold i draws none in
       let row = if_row intervals levels i are.apart fit among (get levels (name_of i)) refl in
-      record { begun = low_of i (unused_in intervals i are among).first (get levels (name_of i)) refl row (agree.right (name_of i)); sole = omega (arith, none_of); runs = none_run (present levels i) draws (level_fits intervals levels i are fit among) none }
+      record {
+        begun = low_of i (unused_in intervals i are among).first (get levels (name_of i)) refl row (agree.right (name_of i));
+        sole =
+            omega (arith, none_of);
+        runs = none_run (present levels i) draws (level_fits intervals levels i are fit among) none;
+      }
   first_as i among true is =
       let row = if_row intervals levels i are.apart fit among (get levels (name_of i)) refl in
       let inside = inside_of i is (get levels (name_of i)) refl row (agree.right (name_of i)) in
@@ -184,9 +202,11 @@ module _ (intervals : List Interval) (levels : Levels) (draws : List (List Num))
         high = omega arith;
       }
 
-  first_each : (some : List Interval) → ((i : Interval) → Contains some i → Contains intervals i) → AllByRecursion (IsDrawnRight levels draws committed) (first_ranges levels some)
+  first_each : (some : List Interval) → ((i : Interval) → Contains some i → Contains intervals i)
+      → AllByRecursion (IsDrawnRight levels draws committed) (first_ranges levels some)
   first_each [] inside = tt
-  first_each (i ∷ some) inside = (first_as i (inside i (contains_first some i)) (is_buffered i) refl, first_each some (λ j among. inside j (contains_more some i j among)))
+  first_each (i ∷ some) inside =
+      (first_as i (inside i (contains_first some i)) (is_buffered i) refl, first_each some (λ j among. inside j (contains_more some i j among)))
 
   -- at the start nothing was drawn, and memory hands out what is behind the level
   pub first_drawn : AreDrawnRight (first_ranges levels intervals) levels draws committed

@@ -58,7 +58,11 @@ pub others_kept : (levels base : Levels) (nums : List Num) (name : RowName) (int
 others_kept levels base nums name [] none = refl
 others_kept levels base nums name (i ∷ intervals) none =
     let both = or_parts (is_named name.0 name.1 i) (list_any (is_named name.0 name.1) intervals) none in
-    elim (is_settled_by nums (present levels i)) as (λ b. get (with_levels (map (λ j. stored_as (with_level_behind nums j)) (cond b (present levels i ∷ filter (is_settled_by nums) (map (present levels) intervals)) (filter (is_settled_by nums) (map (present levels) intervals)))) base) name ≡ get base name) [
+    elim (is_settled_by nums (present levels i))
+    as (λ b. get (with_levels
+    (map (λ j. stored_as (with_level_behind nums j))
+    (cond b (present levels i ∷ filter (is_settled_by nums) (map (present levels) intervals))
+    (filter (is_settled_by nums) (map (present levels) intervals)))) base) name ≡ get base name) [
       | true ↦
           others_kept levels (insert_row (row_for levels nums i) base) nums name intervals both.1
           ∙ insert_other (row_for levels nums i) base name (not_named name i both.0)
@@ -67,11 +71,15 @@ others_kept levels base nums name (i ∷ intervals) none =
 
 -- the name of one of them has its row's level, where it is written
 pub own_level : (levels base : Levels) (nums : List Num) (i : Interval) (intervals : List Interval) → AreApart intervals → Contains intervals i
-    → get (with_levels (rows_for levels nums intervals) base) (name_of i) ≡ cond (is_settled_by nums (present levels i)) (Some (level_of (row_for levels nums i))) (get base (name_of i))
+    → get (with_levels (rows_for levels nums intervals) base) (name_of i) ≡ cond (is_settled_by nums (present levels i))
+    (Some (level_of (row_for levels nums i))) (get base (name_of i))
 own_level levels base nums i [] apart among = absurd (contains_none i among)
 own_level levels base nums i (x ∷ intervals) apart among =
-    elim (contains_cases x intervals i among) as (λ _. get (with_levels (rows_for levels nums (x ∷ intervals)) base) (name_of i) ≡ cond (is_settled_by nums (present levels i)) (Some (level_of (row_for levels nums i))) (get base (name_of i))) [
-      | inl e ↦ subst (λ j. get (with_levels (rows_for levels nums (x ∷ intervals)) base) (name_of j) ≡ cond (is_settled_by nums (present levels j)) (Some (level_of (row_for levels nums j))) (get base (name_of j))) e first_of
+    elim (contains_cases x intervals i among)
+    as (λ _. get (with_levels (rows_for levels nums (x ∷ intervals)) base) (name_of i) ≡ cond (is_settled_by nums (present levels i))
+    (Some (level_of (row_for levels nums i))) (get base (name_of i))) [
+      | inl e ↦ subst (λ j. get (with_levels (rows_for levels nums (x ∷ intervals)) base) (name_of j) ≡ cond (is_settled_by nums (present levels j))
+          (Some (level_of (row_for levels nums j))) (get base (name_of j))) e first_of
       | inr e ↦ later_of e (λ over. own_level levels over nums i intervals apart.1 e)
     ]
   where
@@ -81,30 +89,41 @@ own_level levels base nums i (x ∷ intervals) apart among =
     after : Bool → Levels
     after b = with_levels (map (λ j. stored_as (with_level_behind nums j)) (cond b (present levels x ∷ rest) rest)) base
 
-    first_of : get (after (is_settled_by nums (present levels x))) (name_of x) ≡ cond (is_settled_by nums (present levels x)) (Some (level_of (row_for levels nums x))) (get base (name_of x))
-    first_of = elim (is_settled_by nums (present levels x)) as (λ b. get (after b) (name_of x) ≡ cond b (Some (level_of (row_for levels nums x))) (get base (name_of x))) [
-      | true ↦
-          others_kept levels (insert_row (row_for levels nums x) base) nums (name_of x) intervals apart.0
-          ∙ insert_own (row_for levels nums x) base (name_of x) refl
-      | false ↦ others_kept levels base nums (name_of x) intervals apart.0
-    ]
+    first_of : get (after (is_settled_by nums (present levels x))) (name_of x) ≡ cond (is_settled_by nums (present levels x))
+        (Some (level_of (row_for levels nums x))) (get base (name_of x))
+    first_of = elim (is_settled_by nums (present levels x))
+        as (λ b. get (after b) (name_of x) ≡ cond b (Some (level_of (row_for levels nums x))) (get base (name_of x))) [
+          | true ↦
+              others_kept levels (insert_row (row_for levels nums x) base) nums (name_of x) intervals apart.0
+              ∙ insert_own (row_for levels nums x) base (name_of x) refl
+          | false ↦ others_kept levels base nums (name_of x) intervals apart.0
+        ]
 
-    later_of : Contains intervals i → ((over : Levels) → get (with_levels (rows_for levels nums intervals) over) (name_of i) ≡ cond (is_settled_by nums (present levels i)) (Some (level_of (row_for levels nums i))) (get over (name_of i)))
-        → get (after (is_settled_by nums (present levels x))) (name_of i) ≡ cond (is_settled_by nums (present levels i)) (Some (level_of (row_for levels nums i))) (get base (name_of i))
-    later_of there behind = elim (is_settled_by nums (present levels x)) as (λ b. get (after b) (name_of i) ≡ cond (is_settled_by nums (present levels i)) (Some (level_of (row_for levels nums i))) (get base (name_of i))) [
-      | true ↦
-          behind (insert_row (row_for levels nums x) base)
-          ∙ ap (cond (is_settled_by nums (present levels i)) (Some (level_of (row_for levels nums i))))
-          (insert_other (row_for levels nums x) base (name_of i) (λ same. none_named x.object x.nr intervals i apart.0 there same))
-      | false ↦ behind base
-    ]
+    later_of : Contains intervals i
+        → ((over : Levels) → get (with_levels (rows_for levels nums intervals) over) (name_of i) ≡ cond (is_settled_by nums (present levels i))
+        (Some (level_of (row_for levels nums i))) (get over (name_of i)))
+        → get (after (is_settled_by nums (present levels x))) (name_of i) ≡ cond (is_settled_by nums (present levels i))
+        (Some (level_of (row_for levels nums i))) (get base (name_of i))
+    later_of there behind = elim (is_settled_by nums (present levels x))
+        as (λ b. get (after b) (name_of i) ≡ cond (is_settled_by nums (present levels i)) (Some (level_of (row_for levels nums i))) (get base (name_of i))) [
+          | true ↦
+              behind (insert_row (row_for levels nums x) base)
+              ∙ ap (cond (is_settled_by nums (present levels i)) (Some (level_of (row_for levels nums i))))
+              (insert_other (row_for levels nums x) base (name_of i) (λ same. none_named x.object x.nr intervals i apart.0 there same))
+          | false ↦ behind base
+        ]
 
 -- ---- rows that may be written
 
-pub rows_numbered : (levels : Levels) (nums : List Num) (intervals : List Interval) → AllByRecursion IsUnused intervals → AllByRecursion HasNr (rows_for levels nums intervals)
+pub rows_numbered : (levels : Levels) (nums : List Num) (intervals : List Interval) → AllByRecursion IsUnused intervals
+    → AllByRecursion HasNr (rows_for levels nums intervals)
 rows_numbered levels nums [] each = tt
 rows_numbered levels nums (i ∷ intervals) each =
-    elim (is_settled_by nums (present levels i)) as (λ b. AllByRecursion HasNr (map (λ j. stored_as (with_level_behind nums j)) (cond b (present levels i ∷ filter (is_settled_by nums) (map (present levels) intervals)) (filter (is_settled_by nums) (map (present levels) intervals))))) [
+    elim (is_settled_by nums (present levels i))
+    as (λ b. AllByRecursion HasNr
+    (map (λ j. stored_as (with_level_behind nums j))
+    (cond b (present levels i ∷ filter (is_settled_by nums) (map (present levels) intervals))
+    (filter (is_settled_by nums) (map (present levels) intervals))))) [
       | true ↦ (each.0.nr, rows_numbered levels nums intervals each.1)
       | false ↦ rows_numbered levels nums intervals each.1
     ]
@@ -114,7 +133,11 @@ others_apart : (levels : Levels) (nums : List Num) (name : RowName) (intervals :
 others_apart levels nums name [] none = tt
 others_apart levels nums name (i ∷ intervals) none =
     let both = or_parts (is_named name.0 name.1 i) (list_any (is_named name.0 name.1) intervals) none in
-    elim (is_settled_by nums (present levels i)) as (λ b. AllByRecursion (λ other. same_row name other ≡ false) (map named (map (λ j. stored_as (with_level_behind nums j)) (cond b (present levels i ∷ filter (is_settled_by nums) (map (present levels) intervals)) (filter (is_settled_by nums) (map (present levels) intervals)))))) [
+    elim (is_settled_by nums (present levels i))
+    as (λ b. AllByRecursion (λ other. same_row name other ≡ false)
+    (map named (map (λ j. stored_as (with_level_behind nums j))
+    (cond b (present levels i ∷ filter (is_settled_by nums) (map (present levels) intervals))
+    (filter (is_settled_by nums) (map (present levels) intervals)))))) [
       | true ↦ (differ name (name_of i) (not_named name i both.0), others_apart levels nums name intervals both.1)
       | false ↦ others_apart levels nums name intervals both.1
     ]
@@ -123,7 +146,12 @@ pub rows_distinct : (levels : Levels) (nums : List Num) (intervals : List Interv
 unfolding IsDistinct
 rows_distinct levels nums [] apart = tt
 rows_distinct levels nums (i ∷ intervals) apart =
-    elim (is_settled_by nums (present levels i)) as (λ b. HasDistinctIntervals (map (λ j. stored_as (with_level_behind nums j)) (cond b (present levels i ∷ filter (is_settled_by nums) (map (present levels) intervals)) (filter (is_settled_by nums) (map (present levels) intervals))))) [
-      | true ↦ IsDistinct-cons same_row (name_of i) (map named (rows_for levels nums intervals)) (others_apart levels nums (name_of i) intervals apart.0) (rows_distinct levels nums intervals apart.1)
+    elim (is_settled_by nums (present levels i))
+    as (λ b. HasDistinctIntervals
+    (map (λ j. stored_as (with_level_behind nums j))
+    (cond b (present levels i ∷ filter (is_settled_by nums) (map (present levels) intervals))
+    (filter (is_settled_by nums) (map (present levels) intervals))))) [
+      | true ↦ IsDistinct-cons same_row (name_of i) (map named (rows_for levels nums intervals)) (others_apart levels nums (name_of i) intervals apart.0)
+          (rows_distinct levels nums intervals apart.1)
       | false ↦ rows_distinct levels nums intervals apart.1
     ]

@@ -24,11 +24,13 @@ same_intervals levels (suc n) (r ∷ ranges) = ap (λ is. r.interval ∷ is) (sa
 
 interval_in : (ranges : List NumberRange) (n : ℕ) (r : NumberRange) → n < length ranges → r ≡ get_or ranges n r → Contains (intervals_of ranges) r.interval
 interval_in [] n r within at = absurd (omega (arith, within))
-interval_in (x ∷ ranges) zero r within at = subst (λ y. Contains (intervals_of (x ∷ ranges)) y.interval) (sym at) (contains_first (intervals_of ranges) x.interval)
+interval_in (x ∷ ranges) zero r within at = subst (λ y. Contains (intervals_of (x ∷ ranges)) y.interval) (sym at)
+    (contains_first (intervals_of ranges) x.interval)
 interval_in (x ∷ ranges) (suc n) r within at = contains_more (intervals_of ranges) x.interval r.interval (interval_in ranges n r (omega (arith, within)) at)
 
 -- no level is so high that no number follows it
-pub level_small : (levels : Levels) (ranges now : List NumberRange) (n k : ℕ) (r : NumberRange) → AreIntervals (intervals_of ranges) → FitRows (intervals_of ranges) levels
+pub level_small : (levels : Levels) (ranges now : List NumberRange) (n k : ℕ) (r : NumberRange) → AreIntervals (intervals_of ranges)
+    → FitRows (intervals_of ranges) levels
     → now ≡ started_to levels n ranges → k < length now → r ≡ get_or now k r → level_in levels r.interval ≤ 999999999999999999
 level_small levels ranges now n k r are all is within at =
     let among : Contains (intervals_of ranges) r.interval =
@@ -37,7 +39,8 @@ level_small levels ranges now n k r are all is within at =
     let high : r.interval.to ≤ 999999999999999999 = (unused_in (intervals_of ranges) r.interval are among).interval.high in
     omega (arith, below, high)
 
-pub started_more : (levels : Levels) (ranges now : List NumberRange) (n : ℕ) (r new : NumberRange) → n < length ranges → now ≡ started_to levels n ranges → r ≡ get_or now n r
+pub started_more : (levels : Levels) (ranges now : List NumberRange) (n : ℕ) (r new : NumberRange) → n < length ranges → now ≡ started_to levels n ranges
+    → r ≡ get_or now n r
     → new.interval ≡ r.interval → new.next ≡ level_in levels r.interval + 1 → set now n new ≡ started_to levels (n + 1) ranges
 started_more levels ranges now n r new within is at same next =
     let made : new ≡ started levels r = λ i. record { interval = same i; next = next i } in
@@ -53,7 +56,8 @@ all_started levels zero (r ∷ ranges) all = absurd (omega (arith, all))
 all_started levels (suc n) [] all = refl
 all_started levels (suc n) (r ∷ ranges) all = ap (λ rs. started levels r ∷ rs) (all_started levels n ranges (omega (arith, all)))
 
-pub started_all : (levels : Levels) (ranges now : List NumberRange) (n : ℕ) → length ranges ≤ n → now ≡ started_to levels n ranges → now ≡ first_ranges levels (intervals_of ranges)
+pub started_all : (levels : Levels) (ranges now : List NumberRange) (n : ℕ) → length ranges ≤ n → now ≡ started_to levels n ranges
+    → now ≡ first_ranges levels (intervals_of ranges)
 started_all levels ranges now n all is = is ∙ all_started levels n ranges all ∙ map_started levels ranges
 
 -- the intervals stay

@@ -49,7 +49,8 @@ run_counts n first (suc count) =
       | true ↦ λ e.
           let same : n ≡ first = eqb-true n first e in
           let here : bit (nat_eq n first) ≡ 1 = ap bit e in
-          let none : count_by (nat_eq n) (range_with_len (first + 1) count) ≡ 0 = none_before (count_by (nat_eq n) (range_with_len (first + 1) count)) rest.from same in
+          let none : count_by (nat_eq n) (range_with_len (first + 1) count) ≡ 0 =
+          none_before (count_by (nat_eq n) (range_with_len (first + 1) count)) rest.from same in
           record { once = omega (arith, whole, here, none); from = λ some. omega (arith, same) }
       | false ↦ λ e.
           let here : bit (nat_eq n first) ≡ 0 = ap bit e in
@@ -63,7 +64,8 @@ run_counts n first (suc count) =
 
 -- ---- as a stock
 
-found_here : (intervals : List Interval) (i : Interval) (P : Interval → Type 0) → AreApart intervals → Contains intervals i → P i → IsSomeAnd (find (is_named i.object i.nr) intervals) P
+found_here : (intervals : List Interval) (i : Interval) (P : Interval → Type 0) → AreApart intervals → Contains intervals i → P i
+    → IsSomeAnd (find (is_named i.object i.nr) intervals) P
 found_here [] i P apart among h = absurd (contains_none i among)
 found_here (x ∷ intervals) i P apart among h =
     elim (contains_cases x intervals i among) as (λ _. IsSomeAnd (find (is_named i.object i.nr) (x ∷ intervals)) P) [
@@ -88,18 +90,21 @@ module _ (ranges : List NumberRange) (levels : Levels) (draws : List (List Num))
   among_them : Contains (intervals_of ranges) own
   among_them = interval_among ranges r among
 
-  drawn_so : (b : Bool) → b ≡ true → IsDrawnAs b (present levels own) r.next draws committed → (own.from ≤ r.next) × ((n : ℕ) → 1 ≤ times_given own draws committed n → n < r.next)
+  drawn_so : (b : Bool) → b ≡ true → IsDrawnAs b (present levels own) r.next draws committed → (own.from ≤ r.next)
+      × ((n : ℕ) → 1 ≤ times_given own draws committed n → n < r.next)
   drawn_so false e d = cc
   drawn_so true e d = (d.low, λ n some. (d.inside n some).1)
 
   drawn_here : (own.from ≤ r.next) × ((n : ℕ) → 1 ≤ times_given own draws committed n → n < r.next)
   drawn_here = drawn_so (is_buffered own) is (drawn_at ranges levels draws committed h r among)
 
-  reserved_run : (from many : ℕ) → first ≤ from → from + many ≤ level_in levels own + 1 → AllByRecursion (IsReserved (intervals_of ranges) levels) (run_of own from many)
+  reserved_run : (from many : ℕ) → first ≤ from → from + many ≤ level_in levels own + 1
+      → AllByRecursion (IsReserved (intervals_of ranges) levels) (run_of own from many)
   reserved_run from zero low high = tt
   reserved_run from (suc many) low high =
       let begun = drawn_here.0 in (
-        found_here (intervals_of ranges) own (IsUpToLevel levels from) h.intervals.apart among_them (record { buffered = is; first = omega (arith, begun, behind, low); last = omega (arith, high) }),
+        found_here (intervals_of ranges) own (IsUpToLevel levels from) h.intervals.apart among_them
+            (record { buffered = is; first = omega (arith, begun, behind, low); last = omega (arith, high) }),
         reserved_run (from + 1) many (omega (arith, low)) (omega (arith, high)),
       )
 
@@ -112,12 +117,14 @@ module _ (ranges : List NumberRange) (levels : Levels) (draws : List (List Num))
 
   once_of : (j : Interval) → Contains (intervals_of ranges) j → (n : ℕ) → times j n run ≤ 1
   once_of j there n = by_name (name_of own) (name_of j)
-      (λ same. subst (λ (x : Interval). times x n run ≤ 1) (one_interval (intervals_of ranges) own j h.intervals.apart among_them there same) (counts_own n).once)
+      (λ same. subst (λ (x : Interval). times x n run ≤ 1) (one_interval (intervals_of ranges) own j h.intervals.apart among_them there same)
+      (counts_own n).once)
       (λ apart. let none : times j n run ≡ 0 = ap (count_by (nat_eq n)) (run_other own j first count apart) in omega (arith, none))
 
   fresh_of : (j : Interval) → Contains (intervals_of ranges) j → (n : ℕ) → 1 ≤ times j n run → times_given j draws committed n ≡ 0
   fresh_of j there n = by_name (name_of own) (name_of j)
-      (λ same. subst (λ (x : Interval). 1 ≤ times x n run → times_given x draws committed n ≡ 0) (one_interval (intervals_of ranges) own j h.intervals.apart among_them there same)
+      (λ same. subst (λ (x : Interval). 1 ≤ times x n run → times_given x draws committed n ≡ 0)
+      (one_interval (intervals_of ranges) own j h.intervals.apart among_them there same)
       (λ some. none_given n (times_given own draws committed n) (drawn_here.1 n) ((counts_own n).from some)))
       (λ apart some. let none : times j n run ≡ 0 = ap (count_by (nat_eq n)) (run_other own j first count apart) in absurd (omega (arith, none, some)))
 

@@ -32,9 +32,11 @@ above_first from next number h = grind (arith, h)
 up_to_level : (next number level : ℕ) → next ≤ level + 1 → number ≤ level → max next (number + 1) ≤ level + 1
 up_to_level next number level h k = grind (arith, h, k)
 
-stock_more : (i : Interval) (next number : ℕ) (before : List (List Num)) (x : List Num) (after : List (List Num)) (committed : List Num) → i.from ≤ number → number ≤ i.level
+stock_more : (i : Interval) (next number : ℕ) (before : List (List Num)) (x : List Num) (after : List (List Num)) (committed : List Num) → i.from ≤ number
+    → number ≤ i.level
     → times_given i (before ++ x ∷ after) committed number ≡ 0
-    → IsDrawnBuffered i next (before ++ x ∷ after) committed → IsDrawnBuffered i (max next (number + 1)) (before ++ (x ++ num_of i number ∷ []) ∷ after) committed
+    → IsDrawnBuffered i next (before ++ x ∷ after) committed → IsDrawnBuffered i (max next (number + 1))
+    (before ++ (x ++ num_of i number ∷ []) ∷ after) committed
 stock_more i next number before x after committed first last none h =
     record {
       once = λ n. once_more n (nat_eq n number) refl;
@@ -49,7 +51,8 @@ stock_more i next number before x after committed first last none h =
     one : (n : ℕ) → times i n (num_of i number ∷ []) ≡ bit (nat_eq n number)
     one n = ap (count_by (nat_eq n)) (from_own i number) ∙ count_cons (nat_eq n) number [] ∙ plus_none (bit (nat_eq n number))
 
-    total : (n : ℕ) → times_given i (before ++ (x ++ num_of i number ∷ []) ∷ after) committed n ≡ times_given i (before ++ x ∷ after) committed n + bit (nat_eq n number)
+    total : (n : ℕ) → times_given i (before ++ (x ++ num_of i number ∷ []) ∷ after) committed n ≡ times_given i (before ++ x ∷ after) committed n + bit
+        (nat_eq n number)
     total n =
         let a = sum_split (times i n) before x after in
         let b = sum_split (times i n) before (x ++ num_of i number ∷ []) after in
@@ -69,7 +72,8 @@ stock_more i next number before x after committed first last none h =
         let most = h.once n in
         omega (arith, all, here, most)
 
-    inside_more : (n : ℕ) (b : Bool) → nat_eq n number ≡ b → 1 ≤ times_given i (before ++ (x ++ num_of i number ∷ []) ∷ after) committed n → (i.from ≤ n) × (n < max next (number + 1))
+    inside_more : (n : ℕ) (b : Bool) → nat_eq n number ≡ b → 1 ≤ times_given i (before ++ (x ++ num_of i number ∷ []) ∷ after) committed n → (i.from ≤ n)
+        × (n < max next (number + 1))
     inside_more n true e some =
         let same : n ≡ number = eqb-true n number e in
         (omega (arith, same, first), own_next n next number same)
@@ -79,22 +83,28 @@ stock_more i next number before x after committed first last none h =
         let at = h.inside n (omega (arith, all, here, some)) in
         (at.0, up_to_next n next number at.1)
 
-module _ (ranges : List NumberRange) (levels : Levels) (before : List (List Num)) (x : List Num) (after : List (List Num)) (committed : List Num) (i : Interval) (number : ℕ)
+module _ (ranges : List NumberRange) (levels : Levels) (before : List (List Num)) (x : List Num) (after : List (List Num)) (committed : List Num) (i : Interval)
+    (number : ℕ)
     (among : Contains (intervals_of ranges) i) (is : IsUpToLevel levels number i) (none : times_given i (before ++ x ∷ after) committed number ≡ 0)
     (h : AreDrawnRight ranges levels (before ++ x ∷ after) committed) where
   abbrev given : List (List Num)
   given = before ++ (x ++ num_of i number ∷ []) ∷ after
 
   abbrev GivenStep : Interval → Type 0
-  GivenStep j = (next : ℕ) → IsDrawnAs (is_buffered j) (present levels j) next (before ++ x ∷ after) committed → IsDrawnAs (is_buffered j) (present levels j) (max next (number + 1)) given committed
+  GivenStep j = (next : ℕ) → IsDrawnAs (is_buffered j) (present levels j) next (before ++ x ∷ after) committed
+      → IsDrawnAs (is_buffered j) (present levels j) (max next (number + 1)) given committed
 
   given_own : GivenStep i
-  given_own next = subst (λ b. IsDrawnAs b (present levels i) next (before ++ x ∷ after) committed → IsDrawnAs b (present levels i) (max next (number + 1)) given committed) (sym is.buffered)
+  given_own next = subst
+      (λ b. IsDrawnAs b (present levels i) next (before ++ x ∷ after) committed → IsDrawnAs b (present levels i) (max next (number + 1)) given committed)
+      (sym is.buffered)
       (stock_more (present levels i) next number before x after committed is.first is.last none)
 
-  given_step : (s : NumberRange) → Contains ranges s → IsDrawnRight levels (before ++ x ∷ after) committed s → IsDrawnRight levels given committed (passed_by (num_of i number) s)
+  given_step : (s : NumberRange) → Contains ranges s → IsDrawnRight levels (before ++ x ∷ after) committed s
+      → IsDrawnRight levels given committed (passed_by (num_of i number) s)
   given_step s there old =
-      elim (is_named i.object i.nr s.interval) as (λ b. is_named i.object i.nr s.interval ≡ b → IsDrawnRight levels given committed (if b then record s { next = max s.next (number + 1) } else s)) [
+      elim (is_named i.object i.nr s.interval)
+      as (λ b. is_named i.object i.nr s.interval ≡ b → IsDrawnRight levels given committed (if b then record s { next = max s.next (number + 1) } else s)) [
         | true ↦ λ e.
             let name = sym (named_is i.object i.nr s.interval e) in
             subst GivenStep (one_interval (intervals_of ranges) i s.interval h.intervals.apart among (interval_among ranges s there) name) given_own s.next old
@@ -110,7 +120,8 @@ module _ (ranges : List NumberRange) (levels : Levels) (before : List (List Num)
       record {
         intervals = subst AreIntervals same h.intervals;
         fit = subst (λ is. FitLevels is levels) same h.fit;
-        each = each_changed (IsDrawnRight levels (before ++ x ∷ after) committed) (IsDrawnRight levels given committed) (passed_by (num_of i number)) ranges given_step h.each;
+        each = each_changed (IsDrawnRight levels (before ++ x ∷ after) committed) (IsDrawnRight levels given committed)
+            (passed_by (num_of i number)) ranges given_step h.each;
         known = subst (λ is. AllByRecursion (AreOfOne is) given) same
             (all_with (AreOfOne (intervals_of ranges)) before x (x ++ num_of i number ∷ []) after (known_more (intervals_of ranges) i x number among) h.known);
       }
@@ -126,7 +137,9 @@ record IsFoundAs (intervals : List Interval) (levels : Levels) (num : Num) : Typ
 found_as : (intervals : List Interval) (levels : Levels) (num : Num) → IsReserved intervals levels num → IsFoundAs intervals levels num
 found_as [] levels num h = absurd h
 found_as (i ∷ intervals) levels num h =
-    elim (is_named num.object num.nr i) as (λ b. is_named num.object num.nr i ≡ b → IsSomeAnd (cond b (Some i) (find (is_named num.object num.nr) intervals)) (IsUpToLevel levels num.number) → IsFoundAs (i ∷ intervals) levels num) [
+    elim (is_named num.object num.nr i)
+    as (λ b. is_named num.object num.nr i ≡ b → IsSomeAnd (cond b (Some i) (find (is_named num.object num.nr) intervals)) (IsUpToLevel levels num.number)
+    → IsFoundAs (i ∷ intervals) levels num) [
       | true ↦ λ e is. record { one = i; among = contains_first intervals i; name = named_is num.object num.nr i e; is = is }
       | false ↦ λ e is.
           let f = found_as intervals levels num is in
@@ -134,8 +147,10 @@ found_as (i ∷ intervals) levels num h =
     ] refl h
 
 -- where a session has the first of them, the others may be given too
-rest_given : (ranges : List NumberRange) (levels : Levels) (before : List (List Num)) (x : List Num) (after : List (List Num)) (committed : List Num) (num : Num) (stock : List Num)
-    → IsStock (intervals_of ranges) levels (before ++ x ∷ after) committed (num ∷ stock) → IsStock (intervals_of ranges) levels (before ++ (x ++ num ∷ []) ∷ after) committed stock
+rest_given : (ranges : List NumberRange) (levels : Levels) (before : List (List Num)) (x : List Num) (after : List (List Num)) (committed : List Num)
+    (num : Num) (stock : List Num)
+    → IsStock (intervals_of ranges) levels (before ++ x ∷ after) committed (num ∷ stock)
+    → IsStock (intervals_of ranges) levels (before ++ (x ++ num ∷ []) ∷ after) committed stock
 rest_given ranges levels before x after committed num stock s = record {
   reserved = s.reserved.1;
   once = λ i among n. let most = s.once i among n in let all = times_append i n (num ∷ []) stock in omega (arith, most, all);
@@ -162,12 +177,14 @@ stock_drawn ranges levels before x after committed (num ∷ stock) s h =
     subst (λ (n : Num). AreDrawnRight (map (passed_by n) ranges) levels (before ++ (x ++ n ∷ []) ∷ after) committed) same
     (number_given ranges levels before x after committed f.one num.number f.among f.is none h) in
     let rest : IsStock (intervals_of (map (passed_by num) ranges)) levels (before ++ (x ++ num ∷ []) ∷ after) committed stock =
-    subst (λ is. IsStock is levels (before ++ (x ++ num ∷ []) ∷ after) committed stock) (sym (passed_by_intervals num ranges)) (rest_given ranges levels before x after committed num stock s) in
+    subst (λ is. IsStock is levels (before ++ (x ++ num ∷ []) ∷ after) committed stock) (sym (passed_by_intervals num ranges))
+    (rest_given ranges levels before x after committed num stock s) in
     subst (λ y. AreDrawnRight (passed stock (map (passed_by num) ranges)) levels (before ++ y ∷ after) committed) (append_assoc x (num ∷ []) stock)
     (stock_drawn (map (passed_by num) ranges) levels before (x ++ num ∷ []) after committed stock rest given)
 
 -- such a number has another behind it
-pub stock_room : (ranges : List NumberRange) (levels : Levels) (draws : List (List Num)) (committed stock : List Num) → AreDrawnRight ranges levels draws committed
+pub stock_room : (ranges : List NumberRange) (levels : Levels) (draws : List (List Num)) (committed stock : List Num)
+    → AreDrawnRight ranges levels draws committed
     → AllByRecursion (IsReserved (intervals_of ranges) levels) stock → AllByRecursion (λ (num : Num). num.number + 1 < 2 ^ 64) stock
 stock_room ranges levels draws committed stock h reserved =
     all_of (IsReserved (intervals_of ranges) levels) (λ (num : Num). num.number + 1 < 2 ^ 64)
@@ -179,7 +196,8 @@ stock_room ranges levels draws committed stock h reserved =
     omega (arith, last, low, high)) stock reserved
 
 -- no row is another for that
-pub settled_passed : (levels : Levels) (ranges : List NumberRange) (stock nums : List Num) → settled_rows levels (passed stock ranges) nums ≡ settled_rows levels ranges nums
+pub settled_passed : (levels : Levels) (ranges : List NumberRange) (stock nums : List Num)
+    → settled_rows levels (passed stock ranges) nums ≡ settled_rows levels ranges nums
 settled_passed levels ranges stock nums =
     ap (λ is. map (λ i. stored_as (with_level_behind nums i)) (filter (is_settled_by nums) (map (present levels) is))) (passed_intervals stock ranges)
 

@@ -68,14 +68,16 @@ no_some None e h = cc
 no_some (Some l) e h = cc
 
 -- an interval that isn't stored has no committed numbers
-pub none_committed : (levels : Levels) (committed : List Num) (name : RowName) → LevelsAgree levels committed → get levels name ≡ None → numbers_from name committed ≡ []
+pub none_committed : (levels : Levels) (committed : List Num) (name : RowName) → LevelsAgree levels committed → get levels name ≡ None
+    → numbers_from name committed ≡ []
 none_committed levels committed name agree none =
     none_from name committed
     (all_of (λ num. IsSome (get levels (interval_of num))) (λ num. interval_of num ≡ name → ⊥)
     (λ num some same. no_some (get levels name) none (subst (λ n. IsSome (get levels n)) same some))
     committed (recursion_from_All (λ num. IsSome (get levels (interval_of num))) committed agree.stored))
 
-some_level : (levels : Levels) (i : Interval) → i.level + 1 ≡ i.from → i.from ≤ level_in levels i → (found : Option Level) → get levels (name_of i) ≡ found → IsSome (get levels (name_of i))
+some_level : (levels : Levels) (i : Interval) → i.level + 1 ≡ i.from → i.from ≤ level_in levels i → (found : Option Level) → get levels (name_of i) ≡ found
+    → IsSome (get levels (name_of i))
 some_level levels i first high None is =
     let own = found_level levels i None is in
     absurd (omega (arith, first, high, own))
@@ -103,12 +105,14 @@ module _ (intervals : List Interval) (levels : Levels) (committed nums : List Nu
   level_kept i among none =
       own_level levels levels nums i intervals are.apart among ∙ ap (λ b. cond b (Some (level_of (row_for levels nums i))) (get levels (name_of i))) none
 
-  level_set : (i : Interval) → Contains intervals i → is_settled_by nums (present levels i) ≡ true → get after_levels (name_of i) ≡ Some (level_of (row_for levels nums i))
+  level_set : (i : Interval) → Contains intervals i → is_settled_by nums (present levels i) ≡ true
+      → get after_levels (name_of i) ≡ Some (level_of (row_for levels nums i))
   level_set i among settled =
       own_level levels levels nums i intervals are.apart among ∙ ap (λ b. cond b (Some (level_of (row_for levels nums i))) (get levels (name_of i))) settled
 
   -- no number of the name is committed now
-  no_more : (name : RowName) (found : Option Level) → numbers_from name nums ≡ [] → IfSome found (IsRightLevel name committed) → IfSome found (IsRightLevel name (committed ++ nums))
+  no_more : (name : RowName) (found : Option Level) → numbers_from name nums ≡ [] → IfSome found (IsRightLevel name committed)
+      → IfSome found (IsRightLevel name (committed ++ nums))
   no_more name None none right = tt
   no_more name (Some l) none right = record {
     object = right.object;
@@ -118,7 +122,8 @@ module _ (intervals : List Interval) (levels : Levels) (committed nums : List Nu
     high = right.high;
     begun = right.begun;
     within = right.within;
-    drawn = subst (AreDrawn l.buffered l) (sym (numbers_append name committed nums ∙ ap (λ ns. numbers_from name committed ++ ns) none ∙ append_none (numbers_from name committed))) right.drawn;
+    drawn = subst (AreDrawn l.buffered l)
+        (sym (numbers_append name committed nums ∙ ap (λ ns. numbers_from name committed ++ ns) none ∙ append_none (numbers_from name committed))) right.drawn;
   }
 
   -- ---- with a buffer
@@ -129,7 +134,8 @@ module _ (intervals : List Interval) (levels : Levels) (committed nums : List Nu
       let most = take.once n in
       omega (arith, whole, most))
 
-  buffered_drawn : (i : Interval) (l : Level) (buffered : Bool) → buffered ≡ true → IsRowOf i l → l.level ≡ level_in levels i → TakesBuffered (present levels i) nums committed
+  buffered_drawn : (i : Interval) (l : Level) (buffered : Bool) → buffered ≡ true → IsRowOf i l → l.level ≡ level_in levels i
+      → TakesBuffered (present levels i) nums committed
       → AreDrawn buffered l (drawn_from i committed) → AreDrawn buffered l (drawn_from i committed ++ drawn_from i nums)
   buffered_drawn i l false is row same take h = cc
   buffered_drawn i l true is row same take h =
@@ -138,10 +144,12 @@ module _ (intervals : List Interval) (levels : Levels) (committed nums : List Nu
         distinct_more (present levels i) take,
         All-from_recursion inside (drawn_from i committed ++ drawn_from i nums)
             (all_append inside (drawn_from i committed) (drawn_from i nums) (recursion_from_All inside (drawn_from i committed) h.1)
-            (all_counted inside (drawn_from i nums) (λ n some. let at = take.inside n some in let low = at.0 in let high = at.1 in (omega (arith, low, begins), omega (arith, high, same))))),
+            (all_counted inside (drawn_from i nums)
+            (λ n some. let at = take.inside n some in let low = at.0 in let high = at.1 in (omega (arith, low, begins), omega (arith, high, same))))),
       )
 
-  buffered_right : (i : Interval) → TakesBuffered (present levels i) nums committed → is_buffered i ≡ true → (found : Option Level) → get levels (name_of i) ≡ found → IfSome found (IsRowOf i)
+  buffered_right : (i : Interval) → TakesBuffered (present levels i) nums committed → is_buffered i ≡ true → (found : Option Level)
+      → get levels (name_of i) ≡ found → IfSome found (IsRowOf i)
       → IfSome found (IsRightLevel (name_of i) committed) → IfSome found (IsRightLevel (name_of i) (committed ++ nums))
   buffered_right i take is None has row right = tt
   buffered_right i take is (Some l) has row right = record {
@@ -159,7 +167,8 @@ module _ (intervals : List Interval) (levels : Levels) (committed nums : List Nu
   -- ---- without one
 
   -- what was committed reaches from the first number to the level
-  drawn_before : (i : Interval) → i.level + 1 ≡ i.from → is_buffered i ≡ false → (found : Option Level) → get levels (name_of i) ≡ found → IfSome found (IsRowOf i) → IfSome found (IsRightLevel (name_of i) committed)
+  drawn_before : (i : Interval) → i.level + 1 ≡ i.from → is_buffered i ≡ false → (found : Option Level) → get levels (name_of i) ≡ found
+      → IfSome found (IsRowOf i) → IfSome found (IsRightLevel (name_of i) committed)
       → drawn_from i committed ≡ range_with_len i.from (level_in levels i + 1 - i.from)
   drawn_before i first is None has row right =
       let same = found_level levels i None has in
@@ -171,11 +180,13 @@ module _ (intervals : List Interval) (levels : Levels) (committed nums : List Nu
       ∙ ap (λ n. range_with_len n (l.level + 1 - n)) row.first
       ∙ ap (λ n. range_with_len i.from (n + 1 - i.from)) (sym same)
     where
-      run_of : (buffered : Bool) → buffered ≡ false → AreDrawn buffered l (drawn_from i committed) → drawn_from i committed ≡ range_with_len l.from (l.level + 1 - l.from)
+      run_of : (buffered : Bool) → buffered ≡ false → AreDrawn buffered l (drawn_from i committed)
+          → drawn_from i committed ≡ range_with_len l.from (l.level + 1 - l.from)
       run_of false e h = h
       run_of true e h = cc
 
-  run_more : (i : Interval) → i.from ≤ level_in levels i + 1 → drawn_from i committed ≡ range_with_len i.from (level_in levels i + 1 - i.from) → IsRun (present levels i) nums
+  run_more : (i : Interval) → i.from ≤ level_in levels i + 1 → drawn_from i committed ≡ range_with_len i.from (level_in levels i + 1 - i.from)
+      → IsRun (present levels i) nums
       → drawn_from i committed ++ drawn_from i nums ≡ range_with_len i.from (level_in levels i + drawn_of i nums + 1 - i.from)
   run_more i low before run =
       let level = level_in levels i in
@@ -187,7 +198,8 @@ module _ (intervals : List Interval) (levels : Levels) (committed nums : List Nu
       ∙ sym (run_append i.from (level + 1 - i.from) many)
       ∙ ap (range_with_len i.from) all
 
-  settled_right : (i : Interval) → Contains intervals i → IsRun (present levels i) nums → is_buffered i ≡ false → IsRightLevel (name_of i) (committed ++ nums) (level_of (row_for levels nums i))
+  settled_right : (i : Interval) → Contains intervals i → IsRun (present levels i) nums → is_buffered i ≡ false
+      → IsRightLevel (name_of i) (committed ++ nums) (level_of (row_for levels nums i))
   settled_right i among run is =
       let own = unused_in intervals i are among in
       let p = good i among in
@@ -203,7 +215,9 @@ module _ (intervals : List Interval) (levels : Levels) (committed nums : List Nu
         within = run.within;
         drawn = subst (λ b. AreDrawn b (level_of (row_for levels nums i)) (numbers_from (name_of i) (committed ++ nums))) (sym is)
             (numbers_append (name_of i) committed nums
-            ∙ run_more i p.begun (drawn_before i own.first is (get levels (name_of i)) refl (if_row intervals levels i are.apart fit among (get levels (name_of i)) refl) (agree.right (name_of i))) run);
+            ∙ run_more i p.begun
+            (drawn_before i own.first is (get levels (name_of i)) refl (if_row intervals levels i are.apart fit among (get levels (name_of i)) refl)
+            (agree.right (name_of i))) run);
       }
 
   -- ---- each name
@@ -214,47 +228,56 @@ module _ (intervals : List Interval) (levels : Levels) (committed nums : List Nu
       row : IfSome (get levels (name_of i)) (IsRowOf i)
       row = if_row intervals levels i are.apart fit among (get levels (name_of i)) refl
 
-      by_buffer : (b : Bool) → is_buffered i ≡ b → TakesAs b (present levels i) nums committed → IfSome (get after_levels (name_of i)) (IsRightLevel (name_of i) (committed ++ nums))
+      by_buffer : (b : Bool) → is_buffered i ≡ b → TakesAs b (present levels i) nums committed
+          → IfSome (get after_levels (name_of i)) (IsRightLevel (name_of i) (committed ++ nums))
       by_buffer true is take =
           subst (λ o. IfSome o (IsRightLevel (name_of i) (committed ++ nums))) (sym (level_kept i among (ap (λ b. not b && has_drawn i nums) is)))
           (buffered_right i take is (get levels (name_of i)) refl row (agree.right (name_of i)))
-      by_buffer false is run = elim (has_drawn i nums) as (λ b. has_drawn i nums ≡ b → IfSome (get after_levels (name_of i)) (IsRightLevel (name_of i) (committed ++ nums))) [
-        | true ↦ λ e.
-            subst (λ o. IfSome o (IsRightLevel (name_of i) (committed ++ nums))) (sym (level_set i among (ap (λ b. not b && has_drawn i nums) is ∙ e)))
-            (settled_right i among run is)
-        | false ↦ λ e.
-            subst (λ o. IfSome o (IsRightLevel (name_of i) (committed ++ nums))) (sym (level_kept i among (ap (λ b. not b && has_drawn i nums) is ∙ e)))
-            (no_more (name_of i) (get levels (name_of i)) (empty_from i nums (none_drawn i nums e)) (agree.right (name_of i)))
-      ] refl
+      by_buffer false is run =
+          elim (has_drawn i nums) as (λ b. has_drawn i nums ≡ b → IfSome (get after_levels (name_of i)) (IsRightLevel (name_of i) (committed ++ nums))) [
+            | true ↦ λ e.
+                subst (λ o. IfSome o (IsRightLevel (name_of i) (committed ++ nums))) (sym (level_set i among (ap (λ b. not b && has_drawn i nums) is ∙ e)))
+                (settled_right i among run is)
+            | false ↦ λ e.
+                subst (λ o. IfSome o (IsRightLevel (name_of i) (committed ++ nums))) (sym (level_kept i among (ap (λ b. not b && has_drawn i nums) is ∙ e)))
+                (no_more (name_of i) (get levels (name_of i)) (empty_from i nums (none_drawn i nums e)) (agree.right (name_of i)))
+          ] refl
 
-  right_nowhere : (name : RowName) → list_any (is_named name.0 name.1) intervals ≡ false → IfSome (get after_levels name) (IsRightLevel name (committed ++ nums))
+  right_nowhere : (name : RowName) → list_any (is_named name.0 name.1) intervals ≡ false
+      → IfSome (get after_levels name) (IsRightLevel name (committed ++ nums))
   right_nowhere name none =
-      subst (λ o. IfSome o (IsRightLevel name (committed ++ nums))) (sym (others_kept levels levels nums name intervals none)) (nothing (get levels name) (fit name))
+      subst (λ o. IfSome o (IsRightLevel name (committed ++ nums))) (sym (others_kept levels levels nums name intervals none))
+      (nothing (get levels name) (fit name))
     where
-      nothing : (found : Option Level) → IfSome found (λ l. (i : Interval) × Contains intervals i × (name_of i ≡ name) × IsRowOf i l) → IfSome found (IsRightLevel name (committed ++ nums))
+      nothing : (found : Option Level) → IfSome found (λ l. (i : Interval) × Contains intervals i × (name_of i ≡ name) × IsRowOf i l)
+          → IfSome found (IsRightLevel name (committed ++ nums))
       nothing None h = tt
       nothing (Some l) h = absurd (none_named name.0 name.1 intervals h.0 none h.1 h.2)
 
   right_named : (name : RowName) → IfSome (get after_levels name) (IsRightLevel name (committed ++ nums))
-  right_named name = elim (list_any (is_named name.0 name.1) intervals) as (λ b. list_any (is_named name.0 name.1) intervals ≡ b → IfSome (get after_levels name) (IsRightLevel name (committed ++ nums))) [
-    | true ↦ λ e.
-        let found = one_of (is_named name.0 name.1) intervals e in
-        subst (λ n. IfSome (get after_levels n) (IsRightLevel n (committed ++ nums))) (named_is name.0 name.1 found.one found.passes) (right_of found.one found.among)
-    | false ↦ λ e. right_nowhere name e
-  ] refl
+  right_named name = elim (list_any (is_named name.0 name.1) intervals) as
+      (λ b. list_any (is_named name.0 name.1) intervals ≡ b → IfSome (get after_levels name) (IsRightLevel name (committed ++ nums))) [
+        | true ↦ λ e.
+            let found = one_of (is_named name.0 name.1) intervals e in
+            subst (λ n. IfSome (get after_levels n) (IsRightLevel n (committed ++ nums))) (named_is name.0 name.1 found.one found.passes)
+            (right_of found.one found.among)
+        | false ↦ λ e. right_nowhere name e
+      ] refl
 
   -- ---- each number
 
   some_kept : (name : RowName) → IsSome (get levels name) → IsSome (get after_levels name)
-  some_kept name some = elim (list_any (is_named name.0 name.1) intervals) as (λ b. list_any (is_named name.0 name.1) intervals ≡ b → IsSome (get after_levels name)) [
-    | true ↦ λ e.
-        let found = one_of (is_named name.0 name.1) intervals e in
-        let same = named_is name.0 name.1 found.one found.passes in
-        subst (λ n. IsSome (get after_levels n)) same
-        (subst IsSome (sym (own_level levels levels nums found.one intervals are.apart found.among))
-        (either (is_settled_by nums (present levels found.one)) (level_of (row_for levels nums found.one)) (get levels (name_of found.one)) (subst (λ n. IsSome (get levels n)) (sym same) some)))
-    | false ↦ λ e. subst IsSome (sym (others_kept levels levels nums name intervals e)) some
-  ] refl
+  some_kept name some = elim (list_any (is_named name.0 name.1) intervals)
+      as (λ b. list_any (is_named name.0 name.1) intervals ≡ b → IsSome (get after_levels name)) [
+        | true ↦ λ e.
+            let found = one_of (is_named name.0 name.1) intervals e in
+            let same = named_is name.0 name.1 found.one found.passes in
+            subst (λ n. IsSome (get after_levels n)) same
+            (subst IsSome (sym (own_level levels levels nums found.one intervals are.apart found.among))
+            (either (is_settled_by nums (present levels found.one)) (level_of (row_for levels nums found.one)) (get levels (name_of found.one))
+            (subst (λ n. IsSome (get levels n)) (sym same) some)))
+        | false ↦ λ e. subst IsSome (sym (others_kept levels levels nums name intervals e)) some
+      ] refl
     where
       either : (b : Bool) (l : Level) (o : Option Level) → IsSome o → IsSome (cond b (Some l) o)
       either true l o h = refl
@@ -264,9 +287,11 @@ module _ (intervals : List Interval) (levels : Levels) (committed nums : List Nu
   stored_num num there of =
       let found = one_of_these intervals num of in
       subst (λ n. IsSome (get after_levels n)) found.name
-      (by_buffer found.one found.among (is_buffered found.one) refl (takes_it found.one found.among) (counts_in (name_of found.one) num nums there (sym found.name)))
+      (by_buffer found.one found.among (is_buffered found.one) refl (takes_it found.one found.among)
+      (counts_in (name_of found.one) num nums there (sym found.name)))
     where
-      by_buffer : (i : Interval) → Contains intervals i → (b : Bool) → is_buffered i ≡ b → TakesAs b (present levels i) nums committed → 1 ≤ times i num.number nums → IsSome (get after_levels (name_of i))
+      by_buffer : (i : Interval) → Contains intervals i → (b : Bool) → is_buffered i ≡ b → TakesAs b (present levels i) nums committed
+          → 1 ≤ times i num.number nums → IsSome (get after_levels (name_of i))
       by_buffer i among true is take some =
           let at = take.inside num.number some in
           let low = at.0 in
@@ -294,20 +319,24 @@ module _ (intervals : List Interval) (levels : Levels) (committed nums : List Nu
 
 -- the numbers that a session has drawn may be committed, together with the rows of the intervals without a buffer
 pub may_commit : (ledger : Ledger) (ranges : List NumberRange) (before : List (List Num)) (nums : List Num) (after : List (List Num))
-    → AreDrawnRight ranges ledger.levels (before ++ nums ∷ after) (numbers_of ledger.units ledger.marks) → MayStore ledger (settled_rows ledger.levels ranges nums) nums
+    → AreDrawnRight ranges ledger.levels (before ++ nums ∷ after) (numbers_of ledger.units ledger.marks)
+    → MayStore ledger (settled_rows ledger.levels ranges nums) nums
 may_commit ledger ranges before nums after drawn =
     let committed = numbers_of ledger.units ledger.marks in
     let intervals = intervals_of ranges in
     record {
       digits = All-from_recursion HasNr (settled_rows ledger.levels ranges nums) (rows_numbered ledger.levels nums intervals drawn.intervals.each);
       distinct = rows_distinct ledger.levels nums intervals drawn.intervals.apart;
-      agree = commit_agrees intervals ledger.levels committed nums drawn.intervals drawn.fit (all_take ledger.levels before nums after committed ranges drawn.each) (all_right (AreOfOne intervals) before (nums ∷ after) drawn.known).0;
+      agree = commit_agrees intervals ledger.levels committed nums drawn.intervals drawn.fit
+          (all_take ledger.levels before nums after committed ranges drawn.each) (all_right (AreOfOne intervals) before (nums ∷ after) drawn.known).0;
     }
 
 -- ---- a level that is raised
 
-module _ (intervals : List Interval) (levels : Levels) (committed : List Num) (i : Interval) (level : ℕ) (are : AreIntervals intervals) (fit : FitLevels intervals levels)
-    (among : Contains intervals i) (buffered : is_buffered i ≡ true) (higher : level_in levels i ≤ level) (within : level ≤ i.to) (agree : LevelsAgree levels committed) where
+module _ (intervals : List Interval) (levels : Levels) (committed : List Num) (i : Interval) (level : ℕ) (are : AreIntervals intervals)
+    (fit : FitLevels intervals levels)
+    (among : Contains intervals i) (buffered : is_buffered i ≡ true) (higher : level_in levels i ≤ level) (within : level ≤ i.to)
+    (agree : LevelsAgree levels committed) where
   abbrev raised : Levels
   raised = with_levels (stored_as (with_level level i) ∷ []) levels
 
@@ -322,13 +351,15 @@ module _ (intervals : List Interval) (levels : Levels) (committed : List Num) (i
       → IsDistinct nat_eq (drawn_from i committed) × All (λ n. (i.from ≤ n) × (n ≤ level)) (drawn_from i committed)
   raised_drawn None has row right =
       let none = none_committed levels committed (name_of i) agree has in
-      subst (λ xs. IsDistinct nat_eq xs × All (λ n. (i.from ≤ n) × (n ≤ level)) xs) (sym none) (distinct_once [] (λ n. omega arith), All-from_recursion (λ n. (i.from ≤ n) × (n ≤ level)) [] tt)
+      subst (λ xs. IsDistinct nat_eq xs × All (λ n. (i.from ≤ n) × (n ≤ level)) xs) (sym none)
+      (distinct_once [] (λ n. omega arith), All-from_recursion (λ n. (i.from ≤ n) × (n ≤ level)) [] tt)
   raised_drawn (Some l) has row right = as_buffered l.buffered (row.buffered ∙ buffered) right.drawn
     where
       now : level_in levels i ≡ l.level
       now = found_level levels i (Some l) has
 
-      as_buffered : (b : Bool) → b ≡ true → AreDrawn b l (drawn_from i committed) → IsDistinct nat_eq (drawn_from i committed) × All (λ n. (i.from ≤ n) × (n ≤ level)) (drawn_from i committed)
+      as_buffered : (b : Bool) → b ≡ true → AreDrawn b l (drawn_from i committed) → IsDistinct nat_eq (drawn_from i committed)
+          × All (λ n. (i.from ≤ n) × (n ≤ level)) (drawn_from i committed)
       as_buffered false e h = cc
       as_buffered true e h = (
         h.0,
@@ -353,7 +384,8 @@ module _ (intervals : List Interval) (levels : Levels) (committed : List Num) (i
         begun = omega (arith, low, higher);
         within = within;
         drawn = subst (λ b. AreDrawn b (level_of (stored_as (with_level level i))) (drawn_from i committed)) (sym buffered)
-            (raised_drawn (get levels (name_of i)) refl (if_row intervals levels i are.apart fit among (get levels (name_of i)) refl) (agree.right (name_of i)));
+            (raised_drawn (get levels (name_of i)) refl (if_row intervals levels i are.apart fit among (get levels (name_of i)) refl)
+            (agree.right (name_of i)));
       }
 
   raised_named : (name : RowName) → IfSome (get raised name) (IsRightLevel name committed)
@@ -363,25 +395,30 @@ module _ (intervals : List Interval) (levels : Levels) (committed : List Num) (i
         subst (λ o. IfSome o (IsRightLevel name committed)) (sym (insert_own (stored_as (with_level level i)) levels name same))
         (subst (λ n. IsRightLevel n committed (level_of (stored_as (with_level level i)))) (sym same) raised_right)
     | false ↦ λ e.
-        subst (λ o. IfSome o (IsRightLevel name committed)) (sym (insert_other (stored_as (with_level level i)) levels name (λ same. true≢false (sym ((same_row-Decides name (name_of i)).1 same) ∙ e)))) (agree.right name)
+        subst (λ o. IfSome o (IsRightLevel name committed))
+        (sym (insert_other (stored_as (with_level level i)) levels name (λ same. true≢false (sym ((same_row-Decides name (name_of i)).1 same) ∙ e))))
+        (agree.right name)
   ] refl
 
   raised_some : (name : RowName) → IsSome (get levels name) → IsSome (get raised name)
   raised_some name some = elim (same_row name (name_of i)) as (λ b. same_row name (name_of i) ≡ b → IsSome (get raised name)) [
     | true ↦ λ e. subst IsSome (sym (insert_own (stored_as (with_level level i)) levels name ((same_row-Decides name (name_of i)).0 e))) refl
-    | false ↦ λ e. subst IsSome (sym (insert_other (stored_as (with_level level i)) levels name (λ same. true≢false (sym ((same_row-Decides name (name_of i)).1 same) ∙ e)))) some
+    | false ↦ λ e. subst IsSome
+        (sym (insert_other (stored_as (with_level level i)) levels name (λ same. true≢false (sym ((same_row-Decides name (name_of i)).1 same) ∙ e)))) some
   ] refl
 
   raised_agrees : LevelsAgree raised committed
   raised_agrees = record {
     right = raised_named;
     stored = All-from_recursion (λ num. IsSome (get raised (interval_of num))) committed
-        (all_of (λ num. IsSome (get levels (interval_of num))) (λ num. IsSome (get raised (interval_of num))) (λ num some. raised_some (interval_of num) some) committed
+        (all_of (λ num. IsSome (get levels (interval_of num))) (λ num. IsSome (get raised (interval_of num)))
+        (λ num some. raised_some (interval_of num) some) committed
         (recursion_from_All (λ num. IsSome (get levels (interval_of num))) committed agree.stored));
   }
 
 -- a higher level of an interval with a buffer may be stored
-pub may_raise : (ledger : Ledger) (intervals : List Interval) (i : Interval) (level : ℕ) → AreIntervals intervals → FitLevels intervals ledger.levels → Contains intervals i
+pub may_raise : (ledger : Ledger) (intervals : List Interval) (i : Interval) (level : ℕ) → AreIntervals intervals → FitLevels intervals ledger.levels
+    → Contains intervals i
     → is_buffered i ≡ true → level_in ledger.levels i ≤ level → level ≤ i.to → MayStore ledger (stored_as (with_level level i) ∷ []) []
 unfolding IsDistinct
 may_raise ledger intervals i level are fit among buffered higher within =
@@ -389,5 +426,6 @@ may_raise ledger intervals i level are fit among buffered higher within =
     record {
       digits = All-from_recursion HasNr (stored_as (with_level level i) ∷ []) ((unused_in intervals i are among).nr, tt);
       distinct = (tt, tt);
-      agree = λ agree. subst (LevelsAgree (with_levels (stored_as (with_level level i) ∷ []) ledger.levels)) (sym (append_none committed)) (raised_agrees intervals ledger.levels committed i level are fit among buffered higher within agree);
+      agree = λ agree. subst (LevelsAgree (with_levels (stored_as (with_level level i) ∷ []) ledger.levels)) (sym (append_none committed))
+          (raised_agrees intervals ledger.levels committed i level are fit among buffered higher within agree);
     }

@@ -18,21 +18,28 @@ ltb-suc : (n m : ℕ) → ltb (suc n) (suc m) ≡ ltb n m
 ltb-suc n m = grind (arith, nat_tests)
 
 found-cons : (b n : ℕ) (bs : List ℕ) → option_map (onto b) (found n bs) ≡ found (suc n) (b ∷ bs)
-found-cons b n bs = rw (ltb-suc n (length bs), add-one, add-one) (elim (ltb n (length bs)) as (λ v. option_map (onto b) (cond v (Some (take n bs, drop (suc n) bs)) None) ≡ cond v (Some (b ∷ take n bs, drop (suc n) bs)) None) [ true ↦ refl | false ↦ refl ])
+found-cons b n bs =
+    rw (ltb-suc n (length bs), add-one, add-one)
+    (elim (ltb n (length bs))
+    as (λ v. option_map (onto b) (cond v (Some (take n bs, drop (suc n) bs)) None) ≡ cond v (Some (b ∷ take n bs, drop (suc n) bs)) None)
+    [ true ↦ refl | false ↦ refl ])
 
 cut_is : (c : ℕ) (bs : List ℕ) → cut c bs ≡ found (position_or_len (λ b. nat_eq b c) bs) bs
 unfolding cut
 cut_is c [] = refl
 cut_is c (b ∷ bs) =
     let e : 1 + position_or_len (λ b. nat_eq b c) bs ≡ suc (position_or_len (λ b. nat_eq b c) bs) = omega arith in
-    elim (nat_eq b c) as (λ v. cond v (Some ([], bs)) (option_map (onto b) (cut c bs)) ≡ found (cond (not v) (1 + position_or_len (λ b. nat_eq b c) bs) 0) (b ∷ bs)) [
+    elim (nat_eq b c)
+    as (λ v. cond v (Some ([], bs)) (option_map (onto b) (cut c bs)) ≡ found (cond (not v) (1 + position_or_len (λ b. nat_eq b c) bs) 0) (b ∷ bs)) [
       | true ↦ grind (arith, nat_tests)
       | false ↦ ap (option_map (onto b)) (cut_is c bs) ∙ found-cons b (position_or_len (λ b. nat_eq b c) bs) bs ∙ ap (λ n. found n (b ∷ bs)) (sym e)
     ]
 
 -- the cut at the place that `position` finds
 pub cut-position : (c : ℕ) (bs : List ℕ) → cut c bs ≡ option_map (around bs) (position (λ b. nat_eq b c) bs)
-cut-position c bs = cut_is c bs ∙ (let n = position_or_len (λ b. nat_eq b c) bs in elim (ltb n (length bs)) as (λ v. cond v (Some (around bs n)) None ≡ option_map (around bs) (cond v (Some n) None)) [ true ↦ refl | false ↦ refl ])
+cut-position c bs =
+    cut_is c bs ∙ (let n = position_or_len (λ b. nat_eq b c) bs in elim (ltb n (length bs))
+    as (λ v. cond v (Some (around bs n)) None ≡ option_map (around bs) (cond v (Some n) None)) [ true ↦ refl | false ↦ refl ])
 
 pub option_map_some : {A B : Type 0} (f : A → B) (o : Option A) (z : B) → option_map f o ≡ Some z → (y : A) × (o ≡ Some y) × (f y ≡ z)
 option_map_some f None z h = absurd (none-some z h)
@@ -83,14 +90,17 @@ cut_free c (b ∷ bs) h =
     h
 
 -- what a function that cuts answers, seen through its two parts
-pub parts_whole : {X : Type 0} (left right : X → List ℕ) (c : ℕ) (bs : List ℕ) (r : Option X) → option_map (λ x. (left x, right x)) r ≡ cut c bs → IfSome r (λ x. bs ≡ left x ++ c ∷ right x)
+pub parts_whole : {X : Type 0} (left right : X → List ℕ) (c : ℕ) (bs : List ℕ) (r : Option X) → option_map (λ x. (left x, right x)) r ≡ cut c bs
+    → IfSome r (λ x. bs ≡ left x ++ c ∷ right x)
 parts_whole left right c bs None e = tt
 parts_whole left right c bs (Some x) e = (cut_takes c bs (left x, right x) (sym e)).whole
 
-pub parts_first : {X : Type 0} (left right : X → List ℕ) (c : ℕ) (bs : List ℕ) (r : Option X) → option_map (λ x. (left x, right x)) r ≡ cut c bs → IfSome r (λ x. is_free c (left x) ≡ true)
+pub parts_first : {X : Type 0} (left right : X → List ℕ) (c : ℕ) (bs : List ℕ) (r : Option X) → option_map (λ x. (left x, right x)) r ≡ cut c bs
+    → IfSome r (λ x. is_free c (left x) ≡ true)
 parts_first left right c bs None e = tt
 parts_first left right c bs (Some x) e = (cut_takes c bs (left x, right x) (sym e)).free
 
-pub parts_none : {X : Type 0} (left right : X → List ℕ) (c : ℕ) (bs : List ℕ) (r : Option X) → option_map (λ x. (left x, right x)) r ≡ cut c bs → IfNone r (is_free c bs ≡ true)
+pub parts_none : {X : Type 0} (left right : X → List ℕ) (c : ℕ) (bs : List ℕ) (r : Option X) → option_map (λ x. (left x, right x)) r ≡ cut c bs
+    → IfNone r (is_free c bs ≡ true)
 parts_none left right c bs None e = cut_free c bs (sym e)
 parts_none left right c bs (Some x) e = tt

@@ -56,7 +56,8 @@ test_then : {B : Type 0} (b : Bool) (x : Option B) (P : B → Type 0) → (b ≡
 test_then true x P h = h refl
 test_then false x P h = tt
 
-bind_if : {A B : Type 0} {Q : A → Type 0} (f : A → Option B) (P : B → Type 0) (o : Option A) → IfSome o Q → ((x : A) → Q x → IfSome (f x) P) → IfSome (option_and_then f o) P
+bind_if : {A B : Type 0} {Q : A → Type 0} (f : A → Option B) (P : B → Type 0) (o : Option A) → IfSome o Q → ((x : A) → Q x → IfSome (f x) P)
+    → IfSome (option_and_then f o) P
 bind_if f P None q h = tt
 bind_if f P (Some x) q h = h x q
 
@@ -111,12 +112,15 @@ weaker_if P Q None h k = tt
 weaker_if P Q (Some x) h k = k x h
 
 cut_if : (c : ℕ) (bs : List ℕ) → IfSome (cut c bs) (IsCut c bs)
-cut_if c bs = elim (cut c bs) as (λ o. ((x : List ℕ × List ℕ) → o ≡ Some x → IsCut c bs x) → IfSome o (IsCut c bs)) [ None ↦ λ h. tt | Some x ↦ λ h. h x refl ] (λ x e. cut_takes c bs x e)
+cut_if c bs = elim (cut c bs) as (λ o. ((x : List ℕ × List ℕ) → o ≡ Some x → IsCut c bs x) → IfSome o (IsCut c bs)) [ None ↦ λ h. tt | Some x ↦ λ h. h x refl ]
+    (λ x e. cut_takes c bs x e)
 
-cut_then : {B : Type 0} (c : ℕ) (bs : List ℕ) (f : List ℕ × List ℕ → Option B) (P : B → Type 0) → ((x : List ℕ × List ℕ) → IsCut c bs x → IfSome (f x) P) → IfSome (option_and_then f (cut c bs)) P
+cut_then : {B : Type 0} (c : ℕ) (bs : List ℕ) (f : List ℕ × List ℕ → Option B) (P : B → Type 0) → ((x : List ℕ × List ℕ) → IsCut c bs x → IfSome (f x) P)
+    → IfSome (option_and_then f (cut c bs)) P
 cut_then c bs f P h = bind_if f P (cut c bs) (cut_if c bs) h
 
-joined : (text : List ℕ) (start session luw : ℕ) (a b : List ℕ × List ℕ) → text ≡ a.0 ++ 46 ∷ a.1 → a.1 ≡ b.0 ++ 46 ∷ b.1 → a.0 ≡ decimal start → b.0 ≡ decimal session → b.1 ≡ decimal luw → text ≡ unit_text (record { start = start; session = session; luw = luw })
+joined : (text : List ℕ) (start session luw : ℕ) (a b : List ℕ × List ℕ) → text ≡ a.0 ++ 46 ∷ a.1 → a.1 ≡ b.0 ++ 46 ∷ b.1 → a.0 ≡ decimal start
+    → b.0 ≡ decimal session → b.1 ≡ decimal luw → text ≡ unit_text (record { start = start; session = session; luw = luw })
 joined text start session luw a b e f p q r = cc
 
 -- what is read as a unit key is its spelling
@@ -124,7 +128,8 @@ pub unit_key_if : (text : List ℕ) → IfSome (unit_key_of text) (λ unit. IsUn
 unfolding unit_key_of
 unit_key_if text =
     cut_then 46 text _ _ (λ a ha. cut_then 46 a.1 _ _ (λ b hb.
-    bind_if _ _ (count_of a.0) (count_if a.0) (λ start p. bind_if _ _ (count_of b.0) (count_if b.0) (λ session q. bind_if _ _ (count_of b.1) (count_if b.1) (λ luw r.
+    bind_if _ _ (count_of a.0) (count_if a.0)
+    (λ start p. bind_if _ _ (count_of b.0) (count_if b.0) (λ session q. bind_if _ _ (count_of b.1) (count_if b.1) (λ luw r.
     ((p.0, q.0, r.0), joined text start session luw a b ha.whole hb.whole p.1 q.1 r.1))))))
 
 digit_dotless : (b : ℕ) → is_digit b ≡ true → not (nat_eq b 46) ≡ true
@@ -146,7 +151,8 @@ unit_key_again unit h =
     rw (s, r, count_again unit.start h.0, count_again unit.session h.1, count_again unit.luw h.2) refl
 
 -- where nothing is read, the text spells nothing
-pub unread : {A : Type 0} (read : List ℕ → Option A) (spelling : A → List ℕ) (P : A → Type 0) (text : List ℕ) → ((x : A) → P x → read (spelling x) ≡ Some x) → read text ≡ None → (x : A) → P x → text ≢ spelling x
+pub unread : {A : Type 0} (read : List ℕ → Option A) (spelling : A → List ℕ) (P : A → Type 0) (text : List ℕ) → ((x : A) → P x → read (spelling x) ≡ Some x)
+    → read text ≡ None → (x : A) → P x → text ≢ spelling x
 unread read spelling P text again none x h e =
     let some : read text ≡ Some x = ap read e ∙ again x h in cc
 

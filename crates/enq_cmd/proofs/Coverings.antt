@@ -12,7 +12,8 @@ use Rattle.script_runner.specs.declared.runner.Why.TheVariants.{Done, BadWords, 
 use Rattle.enq_cmd.specs.Covering.{IsCoverEnd}
 use Rattle.enq_cmd.specs.Main.{HasNoStart, IsBadDocument, IsBadStore, IsFirstBroken, IsUnfitEnd, TellsBroken}
 
-module _ (land_left : Option (List ℕ)) (land_before land_now : ℕ) (left after : Option (List ℕ)) (before now : ℕ) (old new : Option (List ℕ)) (faults faults_now : ℕ) where
+module _ (land_left : Option (List ℕ)) (land_before land_now : ℕ) (left after : Option (List ℕ)) (before now : ℕ) (old new : Option (List ℕ))
+    (faults faults_now : ℕ) where
   abbrev Ended : Why → Type 0
   Ended why = Covers land_left land_before land_now left after before now old new faults faults_now why
 
@@ -48,7 +49,8 @@ module _ (land_left : Option (List ℕ)) (land_before land_now : ℕ) (left afte
   tells_broken BadWords bytes broken told breaks h = landed_broken bytes broken h.0 told breaks h.1
   tells_broken (BadLandscape rule place) bytes broken told breaks h =
       let same : bytes ≡ h.bytes = subst (λ l. IfSome l (λ all. all ≡ h.bytes)) told h.told in
-      let both : ◌≡◌ {A = Result Landscape Broken} (Err (record { rule = rule; place = place })) (Err broken) = sym h.breaks ∙ ap landscape_of (sym same) ∙ breaks in
+      let both : ◌≡◌ {A = Result Landscape Broken} (Err (record { rule = rule; place = place })) (Err broken) =
+      sym h.breaks ∙ ap landscape_of (sym same) ∙ breaks in
       cc
   tells_broken (BadLine n) bytes broken told breaks h = landed_broken bytes broken h.0 told breaks h.1
   tells_broken SourceFault bytes broken told breaks (inl rose) = rose

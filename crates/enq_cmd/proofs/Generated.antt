@@ -55,7 +55,8 @@ name_text_byte b h = grind (arith, nat_tests)
 
 plain_names : (bs : List ℕ) → list_all is_name_byte bs ≡ true → IsPlain bs
 plain_names [] h = refl
-plain_names (b ∷ bs) h = let p = and_parts (is_name_byte b) (list_all is_name_byte bs) h in and_from (is_text_byte b) (list_all is_text_byte bs) (name_text_byte b p.0) (plain_names bs p.1)
+plain_names (b ∷ bs) h = let p = and_parts (is_name_byte b) (list_all is_name_byte bs) h in
+    and_from (is_text_byte b) (list_all is_text_byte bs) (name_text_byte b p.0) (plain_names bs p.1)
 
 digit_name_byte : (b : ℕ) → is_digit b ≡ true → is_name_byte b ≡ true
 digit_name_byte b h = grind (arith, nat_tests)
@@ -65,11 +66,13 @@ digit_key_byte b h = grind (arith, nat_tests)
 
 digit_names : (bs : List ℕ) → list_all is_digit bs ≡ true → list_all is_name_byte bs ≡ true
 digit_names [] h = refl
-digit_names (b ∷ bs) h = let p = and_parts (is_digit b) (list_all is_digit bs) h in and_from (is_name_byte b) (list_all is_name_byte bs) (digit_name_byte b p.0) (digit_names bs p.1)
+digit_names (b ∷ bs) h = let p = and_parts (is_digit b) (list_all is_digit bs) h in
+    and_from (is_name_byte b) (list_all is_name_byte bs) (digit_name_byte b p.0) (digit_names bs p.1)
 
 digit_keys : (bs : List ℕ) → list_all is_digit bs ≡ true → list_all is_key_byte bs ≡ true
 digit_keys [] h = refl
-digit_keys (b ∷ bs) h = let p = and_parts (is_digit b) (list_all is_digit bs) h in and_from (is_key_byte b) (list_all is_key_byte bs) (digit_key_byte b p.0) (digit_keys bs p.1)
+digit_keys (b ∷ bs) h = let p = and_parts (is_digit b) (list_all is_digit bs) h in
+    and_from (is_key_byte b) (list_all is_key_byte bs) (digit_key_byte b p.0) (digit_keys bs p.1)
 
 -- ---- digits
 
@@ -82,7 +85,12 @@ plain_digits : (ds : List ℕ) → AreDigits ds → IsPlain ds
 plain_digits ds h = plain_names ds (digit_names ds h.digits)
 
 decimal_digits : (k : ℕ) → k < 2 ^ 32 → AreDigits (decimal k)
-decimal_digits k small = record { digits = digits_decimal digits_model k (omega (arith, small)); few = length-decimal-le 20 k (omega arith) (omega (arith, small)) (omega (arith, small)) }
+decimal_digits k small =
+    record {
+      digits = digits_decimal digits_model k (omega (arith, small));
+      few =
+          length-decimal-le 20 k (omega arith) (omega (arith, small)) (omega (arith, small));
+    }
 
 zeros : (n : ℕ) → list_all is_digit (replicate n 48) ≡ true
 zeros zero = refl
@@ -111,7 +119,8 @@ record EndsGood (words : List (List ℕ)) : Type 0 where
   good : IsGood line
 
 good_plain : (bytes : List ℕ) → IsPlain bytes → length bytes ≤ 1024 → IsTrue (is_some (line_in bytes)) → IsGood bytes
-good_plain bytes plain short known = record { fits = record { unbroken = All-from_recursion (λ b. b ≢ 10) bytes (unbroken bytes plain); fits = short }; known = known }
+good_plain bytes plain short known =
+    record { fits = record { unbroken = All-from_recursion (λ b. b ≢ 10) bytes (unbroken bytes plain); fits = short }; known = known }
 
 -- a session's name
 record IsSession (s : List ℕ) : Type 0 where
@@ -132,13 +141,15 @@ session_named s small =
     short_name ds few = le-leb (length (83 ∷ ds)) 30 (omega (arith, few))
 
 -- a line of a session, with what stands behind its name
-session_line : (s tail : List ℕ) (words : List (List ℕ)) (l : ScriptLine) → IsSession s → IsPlain tail → length tail ≤ 100 → line_text words ≡ s ++ 32 ∷ (tail ++ 10 ∷ [])
+session_line : (s tail : List ℕ) (words : List (List ℕ)) (l : ScriptLine) → IsSession s → IsPlain tail → length tail ≤ 100
+    → line_text words ≡ s ++ 32 ∷ (tail ++ 10 ∷ [])
     → IsScriptLine l → Spells (s ++ 32 ∷ tail) l → EndsGood words
 session_line s tail words l h plain short text line spells = record {
   line = s ++ 32 ∷ tail;
   plain = plain_both s (32 ∷ tail) h.plain plain;
   text = text ∙ sym (append_assoc s (32 ∷ tail) (10 ∷ []));
-  good = good_plain (s ++ 32 ∷ tail) (plain_both s (32 ∷ tail) h.plain plain) (omega (arith, h.few, short, length-append s (32 ∷ tail))) (known_line (s ++ 32 ∷ tail) l line spells);
+  good = good_plain (s ++ 32 ∷ tail) (plain_both s (32 ∷ tail) h.plain plain) (omega (arith, h.few, short, length-append s (32 ∷ tail)))
+      (known_line (s ++ 32 ∷ tail) l line spells);
 }
 
 logon_ends : (s : ℕ) → s < 2 ^ 32 → EndsGood (logon_line s)
@@ -161,9 +172,11 @@ unfolding line_text
 lock_ends s k small fits =
     let d = padded_digits k fits in
     let values : List RawValue = record { field = codes "MANDT"; raw = codes "100" } ∷ record { field = codes "ORDNR"; raw = order_digits k } ∷ [] in
-    session_line (session s) (codes "ENQ EZORDER E 2 MANDT=100 ORDNR=" ++ order_digits k) (lock_line s k) (line.Enq (session s) (codes "EZORDER") E Two values) (session_named s small)
+    session_line (session s) (codes "ENQ EZORDER E 2 MANDT=100 ORDNR=" ++ order_digits k) (lock_line s k) (line.Enq (session s) (codes "EZORDER") E Two values)
+    (session_named s small)
     (plain_digits (order_digits k) d) (omega (arith, d.few)) refl
-    ((session_named s small).name, refl, ((refl, refl), ((refl, digit_keys (order_digits k) d.digits), tt))) (ap (λ ds. session s ++ 32 ∷ (codes "ENQ EZORDER E 2 MANDT=100 ORDNR=" ++ ds)) (sym (append-nil (order_digits k))))
+    ((session_named s small).name, refl, ((refl, refl), ((refl, digit_keys (order_digits k) d.digits), tt)))
+    (ap (λ ds. session s ++ 32 ∷ (codes "ENQ EZORDER E 2 MANDT=100 ORDNR=" ++ ds)) (sym (append-nil (order_digits k))))
 
 number_ends : (s : ℕ) → s < 2 ^ 32 → EndsGood (number_line s)
 unfolding line_text
@@ -175,7 +188,8 @@ header_ends : (s k : ℕ) → s < 2 ^ 32 → k < 2 ^ 32 → EndsGood (header_lin
 unfolding line_text
 header_ends s k small fits =
     let d = decimal_digits k fits in
-    session_line (session s) (codes "V1 INS VBAK $N ORDER " ++ decimal k) (header_line s k) (line.Ins (session s) 1 (codes "VBAK") (codes "$N") (codes "ORDER " ++ decimal k)) (session_named s small)
+    session_line (session s) (codes "V1 INS VBAK $N ORDER " ++ decimal k) (header_line s k)
+    (line.Ins (session s) 1 (codes "VBAK") (codes "$N") (codes "ORDER " ++ decimal k)) (session_named s small)
     (plain_digits (decimal k) d) (omega (arith, d.few)) refl
     ((session_named s small).name, (omega arith, omega arith), refl, refl, plain_digits (decimal k) d) refl
 
@@ -183,14 +197,16 @@ item_ends : (s k : ℕ) → s < 2 ^ 32 → k < 2 ^ 32 → EndsGood (item_line s 
 unfolding line_text
 item_ends s k small fits =
     let d = decimal_digits k fits in
-    session_line (session s) (codes "V1 INS VBAP $N-10 ITEM " ++ decimal k) (item_line s k) (line.Ins (session s) 1 (codes "VBAP") (codes "$N-10") (codes "ITEM " ++ decimal k)) (session_named s small)
+    session_line (session s) (codes "V1 INS VBAP $N-10 ITEM " ++ decimal k) (item_line s k)
+    (line.Ins (session s) 1 (codes "VBAP") (codes "$N-10") (codes "ITEM " ++ decimal k)) (session_named s small)
     (plain_digits (decimal k) d) (omega (arith, d.few)) refl
     ((session_named s small).name, (omega arith, omega arith), refl, refl, plain_digits (decimal k) d) refl
 
 statistics_ends : (s : ℕ) → s < 2 ^ 32 → EndsGood (statistics_line s)
 unfolding line_text
 statistics_ends s small =
-    session_line (session s) (codes "V2 ADD STAT ORDERS 1") (statistics_line s) (line.Add (session s) 2 (codes "STAT") (codes "ORDERS") (codes "1")) (session_named s small)
+    session_line (session s) (codes "V2 ADD STAT ORDERS 1") (statistics_line s) (line.Add (session s) 2 (codes "STAT") (codes "ORDERS") (codes "1"))
+    (session_named s small)
     refl (omega arith) refl ((session_named s small).name, (omega arith, omega arith), refl, refl, refl) refl
 
 commit_ends : (s : ℕ) → s < 2 ^ 32 → EndsGood (commit_line s)
@@ -199,7 +215,8 @@ commit_ends s small =
     session_line (session s) (codes "COMMIT") (commit_line s) (line.Commit (session s)) (session_named s small)
     refl (omega arith) refl (session_named s small).name refl
 
-worker_ends : (call : List ℕ) (l : ScriptLine) → IsPlain call → length call ≤ 100 → IsScriptLine l → Spells (codes "@1 " ++ call) l → EndsGood (codes "@1" ∷ call ∷ [])
+worker_ends : (call : List ℕ) (l : ScriptLine) → IsPlain call → length call ≤ 100 → IsScriptLine l → Spells (codes "@1 " ++ call) l
+    → EndsGood (codes "@1" ∷ call ∷ [])
 unfolding line_text
 worker_ends call l plain short is spells = record {
   line = codes "@1 " ++ call;
@@ -223,8 +240,10 @@ work_ends =
     (take1, (do1, (take2, (do2, tt))))
 
 unit_ends : (s k : ℕ) → s < 2 ^ 32 → k < 2 ^ 32 → AllByRecursion EndsGood (lines_by s k)
-unit_ends s k small fits =
-    (lock_ends s k small fits, (number_ends s small, (header_ends s k small fits, (item_ends s k small fits, (statistics_ends s small, (commit_ends s small, work_ends))))))
+unit_ends s k small fits = (
+  lock_ends s k small fits,
+  (number_ends s small, (header_ends s k small fits, (item_ends s k small fits, (statistics_ends s small, (commit_ends s small, work_ends))))),
+)
 
 -- ---- the whole
 
@@ -236,7 +255,8 @@ both_end (x ∷ xs) ys h k = (h.0, both_end xs ys h.1 k)
 units_end : (n a : ℕ) → a + n ≤ 10001 → AllByRecursion EndsGood (flat_map lines_of_unit (range_with_len a n))
 units_end zero a h = tt
 units_end (suc n) a h =
-    both_end (lines_of_unit a) (flat_map lines_of_unit (range_with_len (a + 1) n)) (unit_ends (session_of a) a (omega arith) (omega (arith, h))) (units_end n (a + 1) (omega (arith, h)))
+    both_end (lines_of_unit a) (flat_map lines_of_unit (range_with_len (a + 1) n)) (unit_ends (session_of a) a (omega arith) (omega (arith, h)))
+    (units_end n (a + 1) (omega (arith, h)))
 
 units_count : (n a : ℕ) → length (flat_map lines_of_unit (range_with_len a n)) ≡ 10 * n
 units_count zero a = refl
@@ -267,8 +287,10 @@ has_good (words ∷ ls) h =
 -- each line of the script can be done
 pub is_script : (n : ℕ) → n ≤ 10000 → IsScript (script_of n)
 is_script n few =
-    let all : HasGood (logon_lines ++ unit_lines n) = has_good (logon_lines ++ unit_lines n)
-    (logon_ends 1 (omega arith), (logon_ends 2 (omega arith), (logon_ends 3 (omega arith), (logon_ends 4 (omega arith), units_end n 1 (omega (arith, few)))))) in
+    let all : HasGood (logon_lines ++ unit_lines n) = has_good (logon_lines ++ unit_lines n) (
+      logon_ends 1 (omega arith),
+      (logon_ends 2 (omega arith), (logon_ends 3 (omega arith), (logon_ends 4 (omega arith), units_end n 1 (omega (arith, few))))),
+    ) in
     record {
       each = All-from_recursion IsGood (lines_of (script_of n)) all.each;
       few = omega (arith, few, all.count, units_count n 1);
@@ -281,7 +303,8 @@ good_at [] ys line all = all.0
 good_at (x ∷ xs) ys line all = good_at xs ys line all.1
 
 good_line : (bytes : List ℕ) → IsScript bytes → (earlier later : List (List ℕ)) (line : List ℕ) → lines_of bytes ≡ earlier ++ line ∷ later → IsGood line
-good_line bytes script earlier later line is = good_at earlier later line (subst (AllByRecursion IsGood) is (recursion_from_All IsGood (lines_of bytes) script.each))
+good_line bytes script earlier later line is = good_at earlier later line
+    (subst (AllByRecursion IsGood) is (recursion_from_All IsGood (lines_of bytes) script.each))
 
 none_bad : (bytes : List ℕ) (k : ℕ) → IsScript bytes → IsFirstBad k bytes → ⊥
 none_bad bytes k script bad =

@@ -48,11 +48,13 @@ told_as None land taken gives exact = record { bytes = taken; gives = gives; tol
 told_as (Some bytes) land taken gives exact = record { bytes = bytes; gives = exact; told = refl }
 
 -- it is that of the bytes that the source tells
-pub landed_read : (left after : Option (List ℕ)) (before now : ℕ) (land : Landscape) → ReadsLandscape left after before now (Ok land) → IfSome left (Answers (Ok land)) → IsRead left land
+pub landed_read : (left after : Option (List ℕ)) (before now : ℕ) (land : Landscape) → ReadsLandscape left after before now (Ok land)
+    → IfSome left (Answers (Ok land)) → IsRead left land
 landed_read left after before now land reads exact = told_as left land reads.taken reads.answer.0 exact
 
 -- no other landscape is that of these bytes
-pub landed_one : (left : Option (List ℕ)) (bytes : List ℕ) (land other : Landscape) → IsRead left land → left ≡ Some bytes → landscape_of bytes ≡ Ok other → other ≡ land
+pub landed_one : (left : Option (List ℕ)) (bytes : List ℕ) (land other : Landscape) → IsRead left land → left ≡ Some bytes → landscape_of bytes ≡ Ok other
+    → other ≡ land
 landed_one left bytes land other read is gives =
     let same : bytes ≡ read.bytes = subst (λ o. IfSome o (λ all. all ≡ read.bytes)) is read.told in
     same_ok other land (sym gives ∙ ap landscape_of same ∙ read.gives)
@@ -63,13 +65,15 @@ landed_one left bytes land other read is gives =
 -- ---- one that wasn't
 
 -- why a landscape wasn't read
-pub land_ends : (left after : Option (List ℕ)) (before now : ℕ) (f : LandFault) → ReadsLandscape left after before now (Err f) → IsLandEnd before now (land_end f)
+pub land_ends : (left after : Option (List ℕ)) (before now : ℕ) (f : LandFault) → ReadsLandscape left after before now (Err f)
+    → IsLandEnd before now (land_end f)
 land_ends left after before now (fault.Bad rule place) reads = broken_rules reads.taken (record { rule = rule; place = place }) reads.answer.0
 land_ends left after before now fault.Failed reads = reads.answer
 land_ends left after before now fault.NoMemory reads = tt
 
 -- rule 15 is none of a document
-pub land_unfit : (o : Option Rows) (source left after : Option (List ℕ)) (may_be : Rows → Type 0) (before now : ℕ) (f : LandFault) → ReadsLandscape left after before now (Err f) → IfSome o (λ _. IsUnfitEnd source may_be (land_end f))
+pub land_unfit : (o : Option Rows) (source left after : Option (List ℕ)) (may_be : Rows → Type 0) (before now : ℕ) (f : LandFault)
+    → ReadsLandscape left after before now (Err f) → IfSome o (λ _. IsUnfitEnd source may_be (land_end f))
 land_unfit None source left after may_be before now f reads = tt
 land_unfit (Some rows) source left after may_be before now (fault.Bad rule place) reads =
     λ is. absurd (below rule is (broken_rules reads.taken (record { rule = rule; place = place }) reads.answer.0))

@@ -85,7 +85,8 @@ some_below P test k bound =
 -- ---- the counts of one call
 
 later : (a b : LinkCounts) → Decided (AreLater a b)
-later a b = as_decided (both (at_most a.faults b.faults) (at_most a.refusals b.refusals)) (λ h. record { faults = h.0; refusals = h.1 }) (λ h. (h.faults, h.refusals))
+later a b = as_decided (both (at_most a.faults b.faults) (at_most a.refusals b.refusals)) (λ h. record { faults = h.0; refusals = h.1 })
+    (λ h. (h.faults, h.refusals))
 
 cause : (a b : ℕ) (r : Reply) → Decided (HasLinkCause a b r)
 cause a b (reply.Refused refusal.LinkFault) = at_most (one_more a) b
@@ -93,7 +94,8 @@ cause a b _ = inl tt
 
 lost : (attached : Bool) (e : PastEntry) → Decided (IsLost attached e)
 lost attached e =
-    as_decided (both (is_true attached) (both (is_false e.after.attached) (both (is_false (renews_replica (call_of e.command))) (is_false (is_doubt e.after.condition)))))
+    as_decided (both (is_true attached)
+    (both (is_false e.after.attached) (both (is_false (renews_replica (call_of e.command))) (is_false (is_doubt e.after.condition)))))
     (λ h. record { before = h.0; now = h.1.0; other = h.1.1.0; calm = h.1.1.1 }) (λ h. (h.before, (h.now, (h.other, h.calm))))
 
 of_call : (attached : Bool) (e : PastEntry) (a b : LinkCounts) → Decided (CountsLink attached e a b)
@@ -145,7 +147,8 @@ quiet_rest : (a b c : ℕ) → a ≤ b → (Rose a c → ⊥) → Rose b c → �
 quiet_rest a b c more quiet rose = quiet (omega arith)
 
 -- where its count didn't rise no call was answered that it did
-pub quiet_each : (attached : Bool) (past : List PastEntry) (a b : LinkCounts) → CountsLinkEach attached past a b → (Rose a.faults b.faults → ⊥) → NoneTells is_link_fault past
+pub quiet_each : (attached : Bool) (past : List PastEntry) (a b : LinkCounts) → CountsLinkEach attached past a b → (Rose a.faults b.faults → ⊥)
+    → NoneTells is_link_fault past
 quiet_each attached [] a b h quiet = refl
 quiet_each attached (e ∷ past) a b h quiet =
     let behind = counts_later e.after.attached past h.0 b h.1.1 in

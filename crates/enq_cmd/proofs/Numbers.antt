@@ -78,7 +78,8 @@ agreed_marked ledger key kind none h =
     subst (LevelsAgree ledger.levels) (sym (numbers_same ledger.units ledger.marks m (none ledger.units m.seq key))) h
 
 -- a level that is raised to a number
-agreed_raised : (s : State) (i : Interval) (upto : ℕ) → Contains (intervals_of s.ranges) i → is_buffered i ≡ true → upto ≤ i.to → IsDrawn s → Agrees s.stored → Agrees (raised_to (present s.stored.levels i) upto s.stored)
+agreed_raised : (s : State) (i : Interval) (upto : ℕ) → Contains (intervals_of s.ranges) i → is_buffered i ≡ true → upto ≤ i.to → IsDrawn s → Agrees s.stored
+    → Agrees (raised_to (present s.stored.levels i) upto s.stored)
 agreed_raised s i upto among is within draws h =
     let levels = s.stored.levels in
     let j = present levels i in
@@ -93,13 +94,17 @@ agreed_raised s i upto among is within draws h =
     ]
 
 -- a number that is drawn
-agreed_drawn : (s : State) (x : Session) (object nr : List ℕ) (r : NumberRange) → CanDraw s x object nr r → IsDrawn s → Agrees s.stored → Agrees (drawn s x (present s.stored.levels r.interval) (next_number r (present s.stored.levels r.interval) x)).stored
+agreed_drawn : (s : State) (x : Session) (object nr : List ℕ) (r : NumberRange) → CanDraw s x object nr r → IsDrawn s → Agrees s.stored
+    → Agrees (drawn s x (present s.stored.levels r.interval) (next_number r (present s.stored.levels r.interval) x)).stored
 agreed_drawn s x object nr r can draws h =
     let i = present s.stored.levels r.interval in
     let number = next_number r i x in
     let t : State = record s { sessions = with_session x.name (with_draw (num_of i number)) s.sessions } in
-    elim (is_buffered i) as (λ b. is_buffered r.interval ≡ b → Agrees (if b then record t { ranges = handed_out i t.ranges; stored = raised_to i number t.stored } else t).stored) [
-      | true ↦ λ is. agreed_raised s r.interval number (interval_among s.ranges r (range_found s.ranges object nr r can.range).among) is (not_past r.interval.to number can.within) draws h
+    elim (is_buffered i)
+    as (λ b. is_buffered r.interval ≡ b
+    → Agrees (if b then record t { ranges = handed_out i t.ranges; stored = raised_to i number t.stored } else t).stored) [
+      | true ↦ λ is. agreed_raised s r.interval number (interval_among s.ranges r (range_found s.ranges object nr r can.range).among) is
+          (not_past r.interval.to number can.within) draws h
       | false ↦ λ is. h
     ] refl
 
@@ -107,7 +112,8 @@ abbrev draws_of : Session → List Number
 draws_of x = x.draws
 
 -- numbers that are committed alone
-agreed_numbered : (s : State) (name : List ℕ) (x : Session) (stock : List Number) → session_at s.sessions name ≡ Some x → IsStockIn s stock → IsDrawn s → Agrees s.stored → Agrees (numbered s x (x.draws ++ stock)).stored
+agreed_numbered : (s : State) (name : List ℕ) (x : Session) (stock : List Number) → session_at s.sessions name ≡ Some x → IsStockIn s stock → IsDrawn s
+    → Agrees s.stored → Agrees (numbered s x (x.draws ++ stock)).stored
 agreed_numbered s name x stock at fits draws h =
     let numbers = x.draws ++ stock in
     let may = session_may_commit_stock draws_of (is_called name) without_draws s.sessions x at s.stored s.ranges stock fits draws in
@@ -115,7 +121,8 @@ agreed_numbered s name x stock at fits draws h =
     (sym (numbers_push s.stored.units s.stored.marks (next_mark s.stored (unit_key s.stored.start x) (mark.Num numbers)))) (may.agree h)
 
 -- and with a unit
-agreed_recorded : (s : State) (name : List ℕ) (x : Session) (parts : Parts) (stock : List Number) → session_at s.sessions name ≡ Some x → IsStockIn s stock → IsSteady s → Agrees s.stored → Agrees (recorded s x parts (x.draws ++ stock)).stored
+agreed_recorded : (s : State) (name : List ℕ) (x : Session) (parts : Parts) (stock : List Number) → session_at s.sessions name ≡ Some x → IsStockIn s stock
+    → IsSteady s → Agrees s.stored → Agrees (recorded s x parts (x.draws ++ stock)).stored
 agreed_recorded s name x parts stock at fits steady h =
     let numbers = x.draws ++ stock in
     let units = s.stored.units in
@@ -124,7 +131,8 @@ agreed_recorded s name x parts stock at fits steady h =
     let fresh = open_unheard s name x at steady.fresh in
     let may = session_may_commit_stock draws_of (is_called name) without_draws s.sessions x at s.stored s.ranges stock fits steady.drawn in
     subst (LevelsAgree (with_levels (settled_rows s.stored.levels s.ranges numbers) s.stored.levels))
-    (sym (numbers_recorded units unit old (next_mark s.stored unit.key mark.Rec).seq (none_of (has_no_v2 units unit.key) unit.key old fresh) (steady.marked unit.key fresh)))
+    (sym (numbers_recorded units unit old (next_mark s.stored unit.key mark.Rec).seq (none_of (has_no_v2 units unit.key) unit.key old fresh)
+    (steady.marked unit.key fresh)))
     (may.agree h)
 
 -- what a restart finds in the store
@@ -133,7 +141,8 @@ agreed_anew false stored pending h flight = h
 agreed_anew true stored None h flight = h
 agreed_anew true stored (Some changed) h flight = flight
 
-each-agreed : (found : Found) (s : State) → IsSteady s → Agrees s.stored → OfPending s.pending Agrees → OfEach (λ call v. MayCall s call → Agrees (judged s v).state.stored) found s
+each-agreed : (found : Found) (s : State) → IsSteady s → Agrees s.stored → OfPending s.pending Agrees
+    → OfEach (λ call v. MayCall s call → Agrees (judged s v).state.stored) found s
 each-agreed found s steady h flight = record {
   refuses = λ call r plain may. h;
   enters = λ name user free may. h;
@@ -144,7 +153,8 @@ each-agreed found s steady h flight = record {
   converts = λ name x wanted c at e may. h;
   draws = λ name x object nr r at can may. agreed_drawn s x object nr r can steady.drawn h;
   reserves = λ name x object nr upto r at can may.
-      agreed_raised s r.interval upto (interval_among s.ranges r (range_found s.ranges object nr r can.range).among) (not_no (is_buffered r.interval) can.buffered) (not_past r.interval.to upto can.within) steady.drawn h;
+      agreed_raised s r.interval upto (interval_among s.ranges r (range_found s.ranges object nr r can.range).among)
+      (not_no (is_buffered r.interval) can.buffered) (not_past r.interval.to upto can.within) steady.drawn h;
   reads = λ name x table key at may. h;
   commits_nothing = λ name x parts stock at may. h;
   commits_numbers = λ name x parts stock at may. agreed_numbered s name x stock at may steady.drawn h;
@@ -163,11 +173,13 @@ each-agreed found s steady h flight = record {
   reposts = λ unit here may. agreed_marked s.stored unit mark.Again2 (λ units seq key. refl) h;
 }
 
-judged-agreed : (found : Found) (s : State) (call : Call) → MayCall s call → IsSteady s → Agrees s.stored → OfPending s.pending Agrees → Agrees (judged s (call_verdict found s call)).state.stored
+judged-agreed : (found : Found) (s : State) (call : Call) → MayCall s call → IsSteady s → Agrees s.stored → OfPending s.pending Agrees
+    → Agrees (judged s (call_verdict found s call)).state.stored
 judged-agreed found s call may steady h flight =
     by_made (λ call v. Agrees (judged s v).state.stored) found s (each-agreed found s steady h flight) call may
 
-served-agreed : (o : DeviceOutcome) (s : State) (c : Command) → MayCall s (call_of c) → IsSteady s → Agrees s.stored → OfPending s.pending Agrees → Agrees (served o s c).state.stored
+served-agreed : (o : DeviceOutcome) (s : State) (c : Command) → MayCall s (call_of c) → IsSteady s → Agrees s.stored → OfPending s.pending Agrees
+    → Agrees (served o s c).state.stored
 served-agreed o s c may steady h flight =
     by_event (λ r. Agrees r.state.stored) o s c (λ lost done k. k)
     (λ found. judged-agreed found s (call_of c) may steady h flight) h h
@@ -180,12 +192,14 @@ served-agreed o s c may steady h flight =
     (λ read r. h)
 
 -- the change in flight where the store fails
-failing-agreed : (reading : Reading) (s : State) (call : Call) (v : Verdict) → OfPending s.pending Agrees → Agrees (judged s v).state.stored → OfPending (pending_after reading s call v) Agrees
+failing-agreed : (reading : Reading) (s : State) (call : Call) (v : Verdict) → OfPending s.pending Agrees → Agrees (judged s v).state.stored
+    → OfPending (pending_after reading s call v) Agrees
 failing-agreed reading s call (Refuses r) flight h = flight
 failing-agreed reading s call (Leaves after r) flight h =
     elim (only_reads call || is_unread reading call) as (λ b. OfPending (if b then s.pending else Some after.stored) Agrees) [ true ↦ flight | false ↦ h ]
 
-flight-agreed : (o : DeviceOutcome) (s : State) (c : Command) → MayCall s (call_of c) → IsSteady s → Agrees s.stored → OfPending s.pending Agrees → OfPending (served o s c).state.pending Agrees
+flight-agreed : (o : DeviceOutcome) (s : State) (c : Command) → MayCall s (call_of c) → IsSteady s → Agrees s.stored → OfPending s.pending Agrees
+    → OfPending (served o s c).state.pending Agrees
 flight-agreed o s c may steady h flight =
     by_event (λ r. OfPending r.state.pending Agrees) o s c (λ lost done k. k)
     (λ found. verdict_pending (λ o. OfPending o Agrees) found s (call_of c) flight tt) flight flight
@@ -235,7 +249,8 @@ first_agrees ledger first = subst Agrees (sym first.2) (sound_agrees first.0 fir
 -- ---- what agreeing levels say
 
 differ : (n k : ℕ) → n < k → nat_eq n k ≡ false
-differ n k less = elim (nat_eq n k) as (λ b. nat_eq n k ≡ b → b ≡ false) [ true ↦ λ e. let same = eqb-true n k e in absurd (omega (arith, same, less)) | false ↦ λ e. refl ] refl
+differ n k less = elim (nat_eq n k) as (λ b. nat_eq n k ≡ b → b ≡ false)
+    [ true ↦ λ e. let same = eqb-true n k e in absurd (omega (arith, same, less)) | false ↦ λ e. refl ] refl
 
 all_past : (n a len : ℕ) → n < a → AllByRecursion (λ k. nat_eq n k ≡ false) (range_with_len a len)
 all_past n a zero less = tt
@@ -254,18 +269,21 @@ drawn_once : (buffered : Bool) (level : Level) (numbers : List ℕ) → AreDrawn
 drawn_once false level numbers draws = subst (IsDistinct nat_eq) (sym draws) (range_once level.from (level.level + 1 - level.from))
 drawn_once true level numbers draws = draws.0
 
-drawn_inside : (buffered : Bool) (level : Level) (numbers : List ℕ) → level.from ≤ level.level + 1 → AreDrawn buffered level numbers → All (λ n. (level.from ≤ n) × (n ≤ level.level)) numbers
+drawn_inside : (buffered : Bool) (level : Level) (numbers : List ℕ) → level.from ≤ level.level + 1 → AreDrawn buffered level numbers
+    → All (λ n. (level.from ≤ n) × (n ≤ level.level)) numbers
 drawn_inside false level numbers begun draws =
     subst (All (λ n. (level.from ≤ n) × (n ≤ level.level))) (sym draws)
     (All-from_recursion (λ n. (level.from ≤ n) × (n ≤ level.level)) (range_with_len level.from (level.level + 1 - level.from))
     (range_inside level.from level.level level.from (level.level + 1 - level.from) (omega arith) (omega (arith, begun))))
 drawn_inside true level numbers begun draws = draws.1
 
-drawn_run : (level : Level) (numbers : List ℕ) (buffered : Bool) → level.buffered ≡ buffered → AreDrawn level.buffered level numbers → buffered ≡ false → numbers ≡ range_with_len level.from (level.level + 1 - level.from)
+drawn_run : (level : Level) (numbers : List ℕ) (buffered : Bool) → level.buffered ≡ buffered → AreDrawn level.buffered level numbers → buffered ≡ false
+    → numbers ≡ range_with_len level.from (level.level + 1 - level.from)
 drawn_run level numbers false is draws h = subst (λ b. AreDrawn b level numbers) is draws
 drawn_run level numbers true is draws h = cc
 
-once_by : (levels : Levels) (numbers : List Number) (name : List ℕ × List ℕ) (found : Option Level) → LevelsAgree levels numbers → get levels name ≡ found → IfSome found (IsRightLevel name numbers) → IsDistinct nat_eq (numbers_from name numbers)
+once_by : (levels : Levels) (numbers : List Number) (name : List ℕ × List ℕ) (found : Option Level) → LevelsAgree levels numbers → get levels name ≡ found
+    → IfSome found (IsRightLevel name numbers) → IsDistinct nat_eq (numbers_from name numbers)
 unfolding IsDistinct
 once_by levels numbers name None agree is right = subst (IsDistinct nat_eq) (sym (none_committed levels numbers name agree is)) tt
 once_by levels numbers name (Some level) agree is right = drawn_once level.buffered level (numbers_from name numbers) right.drawn
@@ -275,7 +293,8 @@ run_by : (name : List ℕ × List ℕ) (numbers : List Number) (found : Option L
 run_by name numbers None right = tt
 run_by name numbers (Some level) right = λ h. drawn_run level (numbers_from name numbers) level.buffered refl right.drawn h
 
-inside_by : (name : List ℕ × List ℕ) (numbers : List Number) (found : Option Level) → IfSome found (IsRightLevel name numbers) → IfSome found (λ level. All (λ n. (level.from ≤ n) × (n ≤ level.level)) (numbers_from name numbers))
+inside_by : (name : List ℕ × List ℕ) (numbers : List Number) (found : Option Level) → IfSome found (IsRightLevel name numbers)
+    → IfSome found (λ level. All (λ n. (level.from ≤ n) × (n ≤ level.level)) (numbers_from name numbers))
 inside_by name numbers None right = tt
 inside_by name numbers (Some level) right = drawn_inside level.buffered level (numbers_from name numbers) right.begun right.drawn
 

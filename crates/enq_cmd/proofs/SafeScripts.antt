@@ -29,7 +29,8 @@ lacks_none : (ls : List Lack) → cover_text ls ≡ codes "COVERED\n" → ls ≡
 lacks_none [] e = refl
 lacks_none (l ∷ ls) e = absurd (told_more l ls e)
 
-pub safe_told : (land_left : Option (List ℕ)) (land_before land_now : ℕ) (left after : Option (List ℕ)) (before now : ℕ) (old new : Option (List ℕ)) (faults faults_now : ℕ)
+pub safe_told : (land_left : Option (List ℕ)) (land_before land_now : ℕ) (left after : Option (List ℕ)) (before now : ℕ) (old new : Option (List ℕ))
+    (faults faults_now : ℕ)
     (document bytes front : List ℕ) (land : Landscape) → ((objects : List Object) (lines : List Numbered) → lacks objects lines ≡ [] → Safe objects lines)
     → land_left ≡ Some document → landscape_of document ≡ Ok land → left ≡ Some bytes → old ≡ Some front → new ≡ Some (front ++ codes "COVERED\n")
     → Covers land_left land_before land_now left after before now old new faults faults_now Done → Safe land.objects (numbered 0 (lines_of bytes))
@@ -44,4 +45,5 @@ safe_told land_left land_before land_now left after before now old new faults fa
     let added : front ++ covered ≡ front ++ text = subst (λ o. Appends o (Some (front ++ covered)) text) was (subst (λ n. Appends old n text) is h.2.2.0) in
     let text_is : covered ≡ text = append_cancel_left front covered text added in
     let none : lacks h.0.objects (numbered 0 (lines_of read)) ≡ [] = lacks_none _ (sym h.2.1.tells ∙ sym text_is) in
-    subst (λ b. Safe land.objects (numbered 0 (lines_of b))) read_is (subst (λ l. Safe l.objects (numbered 0 (lines_of read))) (sym same_land) (law h.0.objects (numbered 0 (lines_of read)) none))
+    subst (λ b. Safe land.objects (numbered 0 (lines_of b))) read_is
+    (subst (λ l. Safe l.objects (numbered 0 (lines_of read))) (sym same_land) (law h.0.objects (numbered 0 (lines_of read)) none))

@@ -27,15 +27,24 @@ use Rattle.script_runner.specs.declared.runner.Why.{Why}
 use Rattle.script_runner.specs.declared.runner.Why.TheVariants.{Done, BadWords, BadLandscape, BadLine, SourceFault, SinkFault, LongLine, ManyLines, StoreFault, BackupFault, BadStore, BadBackup, NoStart, NoMemory, LogFull}
 use Rattle.enq_cmd.proofs.Tellings.{HasRun, first_sound, promises_with, served_with, where_told}
 use Rattle.enq_cmd.specs.Writing.{WritesText}
-use Rattle.enq_cmd.specs.Main.{AreServed, EndsComplete, HasLandscape, HasNoStart, IsFaultless, IsBadDocument, IsBadStore, IsFirstBroken, IsLandEnd, IsUnfitEnd, IsServed, IsUnopened, IsUntouched, first_state}
+use Rattle.enq_cmd.specs.Main.{AreServed, EndsComplete, HasLandscape, HasNoStart, IsFaultless, IsBadDocument, IsBadStore, IsFirstBroken, IsLandEnd, IsUnfitEnd, IsServed, IsUnopened, IsUntouched, SiteFound, SiteLeft, first_state, found_in, left_in}
 use Rattle.enq_cmd.specs.Loading.{HasLoaded, IsRunEnd, IsSilent, RunsLoad, ShowsCounts, unheard}
 use Rattle.enq_cmd.specs.Opening.{IsLandedAlone, IsOpened, IsUnlanded}
 
-module _ {K D L : Type 0} (held : K → Option Rows) (may_leave : K → Rows → Type 0) (faults : K → ℕ) (tells : Bool) (reads : D → List ℕ) (images : D → List ℕ → Type 0) (file_faults : D → ℕ)
+module _ {K D L : Type 0} (held : K → Option Rows) (may_leave : K → Rows → Type 0) (faults : K → ℕ) (tells : Bool) (reads : D → List ℕ)
+    (images : D → List ℕ → Type 0) (file_faults : D → ℕ)
     (applied : L → Option (List Entry)) (left : Option (List ℕ)) (keeper : K) (disk : D) (link : L) (hall : View K D L) (objects : List Object)
     (o : IsOpened held may_leave faults tells reads file_faults applied left keeper disk link hall objects) where
+  -- what the server found, and what it leaves with these devices and this replica
+  abbrev site : SiteFound
+  site = found_in held may_leave tells reads images applied keeper disk link
+
+  abbrev left_with : K → D → Option (List Entry) → SiteLeft
+  left_with keeper_now disk_now copy = record { rows = may_leave keeper_now; images = images disk_now; list = copy }
+
   -- an open server, whose calls led to another state, and its devices then
-  pub promises_by : (after : View K D L) (keeper_now : K) (disk_now : D) → keeper_now ≡ after.keeper → disk_now ≡ after.file.disk → is_some (held after.keeper) ≡ is_some (held hall.keeper)
+  pub promises_by : (after : View K D L) (keeper_now : K) (disk_now : D) → keeper_now ≡ after.keeper → disk_now ≡ after.file.disk
+      → is_some (held after.keeper) ≡ is_some (held hall.keeper)
       → LeavesState held may_leave after → LeavesLists tells images after → HasOpenUnits after.state
       → (copy : Option (List Entry)) → (after.state.attached ≡ true → IfSome copy (λ list. list ≡ after.state.locks))
       → (IsTrue tells → NoneUnsound after.state.past)
@@ -44,32 +53,36 @@ module _ {K D L : Type 0} (held : K → Option Rows) (may_leave : K → Rows →
       → (past : List PastEntry) → past ≡ after.state.past → (made : List Made) → past ≡ calls_of made
       → AreModelAnswers (first_state o.land (is_some (held keeper)) (is_some (applied link)) hall.state.stored) made
       → after.state ≡ state_after (first_state o.land (is_some (held keeper)) (is_some (applied link)) hall.state.stored) made
-      → AreServed o.land (is_some (held keeper)) (is_some (applied link)) (may_leave keeper) (may_leave keeper_now) tells (reads disk) (images disk_now) copy hall.state.stored made past
+      → AreServed o.land site (left_with keeper_now disk_now copy) hall.state.stored made past
   promises_by after keeper_now disk_now kept kept_disk told leaves lists units copy follows files stores replicas past history made calls answers leads =
-      promises_with o.land (is_some (held keeper)) (is_some (applied link)) hall.state.stored (may_leave keeper) (may_leave keeper_now) tells (reads disk) (images disk_now) copy after.state past made
+      promises_with o.land site (left_with keeper_now disk_now copy) hall.state.stored after.state past made
       (read_limits o.read.bytes o.land o.read.gives)
       o.sound
       (λ yes. where_told _ (held hall.keeper) (subst IsTrue (sym o.told) yes) o.stored)
       o.fits o.table o.filed calls answers leads
-      (λ yes. subst (λ k. (rows : Rows) → may_leave k rows → StandForState rows after.state) (sym kept) (where_told _ (held after.keeper) (subst IsTrue (sym (told ∙ o.told)) yes) leaves))
-      (subst (λ d. AllRecover tells images after.state.condition after.state.stored after.state.pending after.state.found (record after.file { disk = d })) (sym kept_disk) lists)
+      (λ yes. subst (λ k. (rows : Rows) → may_leave k rows → StandForState rows after.state) (sym kept)
+      (where_told _ (held after.keeper) (subst IsTrue (sym (told ∙ o.told)) yes) leaves))
+      (subst (λ d. AllRecover tells images after.state.condition after.state.stored after.state.pending after.state.found (record after.file { disk = d }))
+      (sym kept_disk) lists)
       units follows
       (λ yes. subst NoneUnsound (sym history) (files yes))
       (λ yes. subst NoneUnsoundStore (sym history) (stores (o.told ∙ yes)))
       (λ yes. subst NoneUnsoundReplica (sym history) (replicas (ap (λ l. is_some (applied l)) o.linked ∙ yes)))
 
   -- one that did a script line by line
-  pub served_by : (after : View K D L) (keeper_now : K) (disk_now : D) → keeper_now ≡ after.keeper → disk_now ≡ after.file.disk → is_some (held after.keeper) ≡ is_some (held hall.keeper)
+  pub served_by : (after : View K D L) (keeper_now : K) (disk_now : D) → keeper_now ≡ after.keeper → disk_now ≡ after.file.disk
+      → is_some (held after.keeper) ≡ is_some (held hall.keeper)
       → LeavesState held may_leave after → LeavesLists tells images after → HasOpenUnits after.state
       → (copy : Option (List Entry)) → (after.state.attached ≡ true → IfSome copy (λ list. list ≡ after.state.locks))
       → (IsTrue tells → NoneUnsound hall.state.past → NoneUnsound after.state.past)
       → (is_some (held hall.keeper) ≡ true → NoneUnsoundStore hall.state.past → NoneUnsoundStore after.state.past)
       → (is_some (applied hall.follower.link) ≡ true → NoneUnsoundReplica hall.state.past → NoneUnsoundReplica after.state.past)
-      → (known : List Object) (old new : Seen) (past : List PastEntry) (why : Why) → HasRun o.land (is_some (held keeper)) (is_some (applied link)) hall.state.stored hall.state after.state known old new past why
-      → (s : IsServed o.land (is_some (held keeper)) (is_some (applied link)) (may_leave keeper) (may_leave keeper_now) tells (reads disk) (images disk_now) copy old new past why)
+      → (known : List Object) (old new : Seen) (past : List PastEntry) (why : Why)
+      → HasRun o.land (is_some (held keeper)) (is_some (applied link)) hall.state.stored hall.state after.state known old new past why
+      → (s : IsServed o.land site (left_with keeper_now disk_now copy) old new past why)
       × (after.state ≡ state_after (first_state o.land (is_some (held keeper)) (is_some (applied link)) s.stored) s.made)
   served_by after keeper_now disk_now kept kept_disk told leaves lists units copy follows files stores replicas known old new past why run =
-      served_with o.land (is_some (held keeper)) (is_some (applied link)) hall.state.stored (may_leave keeper) (may_leave keeper_now) tells (reads disk) (images disk_now) copy hall.state after.state known old new past why
+      served_with o.land site (left_with keeper_now disk_now copy) hall.state.stored hall.state after.state known old new past why
       (promises_by after keeper_now disk_now kept kept_disk told leaves lists units copy follows
       (λ yes. files yes (first_sound is_unsound_file o.land (is_some (held keeper)) (is_some (applied link)) hall.state.stored hall.state o.first))
       (λ yes. stores yes (first_sound is_unsound_store o.land (is_some (held keeper)) (is_some (applied link)) hall.state.stored hall.state o.first))
@@ -78,14 +91,19 @@ module _ {K D L : Type 0} (held : K → Option Rows) (may_leave : K → Rows →
       run
 
 -- a run of a script in memory, with the devices as they were given and as they are given back
-pub load_run : {K D L : Type 0} (held : K → Option Rows) (may_leave : K → Rows → Type 0) (faults : K → ℕ) (tells : Bool) (reads : D → List ℕ) (file_faults : D → ℕ)
-    (applied : L → Option (List Entry)) (left : Option (List ℕ)) (keeper : K) (disk : D) (link : L) (hall : View K D L) (objects : List Object) (o : IsOpened held may_leave faults tells reads file_faults applied left keeper disk link hall objects)
+pub load_run : {K D L : Type 0} (held : K → Option Rows) (may_leave : K → Rows → Type 0) (faults : K → ℕ) (tells : Bool) (reads : D → List ℕ)
+    (file_faults : D → ℕ)
+    (applied : L → Option (List Entry)) (left : Option (List ℕ)) (keeper : K) (disk : D) (link : L) (hall : View K D L) (objects : List Object)
+    (o : IsOpened held may_leave faults tells reads file_faults applied left keeper disk link hall objects)
     (after : View K D L) (keeper_now : K) (disk_now : D) → keeper_now ≡ after.keeper → disk_now ≡ after.file.disk
     → (known : List Object) → known ≡ objects → (past : List PastEntry) → past ≡ after.state.past
     → (source text : List ℕ) → source ≡ text → (written written_now : Option (List ℕ)) (sink_faults sink_faults_now : ℕ) (why : Why)
-    → (r : RunsLoad known source hall.state after.state (faults hall.keeper) (faults after.keeper) (file_faults hall.file.disk) (file_faults after.file.disk) written written_now sink_faults sink_faults_now why)
-    → HasRun o.land (is_some (held keeper)) (is_some (applied link)) hall.state.stored hall.state after.state known (unheard text (faults keeper) (file_faults disk)) (unheard r.rest (faults keeper_now) (file_faults disk_now)) past r.end
-load_run held may_leave faults tells reads file_faults applied left keeper disk link hall objects o after keeper_now disk_now kept kept_disk known same past history source text is written written_now sink_faults sink_faults_now why r =
+    → (r : RunsLoad known source hall.state after.state (faults hall.keeper) (faults after.keeper) (file_faults hall.file.disk)
+    (file_faults after.file.disk) written written_now sink_faults sink_faults_now why)
+    → HasRun o.land (is_some (held keeper)) (is_some (applied link)) hall.state.stored hall.state after.state known
+    (unheard text (faults keeper) (file_faults disk)) (unheard r.rest (faults keeper_now) (file_faults disk_now)) past r.end
+load_run held may_leave faults tells reads file_faults applied left keeper disk link hall objects o after keeper_now disk_now kept kept_disk known same past
+    history source text is written written_now sink_faults sink_faults_now why r =
     let before = unheard source (faults hall.keeper) (file_faults hall.file.disk) in
     let behind = unheard r.rest (faults after.keeper) (file_faults after.file.disk) in
     let old = unheard text (faults keeper) (file_faults disk) in
@@ -96,15 +114,20 @@ load_run held may_leave faults tells reads file_faults applied left keeper disk 
       first = o.first;
       known = same ∙ o.known;
       history = history;
-      runs = subst (λ s. RunsScript known hall.state after.state s new r.end) from (subst (λ s. RunsScript known hall.state after.state before s r.end) to r.runs);
-      complete = λ bytes left script calm. r.complete bytes (ap (λ x. x.left) from ∙ left) script (subst (λ s. IsFaultless s behind) (sym from) (subst (λ s. IsFaultless old s) (sym to) calm));
+      runs = subst (λ s. RunsScript known hall.state after.state s new r.end) from
+          (subst (λ s. RunsScript known hall.state after.state before s r.end) to r.runs);
+      complete = λ bytes left script calm. r.complete bytes (ap (λ x. x.left) from ∙ left) script
+          (subst (λ s. IsFaultless s behind) (sym from) (subst (λ s. IsFaultless old s) (sym to) calm));
     }
 
 -- no device of a script in memory, and none of these, failed
-pub calm_load : (text rest : List ℕ) (store store_now file file_now : ℕ) → (Rose store store_now → ⊥) → (Rose file file_now → ⊥) → IsFaultless (unheard text store file) (unheard rest store_now file_now)
-calm_load text rest store store_now file file_now kept still = record { source = λ rose. omega (arith, rose); sink = λ rose. omega (arith, rose); store = kept; file = still }
+pub calm_load : (text rest : List ℕ) (store store_now file file_now : ℕ) → (Rose store store_now → ⊥) → (Rose file file_now → ⊥)
+    → IsFaultless (unheard text store file) (unheard rest store_now file_now)
+calm_load text rest store store_now file file_now kept still =
+    record { source = λ rose. omega (arith, rose); sink = λ rose. omega (arith, rose); store = kept; file = still }
 
-counts_end : (may_be : Rows → Type 0) (old new : Option (List ℕ)) (before now : ℕ) (text : List ℕ) (why : Why) → WritesText old new before now text why → (Rose before now → ⊥) → EndsComplete may_be why
+counts_end : (may_be : Rows → Type 0) (old new : Option (List ℕ)) (before now : ℕ) (text : List ℕ) (why : Why) → WritesText old new before now text why
+    → (Rose before now → ⊥) → EndsComplete may_be why
 counts_end may_be old new before now text Done h quiet = inl refl
 counts_end may_be old new before now text SinkFault h quiet = absurd (quiet h.1)
 counts_end may_be old new before now text NoMemory h quiet = inr (inl refl)
@@ -122,7 +145,8 @@ counts_end may_be old new before now text NoStart h quiet = absurd h
 counts_end may_be old new before now text LogFull h quiet = absurd h
 
 -- where a run is done, and its counts are written by a sink that doesn't fail, the program is done
-pub load_ends : (may_be : Rows → Type 0) (end why : Why) (after : State) (old new : Option (List ℕ)) (before now : ℕ) → EndsComplete may_be end → ShowsCounts end after old new before now why → (Rose before now → ⊥) → EndsComplete may_be why
+pub load_ends : (may_be : Rows → Type 0) (end why : Why) (after : State) (old new : Option (List ℕ)) (before now : ℕ) → EndsComplete may_be end
+    → ShowsCounts end after old new before now why → (Rose before now → ⊥) → EndsComplete may_be why
 load_ends may_be end why after old new before now (inl done) shown quiet =
     counts_end may_be old new before now (audit_shown 0 after) why (subst (λ e. ShowsCounts e after old new before now why) done shown) quiet
 load_ends may_be end why after old new before now (inr (inl memory)) shown quiet =
@@ -131,56 +155,79 @@ load_ends may_be end why after old new before now (inr (inr last)) shown quiet =
     let silent : IsSilent NoStart old new before now why = subst (λ e. ShowsCounts e after old new before now why) last.0 shown in inr (inr (silent.0, last.1))
 
 -- a site of which no server came, beside a script and a sink that nobody touched
-pub unserved : {S T K D L : Type 0} (held : K → Option Rows) (may_leave : K → Rows → Type 0) (faults : K → ℕ) (tells : Bool) (bytes : List ℕ) (images : D → List ℕ → Type 0) (file_faults : D → ℕ)
-    (linked : Bool) (copy : Option (List Entry)) (left : Option (List ℕ)) (before now : ℕ) (script : S) (sink : T) (keeper keeper_now : K) (disk disk_now : D) (link link_now : L) (rest written : Option (List ℕ)) (source_faults sink_faults : ℕ) (past : List PastEntry) (why : Why)
+pub unserved : {S T K D L : Type 0} (held : K → Option Rows) (may_leave : K → Rows → Type 0) (faults : K → ℕ) (tells : Bool) (reads : D → List ℕ)
+    (images : D → List ℕ → Type 0) (file_faults : D → ℕ) (applied : L → Option (List Entry))
+    (left : Option (List ℕ)) (before now : ℕ) (script : S) (sink : T) (keeper keeper_now : K) (disk disk_now : D) (link link_now : L)
+    (rest written : Option (List ℕ)) (source_faults sink_faults : ℕ) (past : List PastEntry) (why : Why)
     → past ≡ [] → link_now ≡ link
-    → IsUnlanded before now keeper keeper_now disk disk_now why ⊎ IsLandedAlone held may_leave faults tells images file_faults left keeper keeper_now disk disk_now why
-    → HasLandscape left (is_some (held keeper)) linked (may_leave keeper) (may_leave keeper_now) tells bytes images disk disk_now copy
-    (seen rest written source_faults sink_faults (faults keeper) (file_faults disk)) (seen rest written source_faults sink_faults (faults keeper_now) (file_faults disk_now)) past why
+    → IsUnlanded before now keeper keeper_now disk disk_now why ⊎ IsLandedAlone held may_leave faults tells reads images file_faults applied left
+    keeper keeper_now disk disk_now link link_now why
+    → HasLandscape left (found_in held may_leave tells reads images applied keeper disk link) (left_in may_leave images applied keeper_now disk_now link_now)
+    disk disk_now link link_now (seen rest written source_faults sink_faults (faults keeper) (file_faults disk))
+    (seen rest written source_faults sink_faults (faults keeper_now) (file_faults disk_now)) past why
     ⊎ (IsLandEnd before now why × IsUntouched script script sink sink keeper keeper_now disk disk_now link link_now past)
-unserved held may_leave faults tells bytes images file_faults linked copy left before now script sink keeper keeper_now disk disk_now link link_now rest written source_faults sink_faults past why none same (inl u) =
+unserved held may_leave faults tells reads images file_faults applied left before now script sink keeper keeper_now disk disk_now link link_now rest written
+    source_faults sink_faults past why none same (inl u) =
     inr (u.end, record { reading = refl; writing = refl; storing = u.storing; filing = u.filing; linking = same; none = none })
-unserved held may_leave faults tells bytes images file_faults linked copy left before now script sink keeper keeper_now disk disk_now link link_now rest written source_faults sink_faults past why none same (inr a) =
+unserved held may_leave faults tells reads images file_faults applied left before now script sink keeper keeper_now disk disk_now link link_now rest written
+    source_faults sink_faults past why none same (inr a) =
     inl (record {
       land = a.land;
       read = a.read;
-      serves = inr (subst (λ p. IsUnopened (is_some (held keeper)) (may_leave keeper) (may_leave keeper_now) tells images disk disk_now
-          (seen rest written source_faults sink_faults (faults keeper) (file_faults disk)) (seen rest written source_faults sink_faults (faults keeper_now) (file_faults disk_now)) p why) (sym none)
+      serves = inr (subst
+          (λ p. IsUnopened (found_in held may_leave tells reads images applied keeper disk link) (left_in may_leave images applied keeper_now disk_now link_now)
+          disk disk_now link link_now (seen rest written source_faults sink_faults (faults keeper) (file_faults disk))
+          (seen rest written source_faults sink_faults (faults keeper_now) (file_faults disk_now)) p why) (sym none)
           (a.unopened rest written source_faults sink_faults));
     })
 
 -- the same of one whose script is made from a number
-pub unloaded : {T K D L : Type 0} (held : K → Option Rows) (may_leave : K → Rows → Type 0) (faults : K → ℕ) (tells : Bool) (bytes : List ℕ) (images : D → List ℕ → Type 0) (file_faults : D → ℕ)
-    (linked : Bool) (copy : Option (List Entry)) (units : ℕ) (left : Option (List ℕ)) (before now : ℕ) (sink : T) (keeper keeper_now : K) (disk disk_now : D) (link link_now : L) (written : Option (List ℕ)) (sink_faults : ℕ) (past : List PastEntry) (why : Why)
+pub unloaded : {T K D L : Type 0} (held : K → Option Rows) (may_leave : K → Rows → Type 0) (faults : K → ℕ) (tells : Bool) (reads : D → List ℕ)
+    (images : D → List ℕ → Type 0) (file_faults : D → ℕ) (applied : L → Option (List Entry))
+    (units : ℕ) (left : Option (List ℕ)) (before now : ℕ) (sink : T) (keeper keeper_now : K) (disk disk_now : D) (link link_now : L)
+    (written : Option (List ℕ)) (sink_faults : ℕ) (past : List PastEntry) (why : Why)
     → past ≡ [] → link_now ≡ link
-    → IsUnlanded before now keeper keeper_now disk disk_now why ⊎ IsLandedAlone held may_leave faults tells images file_faults left keeper keeper_now disk disk_now why
-    → HasLoaded units left (is_some (held keeper)) linked (may_leave keeper) (may_leave keeper_now) tells bytes images disk disk_now copy
-    (seen None written 0 sink_faults (faults keeper) (file_faults disk)) (seen None written 0 sink_faults (faults keeper_now) (file_faults disk_now)) past why
+    → IsUnlanded before now keeper keeper_now disk disk_now why ⊎ IsLandedAlone held may_leave faults tells reads images file_faults applied left
+    keeper keeper_now disk disk_now link link_now why
+    → HasLoaded units left (found_in held may_leave tells reads images applied keeper disk link) (left_in may_leave images applied keeper_now disk_now link_now)
+    disk disk_now link link_now (seen None written 0 sink_faults (faults keeper) (file_faults disk))
+    (seen None written 0 sink_faults (faults keeper_now) (file_faults disk_now)) past why
     ⊎ (IsLandEnd before now why × (sink ≡ sink) × (keeper_now ≡ keeper) × (disk_now ≡ disk) × (link_now ≡ link) × (past ≡ []))
-unloaded held may_leave faults tells bytes images file_faults linked copy units left before now sink keeper keeper_now disk disk_now link link_now written sink_faults past why none same (inl u) =
+unloaded held may_leave faults tells reads images file_faults applied units left before now sink keeper keeper_now disk disk_now link link_now written
+    sink_faults past why none same (inl u) =
     inr (u.end, refl, u.storing, u.filing, same, none)
-unloaded held may_leave faults tells bytes images file_faults linked copy units left before now sink keeper keeper_now disk disk_now link link_now written sink_faults past why none same (inr a) =
+unloaded held may_leave faults tells reads images file_faults applied units left before now sink keeper keeper_now disk disk_now link link_now written
+    sink_faults past why none same (inr a) =
     inl (record {
       land = a.land;
       read = a.read;
-      loads = inr (subst (λ p. IsUnopened (is_some (held keeper)) (may_leave keeper) (may_leave keeper_now) tells images disk disk_now
-          (seen None written 0 sink_faults (faults keeper) (file_faults disk)) (seen None written 0 sink_faults (faults keeper_now) (file_faults disk_now)) p why) (sym none)
+      loads = inr (subst
+          (λ p. IsUnopened (found_in held may_leave tells reads images applied keeper disk link) (left_in may_leave images applied keeper_now disk_now link_now)
+          disk disk_now link link_now (seen None written 0 sink_faults (faults keeper) (file_faults disk))
+          (seen None written 0 sink_faults (faults keeper_now) (file_faults disk_now)) p why) (sym none)
           (a.unopened None written 0 sink_faults));
     })
 
 -- the same of the number that the words name, and of a script that nobody touched
-pub loaded_as : {S T K D L : Type 0} (m n : ℕ) → m ≡ n → (left : Option (List ℕ)) (told linked : Bool) (before after : Rows → Type 0) (tells : Bool) (bytes : List ℕ) (images : D → List ℕ → Type 0) (disk disk_now : D) (copy : Option (List Entry)) (old new : Seen)
-    (faults faults_now : ℕ) (script script_now : S) (sink sink_now : T) (keeper keeper_now : K) (link link_now : L) (past : List PastEntry) (why : Why) → script_now ≡ script
-    → HasLoaded m left told linked before after tells bytes images disk disk_now copy old new past why ⊎ (IsLandEnd faults faults_now why × (sink_now ≡ sink) × (keeper_now ≡ keeper) × (disk_now ≡ disk) × (link_now ≡ link) × (past ≡ []))
-    → HasLoaded n left told linked before after tells bytes images disk disk_now copy old new past why ⊎ (IsLandEnd faults faults_now why × IsUntouched script script_now sink sink_now keeper keeper_now disk disk_now link link_now past)
-loaded_as m n same left told linked before after tells bytes images disk disk_now copy old new faults faults_now script script_now sink sink_now keeper keeper_now link link_now past why still (inl h) =
-    inl (subst (λ k. HasLoaded k left told linked before after tells bytes images disk disk_now copy old new past why) same h)
-loaded_as m n same left told linked before after tells bytes images disk disk_now copy old new faults faults_now script script_now sink sink_now keeper keeper_now link link_now past why still (inr h) =
+pub loaded_as : {S T K D L : Type 0} (m n : ℕ) → m ≡ n → (left : Option (List ℕ)) (site : SiteFound) (site_now : SiteLeft) (disk disk_now : D) (old new : Seen)
+    (faults faults_now : ℕ) (script script_now : S) (sink sink_now : T) (keeper keeper_now : K) (link link_now : L) (past : List PastEntry) (why : Why)
+    → script_now ≡ script
+    → HasLoaded m left site site_now disk disk_now link link_now old new past why
+    ⊎ (IsLandEnd faults faults_now why × (sink_now ≡ sink) × (keeper_now ≡ keeper) × (disk_now ≡ disk) × (link_now ≡ link) × (past ≡ []))
+    → HasLoaded n left site site_now disk disk_now link link_now old new past why
+    ⊎ (IsLandEnd faults faults_now why × IsUntouched script script_now sink sink_now keeper keeper_now disk disk_now link link_now past)
+loaded_as m n same left site site_now disk disk_now old new faults faults_now script script_now sink sink_now keeper
+    keeper_now link link_now past why still (inl h) =
+    inl (subst (λ k. HasLoaded k left site site_now disk disk_now link link_now old new past why) same h)
+loaded_as m n same left site site_now disk disk_now old new faults faults_now script script_now sink sink_now keeper
+    keeper_now link link_now past why still (inr h) =
     inr (h.0, record { reading = still; writing = h.1; storing = h.2; filing = h.3; linking = h.4; none = h.5 })
 
 -- ---- the ends of a run
 
-by_run : (P : Why → Type 0) (why : Why) → IsRunEnd why → P Done → ((n : ℕ) → P (BadLine n)) → P SourceFault → P SinkFault → ((n : ℕ) → P (LongLine n)) → P ManyLines → ((k : ℕ) → P (StoreFault k)) → ((k : ℕ) → P (BackupFault k)) → ((table row : ℕ) → P (BadStore table row)) → ((place : BackupBad) → P (BadBackup place)) → P NoMemory → P why
+by_run : (P : Why → Type 0) (why : Why) → IsRunEnd why → P Done → ((n : ℕ) → P (BadLine n)) → P SourceFault → P SinkFault → ((n : ℕ) → P (LongLine n))
+    → P ManyLines → ((k : ℕ) → P (StoreFault k)) → ((k : ℕ) → P (BackupFault k)) → ((table row : ℕ) → P (BadStore table row))
+    → ((place : BackupBad) → P (BadBackup place)) → P NoMemory → P why
 by_run P Done h done bad source sink long many store file shelf shut memory = done
 by_run P BadWords h done bad source sink long many store file shelf shut memory = absurd h
 by_run P (BadLandscape rule place) h done bad source sink long many store file shelf shut memory = absurd h
@@ -203,15 +250,18 @@ some_of P (Some x) h = h x
 
 -- none of them tells a rule or a last start
 pub run_unfit : (o : Option Rows) (left : Option (List ℕ)) (may_be : Rows → Type 0) (why : Why) → IsRunEnd why → IfSome o (λ _. IsUnfitEnd left may_be why)
-run_unfit o left may_be why h = some_of _ o (λ rows. by_run (IsUnfitEnd left may_be) why h tt (λ n. tt) tt tt (λ n. tt) tt (λ k. tt) (λ k. tt) (λ table row. tt) (λ place. tt) tt)
+run_unfit o left may_be why h =
+    some_of _ o (λ rows. by_run (IsUnfitEnd left may_be) why h tt (λ n. tt) tt tt (λ n. tt) tt (λ k. tt) (λ k. tt) (λ table row. tt) (λ place. tt) tt)
 
 -- and a bad place only where a call found one
 never_placed : (rows : Rows) (why : Why) → IsRunEnd why → ((table row : ℕ) → why ≡ BadStore table row → ⊥) → IsBadStore rows why
 never_placed rows why h =
     by_run (λ w. ((table row : ℕ) → w ≡ BadStore table row → ⊥) → IsBadStore rows w) why h
-    (λ none. tt) (λ n none. tt) (λ none. tt) (λ none. tt) (λ n none. tt) (λ none. tt) (λ k none. tt) (λ k none. tt) (λ table row none. absurd (none table row refl)) (λ place none. tt) (λ none. tt)
+    (λ none. tt) (λ n none. tt) (λ none. tt) (λ none. tt) (λ n none. tt) (λ none. tt) (λ k none. tt) (λ k none. tt)
+    (λ table row none. absurd (none table row refl)) (λ place none. tt) (λ none. tt)
 
-pub run_place : (o : Option Rows) (why : Why) → IsRunEnd why → (is_some o ≡ true → (table row : ℕ) → why ≡ BadStore table row → ⊥) → IfSome o (λ rows. IsBadStore rows why)
+pub run_place : (o : Option Rows) (why : Why) → IsRunEnd why → (is_some o ≡ true → (table row : ℕ) → why ≡ BadStore table row → ⊥)
+    → IfSome o (λ rows. IsBadStore rows why)
 run_place None why h none = tt
 run_place (Some rows) why h none = never_placed rows why h (none refl)
 
@@ -222,7 +272,8 @@ pub run_last : (o : Option Rows) (why : Why) → IsRunEnd why → IfSome o (λ r
 run_last o why h = some_of _ o (λ rows. by_run (HasNoStart rows) why h tt (λ n. tt) tt tt (λ n. tt) tt (λ k. tt) (λ k. tt) (λ table row. tt) (λ place. tt) tt)
 
 pub run_document : (why : Why) → IsRunEnd why → IsBadDocument why → ⊥
-run_document why h = by_run (λ w. IsBadDocument w → ⊥) why h (λ d. d) (λ n d. d) (λ d. d) (λ d. d) (λ n d. d) (λ d. d) (λ k d. d) (λ k d. d) (λ table row d. d) (λ place d. d) (λ d. d)
+run_document why h = by_run (λ w. IsBadDocument w → ⊥) why h (λ d. d) (λ n d. d) (λ d. d) (λ d. d) (λ n d. d) (λ d. d) (λ k d. d) (λ k d. d) (λ table row d. d)
+    (λ place d. d) (λ d. d)
 
 ends_so : (before after : State) (objects : List Object) (old new : Seen) (why : Why) → RunsScript objects before after old new why → IsRunEnd why
 ends_so before after objects old new Done run = tt
@@ -242,7 +293,8 @@ ends_so before after objects old new NoMemory run = tt
 ends_so before after objects old new LogFull run = absurd (run.replays.end)
 
 -- the kind of such a run's end
-pub run_kind : (before after : State) (objects : List Object) (old new : Seen) (why end : Why) → end ≡ why → RunsScript objects before after old new why → IsRunEnd end
+pub run_kind : (before after : State) (objects : List Object) (old new : Seen) (why end : Why) → end ≡ why → RunsScript objects before after old new why
+    → IsRunEnd end
 run_kind before after objects old new why end is run = subst IsRunEnd (sym is) (ends_so before after objects old new why run)
 
 -- a count that stood still under other names
@@ -254,7 +306,8 @@ pub none_answered : (tells : Reply → Bool) (past : List PastEntry) → past �
 none_answered tells past none = subst (NoneTells tells) (sym none) refl
 
 -- a link that didn't fail over a run from a first state
-pub link_quiet : (land : Landscape) (t linked : Bool) (l : Ledger) (before after : State) (past : List PastEntry) (a b c d : ℕ) → before ≡ first_state land t linked l → past ≡ after.past → a ≡ c → b ≡ d
+pub link_quiet : (land : Landscape) (t linked : Bool) (l : Ledger) (before after : State) (past : List PastEntry) (a b c d : ℕ)
+    → before ≡ first_state land t linked l → past ≡ after.past → a ≡ c → b ≡ d
     → TellsNoFault a b before.past after.past → (Rose c d → ⊥) → NoneTells is_link_fault past
 link_quiet land t linked l before after past a b c d first history from to tells still =
     subst (NoneTells is_link_fault) (sym history) (tells (still_by a b c d from to still) (first_sound is_link_fault land t linked l before first))

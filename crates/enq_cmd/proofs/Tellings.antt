@@ -34,7 +34,7 @@ use Rattle.script_runner.specs.World.{World, first_world, world}
 use Rattle.script_runner.proofs.GoodFiles.{answer_sound, never_met}
 use Rattle.script_runner.specs.Faults.{NoneTells, NoneUnsound, NoneUnsoundReplica, NoneUnsoundStore}
 use Rattle.script_runner.specs.Whole.{IsComplete, IsScript}
-use Rattle.enq_cmd.specs.Main.{AreServed, EndsComplete, HadHanded, HasHanded, IsFaultless, IsGoodFile, IsLedgerBy, IsLedgerOf, IsNextOf, IsServed, Ran, SurvivesStop, first_state}
+use Rattle.enq_cmd.specs.Main.{AreServed, EndsComplete, HadHanded, HasHanded, IsFaultless, IsGoodFile, IsLedgerBy, IsLedgerOf, IsNextOf, IsServed, Ran, SiteFound, SiteLeft, SurvivesStop, first_state}
 use Rattle.enq_cmd.proofs.Lands.{landed_intervals}
 use Rattle.enq_cmd.proofs.Numbers.{handed_held, numbers_right}
 use Rattle.ledger_steps.specs.Views.{open_locks}
@@ -53,30 +53,35 @@ use Rattle.hall_calls.specs.OpenLists.{AgreeAll}
 use Rattle.hall_model.specs.OpenUnits.{OfPending, open_entries}
 use Rattle.backup_file.specs.declared.handed.Handed.{Handed}
 use Rattle.lock_entry.specs.Sound.{IsSound as IsSoundTable}
-use Rattle.lock_entry.specs.declared.entry.Entry.{Entry}
 
-told_does : (first : State) (w : World) (n : ℕ) (l : ScriptLine) (d : DeviceOutcome) (m : Meaning) → ((c : Command) → m ≡ Calls c → IsAllowed d w.hall c) → IsTold first w.hall → IsTold first (does w n l d m).world.hall
+told_does : (first : State) (w : World) (n : ℕ) (l : ScriptLine) (d : DeviceOutcome) (m : Meaning) → ((c : Command) → m ≡ Calls c → IsAllowed d w.hall c)
+    → IsTold first w.hall → IsTold first (does w n l d m).world.hall
 told_does first w n l d Silent allowed h = h
 told_does first w n l d (Shows m) allowed h = h
 told_does first w n l d (Calls c) allowed h =
     let s = step d w.hall n c in
-    subst (λ (x : World). IsTold first x.hall) (sym (answered-world (world w.objects s.state (settled l s.reply w.sides)) n s.reply)) (told_step first w.hall d n c h (allowed c refl))
+    subst (λ (x : World). IsTold first x.hall) (sym (answered-world (world w.objects s.state (settled l s.reply w.sides)) n s.reply))
+    (told_step first w.hall d n c h (allowed c refl))
 told_does first w n l d (Declines r) allowed h = subst (λ (x : World). IsTold first x.hall) (sym (answered-world w n (reply.Refused r))) h
 told_does first w n l d (Changes sides) allowed h = h
 
-may_have : (w : World) (lists : Bool) (l : ScriptLine) (d : DeviceOutcome) → MayHave w lists (Some l) (Called d) → (c : Command) → meaning w l ≡ Calls c → IsAllowed d w.hall c
+may_have : (w : World) (lists : Bool) (l : ScriptLine) (d : DeviceOutcome) → MayHave w lists (Some l) (Called d) → (c : Command) → meaning w l ≡ Calls c
+    → IsAllowed d w.hall c
 may_have w lists l d h c e = subst (λ m. CallMayHave w d m) e h
 
-told_said : (first : State) (w : World) (n : ℕ) (lists : Bool) (known : Option ScriptLine) (o : LineOutcome) → MayHave w lists known o → IsTold first w.hall → IsTold first (said w n known o).world.hall
+told_said : (first : State) (w : World) (n : ℕ) (lists : Bool) (known : Option ScriptLine) (o : LineOutcome) → MayHave w lists known o → IsTold first w.hall
+    → IsTold first (said w n known o).world.hall
 told_said first w n lists known NoRoom allowed h = h
 told_said first w n lists None (Called d) allowed h = h
 told_said first w n lists (Some l) (Called d) allowed h =
     told_does first w n l d (meaning w l) (may_have w lists l d allowed) h
 
-told_line : (first : State) (w : World) (n : ℕ) (bytes : List ℕ) (o : LineOutcome) → LineMayHave w bytes o → IsTold first w.hall → IsTold first (line_does w n bytes o).world.hall
+told_line : (first : State) (w : World) (n : ℕ) (bytes : List ℕ) (o : LineOutcome) → LineMayHave w bytes o → IsTold first w.hall
+    → IsTold first (line_does w n bytes o).world.hall
 told_line first w n bytes o allowed h = told_said first w n (holds_lists bytes) (line_in bytes) o allowed h
 
-told_turn : (first : State) (p : Progress) (t : Turn) (stop : Option Why) → LineMayHave p.world t.line t.outcome → IsTold first p.world.hall → IsTold first (after_turn stop p t).world.hall
+told_turn : (first : State) (p : Progress) (t : Turn) (stop : Option Why) → LineMayHave p.world t.line t.outcome → IsTold first p.world.hall
+    → IsTold first (after_turn stop p t).world.hall
 told_turn first p t None allowed h = told_line first p.world (p.number + 1) t.line t.outcome allowed h
 told_turn first p t (Some why) allowed h = h
 
@@ -85,30 +90,39 @@ told_turns first p [] allowed h = h
 told_turns first p (t ∷ ts) allowed h = told_turns first (next p t) ts allowed.1 (told_turn first p t p.stop allowed.0 h)
 
 -- the state in which a run from the first one ends is that to which its history leads
-told_after : (land : Landscape) (t linked : Bool) (l : Ledger) (after : State) (old new : Seen) (why : Why) → RunsScript land.objects (first_state land t linked l) after old new why → IsTold (first_state land t linked l) after
+told_after : (land : Landscape) (t linked : Bool) (l : Ledger) (after : State) (old new : Seen) (why : Why)
+    → RunsScript land.objects (first_state land t linked l) after old new why → IsTold (first_state land t linked l) after
 told_after land t linked l after old new why h =
     let first = first_world land.objects (first_state land t linked l) in
     let turns = h.replays.turns in
-    let told : IsTold (first_state land t linked l) (run first turns).world.hall = told_turns (first_state land t linked l) (begun first) turns h.replays.allowed (told_first (first_state land t linked l) refl) in
+    let told : IsTold (first_state land t linked l) (run first turns).world.hall =
+    told_turns (first_state land t linked l) (begun first) turns h.replays.allowed (told_first (first_state land t linked l) refl) in
     subst (λ (x : World). IsTold (first_state land t linked l) x.hall) (sym h.replays.world) told
 
 -- a run, said of what is known of its parts
-pub record HasRun (land : Landscape) (t linked : Bool) (l : Ledger) (before after : State) (objects : List Object) (old new : Seen) (past : List PastEntry) (why : Why) : Type 0 where
+pub record HasRun (land : Landscape) (t linked : Bool) (l : Ledger) (before after : State) (objects : List Object) (old new : Seen) (past : List PastEntry)
+    (why : Why) : Type 0 where
   pub first : before ≡ first_state land t linked l
   pub known : objects ≡ land.objects
   pub history : past ≡ after.past
   pub runs : RunsScript objects before after old new why
-  pub complete : (bytes : List ℕ) → old.left ≡ Some bytes → IsScript bytes → IsFaultless old new → IsComplete (first_world objects before) after bytes old.written new.written why
+  pub complete : (bytes : List ℕ) → old.left ≡ Some bytes → IsScript bytes → IsFaultless old new
+      → IsComplete (first_world objects before) after bytes old.written new.written why
 
-runs_first : (land : Landscape) (t linked : Bool) (l : Ledger) (before after : State) (objects : List Object) (old new : Seen) (past : List PastEntry) (why : Why) → HasRun land t linked l before after objects old new past why → RunsScript land.objects (first_state land t linked l) after old new why
+runs_first : (land : Landscape) (t linked : Bool) (l : Ledger) (before after : State) (objects : List Object) (old new : Seen) (past : List PastEntry)
+    (why : Why) → HasRun land t linked l before after objects old new past why → RunsScript land.objects (first_state land t linked l) after old new why
 runs_first land t linked l before after objects old new past why h =
     subst (λ s. RunsScript land.objects s after old new why) h.first (subst (λ os. RunsScript os before after old new why) h.known h.runs)
 
 -- the calls of a run, each with what the devices did in it
-told_by : (land : Landscape) (t linked : Bool) (l : Ledger) (before after : State) (objects : List Object) (old new : Seen) (past : List PastEntry) (why : Why) → HasRun land t linked l before after objects old new past why → IsTold (first_state land t linked l) after
-told_by land t linked l before after objects old new past why h = told_after land t linked l after old new why (runs_first land t linked l before after objects old new past why h)
+told_by : (land : Landscape) (t linked : Bool) (l : Ledger) (before after : State) (objects : List Object) (old new : Seen) (past : List PastEntry) (why : Why)
+    → HasRun land t linked l before after objects old new past why → IsTold (first_state land t linked l) after
+told_by land t linked l before after objects old new past why h = told_after land t linked l after old new why
+    (runs_first land t linked l before after objects old new past why h)
 
-ran : (land : Landscape) (t linked : Bool) (l : Ledger) (before after : State) (objects : List Object) (old new : Seen) (past : List PastEntry) (why : Why) → HasRun land t linked l before after objects old new past why → (told : IsTold (first_state land t linked l) after) → Ran land t linked l old new told.made why
+ran : (land : Landscape) (t linked : Bool) (l : Ledger) (before after : State) (objects : List Object) (old new : Seen) (past : List PastEntry) (why : Why)
+    → HasRun land t linked l before after objects old new past why → (told : IsTold (first_state land t linked l) after)
+    → Ran land t linked l old new told.made why
 ran land t linked l before after objects old new past why h told =
     record {
       after = after;
@@ -121,16 +135,20 @@ ran land t linked l before after objects old new past why h told =
     }
 
 -- a first state isn't in doubt
-never_in_doubt : (land : Landscape) (t linked : Bool) (l : Ledger) (before : State) → before ≡ first_state land t linked l → IsTrue (is_some (doubt_of before)) → ⊥
+never_in_doubt : (land : Landscape) (t linked : Bool) (l : Ledger) (before : State) → before ≡ first_state land t linked l → IsTrue (is_some (doubt_of before))
+    → ⊥
 never_in_doubt land t linked l before e doubted = let up = sym doubted ∙ ap (λ (s : State). is_some (doubt_of s)) e in cc
 
 -- no call of such a history found a device that isn't good
-never_found : (tells : Reply → Bool) (before after : State) (place : Bad) → tells (reply.Refused (refusal.Unsound place)) ≡ true → NoneTells tells after.past → IsFoundBad before after place → ⊥
+never_found : (tells : Reply → Bool) (before after : State) (place : Bad) → tells (reply.Refused (refusal.Unsound place)) ≡ true → NoneTells tells after.past
+    → IsFoundBad before after place → ⊥
 never_found tells before after place on none found =
     let wrong : true ≡ false = sym on ∙ answer_sound tells after.past found.call (reply.Refused (refusal.Unsound place)) none found.doubted.1 in cc
 
 -- a run that is complete from a server that is up is done, or memory was wanting
-complete_ends : (may_be : Rows → Type 0) (land : Landscape) (t linked : Bool) (l : Ledger) (objects : List Object) (before after : State) (bytes : List ℕ) (old new : Option (List ℕ)) (why : Why) → before ≡ first_state land t linked l → NoneUnsound after.past → NoneUnsoundStore after.past → IsComplete (first_world objects before) after bytes old new why → EndsComplete may_be why
+complete_ends : (may_be : Rows → Type 0) (land : Landscape) (t linked : Bool) (l : Ledger) (objects : List Object) (before after : State) (bytes : List ℕ)
+    (old new : Option (List ℕ)) (why : Why) → before ≡ first_state land t linked l → NoneUnsound after.past → NoneUnsoundStore after.past
+    → IsComplete (first_world objects before) after bytes old new why → EndsComplete may_be why
 complete_ends may_be land t linked l objects before after bytes old new Done e none stores h = inl refl
 complete_ends may_be land t linked l objects before after bytes old new (StoreFault k) e none stores h = absurd (let up = sym h.0 ∙ ap doubt_of e in cc)
 complete_ends may_be land t linked l objects before after bytes old new (BackupFault k) e none stores h = absurd (let up = sym h.0 ∙ ap doubt_of e in cc)
@@ -142,23 +160,32 @@ complete_ends may_be land t linked l objects before after bytes old new SourceFa
 complete_ends may_be land t linked l objects before after bytes old new SinkFault e none stores h = absurd h
 complete_ends may_be land t linked l objects before after bytes old new (LongLine n) e none stores h = absurd h
 complete_ends may_be land t linked l objects before after bytes old new ManyLines e none stores h = absurd h
-complete_ends may_be land t linked l objects before after bytes old new (BadStore table row) e none stores (inl h) = absurd (never_in_doubt land t linked l before e h.0)
-complete_ends may_be land t linked l objects before after bytes old new (BadStore table row) e none stores (inr met) = absurd (never_met before after none stores met)
-complete_ends may_be land t linked l objects before after bytes old new (BadBackup place) e none stores (inl h) = absurd (never_in_doubt land t linked l before e h.0)
-complete_ends may_be land t linked l objects before after bytes old new (BadBackup place) e none stores (inr met) = absurd (never_met before after none stores met)
+complete_ends may_be land t linked l objects before after bytes old new (BadStore table row) e none stores (inl h) =
+    absurd (never_in_doubt land t linked l before e h.0)
+complete_ends may_be land t linked l objects before after bytes old new (BadStore table row) e none stores (inr met) =
+    absurd (never_met before after none stores met)
+complete_ends may_be land t linked l objects before after bytes old new (BadBackup place) e none stores (inl h) =
+    absurd (never_in_doubt land t linked l before e h.0)
+complete_ends may_be land t linked l objects before after bytes old new (BadBackup place) e none stores (inr met) =
+    absurd (never_met before after none stores met)
 complete_ends may_be land t linked l objects before after bytes old new NoStart e none stores h = absurd h
 complete_ends may_be land t linked l objects before after bytes old new LogFull e none stores h = absurd h
 
-pub completes_as : (may_be : Rows → Type 0) (land : Landscape) (t linked : Bool) (l : Ledger) (objects : List Object) (before after : State) (bytes : List ℕ) (old new : Option (List ℕ)) (why end : Why) → before ≡ first_state land t linked l → why ≡ end → NoneUnsound after.past → NoneUnsoundStore after.past → IsComplete (first_world objects before) after bytes old new why → EndsComplete may_be end
+pub completes_as : (may_be : Rows → Type 0) (land : Landscape) (t linked : Bool) (l : Ledger) (objects : List Object) (before after : State) (bytes : List ℕ)
+    (old new : Option (List ℕ)) (why end : Why) → before ≡ first_state land t linked l → why ≡ end → NoneUnsound after.past → NoneUnsoundStore after.past
+    → IsComplete (first_world objects before) after bytes old new why → EndsComplete may_be end
 completes_as may_be land t linked l objects before after bytes old new why end e w none stores h =
     subst (EndsComplete may_be) w (complete_ends may_be land t linked l objects before after bytes old new why e none stores h)
 
 -- no call before a first state was answered so
-pub first_sound : (tells : Reply → Bool) (land : Landscape) (t linked : Bool) (l : Ledger) (before : State) → before ≡ first_state land t linked l → NoneTells tells before.past
+pub first_sound : (tells : Reply → Bool) (land : Landscape) (t linked : Bool) (l : Ledger) (before : State) → before ≡ first_state land t linked l
+    → NoneTells tells before.past
 first_sound tells land t linked l before e = subst (λ (s : State). NoneTells tells s.past) (sym e) refl
 
 -- a device that isn't good is told by no run from a first state
-pub never_bad : (tells : Reply → Bool) (land : Landscape) (t linked : Bool) (l : Ledger) (before after : State) (place : Bad) → tells (reply.Refused (refusal.Unsound place)) ≡ true → before ≡ first_state land t linked l → NoneTells tells after.past → HasBadCause before after place → ⊥
+pub never_bad : (tells : Reply → Bool) (land : Landscape) (t linked : Bool) (l : Ledger) (before after : State) (place : Bad)
+    → tells (reply.Refused (refusal.Unsound place)) ≡ true → before ≡ first_state land t linked l → NoneTells tells after.past → HasBadCause before after place
+    → ⊥
 never_bad tells land t linked l before after place on e none (inl doubted) = never_in_doubt land t linked l before e doubted
 never_bad tells land t linked l before after place on e none (inr found) = never_found tells before after place on none found
 
@@ -168,9 +195,11 @@ where_told P None told h = absurd (cc)
 where_told P (Some rows) told h = h
 
 survives_with : (rows : Rows) (s : State) (ledger : Ledger) → IsLedgerOf s ledger → StandFor rows ledger → SurvivesStop rows s
-survives_with rows s ledger known stand = record { ledger = ledger; known = known; stand = stand; right = books_right rows ledger stand; business = holds_books rows ledger stand }
+survives_with rows s ledger known stand =
+    record { ledger = ledger; known = known; stand = stand; right = books_right rows ledger stand; business = holds_books rows ledger stand }
 
-survives_pending : (rows : Rows) (s : State) (pending : Option Ledger) → s.pending ≡ pending → ((ledger : Ledger) → s.pending ≡ Some ledger → IsLedgerOf s ledger) → StandForPending rows pending → SurvivesStop rows s
+survives_pending : (rows : Rows) (s : State) (pending : Option Ledger) → s.pending ≡ pending
+    → ((ledger : Ledger) → s.pending ≡ Some ledger → IsLedgerOf s ledger) → StandForPending rows pending → SurvivesStop rows s
 survives_pending rows s None is known stand = absurd stand
 survives_pending rows s (Some ledger) is known stand = survives_with rows s ledger (known ledger is) stand
 
@@ -185,14 +214,17 @@ survives_by rows s (Some true) is stand = survives_pending rows s s.pending refl
 survives : (rows : Rows) (s : State) → StandForState rows s → SurvivesStop rows s
 survives rows s h = survives_by rows s s.found refl h
 
-agree_pending : (s : State) (lists : List Handed) (ledger : Ledger) → s.pending ≡ Some ledger → OfPending s.pending (λ l. AgreeAll l lists) → AgreeAll ledger lists
+agree_pending : (s : State) (lists : List Handed) (ledger : Ledger) → s.pending ≡ Some ledger → OfPending s.pending (λ l. AgreeAll l lists)
+    → AgreeAll ledger lists
 agree_pending s lists ledger is h = subst (λ p. OfPending p (λ l. AgreeAll l lists)) is h
 
-together_pending : (s : State) (ledger : Ledger) → s.pending ≡ Some ledger → OfPending s.pending (λ l. IsSoundTable (open_entries l)) → IsSoundTable (open_entries ledger)
+together_pending : (s : State) (ledger : Ledger) → s.pending ≡ Some ledger → OfPending s.pending (λ l. IsSoundTable (open_entries l))
+    → IsSoundTable (open_entries ledger)
 together_pending s ledger is h = subst (λ p. OfPending p (λ l. IsSoundTable (open_entries l))) is h
 
 -- by what is known of the change in flight
-agree_by : (s : State) (lists : List Handed) (ledger : Ledger) (found : Option Bool) → UnlessTaken found (AgreeAll s.stored lists) → UnlessUntaken found (OfPending s.pending (λ l. AgreeAll l lists)) → IsLedgerBy found s ledger → AgreeAll ledger lists
+agree_by : (s : State) (lists : List Handed) (ledger : Ledger) (found : Option Bool) → UnlessTaken found (AgreeAll s.stored lists)
+    → UnlessUntaken found (OfPending s.pending (λ l. AgreeAll l lists)) → IsLedgerBy found s ledger → AgreeAll ledger lists
 agree_by s lists ledger None agree landed (inl is) = subst (λ l. AgreeAll l lists) (sym is) agree
 agree_by s lists ledger None agree landed (inr is) = agree_pending s lists ledger is landed
 agree_by s lists ledger (Some false) agree landed is = subst (λ l. AgreeAll l lists) (sym is) agree
@@ -210,11 +242,13 @@ handed_in image s units h = record {
   lists = h.lists;
   stands = h.stands;
   agree = λ ledger known. agree_by s h.lists ledger s.found h.agree h.landed known;
+  only = h.only;
   together = λ ledger known. together_by s ledger s.found units known;
 }
 
 -- the next start finds a file that has the locks of the units that wait in the store
-good_next : (may_leave : Rows → Type 0) (s : State) (image : List ℕ) → ((rows : Rows) → may_leave rows → SurvivesStop rows s) → HasHanded image s → IsGoodFile may_leave image
+good_next : (may_leave : Rows → Type 0) (s : State) (image : List ℕ) → ((rows : Rows) → may_leave rows → SurvivesStop rows s) → HasHanded image s
+    → IsGoodFile may_leave image
 good_next may_leave s image left handed ledger stood place bad =
     let survives = left stood.0 stood.1 in
     let one : ledger ≡ survives.ledger = one_ledger stood.0 ledger survives.ledger stood.2 survives.stand in
@@ -222,7 +256,8 @@ good_next may_leave s image left handed ledger stood place bad =
     no_bad_place image (open_locks ledger) handed.lists place handed.stands (handed.agree ledger known) (handed.together ledger known) bad
 
 -- the next start finds the ledger that the rows stand for, and there is one
-follows_on : (may_leave : Rows → Type 0) (s : State) → ((rows : Rows) → may_leave rows → SurvivesStop rows s) → (next : Ledger) → IsRaised (HasStood may_leave) true next → IsNextOf s next
+follows_on : (may_leave : Rows → Type 0) (s : State) → ((rows : Rows) → may_leave rows → SurvivesStop rows s) → (next : Ledger)
+    → IsRaised (HasStood may_leave) true next → IsNextOf s next
 follows_on may_leave s left next found =
     let stood = found.1 in
     let survives = left stood.0 stood.1 in
@@ -230,19 +265,22 @@ follows_on may_leave s left next found =
     (survives.ledger, survives.known, found.2 ∙ ap (λ (l : Ledger). with_start l (l.start + 1)) one)
 
 -- what is promised of these calls, over a store that was opened
-pub promises_with : (land : Landscape) (t linked : Bool) (l : Ledger) (may_be may_leave : Rows → Type 0) (tells : Bool) (bytes : List ℕ) (images : List ℕ → Type 0)
-    (copy : Option (List Entry)) (after : State) (past : List PastEntry) (made : List Made)
-    → HasLimits land → IsRaised IsSound true l → (IsTrue t → IsRaised (HasStood may_be) true l) → FitRows land.ranges l.levels → IsFirstTable land.max_locks l → (IsTrue tells → HadHanded bytes l)
-    → past ≡ calls_of made → AreModelAnswers (first_state land t linked l) made → after ≡ state_after (first_state land t linked l) made
-    → (IsTrue t → (rows : Rows) → may_leave rows → StandForState rows after)
-    → (IsTrue tells → (image : List ℕ) → images image → RecoversFrom after.condition after.stored after.pending after.found image) → HasOpenUnits after
-    → (after.attached ≡ true → IfSome copy (λ list. list ≡ after.locks))
-    → (IsTrue tells → NoneUnsound past) → (IsTrue t → NoneUnsoundStore past) → (IsTrue linked → NoneUnsoundReplica past)
-    → AreServed land t linked may_be may_leave tells bytes images copy l made past
-promises_with land t linked l may_be may_leave tells bytes images copy after past made limits good found fit table filed calls answers leads left lists units follows files stores replicas =
+pub promises_with : (land : Landscape) (site : SiteFound) (site_now : SiteLeft) (l : Ledger) (after : State) (past : List PastEntry) (made : List Made)
+    → HasLimits land → IsRaised IsSound true l → (IsTrue site.told → IsRaised (HasStood site.rows) true l) → FitRows land.ranges l.levels
+    → IsFirstTable land.max_locks l → (IsTrue site.tells → HadHanded site.bytes l)
+    → past ≡ calls_of made → AreModelAnswers (first_state land site.told site.linked l) made
+    → after ≡ state_after (first_state land site.told site.linked l) made
+    → (IsTrue site.told → (rows : Rows) → site_now.rows rows → StandForState rows after)
+    → (IsTrue site.tells → (image : List ℕ) → site_now.images image → RecoversFrom after.condition after.stored after.pending after.found image)
+    → HasOpenUnits after → (after.attached ≡ true → IfSome site_now.list (λ list. list ≡ after.locks))
+    → (IsTrue site.tells → NoneUnsound past) → (IsTrue site.told → NoneUnsoundStore past) → (IsTrue site.linked → NoneUnsoundReplica past)
+    → AreServed land site site_now l made past
+promises_with land site site_now l after past made limits good found fit table filed calls answers leads left lists units follows files stores replicas =
+    let t = site.told in
+    let linked = site.linked in
     let first = first_state land t linked l in
     let agree : AgreeWith land.ranges l = record { good = landed_intervals land limits; fit = fit } in
-    let left_after : IsTrue t → (rows : Rows) → may_leave rows → SurvivesStop rows (state_after first made) =
+    let left_after : IsTrue t → (rows : Rows) → site_now.rows rows → SurvivesStop rows (state_after first made) =
     λ yes rows may. subst (SurvivesStop rows) leads (survives rows after (left yes rows may)) in
     record {
       good = good;
@@ -255,28 +293,33 @@ promises_with land t linked l may_be may_leave tells bytes images copy after pas
       stand = locks_stand land.max_locks land.max_marks land.ranges t linked l made table limits.marks agree good answers;
       back = locks_return land.max_locks land.max_marks land.ranges t linked l made table limits.marks agree good answers;
       held = λ earlier later whole.
-          handed_held land.max_locks land.max_marks land.ranges t linked l earlier table limits.marks agree good (answers_before first made earlier later answers whole);
+          handed_held land.max_locks land.max_marks land.ranges t linked l earlier table limits.marks agree good
+          (answers_before first made earlier later answers whole);
       lost = losers_told first made answers;
       numbers = λ earlier later whole.
-          numbers_right land.max_locks land.max_marks land.ranges t linked l earlier table limits.marks agree good (answers_before first made earlier later answers whole);
+          numbers_right land.max_locks land.max_marks land.ranges t linked l earlier table limits.marks agree good
+          (answers_before first made earlier later answers whole);
       left = λ yes rows may. left_after yes rows may;
       handed = λ yes image may. subst (HasHanded image) leads (handed_in image after units (lists yes image may));
-      replica = subst (λ (s : State). s.attached ≡ true → IfSome copy (λ list. list ≡ s.locks)) leads follows;
+      replica = subst (λ (s : State). s.attached ≡ true → IfSome site_now.list (λ list. list ≡ s.locks)) leads follows;
       good_file = files;
       good_store = stores;
       good_replica = replicas;
-      opens = λ yes tells image may. good_next may_leave (state_after first made) image (left_after yes) (subst (HasHanded image) leads (handed_in image after units (lists tells image may)));
-      next = λ yes. follows_on may_leave (state_after first made) (left_after yes);
+      opens = λ yes tells image may. good_next site_now.rows (state_after first made) image (left_after yes)
+          (subst (HasHanded image) leads (handed_in image after units (lists tells image may)));
+      next = λ yes. follows_on site_now.rows (state_after first made) (left_after yes);
     }
 
 -- all that is said of a program that opened its store, and the state to which its calls lead
-pub served_with : (land : Landscape) (t linked : Bool) (l : Ledger) (may_be may_leave : Rows → Type 0) (tells : Bool) (bytes : List ℕ) (images : List ℕ → Type 0)
-    (copy : Option (List Entry)) (before after : State) (objects : List Object) (old new : Seen) (past : List PastEntry) (why : Why)
-    → ((made : List Made) → past ≡ calls_of made → AreModelAnswers (first_state land t linked l) made → after ≡ state_after (first_state land t linked l) made
-    → AreServed land t linked may_be may_leave tells bytes images copy l made past)
-    → HasRun land t linked l before after objects old new past why
-    → (s : IsServed land t linked may_be may_leave tells bytes images copy old new past why) × (after ≡ state_after (first_state land t linked s.stored) s.made)
-served_with land t linked l may_be may_leave tells bytes images copy before after objects old new past why promised h =
+pub served_with : (land : Landscape) (site : SiteFound) (site_now : SiteLeft) (l : Ledger) (before after : State) (objects : List Object) (old new : Seen)
+    (past : List PastEntry) (why : Why)
+    → ((made : List Made) → past ≡ calls_of made → AreModelAnswers (first_state land site.told site.linked l) made
+    → after ≡ state_after (first_state land site.told site.linked l) made → AreServed land site site_now l made past)
+    → HasRun land site.told site.linked l before after objects old new past why
+    → (s : IsServed land site site_now old new past why) × (after ≡ state_after (first_state land site.told site.linked s.stored) s.made)
+served_with land site site_now l before after objects old new past why promised h =
+    let t = site.told in
+    let linked = site.linked in
     let told = told_by land t linked l before after objects old new past why h in (
       record {
         stored = l;
@@ -288,11 +331,9 @@ served_with land t linked l may_be may_leave tells bytes images copy before afte
     )
 
 -- the same of what was seen, under other names
-pub served_seen : (land : Landscape) (t linked : Bool) (may_be may_leave : Rows → Type 0) (tells : Bool) (bytes : List ℕ) (images : List ℕ → Type 0)
-    (copy : Option (List Entry)) (old new older newer : Seen) (past : List PastEntry) (why end : Why)
-    → old ≡ older → new ≡ newer → why ≡ end → IsServed land t linked may_be may_leave tells bytes images copy old new past why
-    → IsServed land t linked may_be may_leave tells bytes images copy older newer past end
-served_seen land t linked may_be may_leave tells bytes images copy old new older newer past why end o n w h =
-    subst (λ x. IsServed land t linked may_be may_leave tells bytes images copy older newer past x) w
-    (subst (λ x. IsServed land t linked may_be may_leave tells bytes images copy older x past why) n
-    (subst (λ x. IsServed land t linked may_be may_leave tells bytes images copy x new past why) o h))
+pub served_seen : (land : Landscape) (site : SiteFound) (site_now : SiteLeft) (old new older newer : Seen) (past : List PastEntry) (why end : Why)
+    → old ≡ older → new ≡ newer → why ≡ end → IsServed land site site_now old new past why → IsServed land site site_now older newer past end
+served_seen land site site_now old new older newer past why end o n w h =
+    subst (λ x. IsServed land site site_now older newer past x) w
+    (subst (λ x. IsServed land site site_now older x past why) n
+    (subst (λ x. IsServed land site site_now x new past why) o h))

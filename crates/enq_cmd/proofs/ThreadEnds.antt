@@ -71,7 +71,8 @@ module _ (objects : List Object) (workers : ℕ) (before after : State) (old new
   threads_sink why h is = ∥∥₁_elim (subst (λ w. ∥ Runs w ∥₁) is h) le_prop sink_of
 
   -- a call that found a device bad is in the history
-  not_found : (tells : Reply → Bool) (place : Bad) → tells (reply.Refused (refusal.Unsound place)) ≡ true → NoneTells tells after.past → IsDoubtedBy after (refusal.Unsound place) → ⊥
+  not_found : (tells : Reply → Bool) (place : Bad) → tells (reply.Refused (refusal.Unsound place)) ≡ true → NoneTells tells after.past
+      → IsDoubtedBy after (refusal.Unsound place) → ⊥
   not_found tells place on none found =
       let wrong : true ≡ false = sym on ∙ answer_sound tells after.past found.0 (reply.Refused (refusal.Unsound place)) none found.1.1 in absurd cc
 
@@ -91,7 +92,8 @@ pub not_words : (why : Why) → IsThreadsEnd why → why ≡ BadWords → ⊥
 not_words why (inl full) is = absurd (let e : BadWords ≡ LogFull = sym is ∙ full in cc)
 not_words why (inr h) is = subst IsRunEnd is h
 
-pub threads_unfit : (o : Option Rows) (left : Option (List ℕ)) (may_be : Rows → Type 0) (why : Why) → IsThreadsEnd why → IfSome o (λ _. IsUnfitEnd left may_be why)
+pub threads_unfit : (o : Option Rows) (left : Option (List ℕ)) (may_be : Rows → Type 0) (why : Why) → IsThreadsEnd why
+    → IfSome o (λ _. IsUnfitEnd left may_be why)
 threads_unfit o left may_be why (inl full) = some_of _ o (λ rows. subst (IsUnfitEnd left may_be) (sym full) tt)
 threads_unfit o left may_be why (inr h) = run_unfit o left may_be why h
 
@@ -107,7 +109,8 @@ pub threads_last : (o : Option Rows) (why : Why) → IsThreadsEnd why → IfSome
 threads_last o why (inl full) = some_of _ o (λ rows. subst (HasNoStart rows) (sym full) tt)
 threads_last o why (inr h) = run_last o why h
 
-pub threads_place : (o : Option Rows) (why : Why) → IsThreadsEnd why → (is_some o ≡ true → (table row : ℕ) → why ≡ BadStore table row → ⊥) → IfSome o (λ rows. IsBadStore rows why)
+pub threads_place : (o : Option Rows) (why : Why) → IsThreadsEnd why → (is_some o ≡ true → (table row : ℕ) → why ≡ BadStore table row → ⊥)
+    → IfSome o (λ rows. IsBadStore rows why)
 threads_place o why (inl full) none = some_of _ o (λ rows. subst (IsBadStore rows) (sym full) tt)
 threads_place o why (inr h) none = run_place o why h none
 
@@ -122,7 +125,8 @@ opening_blames bytes before now _ h = tt
 
 -- ---- a script that can be done to its end
 
-pub ends_whole : (may_be : Rows → Type 0) (past : List PastEntry) (why : Why) → (why ≡ LogFull → length past ≡ 262144) → EndsWhole why → EndsInRun may_be past why
+pub ends_whole : (may_be : Rows → Type 0) (past : List PastEntry) (why : Why) → (why ≡ LogFull → length past ≡ 262144) → EndsWhole why
+    → EndsInRun may_be past why
 ends_whole may_be past why long (inl done) = inl (inl done)
 ends_whole may_be past why long (inr (inl memory)) = inl (inr (inl memory))
 ends_whole may_be past why long (inr (inr full)) = inr (full, long full)

@@ -29,12 +29,14 @@ use Rattle.whole_script.specs.Reading.{BlamesFirst}
 use Rattle.enq_cmd.proofs.LinkCounts.{counts_found}
 use Rattle.enq_cmd.proofs.Served.{promises_by}
 use Rattle.enq_cmd.proofs.ThreadEnds.{opening_blames}
-use Rattle.enq_cmd.specs.Main.{IsLandEnd, IsRead, IsUnopened, IsUntouched, first_state}
+use Rattle.enq_cmd.specs.Main.{IsLandEnd, IsRead, IsUnopened, IsUntouched, first_state, found_in, left_in}
 use Rattle.enq_cmd.specs.Opening.{IsLandedAlone, IsOpened, IsUnlanded}
 use Rattle.enq_cmd.specs.Running.{HasThreads, IsServedByThreads}
 
-module _ {K D L : Type 0} (held : K → Option Rows) (may_leave : K → Rows → Type 0) (faults : K → ℕ) (tells : Bool) (reads : D → List ℕ) (images : D → List ℕ → Type 0) (file_faults : D → ℕ)
-    (applied : L → Option (List Entry)) (link_faults refusals : L → ℕ) (left : Option (List ℕ)) (keeper : K) (disk : D) (link : L) (hall : View K D L) (objects : List Object)
+module _ {K D L : Type 0} (held : K → Option Rows) (may_leave : K → Rows → Type 0) (faults : K → ℕ) (tells : Bool) (reads : D → List ℕ)
+    (images : D → List ℕ → Type 0) (file_faults : D → ℕ)
+    (applied : L → Option (List Entry)) (link_faults refusals : L → ℕ) (left : Option (List ℕ)) (keeper : K) (disk : D) (link : L) (hall : View K D L)
+    (objects : List Object)
     (o : IsOpened held may_leave faults tells reads file_faults applied left keeper disk link hall objects) where
   abbrev first : State
   first = first_state o.land (is_some (held keeper)) (is_some (applied link)) hall.state.stored
@@ -59,13 +61,21 @@ module _ {K D L : Type 0} (held : K → Option Rows) (may_leave : K → Rows →
 
   module _ (after : View K D L) (keeper_now : K) (disk_now : D) (link_now : L) (kept : keeper_now ≡ after.keeper) (kept_disk : disk_now ≡ after.file.disk)
       (kept_link : link_now ≡ after.follower.link) (past : List PastEntry) (history : past ≡ after.state.past)
-      (led : ∥ IsLed (is_some (held hall.keeper)) tells (is_some (applied hall.follower.link)) hall.state (counted hall.keeper hall.file.disk hall.follower.link)
+      (led : ∥ IsLed (is_some (held hall.keeper)) tells (is_some (applied hall.follower.link)) hall.state
+      (counted hall.keeper hall.file.disk hall.follower.link)
       after.state (counted after.keeper after.file.disk after.follower.link) ∥₁) where
     counts_to : counted after.keeper after.file.disk after.follower.link ≡ counted keeper_now disk_now link_now
-    counts_to = λ i. record { store = faults (sym kept i); file = file_faults (sym kept_disk i); link = record { faults = link_faults (sym kept_link i); refusals = refusals (sym kept_link i) } }
+    counts_to = λ i. record {
+      store = faults (sym kept i);
+      file = file_faults (sym kept_disk i);
+      link =
+          record { faults = link_faults (sym kept_link i); refusals = refusals (sym kept_link i) };
+    }
 
     leads : ∥ Leads after.state (counted keeper disk link) (counted keeper_now disk_now link_now) ∥₁
-    leads = ∥∥₁_map led (λ h. subst (Leads after.state (counted keeper disk link)) counts_to (leads_from after.state (counted after.keeper after.file.disk after.follower.link) h))
+    leads = ∥∥₁_map led
+        (λ h. subst (Leads after.state (counted keeper disk link)) counts_to
+        (leads_from after.state (counted after.keeper after.file.disk after.follower.link) h))
 
     -- the link's counts, call by call
     linked_past : (counts counts_now : Counts) → Leads after.state counts counts_now → CountsLinkEach false past counts.link counts_now.link
@@ -83,7 +93,8 @@ module _ {K D L : Type 0} (held : K → Option Rows) (may_leave : K → Rows →
     pub threads_sound : is_some (held hall.keeper) ≡ true → ∥ NoneUnsoundStore after.state.past ∥₁
     threads_sound is_told = ∥∥₁_map led (λ h. h.good_store is_told)
 
-    module _ (told : is_some (held after.keeper) ≡ is_some (held hall.keeper)) (leaves : LeavesState held may_leave after) (lists : LeavesLists tells images after)
+    module _ (told : is_some (held after.keeper) ≡ is_some (held hall.keeper)) (leaves : LeavesState held may_leave after)
+        (lists : LeavesLists tells images after)
         (units : HasOpenUnits after.state) (copy : Option (List Entry)) (follows : after.state.attached ≡ true → IfSome copy (λ list. list ≡ after.state.locks))
         (known : List Object) (same : known ≡ objects) (workers : ℕ) (rest rest_now written written_now : Option (List ℕ)) (source source_now sink sink_now : ℕ)
         (why end : Why) (ends : end ≡ why) where
@@ -100,25 +111,30 @@ module _ {K D L : Type 0} (held : K → Option Rows) (may_leave : K → Rows →
       new_to = λ i. seen rest_now written_now source_now sink_now (faults (sym kept i)) (file_faults (sym kept_disk i))
 
       -- a run of the server that was opened is one from its first state, with the landscape's lock objects
-      runs_from : (s : State) → after.state ≡ s → RunsThreads known workers hall.state after.state (seen_old hall.keeper hall.file.disk) (seen_new after.keeper after.file.disk) why
+      runs_from : (s : State) → after.state ≡ s → RunsThreads known workers hall.state after.state (seen_old hall.keeper hall.file.disk)
+          (seen_new after.keeper after.file.disk) why
           → RunsThreads o.land.objects workers first s (seen_old keeper disk) (seen_new keeper_now disk_now) end
       runs_from s is h =
           subst (λ w. RunsThreads o.land.objects workers first s (seen_old keeper disk) (seen_new keeper_now disk_now) w) (sym ends)
           (subst (λ n. RunsThreads o.land.objects workers first s (seen_old keeper disk) n why) new_to
           (subst (λ n. RunsThreads o.land.objects workers first s n (seen_new after.keeper after.file.disk) why) old_from
           (subst (λ x. RunsThreads o.land.objects workers first x (seen_old hall.keeper hall.file.disk) (seen_new after.keeper after.file.disk) why) is
-          (subst (λ x. RunsThreads o.land.objects workers x after.state (seen_old hall.keeper hall.file.disk) (seen_new after.keeper after.file.disk) why) o.first
-          (subst (λ os. RunsThreads os workers hall.state after.state (seen_old hall.keeper hall.file.disk) (seen_new after.keeper after.file.disk) why) (same ∙ o.known) h)))))
+          (subst (λ x. RunsThreads o.land.objects workers x after.state (seen_old hall.keeper hall.file.disk) (seen_new after.keeper after.file.disk) why)
+          o.first
+          (subst (λ os. RunsThreads os workers hall.state after.state (seen_old hall.keeper hall.file.disk) (seen_new after.keeper after.file.disk) why)
+          (same ∙ o.known) h)))))
 
       served_so : (counts counts_now : Counts) → Leads after.state counts counts_now
           → RunsThreads known workers hall.state after.state (seen_old hall.keeper hall.file.disk) (seen_new after.keeper after.file.disk) why
-          → IsServedByThreads o.land workers (is_some (held keeper)) (is_some (applied link)) (may_leave keeper) (may_leave keeper_now) tells (reads disk) (images disk_now) copy
+          → IsServedByThreads o.land workers (found_in held may_leave tells reads images applied keeper disk link)
+          (record { rows = may_leave keeper_now; images = images disk_now; list = copy })
           (seen_old keeper disk) (seen_new keeper_now disk_now) counts counts_now past end
       served_so counts counts_now h run = record {
         stored = hall.state.stored;
         made = h.made;
         promises = promises_by held may_leave faults tells reads images file_faults applied left keeper disk link hall objects o
-            after keeper_now disk_now kept kept_disk told leaves lists units copy follows h.good_file h.good_store h.good_replica past history h.made (history ∙ h.calls) h.answers h.state;
+            after keeper_now disk_now kept kept_disk told leaves lists units copy follows h.good_file h.good_store h.good_replica past history h.made
+            (history ∙ h.calls) h.answers h.state;
         history = ap (λ (s : State). s.past) (sym h.state) ∙ sym history;
         runs = runs_from (state_after first h.made) h.state run;
         store = h.store;
@@ -127,7 +143,8 @@ module _ {K D L : Type 0} (held : K → Option Rows) (may_leave : K → Rows →
       }
 
       pub threads_by : ∥ RunsThreads known workers hall.state after.state (seen_old hall.keeper hall.file.disk) (seen_new after.keeper after.file.disk) why ∥₁
-          → ∥ HasThreads workers left (is_some (held keeper)) (is_some (applied link)) (may_leave keeper) (may_leave keeper_now) tells (reads disk) images disk disk_now copy
+          → ∥ HasThreads workers left (found_in held may_leave tells reads images applied keeper disk link)
+          (record { rows = may_leave keeper_now; images = images disk_now; list = copy }) disk disk_now link link_now
           (seen_old keeper disk) (seen_new keeper_now disk_now) (counted keeper disk link) (counted keeper_now disk_now link_now) past end ∥₁
       threads_by runs =
           ∥∥₁_elim leads ∥∥₁_prop (λ h. ∥∥₁_map runs (λ run. record {
@@ -137,32 +154,43 @@ module _ {K D L : Type 0} (held : K → Option Rows) (may_leave : K → Rows →
           }))
 
 -- a site of which no server came, beside a script and a sink that nobody touched
-pub unthreaded : {S T K D L : Type 0} (held : K → Option Rows) (may_leave : K → Rows → Type 0) (faults : K → ℕ) (tells : Bool) (bytes : List ℕ) (images : D → List ℕ → Type 0) (file_faults : D → ℕ)
-    (linked : Bool) (copy : Option (List Entry)) (workers : ℕ) (left : Option (List ℕ)) (before now : ℕ) (script : S) (sink : T) (keeper keeper_now : K) (disk disk_now : D) (link link_now : L)
+pub unthreaded : {S T K D L : Type 0} (held : K → Option Rows) (may_leave : K → Rows → Type 0) (faults : K → ℕ) (tells : Bool) (reads : D → List ℕ)
+    (images : D → List ℕ → Type 0) (file_faults : D → ℕ) (applied : L → Option (List Entry))
+    (workers : ℕ) (left : Option (List ℕ)) (before now : ℕ) (script : S) (sink : T) (keeper keeper_now : K) (disk disk_now : D) (link link_now : L)
     (rest written : Option (List ℕ)) (source_faults sink_faults : ℕ) (counts counts_now : Counts) (past : List PastEntry) (why : Why)
     → past ≡ [] → link_now ≡ link
-    → IsUnlanded before now keeper keeper_now disk disk_now why ⊎ IsLandedAlone held may_leave faults tells images file_faults left keeper keeper_now disk disk_now why
-    → ∥ HasThreads workers left (is_some (held keeper)) linked (may_leave keeper) (may_leave keeper_now) tells bytes images disk disk_now copy
-    (seen rest written source_faults sink_faults (faults keeper) (file_faults disk)) (seen rest written source_faults sink_faults (faults keeper_now) (file_faults disk_now)) counts counts_now past why ∥₁
+    → IsUnlanded before now keeper keeper_now disk disk_now why ⊎ IsLandedAlone held may_leave faults tells reads images file_faults applied left
+    keeper keeper_now disk disk_now link link_now why
+    → ∥ HasThreads workers left (found_in held may_leave tells reads images applied keeper disk link)
+    (left_in may_leave images applied keeper_now disk_now link_now)
+    disk disk_now link link_now (seen rest written source_faults sink_faults (faults keeper) (file_faults disk))
+    (seen rest written source_faults sink_faults (faults keeper_now) (file_faults disk_now)) counts counts_now past why ∥₁
     ⊎ (IsLandEnd before now why × IsUntouched script script sink sink keeper keeper_now disk disk_now link link_now past)
-unthreaded held may_leave faults tells bytes images file_faults linked copy workers left before now script sink keeper keeper_now disk disk_now link link_now rest written source_faults sink_faults counts counts_now past why none same (inl u) =
+unthreaded held may_leave faults tells reads images file_faults applied workers left before now script sink keeper keeper_now disk disk_now link link_now
+    rest written source_faults sink_faults counts counts_now past why none same (inl u) =
     inr (u.end, record { reading = refl; writing = refl; storing = u.storing; filing = u.filing; linking = same; none = none })
-unthreaded held may_leave faults tells bytes images file_faults linked copy workers left before now script sink keeper keeper_now disk disk_now link link_now rest written source_faults sink_faults counts counts_now past why none same (inr a) =
+unthreaded held may_leave faults tells reads images file_faults applied workers left before now script sink keeper keeper_now disk disk_now link link_now
+    rest written source_faults sink_faults counts counts_now past why none same (inr a) =
     inl ∣ record {
       land = a.land;
       read = a.read;
-      serves = inr (subst (λ p. IsUnopened (is_some (held keeper)) (may_leave keeper) (may_leave keeper_now) tells images disk disk_now
-          (seen rest written source_faults sink_faults (faults keeper) (file_faults disk)) (seen rest written source_faults sink_faults (faults keeper_now) (file_faults disk_now)) p why) (sym none)
+      serves = inr (subst
+          (λ p. IsUnopened (found_in held may_leave tells reads images applied keeper disk link) (left_in may_leave images applied keeper_now disk_now link_now)
+          disk disk_now link link_now (seen rest written source_faults sink_faults (faults keeper) (file_faults disk))
+          (seen rest written source_faults sink_faults (faults keeper_now) (file_faults disk_now)) p why) (sym none)
           (a.unopened rest written source_faults sink_faults));
     } ∣₁
 
 -- for its end no line is to blame
-pub unthreaded_blames : {K D : Type 0} (held : K → Option Rows) (may_leave : K → Rows → Type 0) (faults : K → ℕ) (tells : Bool) (images : D → List ℕ → Type 0) (file_faults : D → ℕ)
-    (left : Option (List ℕ)) (before now : ℕ) (keeper keeper_now : K) (disk disk_now : D) (why : Why) (bytes : List ℕ)
-    → IsUnlanded before now keeper keeper_now disk disk_now why ⊎ IsLandedAlone held may_leave faults tells images file_faults left keeper keeper_now disk disk_now why
+pub unthreaded_blames : {K D L : Type 0} (held : K → Option Rows) (may_leave : K → Rows → Type 0) (faults : K → ℕ) (tells : Bool) (reads : D → List ℕ)
+    (images : D → List ℕ → Type 0) (file_faults : D → ℕ) (applied : L → Option (List Entry))
+    (left : Option (List ℕ)) (before now : ℕ) (keeper keeper_now : K) (disk disk_now : D) (link link_now : L) (why : Why) (bytes : List ℕ)
+    → IsUnlanded before now keeper keeper_now disk disk_now why ⊎ IsLandedAlone held may_leave faults tells reads images file_faults applied left
+    keeper keeper_now disk disk_now link link_now why
     → BlamesFirst bytes why
-unthreaded_blames held may_leave faults tells images file_faults left before now keeper keeper_now disk disk_now why bytes (inl u) = opening_blames bytes before now why (inl u.end)
-unthreaded_blames held may_leave faults tells images file_faults left before now keeper keeper_now disk disk_now why bytes (inr a) =
+unthreaded_blames held may_leave faults tells reads images file_faults applied left before now keeper keeper_now disk disk_now link link_now why bytes (inl u) =
+    opening_blames bytes before now why (inl u.end)
+unthreaded_blames held may_leave faults tells reads images file_faults applied left before now keeper keeper_now disk disk_now link link_now why bytes (inr a) =
     opening_blames bytes before now why (inr (a.unopened None None 0 0).end)
 
 -- ---- a first state
@@ -181,7 +209,8 @@ pub rose_as : (a b c d : ℕ) → a ≡ c → b ≡ d → Rose a b → Rose c d
 rose_as a b c d from to rose = subst (λ n. Rose n d) from (subst (λ n. Rose a n) to rose)
 
 -- no bytes of a landscape that was read break a rule
-pub never_broken : (left : Option (List ℕ)) (land : Landscape) (bytes : List ℕ) (broken : Broken) → IsRead left land → left ≡ Some bytes → landscape_of bytes ≡ Err broken → ⊥
+pub never_broken : (left : Option (List ℕ)) (land : Landscape) (bytes : List ℕ) (broken : Broken) → IsRead left land → left ≡ Some bytes
+    → landscape_of bytes ≡ Err broken → ⊥
 never_broken left land bytes broken read is breaks =
     let same : bytes ≡ read.bytes = subst (λ o. IfSome o (λ all. all ≡ read.bytes)) is read.told in
     let wrong : ◌≡◌ {A = Result Landscape Broken} (Ok land) (Err broken) = sym read.gives ∙ ap landscape_of (sym same) ∙ breaks in

@@ -115,7 +115,8 @@ none_joined last none (Runs n) (crew, inl is) = let wrong : ◌≡◌ {A = ℕ} 
 none_joined last none (Runs n) (crew, inr is) = none n crew (second_is _ _ _ _ is)
 
 -- three words that don't begin so name nothing
-pub none_three : (word option count : List ℕ) → ((n : ℕ) → IsCrew n → ◌≢◌ {A = List (List ℕ)} (word ∷ option ∷ count ∷ []) (run_words n)) → NamesNone (word ∷ option ∷ count ∷ [])
+pub none_three : (word option count : List ℕ) → ((n : ℕ) → IsCrew n → ◌≢◌ {A = List (List ℕ)} (word ∷ option ∷ count ∷ []) (run_words n))
+    → NamesNone (word ∷ option ∷ count ∷ [])
 none_three word option count none Replays e = let wrong : ◌≡◌ {A = ℕ} 3 1 = ap length e in absurd cc
 none_three word option count none (Generates n) h = let wrong : ◌≡◌ {A = ℕ} 3 2 = ap length h.1 in absurd cc
 none_three word option count none (Loads n) h = let wrong : ◌≡◌ {A = ℕ} 3 2 = ap length h.1 in absurd cc

@@ -14,11 +14,13 @@ use Rattle.ledger_steps.specs.Levels.{FitRows}
 use Rattle.script_runner.specs.Replay.{seen}
 use Rattle.script_runner.specs.declared.runner.Why.{Why}
 use Rattle.store_reading.specs.Good.{IsSound}
-use Rattle.enq_cmd.specs.Main.{HadHanded, IsLandEnd, IsRead, IsUnopened, first_state}
+use Rattle.enq_cmd.specs.Main.{HadHanded, IsLandEnd, IsRead, IsUnopened, first_state, found_in, left_in}
 
 -- a server before its first call, with the lock objects of its landscape
-pub record IsOpened {K D L : Type 0} (held : K → Option Rows) (may_leave : K → Rows → Type 0) (faults : K → ℕ) (tells : Bool) (reads : D → List ℕ) (file_faults : D → ℕ)
-    (applied : L → Option (List Entry)) (left : Option (List ℕ)) (keeper : K) (disk : D) (link : L) (hall : View K D L) (objects : List Object) : Type 0 where
+pub record IsOpened {K D L : Type 0} (held : K → Option Rows) (may_leave : K → Rows → Type 0) (faults : K → ℕ)
+    (tells : Bool) (reads : D → List ℕ) (file_faults : D → ℕ)
+    (applied : L → Option (List Entry)) (left : Option (List ℕ)) (keeper : K) (disk : D) (link : L) (hall : View K D L)
+    (objects : List Object) : Type 0 where
   pub land : Landscape
   pub read : IsRead left land
   pub known : objects ≡ land.objects
@@ -34,15 +36,22 @@ pub record IsOpened {K D L : Type 0} (held : K → Option Rows) (may_leave : K �
   pub linked : hall.follower.link ≡ link
 
 -- a landscape that wasn't read: the site is as it was
-pub record IsUnlanded {K D : Type 0} (before now : ℕ) (keeper keeper_now : K) (disk disk_now : D) (why : Why) : Type 0 where
+pub record IsUnlanded {K D : Type 0} (before now : ℕ) (keeper keeper_now : K) (disk disk_now : D)
+    (why : Why) : Type 0 where
   pub end : IsLandEnd before now why
   pub storing : keeper_now ≡ keeper
   pub filing : disk_now ≡ disk
 
--- a landscape with which the site wasn't opened, whatever is seen of a source and of a sink
-pub record IsLandedAlone {K D : Type 0} (held : K → Option Rows) (may_leave : K → Rows → Type 0) (faults : K → ℕ) (tells : Bool) (images : D → List ℕ → Type 0) (file_faults : D → ℕ)
-    (left : Option (List ℕ)) (keeper keeper_now : K) (disk disk_now : D) (why : Why) : Type 0 where
+-- a landscape with which the site wasn't opened, whatever is seen of a source and of a sink, and whatever the link
+-- tells
+pub record IsLandedAlone {K D L : Type 0} (held : K → Option Rows) (may_leave : K → Rows → Type 0) (faults : K → ℕ)
+    (tells : Bool) (reads : D → List ℕ) (images : D → List ℕ → Type 0) (file_faults : D → ℕ)
+    (applied : L → Option (List Entry)) (left : Option (List ℕ)) (keeper keeper_now : K) (disk disk_now : D)
+    (link link_now : L) (why : Why) : Type 0 where
   pub land : Landscape
   pub read : IsRead left land
-  pub unopened : (rest written : Option (List ℕ)) (source sink : ℕ) → IsUnopened (is_some (held keeper)) (may_leave keeper) (may_leave keeper_now) tells images disk disk_now
-      (seen rest written source sink (faults keeper) (file_faults disk)) (seen rest written source sink (faults keeper_now) (file_faults disk_now)) [] why
+  pub unopened : (rest written : Option (List ℕ)) (source sink : ℕ)
+      → IsUnopened (found_in held may_leave tells reads images applied keeper disk link)
+      (left_in may_leave images applied keeper_now disk_now link_now) disk disk_now link link_now
+      (seen rest written source sink (faults keeper) (file_faults disk))
+      (seen rest written source sink (faults keeper_now) (file_faults disk_now)) [] why

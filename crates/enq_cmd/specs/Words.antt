@@ -48,4 +48,5 @@ NamesNone words = (work : Work) → ¬ NamesWork words work
 
 -- words by which the store is opened
 abbrev pub OpensStore : List (List ℕ) → Type 0
-OpensStore words = (words ≡ replay_words) ⊎ (((n : ℕ) × NamesWork words (Loads n)) ⊎ ((n : ℕ) × NamesWork words (Runs n)))
+OpensStore words =
+    (words ≡ replay_words) ⊎ (((n : ℕ) × NamesWork words (Loads n)) ⊎ ((n : ℕ) × NamesWork words (Runs n)))

@@ -3,7 +3,7 @@ ghost use Rattle.enq_base.specs.Causes.{Rose};
 ghost use Rattle.enq_base.specs.declared.condition.Bad.TheVariants as bad;
 ghost use Rattle.enq_base.specs.declared.condition.BackupBad.{BackupBad};
 ghost use Rattle.enq_cmd.specs.Loading.{HasLoaded, IsRunEnd, RunsLoad, end_of};
-ghost use Rattle.enq_cmd.specs.Main.{EndsComplete, FitAll, HasNoStart, IsBadDocument, IsBadStore, IsFirstBroken, IsGoodFile, IsLandEnd, IsUnfitEnd, status_of};
+ghost use Rattle.enq_cmd.specs.Main.{EndsComplete, FitAll, HasNoStart, IsBadDocument, IsBadStore, IsFirstBroken, IsGoodFile, IsLandEnd, IsUnfitEnd, TellsBadFile, found_in, left_in, status_of};
 ghost use Rattle.enq_server.specs.Following.{IsLater};
 ghost use Rattle.keeper_api.specs.Rows.{Rows};
 ghost use Rattle.landscape.specs.Landscape.{landscape_of};
@@ -43,9 +43,10 @@ pub(crate) fn load_site<A: Source, T: Sink, K: Keeper, D: Disk, L: Link>(
     ensures status { result.status ≡ status_of result.why }
     ensures words { result.why ≢ Why.BadWords }
     ensures full { result.why ≢ Why.LogFull }
-    ensures loaded { HasLoaded units (A.left landscape.old) (is_some (K.held site.keeper))
-        (is_some (L.applied site.link)) (K.may_leave site.keeper) (K.may_leave result.site.keeper)
-        D.tells (D.reads site.disk) D.may_leave site.disk result.site.disk (L.applied result.site.link)
+    ensures loaded { HasLoaded units (A.left landscape.old)
+        (found_in K.held K.may_leave D.tells D.reads D.may_leave L.applied site.keeper site.disk site.link)
+        (left_in K.may_leave D.may_leave L.applied result.site.keeper result.site.disk result.site.link)
+        site.disk result.site.disk site.link result.site.link
         (seen None (T.written sink.old) 0 (T.faults sink.old) (K.faults site.keeper) (D.faults site.disk))
         (seen None (T.written sink.new) 0 (T.faults sink.new) (K.faults result.site.keeper) (D.faults result.site.disk))
         result.past result.why
@@ -82,6 +83,9 @@ pub(crate) fn load_site<A: Source, T: Sink, K: Keeper, D: Disk, L: Link>(
         (link_counts L.faults L.refusals result.site.link) }
     ensures bad_store { IfSome (K.held result.site.keeper) (λ rows. IsBadStore rows result.why) }
     ensures bad_backup { IsTrue D.tells → (place : BackupBad) → result.why ≡ Why.BadBackup place → result.past ≡ [] }
+    ensures bad_file { IsTrue D.tells → (place : BackupBad) → result.why ≡ Why.BadBackup place
+        → TellsBadFile (A.left landscape.old) (K.held result.site.keeper) (K.may_leave site.keeper) (D.reads site.disk)
+        place }
     ensures no_start { IfSome (K.held result.site.keeper) (λ rows. HasNoStart rows result.why) }
 {
     let Ok(mut source) = source_of(alloc, units) else {

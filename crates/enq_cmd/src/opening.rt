@@ -1,6 +1,7 @@
 ghost use Rattle.std.specs.Prelude.{◌≡◌, ◌≢◌, ◌⊎◌, ℕ, min, [], List, Some, Ok, Err, IfOk, IfErr, IfSome, is_some, IsTrue};
 ghost use Rattle.enq_base.specs.Causes.{Rose};
-ghost use Rattle.enq_cmd.specs.Main.{EndsComplete, FitAll, HasNoStart, IsBadDocument, IsBadStore, IsFirstBroken, IsGoodFile, IsUnfitEnd, TellsBroken, land_end, opening_end, status_of};
+ghost use Rattle.enq_base.specs.declared.condition.BackupBad.{BackupBad};
+ghost use Rattle.enq_cmd.specs.Main.{EndsComplete, FitAll, HasNoStart, IsBadDocument, IsBadStore, IsFirstBroken, IsGoodFile, IsUnfitEnd, TellsBadFile, TellsBroken, land_end, opening_end, status_of};
 ghost use Rattle.enq_cmd.specs.Opening.{IsLandedAlone, IsOpened, IsUnlanded};
 ghost use Rattle.keeper_api.specs.Rows.{Rows};
 ghost use Rattle.landscape.specs.Broken.{Broken};
@@ -38,8 +39,9 @@ pub(crate) fn open_hall<A: Source, K: Keeper, D: Disk, L: Link>(
     ensures unserved { IfErr result (λ e.
         IsUnlanded (A.faults landscape.old) (A.faults landscape.new) site.keeper e.site.keeper site.disk e.site.disk
         e.why
-        ⊎ IsLandedAlone K.held K.may_leave K.faults D.tells D.may_leave D.faults (A.left landscape.old)
-        site.keeper e.site.keeper site.disk e.site.disk e.why) }
+        ⊎ IsLandedAlone K.held K.may_leave K.faults D.tells D.reads D.may_leave D.faults L.applied
+        (A.left landscape.old)
+        site.keeper e.site.keeper site.disk e.site.disk site.link e.site.link e.why) }
     ensures told { IfErr result (λ e. is_some (K.held e.site.keeper) ≡ is_some (K.held site.keeper)) }
     ensures linked { IfErr result (λ e. e.site.link ≡ site.link) }
     ensures bad_landscape { IfErr result (λ e. (bytes : List ℕ) → A.left landscape.old ≡ Some bytes
@@ -70,6 +72,9 @@ pub(crate) fn open_hall<A: Source, K: Keeper, D: Disk, L: Link>(
     ensures backup_fault { IfErr result
         (λ e. (call : ℕ) → e.why ≡ Why.BackupFault call → Rose (D.faults site.disk) (D.faults e.site.disk)) }
     ensures bad_store { IfErr result (λ e. IfSome (K.held e.site.keeper) (λ rows. IsBadStore rows e.why)) }
+    ensures bad_file { IsTrue D.tells → IfErr result (λ e. (place : BackupBad) → e.why ≡ Why.BadBackup place
+        → TellsBadFile (A.left landscape.old) (K.held e.site.keeper) (K.may_leave site.keeper) (D.reads site.disk)
+        place) }
     ensures no_start { IfErr result (λ e. IfSome (K.held e.site.keeper) (λ rows. HasNoStart rows e.why)) }
 {
     let land = match read_landscape(alloc, landscape) {

@@ -1,7 +1,7 @@
 ghost use Rattle.std.specs.Prelude.{◌≡◌, ◌≢◌, ◌⊎◌, ◌≤◌, ℕ, List, [], Some, Ok, Err, IfSome, is_some, IsTrue, false, length};
 ghost use Rattle.enq_base.specs.Causes.{Rose};
 ghost use Rattle.enq_base.specs.declared.condition.BackupBad.{BackupBad};
-ghost use Rattle.enq_cmd.specs.Main.{FitAll, HasNoStart, IsBadDocument, IsBadStore, IsFirstBroken, IsGoodFile, IsLandEnd, IsUnfitEnd, IsUntouched, TellsBroken, status_of};
+ghost use Rattle.enq_cmd.specs.Main.{FitAll, HasNoStart, IsBadDocument, IsBadStore, IsFirstBroken, IsGoodFile, IsLandEnd, IsUnfitEnd, IsUntouched, TellsBadFile, TellsBroken, found_in, left_in, status_of};
 ghost use Rattle.enq_cmd.specs.Running.{EndsInRun, HasThreads};
 ghost use Rattle.keeper_api.specs.Rows.{Rows};
 ghost use Rattle.landscape.specs.Broken.{Broken};
@@ -49,9 +49,10 @@ pub(crate) fn run_site<
     requires workers { (1 ≤ workers) × (workers ≤ 16) }
     ensures status { result.status ≡ status_of result.why }
     ensures words { result.why ≢ Why.BadWords }
-    ensures threads { ∥ HasThreads workers (A.left landscape.old) (is_some (K.held site.keeper))
-        (is_some (L.applied site.link)) (K.may_leave site.keeper) (K.may_leave result.site.keeper)
-        D.tells (D.reads site.disk) D.may_leave site.disk result.site.disk (L.applied result.site.link)
+    ensures threads { ∥ HasThreads workers (A.left landscape.old)
+        (found_in K.held K.may_leave D.tells D.reads D.may_leave L.applied site.keeper site.disk site.link)
+        (left_in K.may_leave D.may_leave L.applied result.site.keeper result.site.disk result.site.link)
+        site.disk result.site.disk site.link result.site.link
         (seen (S.left script.old) (T.written sink.old) (S.faults script.old) (T.faults sink.old) (K.faults site.keeper)
         (D.faults site.disk))
         (seen (S.left script.new) (T.written sink.new) (S.faults script.new) (T.faults sink.new)
@@ -98,6 +99,9 @@ pub(crate) fn run_site<
         (link_counts L.faults L.refusals result.site.link) }
     ensures bad_store { IfSome (K.held result.site.keeper) (λ rows. IsBadStore rows result.why) }
     ensures bad_backup { IsTrue D.tells → (place : BackupBad) → result.why ≡ Why.BadBackup place → result.past ≡ [] }
+    ensures bad_file { IsTrue D.tells → (place : BackupBad) → result.why ≡ Why.BadBackup place
+        → TellsBadFile (A.left landscape.old) (K.held result.site.keeper) (K.may_leave site.keeper) (D.reads site.disk)
+        place }
     ensures no_start { IfSome (K.held result.site.keeper) (λ rows. HasNoStart rows result.why) }
 {
     match open_hall(alloc, landscape, site) {

@@ -32,7 +32,8 @@ same_Ok : {X : Type 0} (r : Result X AskFault) (x y : X) → r ≡ Ok x → r �
 same_Ok (Ok z) x y a b = let one : z ≡ x = cc in let two : z ≡ y = cc in sym one ∙ two
 same_Ok (Err f) x y a b = absurd (cc)
 
-granted_is : (t : Table) (asker : Asker) (user : List ℕ) (requests : List Request) (es : List Entry) → asked t asker user requests ≡ Ok es → es ≡ granted t.entries user (halves asker requests)
+granted_is : (t : Table) (asker : Asker) (user : List ℕ) (requests : List Request) (es : List Entry) → asked t asker user requests ≡ Ok es
+    → es ≡ granted t.entries user (halves asker requests)
 unfolding asked
 granted_is t asker user requests es h =
     let names = halves asker requests in
@@ -44,10 +45,12 @@ granted_is t asker user requests es h =
     (passed (is_full t added) (ask.Full (length t.entries) t.limit) counted es
     (unbarred (first_bar t.entries asker (map (λ (r : Request). r.asked) requests)) (unless_full t added counted) es h))))
 
-pub granted_at : (t : Table) (asker : Asker) (user : List ℕ) (requests : List Request) (es : List Entry) → IsTable t → asked t asker user requests ≡ Ok es → replica t.entries (granted_ops es (halves asker requests)) ≡ es
+pub granted_at : (t : Table) (asker : Asker) (user : List ℕ) (requests : List Request) (es : List Entry) → IsTable t → asked t asker user requests ≡ Ok es
+    → replica t.entries (granted_ops es (halves asker requests)) ≡ es
 granted_at t asker user requests es good h =
     let is = granted_is t asker user requests es h in
-    ap (λ x. replica t.entries (granted_ops x (halves asker requests))) is ∙ granted_ops-granted t.entries user (halves asker requests) good.sound.names ∙ sym is
+    ap (λ x. replica t.entries (granted_ops x (halves asker requests))) is ∙ granted_ops-granted t.entries user (halves asker requests) good.sound.names
+    ∙ sym is
 
 readmitted_is : (t : Table) (asker : Asker) (given es : List Entry) → readmitted t asker given ≡ Ok es → es ≡ freed_owner t.entries asker.update ++ given
 unfolding readmitted
@@ -55,7 +58,8 @@ readmitted_is t asker given es h =
     let g = freed_owner t.entries asker.update ++ given in
     sym (same_Ok (Ok g) g es refl (passed _ _ _ _ (unbarred _ _ _ h)))
 
-pub readmitted_at : (t : Table) (asker : Asker) (own given es : List Entry) → IsTable t → ReadmitsOnly asker given → own ≡ filter (is_of asker.update) t.entries → readmitted t asker given ≡ Ok es → replica (replica t.entries (map drop_of own)) (map Put given) ≡ es
+pub readmitted_at : (t : Table) (asker : Asker) (own given es : List Entry) → IsTable t → ReadmitsOnly asker given → own ≡ filter (is_of asker.update) t.entries
+    → readmitted t asker given ≡ Ok es → replica (replica t.entries (map drop_of own)) (map Put given) ≡ es
 readmitted_at t asker own given es good only is h =
     ap (λ xs. replica (replica t.entries (map drop_of xs)) (map Put given)) is
     ∙ sym (replica-append t.entries (owner_ops t.entries asker.update) (map Put given))
@@ -72,7 +76,8 @@ converted_is es asker asked r h =
     (unbarred (first_withstanding es asker asked) counted r
     (passed (is_lost es asker asked) ask.Lost (unless_barred (first_withstanding es asker asked) counted) r h)))
 
-pub converted_at : (es : List Entry) (asker : Asker) (asked : List Asked) (r : Conversion) → converted es asker asked ≡ Ok r → replica (replica es (flat_map (turn_ops asker) asked)) (map drop_of r.removed) ≡ r.entries
+pub converted_at : (es : List Entry) (asker : Asker) (asked : List Asked) (r : Conversion) → converted es asker asked ≡ Ok r
+    → replica (replica es (flat_map (turn_ops asker) asked)) (map drop_of r.removed) ≡ r.entries
 converted_at es asker asked r h =
     let is = converted_is es asker asked r h in
     ap (λ x. replica (replica es (flat_map (turn_ops asker) asked)) (map drop_of x.removed)) (sym is)

@@ -17,7 +17,8 @@ use Rattle.backup_file.specs.declared.handed.Handed.{Handed}
 use Rattle.backup_file.specs.declared.ids.UnitId.{UnitId}
 use Rattle.enq_server.specs.Recovery.{Agrees, AreKnown, IsFirstDifference, IsMissing, entries_at, entries_of, is_one_of, joined}
 
-pub same_more : (xs ys : List Entry) (n : ℕ) (x y : Entry) → n < length xs → n < length ys → x ≡ get_or xs n x → y ≡ get_or ys n y → x ≡ y → take n xs ≡ take n ys → take (n + 1) xs ≡ take (n + 1) ys
+pub same_more : (xs ys : List Entry) (n : ℕ) (x y : Entry) → n < length xs → n < length ys → x ≡ get_or xs n x → y ≡ get_or ys n y → x ≡ y
+    → take n xs ≡ take n ys → take (n + 1) xs ≡ take (n + 1) ys
 same_more xs ys n x y low high at_x at_y one same =
     take_more xs n x low ∙ ap (λ z. take n xs ++ z ∷ []) (sym at_x ∙ one ∙ at_y) ∙ ap (λ zs. zs ++ get_or ys n y ∷ []) same ∙ sym (take_more ys n y high)
 
@@ -36,12 +37,14 @@ pub ends_differ : (xs ys : List Entry) (n : ℕ) → (length ys ≤ n) × (n < l
 ends_differ xs ys n (inl at) same = beyond xs ys n at.0 at.1 same
 ends_differ xs ys n (inr at) same = beyond ys xs n at.0 at.1 (sym same)
 
-pub elements_differ : (xs ys : List Entry) (n : ℕ) (x y : Entry) → n < length xs → n < length ys → x ≡ get_or xs n x → y ≡ get_or ys n y → (x ≡ y → ⊥) → slice_get xs n ≡ slice_get ys n → ⊥
+pub elements_differ : (xs ys : List Entry) (n : ℕ) (x y : Entry) → n < length xs → n < length ys → x ≡ get_or xs n x → y ≡ get_or ys n y → (x ≡ y → ⊥)
+    → slice_get xs n ≡ slice_get ys n → ⊥
 elements_differ xs ys n x y low high at_x at_y apart same =
     let one : Some x ≡ Some y = sym (slice_get_read xs (length xs) n x refl low at_x) ∙ same ∙ slice_get_read ys (length ys) n y refl high at_y in
     apart (cc)
 
-pub joined_more : (units : List UnitLocks) (i : ℕ) (u : UnitLocks) → i < length units → u ≡ get_or units i u → joined (take (i + 1) units) ≡ joined (take i units) ++ u.entries
+pub joined_more : (units : List UnitLocks) (i : ℕ) (u : UnitLocks) → i < length units → u ≡ get_or units i u
+    → joined (take (i + 1) units) ≡ joined (take i units) ++ u.entries
 joined_more units i u low is =
     ap joined (take_more units i u low ∙ ap (λ x. take i units ++ x ∷ []) (sym is))
     ∙ flat_map-append (λ (x : UnitLocks). x.entries) (take i units) (u ∷ [])
@@ -85,7 +88,8 @@ places_more l left h u old some within is before =
     ]
 
 -- a unit more is known
-pub known_more : (ids new : List UnitId) (units : List UnitLocks) (i : ℕ) (one : UnitLocks) → i < length units → one ≡ get_or units i one → AreKnown ids (take i units)
+pub known_more : (ids new : List UnitId) (units : List UnitLocks) (i : ℕ) (one : UnitLocks) → i < length units → one ≡ get_or units i one
+    → AreKnown ids (take i units)
     → ((u : UnitKey) → is_known u new ≡ (same_unit one.unit u || is_known u ids)) → AreKnown new (take (i + 1) units)
 known_more ids new units i one low is are more = λ u.
     more u
@@ -102,11 +106,13 @@ known_more ids new units i one low is are more = λ u.
     one_of_push [] x u = refl
     one_of_push (y ∷ us) x u = ap (λ b. same_unit y.unit u || b) (one_of_push us x u) ∙ swapped (same_unit y.unit u) (same_unit x.unit u) (is_one_of us u)
 
-pub agree_more : (l : List Handed) (units : List UnitLocks) (i : ℕ) (u : UnitLocks) → i < length units → u ≡ get_or units i u → Agrees l u → All (Agrees l) (take i units) → All (Agrees l) (take (i + 1) units)
+pub agree_more : (l : List Handed) (units : List UnitLocks) (i : ℕ) (u : UnitLocks) → i < length units → u ≡ get_or units i u → Agrees l u
+    → All (Agrees l) (take i units) → All (Agrees l) (take (i + 1) units)
 agree_more l units i u low is one all =
     subst (All (Agrees l)) (ap (λ x. take i units ++ x ∷ []) is ∙ sym (take_more units i u low)) (All-push (Agrees l) (take i units) u all one)
 
-pub missing_here : (l : List Handed) (units : List UnitLocks) (i : ℕ) (u : UnitLocks) (at : ℕ) → i < length units → u ≡ get_or units i u → All (Agrees l) (take i units) → IsFirstDifference u.entries (entries_of l u.unit) at → IsMissing l units u.unit at
+pub missing_here : (l : List Handed) (units : List UnitLocks) (i : ℕ) (u : UnitLocks) (at : ℕ) → i < length units → u ≡ get_or units i u
+    → All (Agrees l) (take i units) → IsFirstDifference u.entries (entries_of l u.unit) at → IsMissing l units u.unit at
 missing_here l units i u at low is all difference = record {
   front = take i units;
   found = u;

@@ -38,7 +38,8 @@ keeps_none applied faults refusals f = record {
   told = refl;
 }
 
-pub keeps_both : {L : Type 0} (applied : L → Option (List Entry)) (faults refusals : L → ℕ) (a b c : Following L) → KeepsOn applied faults refusals a b → KeepsOn applied faults refusals b c → KeepsOn applied faults refusals a c
+pub keeps_both : {L : Type 0} (applied : L → Option (List Entry)) (faults refusals : L → ℕ) (a b c : Following L) → KeepsOn applied faults refusals a b
+    → KeepsOn applied faults refusals b c → KeepsOn applied faults refusals a c
 keeps_both applied faults refusals a b c one two = record {
   faults_later = omega (arith, one.faults_later, two.faults_later);
   refusals_later = omega (arith, one.refusals_later, two.refusals_later);
@@ -47,7 +48,8 @@ keeps_both applied faults refusals a b c one two = record {
   told = two.told ∙ one.told;
 }
   where
-    either : a.attached ≡ true → c.attached ≡ false → (b.attached ≡ true) ⊎ (b.attached ≡ false) → Rose (faults a.link) (faults c.link) ⊎ Rose (refusals a.link) (refusals c.link)
+    either : a.attached ≡ true → c.attached ≡ false → (b.attached ≡ true) ⊎ (b.attached ≡ false) → Rose (faults a.link) (faults c.link)
+        ⊎ Rose (refusals a.link) (refusals c.link)
     either on off (inl still) =
         elim (two.lost still off) [
           | inl rose ↦ inl (rose_later (faults a.link) (faults b.link) (faults c.link) one.faults_later rose)
@@ -60,7 +62,8 @@ keeps_both applied faults refusals a b c one two = record {
         ]
 
 -- operations and then more of them
-pub at_more : {L : Type 0} (applied : L → Option (List Entry)) (f : Following L) (list : List Entry) (ops more all : List TableOp) → all ≡ ops ++ more → IsAt applied f (replica (replica list ops) more) → IsAt applied f (replica list all)
+pub at_more : {L : Type 0} (applied : L → Option (List Entry)) (f : Following L) (list : List Entry) (ops more all : List TableOp) → all ≡ ops ++ more
+    → IsAt applied f (replica (replica list ops) more) → IsAt applied f (replica list all)
 at_more applied f list ops more all is at = subst (IsAt applied f) (sym (ap (replica list) is ∙ replica-append list ops more)) at
 
 taken : (es : List Entry) (i : ℕ) (e : Entry) → slice_get es i ≡ Some e → take (suc i) es ≡ take i es ++ e ∷ []
@@ -74,7 +77,8 @@ taken_none [] (suc i) is = refl
 taken_none (x ∷ es) zero is = cc
 taken_none (x ∷ es) (suc i) is = ap (λ r. x ∷ r) (taken_none es i is)
 
-pub owner_more : (es : List Entry) (i : ℕ) (e : Entry) (owner : Owner) → entry_at es (i + 1) ≡ Some e → owner_ops (take (i + 1) es) owner ≡ owner_ops (take i es) owner ++ owner_ops (e ∷ []) owner
+pub owner_more : (es : List Entry) (i : ℕ) (e : Entry) (owner : Owner) → entry_at es (i + 1) ≡ Some e
+    → owner_ops (take (i + 1) es) owner ≡ owner_ops (take i es) owner ++ owner_ops (e ∷ []) owner
 owner_more es i e owner is =
     let next : i + 1 ≡ suc i = omega arith in
     ap (λ n. owner_ops (take n es) owner) next
@@ -87,10 +91,12 @@ owner_end es i owner is =
     let next : i + 1 ≡ suc i = omega arith in
     ap (λ n. owner_ops (take n es) owner) next ∙ ap (λ xs. owner_ops xs owner) (taken_none es i (ap (entry_at es) (sym next) ∙ is))
 
-pub mapped_more : (f : Entry → TableOp) (es : List Entry) (i : ℕ) (e : Entry) → i < length es → e ≡ get_or es i e → map f (take (i + 1) es) ≡ map f (take i es) ++ f e ∷ []
+pub mapped_more : (f : Entry → TableOp) (es : List Entry) (i : ℕ) (e : Entry) → i < length es → e ≡ get_or es i e
+    → map f (take (i + 1) es) ≡ map f (take i es) ++ f e ∷ []
 mapped_more f es i e low is = ap (map f) (take_more es i e low ∙ ap (λ x. take i es ++ x ∷ []) (sym is)) ∙ map-append f (take i es) (e ∷ [])
 
-pub joined_more : {X Y : Type 0} (f : X → List Y) (xs : List X) (i : ℕ) (x : X) → i < length xs → x ≡ get_or xs i x → flat_map f (take (i + 1) xs) ≡ flat_map f (take i xs) ++ f x
+pub joined_more : {X Y : Type 0} (f : X → List Y) (xs : List X) (i : ℕ) (x : X) → i < length xs → x ≡ get_or xs i x
+    → flat_map f (take (i + 1) xs) ≡ flat_map f (take i xs) ++ f x
 joined_more f xs i x low is =
     ap (flat_map f) (take_more xs i x low ∙ ap (λ y. take i xs ++ y ∷ []) (sym is))
     ∙ flat_map-append f (take i xs) (x ∷ [])

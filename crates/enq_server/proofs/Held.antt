@@ -14,17 +14,20 @@ use Rattle.enq_server.specs.Faults.{Clashes}
 use Rattle.enq_server.specs.Held.{AreHeld, owner_of}
 use Rattle.enq_server.specs.Recovery.{joined}
 
-joined_held : (table : List Entry) (units : List UnitLocks) → All (λ (u : UnitLocks). u.entries ≡ filter (is_of (owner_of u)) table) units → joined units ≡ of_owners (map owner_of units) table
+joined_held : (table : List Entry) (units : List UnitLocks) → All (λ (u : UnitLocks). u.entries ≡ filter (is_of (owner_of u)) table) units
+    → joined units ≡ of_owners (map owner_of units) table
 joined_held table [] held = refl
 joined_held table (u ∷ units) held =
     flat_map-cons (λ (v : UnitLocks). v.entries) u units
     ∙ ap (λ es. es ++ joined units) (All-head (λ (v : UnitLocks). v.entries ≡ filter (is_of (owner_of v)) table) u units held)
-    ∙ ap (λ es. filter (is_of (owner_of u)) table ++ es) (joined_held table units (All-tail (λ (v : UnitLocks). v.entries ≡ filter (is_of (owner_of v)) table) u units held))
+    ∙ ap (λ es. filter (is_of (owner_of u)) table ++ es)
+    (joined_held table units (All-tail (λ (v : UnitLocks). v.entries ≡ filter (is_of (owner_of v)) table) u units held))
     ∙ sym (flat_map-cons (λ o. filter (is_of o) table) (owner_of u) (map owner_of units))
 
 pub held_stand : (table : List Entry) (units : List UnitLocks) → AreHeld table units → IsSound (joined units)
 held_stand table units held =
     subst IsSound (sym (joined_held table units held.entries)) (IsSound-owners (map owner_of units) table held.distinct held.sound)
 
-pub held_unclashed : (table : List Entry) (units : List UnitLocks) → AreHeld table units → (l : List Handed) (first second : ℕ) → Clashes l units first second → ⊥
+pub held_unclashed : (table : List Entry) (units : List UnitLocks) → AreHeld table units → (l : List Handed) (first second : ℕ) → Clashes l units first second
+    → ⊥
 held_unclashed table units held l first second clash = clash.unsound (held_stand table units held)

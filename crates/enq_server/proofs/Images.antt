@@ -20,7 +20,8 @@ less units old new h = record {
 }
 
 -- where all that was stood for still is
-pub opening_leaves : (units : List UnitLocks) (fault : BackFault) (old new : List ℕ → Type 0) → Follows Keeps old new → Follows (Leaves units (opening_fault fault)) old new
+pub opening_leaves : (units : List UnitLocks) (fault : BackFault) (old new : List ℕ → Type 0) → Follows Keeps old new
+    → Follows (Leaves units (opening_fault fault)) old new
 opening_leaves units back.Failed old new h = λ c may. let at = h c may in (at.0, at.1, less units at.0 c at.2)
 opening_leaves units (back.Bad at) old new h = h
 opening_leaves units back.NoMemory old new h = h

@@ -31,7 +31,8 @@ user_of-all user (e ∷ es) all = ap (λ u. map (as_handed u) (e ∷ es)) (All-h
 own_user : (user : List ℕ) (e : Entry) → e.user ≡ user → as_handed user e ≡ record e { handed = true }
 own_user user e is = ap (λ u. as_handed u e) (sym is)
 
-handed_alike : (unit : UnitKey) (user : List ℕ) (table : List Entry) → All (λ (e : Entry). e.user ≡ user) (lasting unit table) → map (as_handed user) (lasting unit table) ≡ filter (is_of (Upd unit)) (handed_over table unit)
+handed_alike : (unit : UnitKey) (user : List ℕ) (table : List Entry) → All (λ (e : Entry). e.user ≡ user) (lasting unit table)
+    → map (as_handed user) (lasting unit table) ≡ filter (is_of (Upd unit)) (handed_over table unit)
 handed_alike unit user [] all = refl
 handed_alike unit user (e ∷ table) all =
     elim (cases_Bool (is_of (Upd unit) e)) [
@@ -54,14 +55,16 @@ handed_as_kept unit user table all = user_of-all user (lasting unit table) all �
 flag_stays : (e : Entry) → e.handed ≡ true → record e { handed = true } ≡ e
 flag_stays e is = λ i. record e { handed = sym is i }
 
-returned_alike : (user : List ℕ) (es : List Entry) → All (λ (e : Entry). e.user ≡ user) es → All (λ (e : Entry). e.handed ≡ true) es → map (as_handed user) es ≡ es
+returned_alike : (user : List ℕ) (es : List Entry) → All (λ (e : Entry). e.user ≡ user) es → All (λ (e : Entry). e.handed ≡ true) es
+    → map (as_handed user) es ≡ es
 returned_alike user [] all flags = refl
 returned_alike user (e ∷ es) all flags =
     let here = own_user user e (All-head (λ (x : Entry). x.user ≡ user) e es all) ∙ flag_stays e (All-head (λ (x : Entry). x.handed ≡ true) e es flags) in
     let rest = returned_alike user es (All-tail (λ (x : Entry). x.user ≡ user) e es all) (All-tail (λ (x : Entry). x.handed ≡ true) e es flags) in
     λ i. here i ∷ rest i
 
-pub returned_as_kept : (unit : UnitKey) (user : List ℕ) (es : List Entry) → All (λ (e : Entry). e.user ≡ user) es → All (λ (e : Entry). e.handed ≡ true) es → (handed_of unit es).entries ≡ es
+pub returned_as_kept : (unit : UnitKey) (user : List ℕ) (es : List Entry) → All (λ (e : Entry). e.user ≡ user) es → All (λ (e : Entry). e.handed ≡ true) es
+    → (handed_of unit es).entries ≡ es
 returned_as_kept unit user es all flags = user_of-all user es all ∙ returned_alike user es all flags
 
 -- ---- the entries of each unit
@@ -125,7 +128,8 @@ push_own (g ∷ l) h other own =
           ∙ push_own l h other own
     ]
 
-after_hand : (l : List Handed) (h : Handed) (other : UnitKey) → entries_of (after l (Hand h)) other ≡ (if same_unit h.unit other then h.entries else entries_of l other)
+after_hand : (l : List Handed) (h : Handed) (other : UnitKey) → entries_of
+    (after l (Hand h)) other ≡ (if same_unit h.unit other then h.entries else entries_of l other)
 after_hand l h other =
     elim (cases_Bool (same_unit h.unit other)) [
       | inl own ↦ push_own l h other own ∙ sym (chosen (same_unit h.unit other) h.entries (entries_of l other) own)
@@ -140,7 +144,8 @@ pub entries-with : (l : List Handed) (unit other : UnitKey) (es : List Entry) �
     → entries_of (with_list unit es l) other ≡ (if same_unit unit other then (handed_of unit es).entries else entries_of l other)
 entries-with l unit other es some = ap (λ m. entries_of m other) (listed unit es l some) ∙ after_hand l (handed_of unit es) other
 
-pub entries-among : (l : List Handed) (units : List UnitLocks) (other : UnitKey) → entries_of (lists_among units l) other ≡ (if is_one_of units other then entries_of l other else [])
+pub entries-among : (l : List Handed) (units : List UnitLocks) (other : UnitKey)
+    → entries_of (lists_among units l) other ≡ (if is_one_of units other then entries_of l other else [])
 entries-among [] units other =
     elim (cases_Bool (is_one_of units other)) [
       | inl own ↦ sym (chosen (is_one_of units other) [] [] own)

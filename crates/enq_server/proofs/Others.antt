@@ -29,10 +29,11 @@ filter_same p q (x ∷ xs) same = ap (λ b. cond b (x ∷ filter p xs) (filter p
 
 filter_twice : {X : Type 0} (p q : X → Bool) (xs : List X) → filter p (filter q xs) ≡ filter (λ x. q x && p x) xs
 filter_twice p q [] = refl
-filter_twice p q (x ∷ xs) = elim (q x) as (λ b. filter p (cond b (x ∷ filter q xs) (filter q xs)) ≡ cond (b && p x) (x ∷ filter (λ y. q y && p y) xs) (filter (λ y. q y && p y) xs)) [
-  | true ↦ ap (λ r. cond (p x) (x ∷ r) r) (filter_twice p q xs)
-  | false ↦ filter_twice p q xs
-]
+filter_twice p q (x ∷ xs) =
+    elim (q x) as (λ b. filter p (cond b (x ∷ filter q xs) (filter q xs)) ≡ cond (b && p x) (x ∷ filter (λ y. q y && p y) xs) (filter (λ y. q y && p y) xs)) [
+      | true ↦ ap (λ r. cond (p x) (x ∷ r) r) (filter_twice p q xs)
+      | false ↦ filter_twice p q xs
+    ]
 
 or_false : (a : Bool) → (a || false) ≡ a
 or_false true = refl
@@ -70,7 +71,8 @@ absorbed false true = refl
 absorbed false false = refl
 
 -- a list of another unit goes
-pub left_freed : (units : List UnitLocks) (gone : List UnitKey) (l : List Handed) (u : UnitKey) → is_one_of units u ≡ false → without u (left units gone l) ≡ left units (gone ++ u ∷ []) l
+pub left_freed : (units : List UnitLocks) (gone : List UnitKey) (l : List Handed) (u : UnitKey) → is_one_of units u ≡ false
+    → without u (left units gone l) ≡ left units (gone ++ u ∷ []) l
 left_freed units gone l u other =
     filter_twice (λ (h : Handed). not (same_unit h.unit u)) (stays units gone) l
     ∙ filter_alike (λ (h : Handed). stays units gone h && not (same_unit h.unit u)) (stays units (gone ++ u ∷ [])) l (λ h.
@@ -79,7 +81,8 @@ left_freed units gone l u other =
     ∙ ap (λ b. is_one_of units h.unit || not b) (sym (among_push h.unit gone u)))
 
 -- a list of one of these units stays
-pub left_stays : (units : List UnitLocks) (gone : List UnitKey) (l : List Handed) (u : UnitKey) → is_one_of units u ≡ true → left units gone l ≡ left units (gone ++ u ∷ []) l
+pub left_stays : (units : List UnitLocks) (gone : List UnitKey) (l : List Handed) (u : UnitKey) → is_one_of units u ≡ true
+    → left units gone l ≡ left units (gone ++ u ∷ []) l
 left_stays units gone l u own = filter_alike (stays units gone) (stays units (gone ++ u ∷ [])) l (λ h.
     sym (ap (λ b. is_one_of units h.unit || not b) (among_push h.unit gone u)
     ∙ unneeded (is_one_of units h.unit) (is_among h.unit gone) (same_unit u h.unit) (λ e. ap (λ v. is_one_of units v) (sym (same_key u h.unit e)) ∙ own)))
@@ -102,23 +105,27 @@ without_absent u (x ∷ l) h = absent (same_unit x.unit u) x l (without u l) (fi
     (without_absent u l (second_false (same_unit x.unit u) (has_unit u l) h))
 
 -- a unit without a list changes nothing
-pub left_absent : (units : List UnitLocks) (gone : List UnitKey) (l : List Handed) (u : UnitKey) → is_one_of units u ≡ false → has_unit u (left units gone l) ≡ false → left units gone l ≡ left units (gone ++ u ∷ []) l
+pub left_absent : (units : List UnitLocks) (gone : List UnitKey) (l : List Handed) (u : UnitKey) → is_one_of units u ≡ false
+    → has_unit u (left units gone l) ≡ false → left units gone l ≡ left units (gone ++ u ∷ []) l
 left_absent units gone l u other none = sym (without_absent u (left units gone l) none) ∙ left_freed units gone l u other
 
-members : (l : List Handed) (us : List UnitKey) → ((v : UnitKey) → is_among v (units_of l) ≡ true → is_among v us ≡ true) → AllByRecursion (λ (h : Handed). is_among h.unit us ≡ true) l
+members : (l : List Handed) (us : List UnitKey) → ((v : UnitKey) → is_among v (units_of l) ≡ true → is_among v us ≡ true)
+    → AllByRecursion (λ (h : Handed). is_among h.unit us ≡ true) l
 members [] us at = tt
 members (x ∷ l) us at = (
   at x.unit (ap (λ b. b || is_among x.unit (units_of l)) (itself x.unit)),
   members l us (λ v there. at v (ap (λ b. same_unit x.unit v || b) there ∙ or_true (same_unit x.unit v))),
 )
 
-gone_all : (units : List UnitLocks) (us : List UnitKey) (l : List Handed) → AllByRecursion (λ (h : Handed). is_among h.unit us ≡ true) l → AllByRecursion (λ (h : Handed). stays units us h ≡ is_one_of units h.unit) l
+gone_all : (units : List UnitLocks) (us : List UnitKey) (l : List Handed) → AllByRecursion (λ (h : Handed). is_among h.unit us ≡ true) l
+    → AllByRecursion (λ (h : Handed). stays units us h ≡ is_one_of units h.unit) l
 gone_all units us [] all = tt
 gone_all units us (h ∷ l) all = (ap (λ b. is_one_of units h.unit || not b) all.0 ∙ or_false (is_one_of units h.unit), gone_all units us l all.1)
 
 -- once all were looked at only those of these units stand
 pub left_all : (units : List UnitLocks) (l : List Handed) → left units (units_of l) l ≡ lists_among units l
-left_all units l = filter_same (stays units (units_of l)) (λ (h : Handed). is_one_of units h.unit) l (gone_all units (units_of l) l (members l (units_of l) (λ v at. at)))
+left_all units l = filter_same (stays units (units_of l)) (λ (h : Handed). is_one_of units h.unit) l
+    (gone_all units (units_of l) l (members l (units_of l) (λ v at. at)))
 
 filter_all : {X : Type 0} (p : X → Bool) (xs : List X) → ((x : X) → p x ≡ true) → filter p xs ≡ xs
 filter_all p [] all = refl
@@ -140,7 +147,8 @@ taken_units l i h low is =
     ap units_of (take_more l i h low ∙ ap (λ x. take i l ++ x ∷ []) (sym is)) ∙ units-push (take i l) h
 
 -- whichever side of a free a crash leaves, only lists of other units are gone
-pub still : (units : List UnitLocks) (gone : List UnitKey) (l : List Handed) (u : UnitKey) (bytes : List ℕ) → is_one_of units u ≡ false → Stands bytes (left units gone l) ⊎ Stands bytes (without u (left units gone l))
+pub still : (units : List UnitLocks) (gone : List UnitKey) (l : List Handed) (u : UnitKey) (bytes : List ℕ) → is_one_of units u ≡ false
+    → Stands bytes (left units gone l) ⊎ Stands bytes (without u (left units gone l))
     → StandsLess units l bytes
 still units gone l u bytes other (inl stands) = record { gone = gone; stands = stands }
 still units gone l u bytes other (inr stands) =

@@ -42,8 +42,10 @@ IsRecoveryFault l units opening.NoMemory = Unit {0}
 abbrev pub IsOpenFault : List ℕ → List UnitLocks → OpenFault → Type 0
 IsOpenFault bytes units opening.Failed = Unit {0}
 IsOpenFault bytes units (opening.Bad (bad.Bytes at)) = IsBad bytes at
-IsOpenFault bytes units (opening.Bad (bad.Missing unit at)) = (l : List Handed) × Stands bytes l × IsMissing l units unit at
-IsOpenFault bytes units (opening.Bad (bad.Clash first second)) = (l : List Handed) × Stands bytes l × Clashes l units first second
+IsOpenFault bytes units (opening.Bad (bad.Missing unit at)) =
+    (l : List Handed) × Stands bytes l × IsMissing l units unit at
+IsOpenFault bytes units (opening.Bad (bad.Clash first second)) =
+    (l : List Handed) × Stands bytes l × Clashes l units first second
 IsOpenFault bytes units opening.NoMemory = Unit {0}
 
 -- what is said of a file that stands for nothing

@@ -1,5 +1,6 @@
 -- A replica that follows the lock table.
-use Rattle.std.specs.Prelude.{◌≡◌, ◌⊎◌, ◌≤◌, ◌&&◌, ℕ, Bool, true, false, not, nat_eq, if◌then◌else◌, List, [], ◌∷◌, Option, Some, IfSome, is_some}
+use Rattle.std.specs.Prelude.{◌≡◌, ◌⊎◌, ◌≤◌, ◌&&◌, ℕ, Bool, true, false, not, nat_eq, if◌then◌else◌, List, [], ◌∷◌}
+use Rattle.std.specs.Prelude.{Option, Some, IfSome, is_some}
 use Rattle.std.specs.Bool.{beq}
 use Rattle.std.specs.Str.{bytes_eq}
 use Rattle.enq_base.specs.Causes.{Rose}
@@ -21,12 +22,15 @@ pub record Following (L : Type 0) : Type 0 where
 abbrev pub IsAt : {L : Type 0} → (L → Option (List Entry)) → Following L → List Entry → Type 0
 IsAt applied f list = f.attached ≡ true → IfSome (applied f.link) (λ l. l ≡ list)
 
--- neither count has fallen, what followed before is lost only where one of them rose, and the link tells its list just where it did
-pub record KeepsOn {L : Type 0} (applied : L → Option (List Entry)) (faults refusals : L → ℕ) (old new : Following L) : Type 0 where
+-- neither count has fallen, what followed before is lost only where one of them rose, and the link tells its list just
+-- where it did
+pub record KeepsOn {L : Type 0} (applied : L → Option (List Entry)) (faults refusals : L → ℕ)
+    (old new : Following L) : Type 0 where
   pub faults_later : faults old.link ≤ faults new.link
   pub refusals_later : refusals old.link ≤ refusals new.link
   pub kept : new.attached ≡ true → old.attached ≡ true
-  pub lost : old.attached ≡ true → new.attached ≡ false → Rose (faults old.link) (faults new.link) ⊎ Rose (refusals old.link) (refusals new.link)
+  pub lost : old.attached ≡ true → new.attached ≡ false → Rose (faults old.link) (faults new.link)
+      ⊎ Rose (refusals old.link) (refusals new.link)
   pub told : is_some (applied new.link) ≡ is_some (applied old.link)
 
 -- how a fault of the link is told
@@ -35,13 +39,15 @@ over_fault link.Failed = over.Link
 over_fault link.NoMemory = over.NoMemory
 
 -- neither count of the link has fallen, and it tells its list just where it did
-pub record IsLater {L : Type 0} (applied : L → Option (List Entry)) (faults refusals : L → ℕ) (old new : Following L) : Type 0 where
+pub record IsLater {L : Type 0} (applied : L → Option (List Entry)) (faults refusals : L → ℕ)
+    (old new : Following L) : Type 0 where
   pub faults_later : faults old.link ≤ faults new.link
   pub refusals_later : refusals old.link ≤ refusals new.link
   pub told : is_some (applied new.link) ≡ is_some (applied old.link)
 
 -- it follows as before, and would give the same
-pub record StillFollows {L : Type 0} (gives : L → List Entry) (applied : L → Option (List Entry)) (old new : Following L) : Type 0 where
+pub record StillFollows {L : Type 0} (gives : L → List Entry) (applied : L → Option (List Entry))
+    (old new : Following L) : Type 0 where
   pub before : old.attached ≡ true
   pub now : new.attached ≡ true
   pub given : gives new.link ≡ gives old.link
@@ -51,7 +57,8 @@ pub record StillFollows {L : Type 0} (gives : L → List Entry) (applied : L →
 abbrev pub same_entry : Entry → Entry → Bool
 same_entry a b = has_name (name_of a) b && (bytes_eq a.user b.user && (nat_eq a.count b.count && beq a.handed b.handed))
 
--- The list may take the place of the table: it has the table's locks in their order, and lacks at most some that weren't handed over.
+-- The list may take the place of the table: it has the table's locks in their order, and lacks at most some that
+-- weren't handed over.
 abbrev pub may_replace : (table list : List Entry) → Bool
 may_replace [] [] = true
 may_replace [] (x ∷ xs) = false
@@ -60,9 +67,15 @@ may_replace (e ∷ es) (x ∷ xs) = if same_entry e x then may_replace es xs els
 
 -- why no table was taken over from the replica: none followed, the link failed, what it gives isn't sound or may not
 -- replace the table, or memory ran out, after which it may be asked again
-abbrev pub IsOverFault : {L : Type 0} → (faults : L → ℕ) → (gives : L → List Entry) → (applied : L → Option (List Entry)) → (table : List Entry) → (old new : Following L) → OverFault → Type 0
+abbrev pub IsOverFault : {L : Type 0} → (faults : L → ℕ) → (gives : L → List Entry)
+    → (applied : L → Option (List Entry)) → (table : List Entry) → (old new : Following L) → OverFault → Type 0
 IsOverFault faults gives applied table old new over.NotAttached = (old.attached ≡ false) × (new ≡ old)
-IsOverFault faults gives applied table old new over.Link = (old.attached ≡ true) × (new.attached ≡ false) × Rose (faults old.link) (faults new.link)
-IsOverFault faults gives applied table old new (over.Clash first second) = (old.attached ≡ true) × (new.attached ≡ false) × (IsSound (gives old.link) → ⊥) × (first_clash (gives old.link) ≡ Some (first, second))
-IsOverFault faults gives applied table old new over.Other = (old.attached ≡ true) × (new.attached ≡ false) × IsSound (gives old.link) × (may_replace table (gives old.link) ≡ false)
+IsOverFault faults gives applied table old new over.Link =
+    (old.attached ≡ true) × (new.attached ≡ false) × Rose (faults old.link) (faults new.link)
+IsOverFault faults gives applied table old new (over.Clash first second) =
+    (old.attached ≡ true) × (new.attached ≡ false) × (IsSound (gives old.link) → ⊥)
+    × (first_clash (gives old.link) ≡ Some (first, second))
+IsOverFault faults gives applied table old new over.Other =
+    (old.attached ≡ true) × (new.attached ≡ false) × IsSound (gives old.link)
+    × (may_replace table (gives old.link) ≡ false)
 IsOverFault faults gives applied table old new over.NoMemory = StillFollows gives applied old new

@@ -1,5 +1,6 @@
 -- What a server recovers from the lists of its backup file.
-use Rattle.std.specs.Prelude.{ℕ, ◌≡◌, ◌+◌, Bool, not, ◌||◌, ◌∷◌, ◌++◌, [], List, Option, Some, None, if◌then◌else◌, take}
+use Rattle.std.specs.Prelude.{ℕ, ◌≡◌, ◌+◌, Bool, not, ◌||◌, ◌∷◌, ◌++◌, [], List, Option, Some, None, if◌then◌else◌}
+use Rattle.std.specs.Prelude.{take}
 use Rattle.std.specs.HashMap.{HashMap, get}
 use Rattle.std.specs.List.{All, filter, flat_map, list_any, slice_get}
 use Rattle.std.specs.Option.{option_map_or}
@@ -81,7 +82,8 @@ pub record StandsLess (units : List UnitLocks) (l : List Handed) (bytes : List �
   pub gone : List UnitKey
   pub stands : Stands bytes (left units gone l)
 
--- what old stands for new stands for, less none, some or all lists of other units, and bytes that stand for nothing stay
+-- what old stands for new stands for, less none, some or all lists of other units, and bytes that stand for nothing
+-- stay
 pub record FreesOthers (units : List UnitLocks) (old new : List ℕ) : Type 0 where
   pub lists : (l : List Handed) → Stands old l → StandsLess units l new
   pub bytes : (at : ℕ) → IsBad old at → new ≡ old

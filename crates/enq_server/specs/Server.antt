@@ -38,7 +38,8 @@ abbrev pub replicated : ℕ → List Entry → Table
 replicated limit entries = record { entries = entries; limit = larger limit (length entries) }
 
 -- the bytes stood for lists with which the units agree, and the file is ready with those of these units alone
-pub record IsRecovered {D : Type 0} (reads : D → List ℕ) (may_leave : D → List ℕ → Type 0) (bytes : List ℕ) (units : List UnitLocks) (file : BackupView D) : Type 0 where
+pub record IsRecovered {D : Type 0} (reads : D → List ℕ) (may_leave : D → List ℕ → Type 0) (bytes : List ℕ)
+    (units : List UnitLocks) (file : BackupView D) : Type 0 where
   pub lists : List Handed
   pub stood : Stands bytes lists
   pub agree : All (Agrees lists) units
@@ -59,4 +60,5 @@ with_list unit (e ∷ es) l = after l (Hand (handed_of unit (e ∷ es)))
 
 -- the conversion leaves these entries
 abbrev pub IsConverted : List Entry → Asker → List Asked → List Entry → Type 0
-IsConverted entries asker asked after = (removed : List Entry) × (converted entries asker asked ≡ Ok (record { entries = after; removed = removed }))
+IsConverted entries asker asked after = (removed : List Entry)
+    × (converted entries asker asked ≡ Ok (record { entries = after; removed = removed }))

@@ -86,7 +86,8 @@ impl<L: Link> Follower<L> {
 
     /// Sends it a change of the table, where it follows.
     pub fn ship(&mut self, op: &TableOp)
-        ensures at { (list : List Entry) → IsAt L.applied self.old list → IsAt L.applied self.new (after_op list op.now) }
+        ensures at { (list : List Entry) → IsAt L.applied self.old list
+            → IsAt L.applied self.new (after_op list op.now) }
         ensures keeps { KeepsOn L.applied L.faults L.refusals self.old self.new }
     {
         if self.attached {
@@ -96,7 +97,8 @@ impl<L: Link> Follower<L> {
 
     fn send(&mut self, op: &TableOp)
         requires { self.old.attached ≡ true }
-        ensures at { (list : List Entry) → IsAt L.applied self.old list → IsAt L.applied self.new (after_op list op.now) }
+        ensures at { (list : List Entry) → IsAt L.applied self.old list
+            → IsAt L.applied self.new (after_op list op.now) }
         ensures keeps { KeepsOn L.applied L.faults L.refusals self.old self.new }
     {
         match self.link.ship(self.alloc, self.seq, op) {

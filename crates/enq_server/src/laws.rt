@@ -30,7 +30,8 @@ pub fn one_user_is_kept()
 /// What a change of the lists does to the entries of each unit.
 pub fn entries_follow_lists()
     ensures with_one { (l : List Handed) (unit other : UnitKey) (entries : List Entry) → 1 ≤ length entries
-        → entries_of (with_list unit entries l) other ≡ (if same_unit unit other then (handed_of unit entries).entries else entries_of l other) }
+        → entries_of (with_list unit entries l)
+        other ≡ (if same_unit unit other then (handed_of unit entries).entries else entries_of l other) }
     ensures without { (l : List Handed) (unit other : UnitKey)
         → entries_of (lists.without unit l) other ≡ (if same_unit unit other then [] else entries_of l other) }
     ensures among { (l : List Handed) (units : List UnitLocks) (other : UnitKey)

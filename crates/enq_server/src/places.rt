@@ -13,7 +13,9 @@ use std::alloc::Global;
 use std::collections::{HashMap, HashSet};
 
 fn put(places: &mut HashMap<UnitId, usize>, unit: &UnitKey, place: usize) -> Result<(), NoMemory>
-    ensures { OnOk result ((other : UnitKey) → get same_id places.new (id_of other) ≡ (if same_unit unit.now other then Some place else get same_id places.old (id_of other))) }
+    ensures { OnOk result
+        ((other : UnitKey) → get same_id places.new
+        (id_of other) ≡ (if same_unit unit.now other then Some place else get same_id places.old (id_of other))) }
 {
     places.insert(id_of(unit), place)?;
     Ok(())
@@ -56,7 +58,9 @@ pub fn entries_of<'a>(
 }
 
 fn add(known: &mut HashSet<UnitId>, unit: &UnitKey) -> Result<(), NoMemory>
-    ensures { OnOk result ((other : UnitKey) → is_known other known.new.keys ≡ (same_unit unit.now other || is_known other known.old.keys)) }
+    ensures { OnOk result
+        ((other : UnitKey) → is_known other
+        known.new.keys ≡ (same_unit unit.now other || is_known other known.old.keys)) }
 {
     known.insert(id_of(unit))?;
     Ok(())

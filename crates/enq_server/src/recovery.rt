@@ -30,8 +30,10 @@ fn is_same(a: &Entry, b: &Entry) -> bool
 
 /// What of the list stands behind the entry, where it begins with this one.
 fn behind<'a>(entry: &Entry, list: &'a [Entry]) -> Option<&'a [Entry]>
-    ensures first { IfSome result (λ rest. (entries : List Entry) → may_replace (entry.now ∷ entries) list.now ≡ may_replace entries rest.now) }
-    ensures other { result ≡ None → (entries : List Entry) → may_replace (entry.now ∷ entries) list.now ≡ (not entry.now.handed && may_replace entries list.now) }
+    ensures first { IfSome result
+        (λ rest. (entries : List Entry) → may_replace (entry.now ∷ entries) list.now ≡ may_replace entries rest.now) }
+    ensures other { result ≡ None → (entries : List Entry)
+        → may_replace (entry.now ∷ entries) list.now ≡ (not entry.now.handed && may_replace entries list.now) }
 {
     let (first, rest) = list.split_first()?;
     if is_same(entry, first) {
@@ -204,8 +206,8 @@ fn free_others<D: Disk>(
     Ok(())
 }
 
-/// Reads the file anew, also one that failed, and makes the table of the units' entries, with which its lists must agree.
-/// Lists of other units are freed.
+/// Reads the file anew, also one that failed, and makes the table of the units' entries, with which its lists must
+/// agree. Lists of other units are freed.
 pub fn read_anew<T: LockStore, D: Disk>(
     alloc: Global,
     backup: &mut Backup<D>,

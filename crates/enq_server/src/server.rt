@@ -119,11 +119,13 @@ impl<T: LockStore, D: Disk, L: Link> EnqServer<T, D, L> {
             → IfErr result (λ fault. OnBytes fault (D.reads self.new.file.disk ≡ D.reads self.old.file.disk)) }
         ensures images { IsTrue D.tells → MatchResult result
             (λ _. Follows (FreesOthers units.now) (D.may_leave self.old.file.disk) (D.may_leave self.new.file.disk))
-            (λ fault. Follows (Leaves units.now fault) (D.may_leave self.old.file.disk) (D.may_leave self.new.file.disk)) }
+            (λ fault. Follows (Leaves units.now fault) (D.may_leave self.old.file.disk)
+            (D.may_leave self.new.file.disk)) }
         ensures detached { self.new.copy.attached ≡ false }
         ensures link { self.new.copy.link ≡ self.old.copy.link }
         ensures quiet { OnOk result (D.faults self.new.file.disk ≡ D.faults self.old.file.disk) }
-        ensures cause { IfErr result (λ fault. CountsFault fault (D.faults self.old.file.disk) (D.faults self.new.file.disk)) }
+        ensures cause { IfErr result
+            (λ fault. CountsFault fault (D.faults self.old.file.disk) (D.faults self.new.file.disk)) }
     {
         self.follower.detach();
         self.table = read_anew(alloc, &mut self.backup, limit, units)?;
@@ -131,9 +133,9 @@ impl<T: LockStore, D: Disk, L: Link> EnqServer<T, D, L> {
     }
 
     /// Takes the table over from the replica, which then follows no longer, where its list may take the place of the
-    /// table that stood: it has the same locks in their order, and lacks at most some that weren't handed over. The limit
-    /// is the larger of `limit` and the number of entries. After an error the table stays; after `Link`, `Clash` and
-    /// `Other` the replica follows no longer either.
+    /// table that stood: it has the same locks in their order, and lacks at most some that weren't handed over. The
+    /// limit is the larger of `limit` and the number of entries. After an error the table stays; after `Link`, `Clash`
+    /// and `Other` the replica follows no longer either.
     pub fn fail_over(&mut self, alloc: Global, limit: u32) -> Result<(), OverFault>
         ensures table { OnOk result (self.new.table ≡ replicated limit (L.gives self.old.copy.link)) }
         ensures replaces { OnOk result (may_replace self.old.table.entries (L.gives self.old.copy.link) ≡ true) }
@@ -142,9 +144,11 @@ impl<T: LockStore, D: Disk, L: Link> EnqServer<T, D, L> {
         ensures followed { OnOk result (self.old.copy.attached ≡ true) }
         ensures detached { OnOk result (self.new.copy.attached ≡ false) }
         // A link that tells its list gives that of the table.
-        ensures told { self.old.copy.attached ≡ true → IfSome (L.applied self.old.copy.link) (λ _. L.gives self.old.copy.link ≡ self.old.table.entries) }
+        ensures told { self.old.copy.attached ≡ true
+            → IfSome (L.applied self.old.copy.link) (λ _. L.gives self.old.copy.link ≡ self.old.table.entries) }
         ensures file { self.new.file ≡ self.old.file }
-        ensures fault { IfErr result (IsOverFault L.faults L.gives L.applied self.old.table.entries self.old.copy self.new.copy) }
+        ensures fault { IfErr result
+            (IsOverFault L.faults L.gives L.applied self.old.table.entries self.old.copy self.new.copy) }
         ensures later { IsLater L.applied L.faults L.refusals self.old.copy self.new.copy }
     {
         if !self.follower.attached() {
@@ -181,7 +185,8 @@ impl<T: LockStore, D: Disk, L: Link> EnqServer<T, D, L> {
         requests: &[Request],
     ) -> Result<(), ServerFault>
         requires { IsPair asker.now }
-        ensures granted { OnOk result (granting.asked self.old.table asker.now user.now requests.now ≡ Ok self.new.table.entries) }
+        ensures granted { OnOk result
+            (granting.asked self.old.table asker.now user.now requests.now ≡ Ok self.new.table.entries) }
         ensures refused { IfErr result (IsRefusal (granting.asked self.old.table asker.now user.now requests.now)) }
         ensures unchanged { OnErr result (self.new.table ≡ self.old.table) }
         ensures unshipped { OnErr result (self.new.copy ≡ self.old.copy) }
@@ -197,7 +202,8 @@ impl<T: LockStore, D: Disk, L: Link> EnqServer<T, D, L> {
 
     /// Takes one from the entry of this name, which goes at 0.
     pub fn free_one(&mut self, owner: &Owner, asked: &Asked)
-        ensures after { self.new.table ≡ with_entries self.old.table (freed self.old.table.entries (named owner.now asked.now)) }
+        ensures after { self.new.table ≡ with_entries self.old.table
+            (freed self.old.table.entries (named owner.now asked.now)) }
         ensures good { IsTable self.new.table }
         ensures file { self.new.file ≡ self.old.file }
         ensures copy { KeepsOn L.applied L.faults L.refusals self.old.copy self.new.copy }
@@ -226,7 +232,8 @@ impl<T: LockStore, D: Disk, L: Link> EnqServer<T, D, L> {
         asked: &[Asked],
     ) -> Result<(), ServerFault>
         requires { IsPair asker.now }
-        ensures converted { OnOk result (IsConverted self.old.table.entries asker.now asked.now self.new.table.entries) }
+        ensures converted { OnOk result
+            (IsConverted self.old.table.entries asker.now asked.now self.new.table.entries) }
         ensures refused { IfErr result (IsRefusal (converted self.old.table.entries asker.now asked.now)) }
         ensures unchanged { OnErr result (self.new.table ≡ self.old.table) }
         ensures unshipped { OnErr result (self.new.copy ≡ self.old.copy) }
@@ -249,7 +256,8 @@ impl<T: LockStore, D: Disk, L: Link> EnqServer<T, D, L> {
         ensures count { IfOk result (λ n. n ≡ length (lasting unit.now self.old.table.entries)) }
         ensures table { self.new.table ≡ self.old.table }
         ensures saved { IsTrue D.tells → (l : List Handed) → IsReady D.reads D.may_leave self.old.file l
-            → OnOk result (IsReady D.reads D.may_leave self.new.file (with_list unit.now (lasting unit.now self.old.table.entries) l)) }
+            → OnOk result (IsReady D.reads D.may_leave self.new.file
+            (with_list unit.now (lasting unit.now self.old.table.entries) l)) }
         ensures images { IsTrue D.tells → (l : List Handed) → IsReady D.reads D.may_leave self.old.file l
             → (c : List ℕ) → D.may_leave self.new.file.disk c
             → Stands c l ⊎ Stands c (with_list unit.now (lasting unit.now self.old.table.entries) l) }
@@ -326,8 +334,11 @@ impl<T: LockStore, D: Disk, L: Link> EnqServer<T, D, L> {
         requires unit { asker.now.update ≡ Upd unit.now }
         requires entries { ReadmitsOnly asker.now entries.now }
         requires handable { 1 ≤ length entries.now → IsHandable unit.now entries.now }
-        ensures granted { OnOk result (granting.readmitted self.old.table asker.now entries.now ≡ Ok self.new.table.entries) }
-        ensures refused { IfErr result (IsReadmission (granting.readmitted self.old.table asker.now entries.now) self.old.table.entries self.new.table.entries) }
+        ensures granted { OnOk result
+            (granting.readmitted self.old.table asker.now entries.now ≡ Ok self.new.table.entries) }
+        ensures refused { IfErr result
+            (IsReadmission (granting.readmitted self.old.table asker.now entries.now) self.old.table.entries
+            self.new.table.entries) }
         ensures limit { self.new.table.limit ≡ self.old.table.limit }
         ensures good { IsTable self.new.table }
         ensures listed { IsTrue D.tells → (l : List Handed) → IsReady D.reads D.may_leave self.old.file l
@@ -359,7 +370,8 @@ impl<T: LockStore, D: Disk, L: Link> EnqServer<T, D, L> {
     /// `Failed` the file takes no write until `restart`.
     pub fn end_unit(&mut self, unit: &UnitKey) -> Result<(), Failed>
         requires usable { self.old.file.failed ≡ false }
-        ensures table { OnOk result (self.new.table ≡ with_entries self.old.table (freed_owner self.old.table.entries (Upd unit.now))) }
+        ensures table { OnOk result
+            (self.new.table ≡ with_entries self.old.table (freed_owner self.old.table.entries (Upd unit.now))) }
         ensures kept { OnErr result (self.new.table ≡ self.old.table) }
         ensures unshipped { OnErr result (self.new.copy ≡ self.old.copy) }
         ensures freed { IsTrue D.tells → (l : List Handed) → IsReady D.reads D.may_leave self.old.file l
@@ -390,7 +402,8 @@ impl<T: LockStore, D: Disk, L: Link> EnqServer<T, D, L> {
         requires pair { IsPair asker.now }
         requires entries { ReadmitsOnly asker.now entries.now }
         requires own { own.now ≡ filter (is_of asker.now.update) self.old.table.entries }
-        ensures granted { OnOk result (granting.readmitted self.old.table asker.now entries.now ≡ Ok self.new.table.entries) }
+        ensures granted { OnOk result
+            (granting.readmitted self.old.table asker.now entries.now ≡ Ok self.new.table.entries) }
         ensures refused { IfErr result (IsRefusal (granting.readmitted self.old.table asker.now entries.now)) }
         ensures unchanged { OnErr result (self.new.table ≡ self.old.table) }
         ensures unshipped { OnErr result (self.new.copy ≡ self.old.copy) }
@@ -410,7 +423,8 @@ impl<T: LockStore, D: Disk, L: Link> EnqServer<T, D, L> {
         ensures attached { OnOk result (self.new.copy.attached ≡ true) }
         ensures detached { OnErr result (self.new.copy.attached ≡ false) }
         ensures later { IsLater L.applied L.faults L.refusals self.old.copy self.new.copy }
-        ensures failed { IsErrOf result LinkFault.Failed → Rose (L.faults self.old.copy.link) (L.faults self.new.copy.link) }
+        ensures failed { IsErrOf result LinkFault.Failed
+            → Rose (L.faults self.old.copy.link) (L.faults self.new.copy.link) }
         ensures table { self.new.table ≡ self.old.table }
         ensures file { self.new.file ≡ self.old.file }
     {
@@ -426,7 +440,8 @@ impl<T: LockStore, D: Disk, L: Link> EnqServer<T, D, L> {
     /// Whether a replica follows the table. It takes no memory.
     pub fn attached(&self) -> bool
         ensures flag { result ≡ self.now.copy.attached }
-        ensures given { IsTrue result → IfSome (L.applied self.now.copy.link) (λ _. L.gives self.now.copy.link ≡ self.now.table.entries) }
+        ensures given { IsTrue result
+            → IfSome (L.applied self.now.copy.link) (λ _. L.gives self.now.copy.link ≡ self.now.table.entries) }
     {
         self.follower.attached()
     }

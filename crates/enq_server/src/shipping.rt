@@ -23,7 +23,8 @@ fn drop_of(entry: &Entry) -> TableOp
 
 /// The entry goes, where it is the owner's.
 fn ship_own<L: Link>(follower: &mut Follower<L>, entry: &Entry, owner: &Owner)
-    ensures at { (list : List Entry) → IsAt L.applied follower.old list → IsAt L.applied follower.new (replica list (owner_ops (entry.now ∷ []) owner.now)) }
+    ensures at { (list : List Entry) → IsAt L.applied follower.old list
+        → IsAt L.applied follower.new (replica list (owner_ops (entry.now ∷ []) owner.now)) }
     ensures keeps { KeepsOn L.applied L.faults L.refusals follower.old follower.new }
 {
     if entry.is_of(owner) {
@@ -33,7 +34,8 @@ fn ship_own<L: Link>(follower: &mut Follower<L>, entry: &Entry, owner: &Owner)
 
 /// The owner's entries of the table go, found one by one.
 fn ship_found<T: LockStore, L: Link>(follower: &mut Follower<L>, table: &T, owner: &Owner)
-    ensures at { (list : List Entry) → IsAt L.applied follower.old list → IsAt L.applied follower.new (replica list (owner_ops (T.table table.now).entries owner.now)) }
+    ensures at { (list : List Entry) → IsAt L.applied follower.old list
+        → IsAt L.applied follower.new (replica list (owner_ops (T.table table.now).entries owner.now)) }
     ensures keeps { KeepsOn L.applied L.faults L.refusals follower.old follower.new }
 {
     for place in 0..table.len() {
@@ -45,7 +47,8 @@ fn ship_found<T: LockStore, L: Link>(follower: &mut Follower<L>, table: &T, owne
 
 /// The owner's entries of the table go. Without memory for a list of them it goes over the whole table.
 pub fn ship_owner<T: LockStore, L: Link>(follower: &mut Follower<L>, table: &T, owner: &Owner)
-    ensures at { (list : List Entry) → IsAt L.applied follower.old list → IsAt L.applied follower.new (replica list (owner_ops (T.table table.now).entries owner.now)) }
+    ensures at { (list : List Entry) → IsAt L.applied follower.old list
+        → IsAt L.applied follower.new (replica list (owner_ops (T.table table.now).entries owner.now)) }
     ensures keeps { KeepsOn L.applied L.faults L.refusals follower.old follower.new }
 {
     if follower.attached() {
@@ -58,7 +61,8 @@ pub fn ship_owner<T: LockStore, L: Link>(follower: &mut Follower<L>, table: &T, 
 
 /// These entries stand.
 pub fn ship_puts<L: Link>(follower: &mut Follower<L>, entries: &[Entry])
-    ensures at { (list : List Entry) → IsAt L.applied follower.old list → IsAt L.applied follower.new (replica list (map Put entries.now)) }
+    ensures at { (list : List Entry) → IsAt L.applied follower.old list
+        → IsAt L.applied follower.new (replica list (map Put entries.now)) }
     ensures keeps { KeepsOn L.applied L.faults L.refusals follower.old follower.new }
 {
     for entry in entries {
@@ -68,7 +72,8 @@ pub fn ship_puts<L: Link>(follower: &mut Follower<L>, entries: &[Entry])
 
 /// These entries go.
 pub fn ship_drops<L: Link>(follower: &mut Follower<L>, entries: &[Entry])
-    ensures at { (list : List Entry) → IsAt L.applied follower.old list → IsAt L.applied follower.new (replica list (map drop_of entries.now)) }
+    ensures at { (list : List Entry) → IsAt L.applied follower.old list
+        → IsAt L.applied follower.new (replica list (map drop_of entries.now)) }
     ensures keeps { KeepsOn L.applied L.faults L.refusals follower.old follower.new }
 {
     for entry in entries {
@@ -83,7 +88,8 @@ fn ship_name<T: LockStore, L: Link>(
     owner: &Owner,
     asked: &Asked,
 )
-    ensures at { (list : List Entry) → IsAt L.applied follower.old list → IsAt L.applied follower.new (replica list (put_ops (T.table table.now).entries (named owner.now asked.now))) }
+    ensures at { (list : List Entry) → IsAt L.applied follower.old list
+        → IsAt L.applied follower.new (replica list (put_ops (T.table table.now).entries (named owner.now asked.now))) }
     ensures keeps { KeepsOn L.applied L.faults L.refusals follower.old follower.new }
 {
     if let Some(entry) = table.find(owner, asked) {
@@ -98,7 +104,9 @@ fn ship_halves<T: LockStore, L: Link>(
     asker: &Asker,
     request: &Request,
 )
-    ensures at { (list : List Entry) → IsAt L.applied follower.old list → IsAt L.applied follower.new (replica list (granted_ops (T.table table.now).entries (halves_of asker.now request.now))) }
+    ensures at { (list : List Entry) → IsAt L.applied follower.old list
+        → IsAt L.applied follower.new
+        (replica list (granted_ops (T.table table.now).entries (halves_of asker.now request.now))) }
     ensures keeps { KeepsOn L.applied L.faults L.refusals follower.old follower.new }
 {
     if request.dialogue {
@@ -116,7 +124,9 @@ pub fn ship_granted<T: LockStore, L: Link>(
     asker: &Asker,
     requests: &[Request],
 )
-    ensures at { (list : List Entry) → IsAt L.applied follower.old list → IsAt L.applied follower.new (replica list (granted_ops (T.table table.now).entries (halves asker.now requests.now))) }
+    ensures at { (list : List Entry) → IsAt L.applied follower.old list
+        → IsAt L.applied follower.new
+        (replica list (granted_ops (T.table table.now).entries (halves asker.now requests.now))) }
     ensures keeps { KeepsOn L.applied L.faults L.refusals follower.old follower.new }
 {
     for request in requests {
@@ -143,7 +153,9 @@ pub fn ship_freed<T: LockStore, L: Link>(
     owner: &Owner,
     asked: &Asked,
 )
-    ensures at { (list : List Entry) → IsAt L.applied follower.old list → IsAt L.applied follower.new (replica list (freed_ops (T.table table.now).entries (named owner.now asked.now))) }
+    ensures at { (list : List Entry) → IsAt L.applied follower.old list
+        → IsAt L.applied follower.new
+        (replica list (freed_ops (T.table table.now).entries (named owner.now asked.now))) }
     ensures keeps { KeepsOn L.applied L.faults L.refusals follower.old follower.new }
 {
     if let Some(entry) = table.find(owner, asked) {
@@ -163,7 +175,8 @@ fn turn_of(owner: Owner, asked: &Asked) -> TableOp
 
 /// The asker's optimistic entries at these tables and arguments turn.
 pub fn ship_turns<L: Link>(follower: &mut Follower<L>, asker: &Asker, asked: &[Asked])
-    ensures at { (list : List Entry) → IsAt L.applied follower.old list → IsAt L.applied follower.new (replica list (flat_map (turn_ops asker.now) asked.now)) }
+    ensures at { (list : List Entry) → IsAt L.applied follower.old list
+        → IsAt L.applied follower.new (replica list (flat_map (turn_ops asker.now) asked.now)) }
     ensures keeps { KeepsOn L.applied L.faults L.refusals follower.old follower.new }
 {
     for one in asked {
@@ -172,7 +185,8 @@ pub fn ship_turns<L: Link>(follower: &mut Follower<L>, asker: &Asker, asked: &[A
 }
 
 fn ship_turn<L: Link>(follower: &mut Follower<L>, asker: &Asker, asked: &Asked)
-    ensures at { (list : List Entry) → IsAt L.applied follower.old list → IsAt L.applied follower.new (replica list (turn_ops asker.now asked.now)) }
+    ensures at { (list : List Entry) → IsAt L.applied follower.old list
+        → IsAt L.applied follower.new (replica list (turn_ops asker.now asked.now)) }
     ensures keeps { KeepsOn L.applied L.faults L.refusals follower.old follower.new }
 {
     follower.ship(&turn_of(asker.dialogue, asked));

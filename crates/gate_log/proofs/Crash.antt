@@ -9,7 +9,8 @@ use Rattle.gate_log.specs.Gates.{IsShut, IsSynced, IsAtRest}
 written_within : (at : ℕ) (bytes text : List ℕ) → at ≤ length bytes → written bytes at text ≡ take at bytes ++ text ++ drop (at + length text) bytes
 written_within at bytes text le =
     let none : at - length bytes ≡ 0 = omega arith in
-    ap (λ (k : ℕ). take at bytes ++ replicate k 0 ++ text ++ drop (at + length text) bytes) none ∙ ap (λ (l : List ℕ). l ++ text ++ drop (at + length text) bytes) (append-nil (take at bytes))
+    ap (λ (k : ℕ). take at bytes ++ replicate k 0 ++ text ++ drop (at + length text) bytes) none
+    ∙ ap (λ (l : List ℕ). l ++ text ++ drop (at + length text) bytes) (append-nil (take at bytes))
 
 module _ (front : List ℕ) (gate byte : ℕ) (rest bytes : List ℕ) (whole : bytes ≡ front ++ byte ∷ rest) (place : length front ≡ gate) where
   size : length bytes ≡ gate + 1 + length rest
@@ -49,7 +50,8 @@ module _ (front : List ℕ) (gate byte : ℕ) (rest bytes : List ℕ) (whole : b
   torn_gate c torn =
       let within : min gate (length bytes) ≡ gate = omega (arith, size) in
       let same : take gate c ≡ front = ap (λ (k : ℕ). take k c) (sym within) ∙ torn.before ∙ up_to_gate in
-      let tail : drop gate c ≡ get_or c gate 0 ∷ rest = drop_more c gate 0 (omega (arith, torn.no_shorter, size)) ∙ ap (λ (l : List ℕ). get_or c gate 0 ∷ l) (torn.after ∙ behind_gate) in
+      let tail : drop gate c ≡ get_or c gate 0 ∷ rest = drop_more c gate 0 (omega (arith, torn.no_shorter, size))
+      ∙ ap (λ (l : List ℕ). get_or c gate 0 ∷ l) (torn.after ∙ behind_gate) in
       sym (take-append-drop gate c) ∙ ap (λ (l : List ℕ). l ++ drop gate c) same ∙ ap (λ (l : List ℕ). front ++ l) tail
 
   written_gate : written bytes gate (1 ∷ []) ≡ front ++ 1 ∷ rest
@@ -69,7 +71,8 @@ module _ (bytes : List ℕ) (images : List ℕ → Type 0) (gate : ℕ) (front :
       let torn = subst (λ (k : ℕ). Torn k n bytes c) is (subst (λ (b : List ℕ). Torn at n b c) (s.durable from.0 from.1) from.2) in
       record { byte = s.byte; rest = drop (gate + 1) c; whole = torn_behind front gate s.byte s.more bytes s.whole s.place n c torn; closed = s.closed }
 
-  pub staged : (at : ℕ) (text new : List ℕ) (left : List ℕ → Type 0) → at ≡ gate + 1 → new ≡ written bytes at text → at + length text < 2 ^ 63 → Only new left → IsSynced new left gate front text
+  pub staged : (at : ℕ) (text new : List ℕ) (left : List ℕ → Type 0) → at ≡ gate + 1 → new ≡ written bytes at text → at + length text < 2 ^ 63 → Only new left
+      → IsSynced new left gate front text
   staged at text new left is e fits only = record {
     byte = s.byte;
     more = drop (gate + 1 + length text) bytes;
@@ -91,21 +94,32 @@ module _ (bytes : List ℕ) (images : List ℕ → Type 0) (gate : ℕ) (front b
   -- the gate is closed, or open with the body behind it
   either : (byte : ℕ) (c : List ℕ) → c ≡ front ++ byte ∷ ((body ++ 0 ∷ []) ++ s.more) → IsShut front c ⊎ IsShut (front ++ 1 ∷ body) c
   either byte c whole = elim (cases_eq byte 1) [
-    | inl open_gate ↦ inr (record { byte = 0; rest = s.more; whole = goes_on front body s.more c (whole ∙ ap (λ (b : ℕ). front ++ b ∷ ((body ++ 0 ∷ []) ++ s.more)) open_gate); closed = λ e. cc })
+    | inl open_gate ↦ inr
+        (record {
+          byte = 0;
+          rest = s.more;
+          whole = goes_on front body s.more c
+              (whole ∙ ap (λ (b : ℕ). front ++ b ∷ ((body ++ 0 ∷ []) ++ s.more)) open_gate);
+          closed = λ e. cc;
+        })
     | inr shut ↦ inl (record { byte = byte; rest = (body ++ 0 ∷ []) ++ s.more; whole = whole; closed = shut })
   ]
 
-  pub opened_crash : (gate_byte : List ℕ) (new : List ℕ → Type 0) → gate_byte ≡ 1 ∷ [] → Follows (Torn gate (length gate_byte)) images new → (c : List ℕ) → new c → IsShut front c ⊎ IsShut (front ++ 1 ∷ body) c
+  pub opened_crash : (gate_byte : List ℕ) (new : List ℕ → Type 0) → gate_byte ≡ 1 ∷ [] → Follows (Torn gate (length gate_byte)) images new → (c : List ℕ)
+      → new c → IsShut front c ⊎ IsShut (front ++ 1 ∷ body) c
   opened_crash gate_byte new is follows c left =
       let from = follows c left in
-      let torn = subst (λ (k : List ℕ). Torn gate (length k) bytes c) is (subst (λ (b : List ℕ). Torn gate (length gate_byte) b c) (s.durable from.0 from.1) from.2) in
+      let torn = subst (λ (k : List ℕ). Torn gate (length k) bytes c) is
+      (subst (λ (b : List ℕ). Torn gate (length gate_byte) b c) (s.durable from.0 from.1) from.2) in
       either (get_or c gate 0) c (torn_gate front gate s.byte ((body ++ 0 ∷ []) ++ s.more) bytes s.whole s.place c torn)
 
-  pub opened : (gate_byte new : List ℕ) (left : List ℕ → Type 0) → gate_byte ≡ 1 ∷ [] → new ≡ written bytes gate gate_byte → Only new left → IsAtRest new left (gate + 1 + length body) (front ++ 1 ∷ body)
+  pub opened : (gate_byte new : List ℕ) (left : List ℕ → Type 0) → gate_byte ≡ 1 ∷ [] → new ≡ written bytes gate gate_byte → Only new left
+      → IsAtRest new left (gate + 1 + length body) (front ++ 1 ∷ body)
   opened gate_byte new left is e only = record {
     byte = 0;
     more = s.more;
-    whole = goes_on front body s.more new (e ∙ ap (λ (g : List ℕ). written bytes gate g) is ∙ written_gate front gate s.byte ((body ++ 0 ∷ []) ++ s.more) bytes s.whole s.place);
+    whole = goes_on front body s.more new
+        (e ∙ ap (λ (g : List ℕ). written bytes gate g) is ∙ written_gate front gate s.byte ((body ++ 0 ∷ []) ++ s.more) bytes s.whole s.place);
     closed = λ e. cc;
     place = omega (arith, length-append front (1 ∷ body), s.place);
     fits = omega (arith, s.fits, length-append body (0 ∷ []));

@@ -26,7 +26,10 @@ module _ {R S : Type 0} (g : Grammar R S) where
   pub front-push : (front : List ℕ) (s : S) (r : R) → IsFront g front s → g.is_record r → g.is_legal s r → IsFront g (front ++ opened g r) (g.after s r)
   front-push front s r f is legal = record {
     records = f.records ++ r ∷ [];
-    spelled = ap (λ (b : List ℕ). b ++ opened g r) f.spelled ∙ append_assoc g.name (flat_map (opened g) f.records) (opened g r) ∙ ap (λ (b : List ℕ). g.name ++ b) (sym (flat_map-append (opened g) f.records (r ∷ []) ∙ ap (λ (b : List ℕ). flat_map (opened g) f.records ++ b) (flat_map-cons (opened g) r [] ∙ append-nil (opened g r))));
+    spelled = ap (λ (b : List ℕ). b ++ opened g r) f.spelled ∙ append_assoc g.name (flat_map (opened g) f.records) (opened g r)
+        ∙ ap (λ (b : List ℕ). g.name ++ b)
+        (sym (flat_map-append (opened g) f.records (r ∷ []) ∙ ap (λ (b : List ℕ). flat_map (opened g) f.records ++ b)
+        (flat_map-cons (opened g) r [] ∙ append-nil (opened g r))));
     leads = leads-push g.first f.records s r f.leads is legal;
   }
 
@@ -35,14 +38,16 @@ module _ {R S : Type 0} (g : Grammar R S) where
 
   no_records : (rs : List R) (s : S) → length (g.name ++ flat_map (opened g) rs) ≤ length g.name → Leads g g.first rs s → s ≡ g.first
   no_records [] s short leads = sym leads
-  no_records (r ∷ rs) s short leads = absurd (omega (arith, short, length-append g.name (flat_map (opened g) (r ∷ rs)), ap (λ (b : List ℕ). length b) (flat_map-cons (opened g) r rs)))
+  no_records (r ∷ rs) s short leads =
+      absurd (omega (arith, short, length-append g.name (flat_map (opened g) (r ∷ rs)), ap (λ (b : List ℕ). length b) (flat_map-cons (opened g) r rs)))
 
   -- a front with a closed gate behind it stands for its state
   pub shut_stands : (front bytes : List ℕ) (s : S) → IsFront g front s → IsShut front bytes → Stands g bytes s
   shut_stands front bytes s f shut = elim (cases_lt (length g.name + 1) (length bytes)) [
     | inl long ↦ inr (long, (front, f, shut))
     | inr short ↦ (
-        let size : length bytes ≡ length front + length (shut.byte ∷ shut.rest) = ap (λ (b : List ℕ). length b) shut.whole ∙ length-append front (shut.byte ∷ shut.rest) in
+        let size : length bytes ≡ length front + length (shut.byte ∷ shut.rest) =
+        ap (λ (b : List ℕ). length b) shut.whole ∙ length-append front (shut.byte ∷ shut.rest) in
         let whole : length (g.name ++ flat_map (opened g) f.records) ≡ length front = ap (λ (b : List ℕ). length b) (sym f.spelled) in
         inl (short, no_records f.records s (omega (arith, size, whole, short)) f.leads))
   ]
@@ -54,11 +59,14 @@ module _ {R S : Type 0} (g : Grammar R S) where
   -- the name, and what comes behind it
   front_name : (front x bytes : List ℕ) (s : S) → bytes ≡ front ++ x → IsFront g front s → take (length g.name) bytes ≡ g.name
   front_name front x bytes s whole f =
-      ap (λ (b : List ℕ). take (length g.name) b) (whole ∙ ap (λ (b : List ℕ). b ++ x) f.spelled ∙ append_assoc g.name (flat_map (opened g) f.records) x) ∙ take_at g.name (flat_map (opened g) f.records ++ x) (length g.name) refl
+      ap (λ (b : List ℕ). take (length g.name) b) (whole ∙ ap (λ (b : List ℕ). b ++ x) f.spelled ∙ append_assoc g.name (flat_map (opened g) f.records) x)
+      ∙ take_at g.name (flat_map (opened g) f.records ++ x) (length g.name) refl
 
-  behind_name : (front x bytes : List ℕ) (s : S) → bytes ≡ front ++ x → (f : IsFront g front s) → drop (length g.name) bytes ≡ flat_map (opened g) f.records ++ x
+  behind_name : (front x bytes : List ℕ) (s : S) → bytes ≡ front ++ x → (f : IsFront g front s)
+      → drop (length g.name) bytes ≡ flat_map (opened g) f.records ++ x
   behind_name front x bytes s whole f =
-      ap (λ (b : List ℕ). drop (length g.name) b) (whole ∙ ap (λ (b : List ℕ). b ++ x) f.spelled ∙ append_assoc g.name (flat_map (opened g) f.records) x) ∙ drop_at g.name (flat_map (opened g) f.records ++ x) (length g.name) refl
+      ap (λ (b : List ℕ). drop (length g.name) b) (whole ∙ ap (λ (b : List ℕ). b ++ x) f.spelled ∙ append_assoc g.name (flat_map (opened g) f.records) x)
+      ∙ drop_at g.name (flat_map (opened g) f.records ++ x) (length g.name) refl
 
   -- a record that may follow stands where a file was said to break
   no_break : (s : S) (rest : List ℕ) (r : R) (x : List ℕ) → EndsBadly g s rest → rest ≡ 1 ∷ (g.spelling r ++ x) → g.is_record r → g.is_legal s r → ⊥
@@ -73,7 +81,8 @@ module _ {R S : Type 0} (g : Grammar R S) where
         let pair : (r, x) ≡ (q, y) = some_is (r, x) (q, y) (sym (reader.again r x is_r) ∙ ap read (ap (λ (b : List ℕ). drop 1 b) e) ∙ reader.again q y is_q) in
         (ap (λ (p : R × List ℕ). p.0) pair, ap (λ (p : R × List ℕ). p.1) pair)
 
-    same_log : (rs qs : List R) (s t u : S) (b h : ℕ) (x y : List ℕ) → b ≢ 1 → h ≢ 1 → flat_map (opened g) rs ++ b ∷ x ≡ flat_map (opened g) qs ++ h ∷ y → Leads g s rs t → Leads g s qs u → t ≡ u
+    same_log : (rs qs : List R) (s t u : S) (b h : ℕ) (x y : List ℕ) → b ≢ 1 → h ≢ 1 → flat_map (opened g) rs ++ b ∷ x ≡ flat_map (opened g) qs ++ h ∷ y
+        → Leads g s rs t → Leads g s qs u → t ≡ u
     same_log [] [] s t u b h x y shut_b shut_h e leads_t leads_u = sym leads_t ∙ leads_u
     same_log [] (q ∷ qs) s t u b h x y shut_b shut_h e leads_t leads_u =
         let f : b ∷ x ≡ 1 ∷ (g.spelling q ++ (flat_map (opened g) qs ++ h ∷ y)) = e ∙ unrolled q qs (h ∷ y) in
@@ -84,7 +93,8 @@ module _ {R S : Type 0} (g : Grammar R S) where
         let open_gate : h ≡ 1 = cc in
         absurd (shut_h open_gate)
     same_log (r ∷ rs) (q ∷ qs) s t u b h x y shut_b shut_h e leads_t leads_u =
-        let same = same_first r q (flat_map (opened g) rs ++ b ∷ x) (flat_map (opened g) qs ++ h ∷ y) leads_t.0 leads_u.0 (sym (unrolled r rs (b ∷ x)) ∙ e ∙ unrolled q qs (h ∷ y)) in
+        let same = same_first r q (flat_map (opened g) rs ++ b ∷ x) (flat_map (opened g) qs ++ h ∷ y) leads_t.0 leads_u.0
+        (sym (unrolled r rs (b ∷ x)) ∙ e ∙ unrolled q qs (h ∷ y)) in
         same_log rs qs (g.after s r) t u b h x y shut_b shut_h same.1 leads_t.2 (subst (λ (k : R). Leads g (g.after s k) qs u) (sym same.0) leads_u.2)
 
     shut_once : (bytes front back : List ℕ) (s t : S) → IsFront g front s → IsShut front bytes → IsFront g back t → IsShut back bytes → s ≡ t
@@ -98,7 +108,8 @@ module _ {R S : Type 0} (g : Grammar R S) where
     stands_once bytes s t (inr a) (inl b) = absurd (omega (arith, a.0, b.0))
     stands_once bytes s t (inr a) (inr b) = shut_once bytes a.1.0 b.1.0 s t a.1.1 a.1.2 b.1.1 b.1.2
 
-    closed_clash : (rs qs : List R) (s t u : S) (b : ℕ) (x rest : List ℕ) → b ≢ 1 → flat_map (opened g) rs ++ b ∷ x ≡ flat_map (opened g) qs ++ rest → Leads g s rs t → Leads g s qs u → EndsBadly g u rest → ⊥
+    closed_clash : (rs qs : List R) (s t u : S) (b : ℕ) (x rest : List ℕ) → b ≢ 1 → flat_map (opened g) rs ++ b ∷ x ≡ flat_map (opened g) qs ++ rest
+        → Leads g s rs t → Leads g s qs u → EndsBadly g u rest → ⊥
     closed_clash [] [] s t u b x [] shut e leads_t leads_u ends = absurd cc
     closed_clash [] [] s t u b x (h ∷ rest) shut e leads_t leads_u ends = let same : b ≡ h = cc in shut (same ∙ ends.0)
     closed_clash [] (q ∷ qs) s t u b x rest shut e leads_t leads_u ends =
@@ -108,17 +119,20 @@ module _ {R S : Type 0} (g : Grammar R S) where
     closed_clash (r ∷ rs) [] s t u b x rest shut e leads_t leads_u ends =
         no_break u rest r (flat_map (opened g) rs ++ b ∷ x) ends (sym e ∙ unrolled r rs (b ∷ x)) leads_t.0 (subst (λ (k : S). g.is_legal k r) leads_u leads_t.1)
     closed_clash (r ∷ rs) (q ∷ qs) s t u b x rest shut e leads_t leads_u ends =
-        let same = same_first r q (flat_map (opened g) rs ++ b ∷ x) (flat_map (opened g) qs ++ rest) leads_t.0 leads_u.0 (sym (unrolled r rs (b ∷ x)) ∙ e ∙ unrolled q qs rest) in
+        let same = same_first r q (flat_map (opened g) rs ++ b ∷ x) (flat_map (opened g) qs ++ rest) leads_t.0 leads_u.0
+        (sym (unrolled r rs (b ∷ x)) ∙ e ∙ unrolled q qs rest) in
         closed_clash rs qs (g.after s r) t u b x rest shut same.1 leads_t.2 (subst (λ (k : R). Leads g (g.after s k) qs u) (sym same.0) leads_u.2) ends
 
-    same_break : (rs qs : List R) (s t u : S) (x y : List ℕ) → flat_map (opened g) rs ++ x ≡ flat_map (opened g) qs ++ y → Leads g s rs t → Leads g s qs u → EndsBadly g t x → EndsBadly g u y → x ≡ y
+    same_break : (rs qs : List R) (s t u : S) (x y : List ℕ) → flat_map (opened g) rs ++ x ≡ flat_map (opened g) qs ++ y → Leads g s rs t → Leads g s qs u
+        → EndsBadly g t x → EndsBadly g u y → x ≡ y
     same_break [] [] s t u x y e leads_t leads_u bad_t bad_u = e
     same_break [] (q ∷ qs) s t u x y e leads_t leads_u bad_t bad_u =
         absurd (no_break t x q (flat_map (opened g) qs ++ y) bad_t (e ∙ unrolled q qs y) leads_u.0 (subst (λ (k : S). g.is_legal k q) leads_t leads_u.1))
     same_break (r ∷ rs) [] s t u x y e leads_t leads_u bad_t bad_u =
         absurd (no_break u y r (flat_map (opened g) rs ++ x) bad_u (sym e ∙ unrolled r rs x) leads_t.0 (subst (λ (k : S). g.is_legal k r) leads_u leads_t.1))
     same_break (r ∷ rs) (q ∷ qs) s t u x y e leads_t leads_u bad_t bad_u =
-        let same = same_first r q (flat_map (opened g) rs ++ x) (flat_map (opened g) qs ++ y) leads_t.0 leads_u.0 (sym (unrolled r rs x) ∙ e ∙ unrolled q qs y) in
+        let same = same_first r q (flat_map (opened g) rs ++ x) (flat_map (opened g) qs ++ y) leads_t.0 leads_u.0
+        (sym (unrolled r rs x) ∙ e ∙ unrolled q qs y) in
         same_break rs qs (g.after s r) t u x y same.1 leads_t.2 (subst (λ (k : R). Leads g (g.after s k) qs u) (sym same.0) leads_u.2) bad_t bad_u
 
     shut_unbroken : (bytes front : List ℕ) (s : S) (at : ℕ) → IsFront g front s → IsShut front bytes → BreaksAt g bytes at → ⊥
@@ -139,7 +153,16 @@ module _ {R S : Type 0} (g : Grammar R S) where
         let rests = same_break a.is_front.records b.is_front.records g.first a.state b.state a.rest b.rest
         (sym (behind_name a.front a.rest bytes a.state a.whole a.is_front) ∙ behind_name b.front b.rest bytes b.state b.whole b.is_front)
         a.is_front.leads b.is_front.leads a.ends b.ends in
-        omega (arith, ap (λ (x : List ℕ). length x) rests, ap (λ (x : List ℕ). length x) (sym a.whole ∙ b.whole), length-append a.front a.rest, length-append b.front b.rest, a.place, b.place)
+        omega (
+          arith,
+          ap (λ (x : List ℕ). length x) rests,
+          ap (λ (x : List ℕ). length x)
+              (sym a.whole ∙ b.whole),
+          length-append a.front a.rest,
+          length-append b.front b.rest,
+          a.place,
+          b.place,
+        )
 
     pub bad_once : (bytes : List ℕ) (at here : ℕ) → IsBad g bytes at → IsBad g bytes here → at ≡ here
     bad_once bytes at here a b = elim a.broken [
@@ -155,7 +178,12 @@ module _ {R S : Type 0} (g : Grammar R S) where
 
     keeps : (old new : List ℕ) → SameOrFirst g old new → Keeps g old new
     keeps old new (inl same) = record { states = λ s stands. subst (λ (b : List ℕ). Stands g b s) (sym same) stands; bytes = λ at bad. same }
-    keeps old new (inr none) = record { states = λ s stands. subst (λ (t : S). Stands g new t) (stands_once old g.first s none.0 stands) none.1; bytes = λ at bad. absurd (stands_unbroken old g.first at none.0 bad) }
+    keeps old new (inr none) =
+        record {
+          states = λ s stands. subst (λ (t : S). Stands g new t) (stands_once old g.first s none.0 stands) none.1;
+          bytes =
+              λ at bad. absurd (stands_unbroken old g.first at none.0 bad);
+        }
 
     pub all_keep : (old new : List ℕ → Type 0) → Follows (SameOrFirst g) old new → Follows (Keeps g) old new
     all_keep old new follows c left =

@@ -30,13 +30,21 @@ module _ {R S : Type 0} (g : Grammar R S) where
     place = omega (arith, ap (λ (b : List ℕ). length b) upto.whole, length-append upto.front rest)
 
     pub breaks : IsLong g bytes → EndsBadly g s rest → IsBad g bytes (length bytes - length rest)
-    breaks long ends = record { long = long; broken = inr (record { front = upto.front; state = s; rest = rest; whole = upto.whole; place = place; is_front = upto.is_front; ends = ends }) }
+    breaks long ends =
+        record {
+          long = long;
+          broken =
+              inr (record { front = upto.front; state = s; rest = rest; whole = upto.whole; place = place; is_front = upto.is_front; ends = ends });
+        }
 
-  pub closed_gate : (bytes rest : List ℕ) (s : S) (upto : IsReadUpTo g bytes rest s) → 0 < length rest → ((behind : List ℕ) → rest ≡ 1 ∷ behind → ⊥) → IsShut upto.front bytes
+  pub closed_gate : (bytes rest : List ℕ) (s : S) (upto : IsReadUpTo g bytes rest s) → 0 < length rest → ((behind : List ℕ) → rest ≡ 1 ∷ behind → ⊥)
+      → IsShut upto.front bytes
   closed_gate bytes [] s upto some shut = absurd (omega arith)
-  closed_gate bytes (gate ∷ more) s upto some shut = record { byte = gate; rest = more; whole = upto.whole; closed = λ e. shut more (ap (λ (b : ℕ). b ∷ more) e) }
+  closed_gate bytes (gate ∷ more) s upto some shut =
+      record { byte = gate; rest = more; whole = upto.whole; closed = λ e. shut more (ap (λ (b : ℕ). b ∷ more) e) }
 
-  module _ (read : List ℕ → Option (R × List ℕ)) (reader : IsReader g read) (bytes rest : List ℕ) (s : S) (upto : IsReadUpTo g bytes rest s) (behind : List ℕ) (open_gate : rest ≡ 1 ∷ behind) where
+  module _ (read : List ℕ → Option (R × List ℕ)) (reader : IsReader g read) (bytes rest : List ℕ) (s : S) (upto : IsReadUpTo g bytes rest s) (behind : List ℕ)
+      (open_gate : rest ≡ 1 ∷ behind) where
     takes : IsBytes bytes → (r : R) (next : List ℕ) → read behind ≡ Some (r, next) → (behind ≡ g.spelling r ++ next) × g.is_record r
     takes fits r next e = reader.takes behind r next (bytes-rest 1 behind (subst IsBytes open_gate (rest_fits upto.front rest bytes upto.whole fits))) e
 
@@ -45,7 +53,8 @@ module _ {R S : Type 0} (g : Grammar R S) where
         let t = takes fits r next e in
         record {
           front = upto.front ++ opened g r;
-          whole = upto.whole ∙ ap (λ (b : List ℕ). upto.front ++ b) (open_gate ∙ ap (λ (b : List ℕ). 1 ∷ b) t.0) ∙ sym (append_assoc upto.front (opened g r) next);
+          whole = upto.whole ∙ ap (λ (b : List ℕ). upto.front ++ b) (open_gate ∙ ap (λ (b : List ℕ). 1 ∷ b) t.0)
+              ∙ sym (append_assoc upto.front (opened g r) next);
           is_front = front-push g upto.front s r upto.is_front t.1 legal;
         }
 
@@ -68,5 +77,6 @@ module _ {R S : Type 0} (g : Grammar R S) where
           illegal (subst (λ (k : R). g.is_legal s k) (sym (ap (λ (p : R × List ℕ). p.0) pair)) legal),
     )
 
-    pub illegal_record : IsLong g bytes → (r : R) (next : List ℕ) → read behind ≡ Some (r, next) → (g.is_legal s r → ⊥) → IsBad g bytes (length bytes - length rest)
+    pub illegal_record : IsLong g bytes → (r : R) (next : List ℕ) → read behind ≡ Some (r, next) → (g.is_legal s r → ⊥)
+        → IsBad g bytes (length bytes - length rest)
     illegal_record long r next e illegal = breaks bytes rest s upto long (subst (EndsBadly g s) (sym open_gate) (ends_illegal r next e illegal))

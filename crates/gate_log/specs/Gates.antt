@@ -9,7 +9,8 @@ pub record IsShut (front bytes : List ℕ) : Type 0 where
   pub whole : bytes ≡ front ++ byte ∷ rest
   pub closed : byte ≢ 1
 
--- behind this front a closed gate stands at this offset, then come these bytes and anything, and all of it is on the disk
+-- behind this front a closed gate stands at this offset, then come these bytes and anything, and all of it is on the
+-- disk
 pub record IsSynced (bytes : List ℕ) (images : List ℕ → Type 0) (gate : ℕ) (front behind : List ℕ) : Type 0 where
   pub byte : ℕ
   pub more : List ℕ

@@ -16,5 +16,6 @@ IsBytes bytes = (i : ℕ) → get_or bytes i 0 < 256
 
 -- what is read at the front is what is spelled there
 pub record IsReader {R S : Type 0} (g : Grammar R S) (read : List ℕ → Option (R × List ℕ)) : Type 0 where
-  pub takes : (bytes : List ℕ) (r : R) (rest : List ℕ) → IsBytes bytes → read bytes ≡ Some (r, rest) → (bytes ≡ g.spelling r ++ rest) × g.is_record r
+  pub takes : (bytes : List ℕ) (r : R) (rest : List ℕ) → IsBytes bytes → read bytes ≡ Some (r, rest)
+      → (bytes ≡ g.spelling r ++ rest) × g.is_record r
   pub again : (r : R) (rest : List ℕ) → g.is_record r → read (g.spelling r ++ rest) ≡ Some (r, rest)

@@ -29,12 +29,14 @@ module _ {R S : Type 0} (g : Grammar R S) where
 
   -- The bytes stand for this state.
   abbrev pub Stands : List ℕ → S → Type 0
-  Stands bytes s = (IsShort bytes × (s ≡ g.first)) ⊎ (IsLong bytes × ((front : List ℕ) × IsFront front s × IsShut front bytes))
+  Stands bytes s = (IsShort bytes × (s ≡ g.first))
+      ⊎ (IsLong bytes × ((front : List ℕ) × IsFront front s × IsShut front bytes))
 
   -- no gate, or an open one without a whole record behind it that may follow the state
   abbrev pub EndsBadly : S → List ℕ → Type 0
   EndsBadly s [] = Unit {0}
-  EndsBadly s (gate ∷ rest) = (gate ≡ 1) × ((r : R) (more : List ℕ) → g.is_record r → g.is_legal s r → rest ≡ g.spelling r ++ more → ⊥)
+  EndsBadly s (gate ∷ rest) =
+      (gate ≡ 1) × ((r : R) (more : List ℕ) → g.is_record r → g.is_legal s r → rest ≡ g.spelling r ++ more → ⊥)
 
   -- the records up to this offset are whole, and what comes then is not
   pub record BreaksAt (bytes : List ℕ) (at : ℕ) : Type 0 where

@@ -43,7 +43,8 @@ fn stage<D: Disk>(disk: &mut D, gate: u64, behind: &[u8]) -> Result<(), Failed>
 fn open<D: Disk>(disk: &mut D, gate: u64, open_gate: &[u8]) -> Result<(), Failed>
     ensures opened { IsTrue D.tells → (front body : List ℕ)
         → IsSynced (D.reads disk.old) (D.may_leave disk.old) gate front (body ++ 0 ∷ []) → open_gate.now ≡ 1 ∷ []
-        → OnOk result (IsAtRest (D.reads disk.new) (D.may_leave disk.new) (gate + 1 + length body) (front ++ 1 ∷ body)) }
+        → OnOk result (IsAtRest (D.reads disk.new) (D.may_leave disk.new) (gate + 1 + length body)
+        (front ++ 1 ∷ body)) }
     ensures images { IsTrue D.tells → (front body : List ℕ)
         → IsSynced (D.reads disk.old) (D.may_leave disk.old) gate front (body ++ 0 ∷ []) → open_gate.now ≡ 1 ∷ []
         → (c : List ℕ) → D.may_leave disk.new c → IsShut front c ⊎ IsShut (front ++ 1 ∷ body) c }

@@ -28,7 +28,8 @@ past_at (x ∷ xs) (suc k) high r all there = past_at xs k high r (λ j d lt. al
 
 module _ {S : Type 0} where
   -- a step that changes one view alone
-  quiet : (s : State S Watch) (ws : List ℕ) (id : ℕ) (v w : Watch) (k : Kept s) → ws ≡ s.words → get_elem? s.views id ≡ some v → w.writes ≡ v.writes → w.halfway ≡ v.halfway
+  quiet : (s : State S Watch) (ws : List ℕ) (id : ℕ) (v w : Watch) (k : Kept s) → ws ≡ s.words → get_elem? s.views id ≡ some v → w.writes ≡ v.writes
+      → w.halfway ≡ v.halfway
       → Fits k.sequence k.words k.told k.place k.shown w → Kept record { words = ws; homes = s.homes; views = set s.views id w }
   quiet s ws id v w k same at e e' f =
       let half : half_one w ≡ half_one v = ap one_if e' in
@@ -51,10 +52,12 @@ module _ {S : Type 0} where
 
   -- at most one is halfway
   few_halves : (s : State S Watch) (k : Kept s) → sum_by half_one s.views ≤ 1
-  few_halves s k = let le = total_le half_one writes_one s.views (λ j u there. half_few u.halfway u.writes (λ yes. ((k.each j u there).half yes).0)) in let one = k.one_writes in omega arith
+  few_halves s k = let le = total_le half_one writes_one s.views (λ j u there. half_few u.halfway u.writes (λ yes. ((k.each j u there).half yes).0)) in
+      let one = k.one_writes in omega arith
 
   -- besides the one that publishes none is halfway, and none publishes
-  others_rest : (s : State S Watch) (k : Kept s) (id : ℕ) (v : Watch) → v.writes ≡ true → get_elem? s.views id ≡ some v → (j : ℕ) (u : Watch) → j ≢ id → get_elem? s.views j ≡ some u → (half_one u ≡ 0) × (writes_one u ≡ 0)
+  others_rest : (s : State S Watch) (k : Kept s) (id : ℕ) (v : Watch) → v.writes ≡ true → get_elem? s.views id ≡ some v → (j : ℕ) (u : Watch) → j ≢ id
+      → get_elem? s.views j ≡ some u → (half_one u ≡ 0) × (writes_one u ≡ 0)
   others_rest s k id v may at j u ne there =
       let alone : sum_by writes_one s.views ≡ writes_one v = k.one_writes ∙ sym (one_if_true v.writes may) in
       let quiet_one : writes_one u ≡ 0 = total_whole writes_one s.views id v at alone j u ne there in
@@ -73,13 +76,15 @@ module _ {S : Type 0} where
       let f = found_fits k.sequence k.words k.told k.place k.shown v found [] rests (omega arith) (λ _. here) (λ n e e'. (k.words, refl)) (k.each id v at) in
       (w, keeps, tt, quiet s (set s.words 0 found) id v w k (set_same s.words 0) at refl refl f, refl)
 
-  pub reads_allowed : (slots id j : ℕ) (me : Me S Watch) → me.0.halfway ≡ false → length me.0.words + 1 ≡ j → j ≤ 5 → Allows Kept slots id me j (λ n. n) (Reads (step slots j 0 0 none) me)
+  pub reads_allowed : (slots id j : ℕ) (me : Me S Watch) → me.0.halfway ≡ false → length me.0.words + 1 ≡ j → j ≤ 5
+      → Allows Kept slots id me j (λ n. n) (Reads (step slots j 0 0 none) me)
   reads_allowed slots id j me rests next few s k _ at _ =
       let v = me.0 in
       let fits = k.each id v at in
       let found = slice_index s.words j in
       let index : j ≡ suc (length v.words) = omega arith in
-      let here : found ≡ slice_index k.words (length v.words) = ap (λ (ws : List ℕ). slice_index ws j) k.words_are ∙ ap (λ (i : ℕ). slice_index (k.sequence ∷ k.words) i) index in
+      let here : found ≡ slice_index k.words (length v.words) = ap (λ (ws : List ℕ). slice_index ws j) k.words_are
+      ∙ ap (λ (i : ℕ). slice_index (k.sequence ∷ k.words) i) index in
       let ws = v.words ++ found ∷ [] in
       let w = found_so_far v.sequence ws v in
       let five = k.five in
@@ -88,7 +93,8 @@ module _ {S : Type 0} where
       let f = found_fits k.sequence k.words k.told k.place k.shown v v.sequence ws rests fits.known (λ yes. (fits.writer yes).counts) read fits in
       (w, keeps, tt, quiet s (set s.words j found) id v w k (set_same s.words j) at refl refl f, refl)
 
-  pub looks_allowed : (slots id n : ℕ) (me : Me S Watch) → me.0.looks ≡ true → me.0.writes ≡ false → me.0.halfway ≡ false → me.0.sequence ≡ n + n → length me.0.words ≡ 5
+  pub looks_allowed : (slots id n : ℕ) (me : Me S Watch) → me.0.looks ≡ true → me.0.writes ≡ false → me.0.halfway ≡ false → me.0.sequence ≡ n + n
+      → length me.0.words ≡ 5
       → Allows Kept slots id me 0 (λ n. n) (Looks (step slots 0 0 0 none) me)
   looks_allowed slots id n me looks reads rests even all s k _ at _ =
       let v = me.0 in
@@ -105,7 +111,8 @@ module _ {S : Type 0} where
       let same : v.words ≡ k.words = front_is_all v.words k.words (fits.read n even still) (omega arith) in
       let o = fits.older looks in
       let w = looked k.shown k.place v in
-      let f = looked_fits k.sequence k.words k.told k.place k.shown v k.shown k.place looks reads rests k.stands (le_refl k.place) (le_refl k.shown.past) o.before o.low fits in (
+      let f = looked_fits k.sequence k.words k.told k.place k.shown v k.shown k.place looks reads rests k.stands (le_refl k.place)
+      (le_refl k.shown.past) o.before o.low fits in (
         w,
         keeps,
         tt,
@@ -114,13 +121,15 @@ module _ {S : Type 0} where
       ))
       (λ miss. (v, keeps, tt, quiet s (set s.words 0 found) id v v k (set_same s.words 0) at refl refl fits, ((λ e. absurd (miss e)), λ _. refl)))
 
-  pub repeats_allowed : (slots id : ℕ) (me : Me S Watch) → me.0.looks ≡ true → me.0.writes ≡ false → me.0.halfway ≡ false → Allows Kept slots id me 0 (λ n. n) (Repeats (step slots 0 0 0 none) me)
+  pub repeats_allowed : (slots id : ℕ) (me : Me S Watch) → me.0.looks ≡ true → me.0.writes ≡ false → me.0.halfway ≡ false
+      → Allows Kept slots id me 0 (λ n. n) (Repeats (step slots 0 0 0 none) me)
   repeats_allowed slots id me looks reads rests s k _ at _ =
       let v = me.0 in
       let fits = k.each id v at in
       let o = fits.older looks in
       let w = looked v.latest v.place v in
-      let f = looked_fits k.sequence k.words k.told k.place k.shown v v.latest v.place looks reads rests o.here o.before o.low (le_refl v.place) (le_refl v.latest.past) fits in
+      let f = looked_fits k.sequence k.words k.told k.place k.shown v v.latest v.place looks reads rests o.here o.before o.low (le_refl v.place)
+      (le_refl v.latest.past) fits in
       (w, keeps, tt, quiet s (set s.words 0 (slice_index s.words 0)) id v w k (set_same s.words 0) at refl refl f.0, (refl, f.1))
 
   pub begins_allowed : (slots id : ℕ) (me : Me S Watch) → me.0.writes ≡ true → me.0.halfway ≡ false → me.0.sequence + 1 < 18446744073709551616
@@ -164,7 +173,8 @@ module _ {S : Type 0} where
                 placed = fits.placed;
                 order = fits.order;
               }
-              (λ j u ne there. let r = others_rest s k id v may at j u ne there in rises k.sequence (k.sequence + 1) k.words k.told k.place k.shown u (omega arith) r.0 r.1 (k.each j u there));
+              (λ j u ne there. let r = others_rest s k id v may at j u ne there in
+              rises k.sequence (k.sequence + 1) k.words k.told k.place k.shown u (omega arith) r.0 r.1 (k.each j u there));
         },
         refl,
       )
@@ -212,12 +222,14 @@ module _ {S : Type 0} where
                 placed = fits.placed;
                 order = fits.order;
               }
-              (λ j u ne there. let r = others_rest s k id v may at j u ne there in rewritten k.sequence k.words new k.told k.place k.shown u r.0 odd (k.each j u there));
+              (λ j u ne there. let r = others_rest s k id v may at j u ne there in
+              rewritten k.sequence k.words new k.told k.place k.shown u r.0 odd (k.each j u there));
         },
         refl,
       )
 
-  pub publishes_allowed : (slots id : ℕ) (y : Readings) (me : Me S Watch) → me.0.writes ≡ true → me.0.halfway ≡ true → me.0.looks ≡ false → me.0.words ≡ words_of y → me.0.latest.past ≤ y.past
+  pub publishes_allowed : (slots id : ℕ) (y : Readings) (me : Me S Watch) → me.0.writes ≡ true → me.0.halfway ≡ true → me.0.looks ≡ false
+      → me.0.words ≡ words_of y → me.0.latest.past ≤ y.past
       → me.0.sequence + 1 < 18446744073709551616
       → Allows Kept slots id me 0 (λ n. (n + 1) % 18446744073709551616) (Publishes (step slots 0 1 0 none) me)
   publishes_allowed slots id y me may half no_looks is risen room s k _ at _ =
@@ -275,12 +287,14 @@ module _ {S : Type 0} where
               (λ j u ne there.
               let r = others_rest s k id v may at j u ne there in
               rises k.sequence (k.sequence + 1) k.words told (length k.told) y u (omega arith) r.0 r.1
-              (shown_later k.sequence k.words told k.place k.shown (length k.told) y u (omega arith) low (told_more k.sequence k.words k.told k.place k.shown u y r.1 (k.each j u there))));
+              (shown_later k.sequence k.words told k.place k.shown (length k.told) y u (omega arith) low
+              (told_more k.sequence k.words k.told k.place k.shown u y r.1 (k.each j u there))));
         },
         (λ r e. ap (λ (x : Readings). (published x next false v, me.1)) (words_injective y r (sym is ∙ e))),
       )
 
-  pub notes_allowed : (slots id : ℕ) (y : Readings) (me : Me S Watch) → me.0.writes ≡ true → me.0.halfway ≡ true → me.0.looks ≡ false → me.0.words ≡ words_of y → me.0.latest.past ≤ y.past
+  pub notes_allowed : (slots id : ℕ) (y : Readings) (me : Me S Watch) → me.0.writes ≡ true → me.0.halfway ≡ true → me.0.looks ≡ false → me.0.words ≡ words_of y
+      → me.0.latest.past ≤ y.past
       → Allows Kept slots id me 0 (λ n. n) (Notes (step slots 0 0 0 none) me)
   notes_allowed slots id y me may half no_looks is risen s k _ at _ =
       let v = me.0 in
@@ -325,7 +339,8 @@ module _ {S : Type 0} where
                 placed = below_higher (length k.told) (length told) v.places (omega arith) fits.placed;
                 order = fits.order;
               }
-              (λ j u ne there. let r = others_rest s k id v may at j u ne there in told_more k.sequence k.words k.told k.place k.shown u y r.1 (k.each j u there));
+              (λ j u ne there. let r = others_rest s k id v may at j u ne there in
+              told_more k.sequence k.words k.told k.place k.shown u y r.1 (k.each j u there));
         },
         (λ r e. ap (λ (x : Readings). (published x v.sequence v.halfway v, me.1)) (words_injective y r (sym is ∙ e))),
       )
@@ -350,7 +365,8 @@ module _ {S : Type 0} where
       let views = set s.views id l in
       let same : writes_one l ≡ writes_one v = ap one_if e in
       let same' : half_one l ≡ half_one v = ap one_if e' in
-      let halves : sum_by half_one (views ++ r ∷ []) ≡ sum_by half_one s.views = (let change = total_set half_one s.views id v l at in let more = sum_by_push half_one views r in omega arith) in record {
+      let halves : sum_by half_one (views ++ r ∷ []) ≡ sum_by half_one s.views =
+      (let change = total_set half_one s.views id v l at in let more = sum_by_push half_one views r in omega arith) in record {
         sequence = k.sequence;
         words = k.words;
         told = k.told;
@@ -364,7 +380,8 @@ module _ {S : Type 0} where
         stands = k.stands;
         whole = λ z. k.whole (sym halves ∙ z);
         each = each_snoc (Fits k.sequence k.words k.told k.place k.shown) views r (reader_fits k.sequence k.words k.told k.place k.shown v looks fits)
-            (each_set (λ _. Fits k.sequence k.words k.told k.place k.shown) s.views id l (left k.sequence k.words k.told k.place k.shown fits) (λ j u _ there. k.each j u there));
+            (each_set (λ _. Fits k.sequence k.words k.told k.place k.shown) s.views id l (left k.sequence k.words k.told k.place k.shown fits)
+            (λ j u _ there. k.each j u there));
       }
 
   pub parts_allowed : (id : ℕ) (v : Watch) → v.looks ≡ true → Splits {S = S} Kept id v (writer_of v) (reader_of v)
@@ -373,14 +390,16 @@ module _ {S : Type 0} where
   pub twice_allowed : (id : ℕ) (v : Watch) → v.looks ≡ true → Splits {S = S} Kept id v v (reader_of v)
   twice_allowed id v looks = splits_as id v v looks refl refl (λ q words told place shown f. f)
 
-  pub takes_allowed : (id : ℕ) (v : Watch) (other : ℕ) (w : Watch) → v.looks ≡ false → w.writes ≡ false → w.halfway ≡ false → Joins {S = S} Kept id v other w (took_in v w) spent
+  pub takes_allowed : (id : ℕ) (v : Watch) (other : ℕ) (w : Watch) → v.looks ≡ false → w.writes ≡ false → w.halfway ≡ false
+      → Joins {S = S} Kept id v other w (took_in v w) spent
   takes_allowed id v other w no_looks reads rests s k at ne there =
       let b = took_in v w in
       let views = set s.views id b in
       let was_at = was_there s.views id other b w ne there in
       let none_writes : writes_one w ≡ 0 = ap one_if reads in
       let none_half : half_one w ≡ 0 = ap one_if rests in
-      let halves : sum_by half_one (set views other spent) ≡ sum_by half_one s.views = (let one = total_set half_one s.views id v b at in let two = total_set half_one views other w spent there in omega arith) in record {
+      let halves : sum_by half_one (set views other spent) ≡ sum_by half_one s.views =
+      (let one = total_set half_one s.views id v b at in let two = total_set half_one views other w spent there in omega arith) in record {
         sequence = k.sequence;
         words = k.words;
         told = k.told;
@@ -390,11 +409,14 @@ module _ {S : Type 0} where
         words_are = k.words_are;
         five = k.five;
         parity = k.parity ∙ ap (λ (n : ℕ). k.turns + k.turns + n) (sym halves);
-        one_writes = let was = k.one_writes in let one = total_set writes_one s.views id v b at in let two = total_set writes_one views other w spent there in omega arith;
+        one_writes = let was = k.one_writes in let one = total_set writes_one s.views id v b at in let two = total_set writes_one views other w spent there in
+            omega arith;
         stands = k.stands;
         whole = λ z. k.whole (sym halves ∙ z);
         each = each_set (λ _. Fits k.sequence k.words k.told k.place k.shown) views other spent (spent_fits k.sequence k.words k.told k.place k.shown)
-            (λ j u _ e. each_set (λ _. Fits k.sequence k.words k.told k.place k.shown) s.views id b (took_in_fits k.sequence k.words k.told k.place k.shown v w no_looks (k.each id v at) (k.each other w was_at)) (λ i y _ e'. k.each i y e') j u e);
+            (λ j u _ e. each_set (λ _. Fits k.sequence k.words k.told k.place k.shown) s.views id b
+            (took_in_fits k.sequence k.words k.told k.place k.shown v w no_looks (k.each id v at) (k.each other w was_at))
+            (λ i y _ e'. k.each i y e') j u e);
       }
 
   -- the rule holds at the start
@@ -422,7 +444,14 @@ module _ {S : Type 0} where
             half = λ no. absurd (true≢false (sym no));
             known = omega arith;
             read = λ k e e'. (words_of r, refl);
-            older = λ _. record { here = refl; before = omega arith; low = le_refl r.past; behind = λ k d lt. absurd (omega arith); pasts = λ k d lt. absurd (omega arith) };
+            older = λ _. record {
+              here = refl;
+              before = omega arith;
+              low = le_refl r.past;
+              behind = λ k d lt. absurd (omega arith);
+              pasts =
+                  λ k d lt. absurd (omega arith);
+            };
             seen = refl;
             placed = λ k d lt. absurd (omega arith);
             order = IsNonDecreasingBy-short (λ n. n) [] (omega arith);

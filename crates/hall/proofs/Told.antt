@@ -17,7 +17,8 @@ answers_more : (s : State) (ms : List Made) (m : Made) → AnswersFrom s ms → 
 answers_more s [] m h k = (k, tt)
 answers_more s (x ∷ ms) m h k = (h.0, answers_more (recalled s x) ms m h.1 k)
 
-told_noted : (first s : State) (o : DeviceOutcome) (line : ℕ) (c : Command) → IsTold first s → IsAllowed o s c → is_unrecorded (served o s c).reply ≡ false → IsTold first (step o s line c).state
+told_noted : (first s : State) (o : DeviceOutcome) (line : ℕ) (c : Command) → IsTold first s → IsAllowed o s c → is_unrecorded (served o s c).reply ≡ false
+    → IsTold first (step o s line c).state
 told_noted first s o line c h allowed on =
     let r : Served = served o s c in
     let taken = takes_flight o in
@@ -30,7 +31,8 @@ told_noted first s o line c h allowed on =
       after = sym (ap (λ (x : Served). after_of taken x.state) stepped);
       allowed = allowed;
     } in
-    let leads : state_after first (h.made ++ m ∷ []) ≡ (step o s line c).state = fold-append recalled first h.made (m ∷ []) ∙ ap (λ x. recalled x m) (sym h.state) in
+    let leads : state_after first (h.made ++ m ∷ []) ≡ (step o s line c).state =
+    fold-append recalled first h.made (m ∷ []) ∙ ap (λ x. recalled x m) (sym h.state) in
     let past : entered.state.past ≡ calls_of (h.made ++ m ∷ []) =
     ap (λ es. es ++ m.call ∷ []) (served-past o s c ∙ h.calls) ∙ sym (map-append (λ (x : Made). x.call) h.made (m ∷ [])) in
     record {

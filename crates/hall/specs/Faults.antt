@@ -18,7 +18,7 @@ use Rattle.ledger_steps.specs.Starts.{IsRaised}
 use Rattle.posting.specs.declared.opening.BooksFault.{BooksFault}
 use Rattle.posting.specs.declared.opening.BooksFault.TheVariants as books
 use Rattle.ledger_steps.specs.Views.{open_locks}
-use Rattle.ledger_steps.specs.Levels.{IsFirstUnfit}
+use Rattle.ledger_steps.specs.Levels.{FitRows, IsFirstUnfit}
 use Rattle.store_reading.specs.Good.{IsBadPlace, IsSound}
 use Rattle.update_records.specs.Ledger.{Ledger, Levels, StandFor}
 use Rattle.hall.specs.declared.opening.HallFault.{HallFault}
@@ -42,46 +42,52 @@ abbrev pub IsRangesFault : List Interval → Levels → HallFault → Type 0
 IsRangesFault intervals levels (hall.Interval row) = IsFirstUnfit intervals (in_row_order levels) row
 IsRangesFault intervals levels fault = ⊥
 
--- a backup file of these bytes isn't opened for the locks of these units: the disk failed, the file isn't good or doesn't have
--- them, or memory was wanting
+-- a backup file of these bytes isn't opened for the locks of these units: the disk failed, the file isn't good or
+-- doesn't have them, or memory was wanting
 abbrev pub IsFileFault : (tells : Bool) → (bytes : List ℕ) → List UnitLocks → HallFault → Type 0
 IsFileFault tells bytes units hall.Backup = Unit {0}
 IsFileFault tells bytes units (hall.Bad (bad.Backup place)) = IsTrue tells → IsOpenFault bytes units (opening.Bad place)
 IsFileFault tells bytes units hall.NoMemory = Unit {0}
 IsFileFault tells bytes units fault = ⊥
 
--- one of both, behind the books that were opened
+-- one of both, behind the books that were opened: the backup file is opened only where all stored intervals are these
 abbrev pub IsLateFault : List Interval → Ledger → (tells : Bool) → (bytes : List ℕ) → HallFault → Type 0
-IsLateFault intervals ledger tells bytes fault = IsRangesFault intervals ledger.levels fault ⊎ IsFileFault tells bytes (open_locks ledger) fault
+IsLateFault intervals ledger tells bytes fault =
+    IsRangesFault intervals ledger.levels fault
+    ⊎ (FitRows intervals ledger.levels × IsFileFault tells bytes (open_locks ledger) fault)
 
 -- what a store had whose rows, where they are told, were some of those before, with the start after
-pub record StoodUnlike (told : Option Rows) (before : Rows → Type 0) (bytes : List ℕ) (place : BackupBad) : Type 0 where
+pub record StoodUnlike (intervals : List Interval) (told : Option Rows) (before : Rows → Type 0) (bytes : List ℕ)
+    (place : BackupBad) : Type 0 where
   pub ledger : Ledger
   pub sound : IsRaised IsSound true ledger
   pub stood : IfSome told (λ _. IsRaised (HasStood before) true ledger)
+  -- all its intervals are these
+  pub fits : FitRows intervals ledger.levels
   -- for its units that wait the file of these bytes isn't good
   pub fault : IsOpenFault bytes (open_locks ledger) (opening.Bad place)
 
 -- a file of these bytes that isn't good for such a store is told by its place
-abbrev pub IsBadFile : Option Rows → (Rows → Type 0) → List ℕ → HallFault → Type 0
-IsBadFile told before bytes (hall.Bad (bad.Backup place)) = StoodUnlike told before bytes place
-IsBadFile told before bytes fault = Unit {0}
+abbrev pub IsBadFile : List Interval → Option Rows → (Rows → Type 0) → List ℕ → HallFault → Type 0
+IsBadFile intervals told before bytes (hall.Bad (bad.Backup place)) = StoodUnlike intervals told before bytes place
+IsBadFile intervals told before bytes fault = Unit {0}
 
--- what a stop may leave of the backup file where it isn't opened for the locks of these units, by what it might have left
--- before: all that was there, and only where the disk failed less lists of other units
+-- what a stop may leave of the backup file where it isn't opened for the locks of these units, by what it might have
+-- left before: all that was there, and only where the disk failed less lists of other units
 abbrev pub LeavesFile : List UnitLocks → HallFault → (images images_now : List ℕ → Type 0) → Type 0
 LeavesFile units hall.Backup images images_now = Follows (FreesOthers units) images images_now
 LeavesFile units fault images images_now = Follows Keeps images images_now
 
 -- the same for the units that wait in a store whose rows, where they are told, were some of those before
-pub record FreesUnlike (told : Option Rows) (before : Rows → Type 0) (images images_now : List ℕ → Type 0) : Type 0 where
+pub record FreesUnlike (told : Option Rows) (before : Rows → Type 0)
+    (images images_now : List ℕ → Type 0) : Type 0 where
   pub ledger : Ledger
   pub sound : IsRaised IsSound true ledger
   pub stood : IfSome told (λ _. IsRaised (HasStood before) true ledger)
   pub frees : Follows (FreesOthers (open_locks ledger)) images images_now
 
--- What a stop may leave of the backup file of a hall that isn't opened: all that it might have left before. Only where the
--- disk failed lists of units that don't wait may be gone.
+-- What a stop may leave of the backup file of a hall that isn't opened: all that it might have left before. Only where
+-- the disk failed lists of units that don't wait may be gone.
 abbrev pub LeavesFileOf : Option Rows → (Rows → Type 0) → HallFault → (images images_now : List ℕ → Type 0) → Type 0
 LeavesFileOf told before hall.Backup images images_now = FreesUnlike told before images images_now
 LeavesFileOf told before fault images images_now = Follows Keeps images images_now
@@ -103,11 +109,12 @@ CountsFileFault fault before now = now ≡ before
 
 -- a store that may have been left before has a ledger in which that row is the first
 abbrev pub StoodUnfit : List Interval → (Rows → Type 0) → ℕ → Type 0
-StoodUnfit intervals before row = (ledger : Ledger) × HasStood before ledger × IsFirstUnfit intervals (in_row_order ledger.levels) row
+StoodUnfit intervals before row = (ledger : Ledger) × HasStood before ledger
+    × IsFirstUnfit intervals (in_row_order ledger.levels) row
 
--- Why a hall with these intervals isn't opened over a store that has these rows, and whose rows were some of those before:
--- it isn't good, is at the last start that there is, or has an interval that isn't one of these. Of the backup file nothing
--- is said here.
+-- Why a hall with these intervals isn't opened over a store that has these rows, and whose rows were some of those
+-- before: it isn't good, is at the last start that there is, or has an interval that isn't one of these. Of the backup
+-- file nothing is said here.
 abbrev pub IsHallFault : List Interval → (Rows → Type 0) → Rows → HallFault → Type 0
 IsHallFault intervals before rows hall.Store = Unit {0}
 IsHallFault intervals before rows hall.Backup = Unit {0}
@@ -138,8 +145,8 @@ CountsHallFault hall.NoStart before now = now ≡ before
 CountsHallFault (hall.Interval row) before now = now ≡ before
 CountsHallFault hall.NoMemory before now = now ≡ before
 
--- A store that is refused keeps its rows, unless the number of the next start was to be written before. Memory may be wanting
--- before and behind that.
+-- A store that is refused keeps its rows, unless the number of the next start was to be written before. Memory may be
+-- wanting before and behind that.
 abbrev pub OnKept : HallFault → Type 0 → Type 0
 OnKept hall.Store P = Unit {0}
 OnKept hall.Backup P = Unit {0}

@@ -61,7 +61,8 @@ module _ {V : Type 0} (name : V → List ℕ) (n : List ℕ) (test : List ℕ �
             rw c (ap (λ vs. e.1 ∷ vs) (none_left es h.1 k))
       ]
 
-  taken : (es : List (List ℕ × V)) → AreNamed name es → lookup test (remove_entry test es) ≡ None → values_of (remove_entry test es) ≡ filter (λ v. not (called v)) (values_of es)
+  taken : (es : List (List ℕ × V)) → AreNamed name es → lookup test (remove_entry test es) ≡ None
+      → values_of (remove_entry test es) ≡ filter (λ v. not (called v)) (values_of es)
   taken [] h gone = refl
   taken (e ∷ es) h gone =
       elim (cases_Bool (test e.0)) [
@@ -80,7 +81,8 @@ module _ {V : Type 0} (name : V → List ℕ) (n : List ℕ) (test : List ℕ �
   taken_named (e ∷ es) h =
       elim (test e.0) as (λ b. AreNamed name (cond b es (e ∷ remove_entry test es))) [ true ↦ h.1 | false ↦ (h.0, taken_named es h.1) ]
 
-  changed : (change : V → V) (es : List (List ℕ × V)) (v w : V) → AreNamed name es → Some v ≡ lookup test es → w ≡ change v → values_of (set_value test es w) ≡ replace_first called (λ x. change x ∷ []) (values_of es)
+  changed : (change : V → V) (es : List (List ℕ × V)) (v w : V) → AreNamed name es → Some v ≡ lookup test es → w ≡ change v
+      → values_of (set_value test es w) ≡ replace_first called (λ x. change x ∷ []) (values_of es)
   changed change [] v w h at is = refl
   changed change (e ∷ es) v w h at is =
       elim (cases_Bool (test e.0)) [
@@ -138,24 +140,28 @@ module _ {V : Type 0} (name : V → List ℕ) (n : List ℕ) where
   found_by_name = found name n named (same_names n)
 
   -- taking out a name leaves the others
-  pub taken_by_name : (es : List (List ℕ × V)) → AreNamed name es → lookup named (remove_entry named es) ≡ None → values_of (remove_entry named es) ≡ filter (λ v. not (bytes_eq (name v) n)) (values_of es)
+  pub taken_by_name : (es : List (List ℕ × V)) → AreNamed name es → lookup named (remove_entry named es) ≡ None
+      → values_of (remove_entry named es) ≡ filter (λ v. not (bytes_eq (name v) n)) (values_of es)
   taken_by_name = taken name n named (same_names n)
 
   pub are_named_taken : (es : List (List ℕ × V)) → AreNamed name es → AreNamed name (remove_entry named es)
   are_named_taken = taken_named name n named (same_names n)
 
   -- the value at a name is changed where it stands
-  pub changed_by_name : (change : V → V) (es : List (List ℕ × V)) (v w : V) → AreNamed name es → Some v ≡ lookup named es → w ≡ change v → values_of (set_value named es w) ≡ replace_first (λ v. bytes_eq (name v) n) (λ x. change x ∷ []) (values_of es)
+  pub changed_by_name : (change : V → V) (es : List (List ℕ × V)) (v w : V) → AreNamed name es → Some v ≡ lookup named es → w ≡ change v
+      → values_of (set_value named es w) ≡ replace_first (λ v. bytes_eq (name v) n) (λ x. change x ∷ []) (values_of es)
   changed_by_name = changed name n named (same_names n)
 
-  pub are_named_changed : (es : List (List ℕ × V)) (v w : V) → AreNamed name es → Some v ≡ lookup named es → name w ≡ name v → AreNamed name (set_value named es w)
+  pub are_named_changed : (es : List (List ℕ × V)) (v w : V) → AreNamed name es → Some v ≡ lookup named es → name w ≡ name v
+      → AreNamed name (set_value named es w)
   are_named_changed = changed_named name n named (same_names n)
 
   pub kept_by_name : (es : List (List ℕ × V)) (v : V) → Some v ≡ lookup named es → values_of (set_value named es v) ≡ values_of es
   kept_by_name es v at = ap values_of (written_again named es v at)
 
   -- a name that no value has
-  pub unchanged_by_name : (f : V → List V) (es : List (List ℕ × V)) → AreNamed name es → lookup named es ≡ None → values_of es ≡ replace_first (λ v. bytes_eq (name v) n) f (values_of es)
+  pub unchanged_by_name : (f : V → List V) (es : List (List ℕ × V)) → AreNamed name es → lookup named es ≡ None
+      → values_of es ≡ replace_first (λ v. bytes_eq (name v) n) f (values_of es)
   unchanged_by_name = changed_nowhere name n named (same_names n)
 
 module _ {V S : Type 0} (name : V → List ℕ) (m : IndexMap (List ℕ) V S) (v : V) (free : get name_eq m (name v) ≡ None) where
@@ -164,7 +170,8 @@ module _ {V S : Type 0} (name : V → List ℕ) (m : IndexMap (List ℕ) V S) (v
   added_by_name = ap values_of (insert_entry-new name_eq m (name v) v free) ∙ map-append (λ e. e.1) m.entries ((name v, v) ∷ [])
 
   pub are_named_added : AreNamed name m.entries → AreNamed name (insert_entry name_eq m.entries (name v) v)
-  are_named_added h = subst (AreNamed name) (sym (insert_entry-new name_eq m (name v) v free)) (all_append (λ e. e.0 ≡ name e.1) m.entries ((name v, v) ∷ []) h (refl, tt))
+  are_named_added h = subst (AreNamed name) (sym (insert_entry-new name_eq m (name v) v free))
+      (all_append (λ e. e.0 ≡ name e.1) m.entries ((name v, v) ∷ []) h (refl, tt))
 
 -- a call that succeeds, and what it then does
 pub where_done : {X E P : Type 0} (r : Result X E) → IsOk r → OnOk r P → P

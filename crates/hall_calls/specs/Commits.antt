@@ -31,7 +31,8 @@ pub record IsOfCommit (ledger : Ledger) (unit : UnitOfWork) (locks : List Entry)
 
 -- The unit is recorded with these levels, its locks are handed over and the session's next unit is open; or memory was
 -- wanting and all is as before; or the store failed with it in flight; or the disk failed as its list was written.
-abbrev pub RecordsUnit : (old new : List Session) (entries left : List Entry) (ledger now : Ledger) (name : List ℕ) → UnitOfWork → List StoredInterval → Written → Type 0
+abbrev pub RecordsUnit : (old new : List Session) (entries left : List Entry) (ledger now : Ledger) (name : List ℕ)
+    → UnitOfWork → List StoredInterval → Written → Type 0
 RecordsUnit old new entries left ledger now name unit levels (Answered (reply.Unit key)) =
     (key ≡ unit.key) × (new ≡ with_session name with_next_unit old) × (left ≡ handed_over entries key)
     × (now ≡ with_intervals levels (with_unit ledger unit))
@@ -44,7 +45,8 @@ RecordsUnit old new entries left ledger now name unit levels Unfiled =
 RecordsUnit old new entries left ledger now name unit levels _ = ⊥
 
 -- the same of numbers alone, which the session then has no more
-abbrev pub RecordsNumbers : (old new : List Session) (ledger now : Ledger) (name : List ℕ) → UnitKey → List Number → List StoredInterval → Written → Type 0
+abbrev pub RecordsNumbers : (old new : List Session) (ledger now : Ledger) (name : List ℕ) → UnitKey → List Number
+    → List StoredInterval → Written → Type 0
 RecordsNumbers old new ledger now name unit numbers levels (Answered reply.Done) =
     (new ≡ with_session name without_draws old) × (now ≡ with_intervals levels (with_mark ledger unit (Num numbers)))
 RecordsNumbers old new ledger now name unit numbers levels (Answered (reply.Refused refusal.NoMemory)) =

@@ -1,5 +1,6 @@
 -- What the backup file has, and what a stop may leave of it.
-use Rattle.std.specs.Prelude.{ℕ, ◌≡◌, ◌≤◌, ◌⊎◌, Bool, true, false, if◌then◌else◌, List, Option, Some, None, Result, IsTrue, OnErr, OnOk}
+use Rattle.std.specs.Prelude.{ℕ, ◌≡◌, ◌≤◌, ◌⊎◌, Bool, true, false, if◌then◌else◌, List, Option, Some, None, Result}
+use Rattle.std.specs.Prelude.{IsTrue, OnErr, OnOk}
 use Rattle.enq_base.specs.declared.condition.Condition.{Condition}
 use Rattle.std.specs.Option.{option_map}
 use Rattle.backup_file.specs.Backup.{BackupView, IsReady, IsSame}
@@ -32,13 +33,15 @@ use Rattle.hall_calls.specs.declared.units.Written.{Written}
 use Rattle.hall_calls.specs.declared.units.Written.TheVariants as written
 
 -- the file is ready, as it is read and in each image, with the lists of just the open units
-pub record IsReadyFor {D : Type 0} (reads : D → List ℕ) (may_leave : D → List ℕ → Type 0) (ledger : Ledger) (file : BackupView D) : Type 0 where
+pub record IsReadyFor {D : Type 0} (reads : D → List ℕ) (may_leave : D → List ℕ → Type 0) (ledger : Ledger)
+    (file : BackupView D) : Type 0 where
   pub lists : List Handed
   pub ready : IsReady reads may_leave file lists
   pub just : AreOpenLists ledger lists
 
 -- it may be written, and where the disk tells its bytes it is ready with these lists
-pub record HasOpenLists {D : Type 0} (tells : Bool) (reads : D → List ℕ) (may_leave : D → List ℕ → Type 0) (ledger : Ledger) (file : BackupView D) : Type 0 where
+pub record HasOpenLists {D : Type 0} (tells : Bool) (reads : D → List ℕ) (may_leave : D → List ℕ → Type 0)
+    (ledger : Ledger) (file : BackupView D) : Type 0 where
   pub usable : file.failed ≡ false
   pub ready : IsTrue tells → IsReadyFor reads may_leave ledger file
 
@@ -54,9 +57,10 @@ UnlessUntaken None P = P
 UnlessUntaken (Some false) P = Unit {0}
 UnlessUntaken (Some true) P = P
 
--- An image stands for lists with which the open units agree, those of what the store has and those of the change in flight,
--- but for what it is known not to have. Outside doubt there are no others.
-pub record RecoversFrom (condition : Condition) (stored : Ledger) (pending : Option Ledger) (found : Option Bool) (image : List ℕ) : Type 0 where
+-- An image stands for lists with which the open units agree, those of what the store has and those of the change in
+-- flight, but for what it is known not to have. Outside doubt there are no others.
+pub record RecoversFrom (condition : Condition) (stored : Ledger) (pending : Option Ledger) (found : Option Bool)
+    (image : List ℕ) : Type 0 where
   pub lists : List Handed
   pub stands : Stands image lists
   pub agree : UnlessTaken found (AgreeAll stored lists)
@@ -65,7 +69,8 @@ pub record RecoversFrom (condition : Condition) (stored : Ledger) (pending : Opt
 
 -- where the disk tells its bytes, so does each image that a stop may leave
 abbrev pub AllRecover :
-    {D : Type 0} → (tells : Bool) → (D → List ℕ → Type 0) → Condition → Ledger → Option Ledger → Option Bool → BackupView D → Type 0
+    {D : Type 0} → (tells : Bool) → (D → List ℕ → Type 0) → Condition → Ledger → Option Ledger → Option Bool
+    → BackupView D → Type 0
 AllRecover tells may_leave condition stored pending found file =
     IsTrue tells → (image : List ℕ) → may_leave file.disk image → RecoversFrom condition stored pending found image
 
@@ -80,8 +85,8 @@ abbrev pub HasFileCause : ℕ → ℕ → Reply → Type 0
 HasFileCause before now (reply.Refused refusal.BackupFault) = (before ≤ now) × Rose before now
 HasFileCause before now _ = now ≡ before
 
--- a call that is refused, but for a failure of the store or of the disk, leaves the file, but for the room that it has, and so
--- does one that tells a row
+-- a call that is refused, but for a failure of the store or of the disk, leaves the file, but for the room that it has,
+-- and so does one that tells a row
 abbrev pub KeepsFile : {D : Type 0} → BackupView D → BackupView D → Reply → Type 0
 KeepsFile old new (reply.Refused refusal.StoreFault) = Unit {0}
 KeepsFile old new (reply.Refused refusal.BackupFault) = Unit {0}
@@ -125,20 +130,25 @@ abbrev pub lists_ended : Bool → List Handed → UnitKey → List Handed
 lists_ended ends lists unit = if ends then without unit lists else lists
 
 -- the unit's list is freed, where it is to end, or the disk failed in that
-pub record FreesList {D E : Type 0} (tells : Bool) (reads : D → List ℕ) (may_leave : D → List ℕ → Type 0) (faults : D → ℕ) (ends : Bool) (unit : UnitKey) (old new : BackupView D) (result : Result Unit E) : Type 0 where
+pub record FreesList {D E : Type 0} (tells : Bool) (reads : D → List ℕ) (may_leave : D → List ℕ → Type 0)
+    (faults : D → ℕ) (ends : Bool) (unit : UnitKey) (old new : BackupView D) (result : Result Unit E) : Type 0 where
   pub usable : OnOk result (new.failed ≡ false)
-  pub freed : IsTrue tells → (lists : List Handed) → IsReady reads may_leave old lists → OnOk result (IsReady reads may_leave new (lists_ended ends lists unit))
-  pub images : IsTrue tells → (lists : List Handed) → IsReady reads may_leave old lists → (image : List ℕ) → may_leave new.disk image
+  pub freed : IsTrue tells → (lists : List Handed) → IsReady reads may_leave old lists
+      → OnOk result (IsReady reads may_leave new (lists_ended ends lists unit))
+  pub images : IsTrue tells → (lists : List Handed) → IsReady reads may_leave old lists → (image : List ℕ)
+      → may_leave new.disk image
       → Stands image lists ⊎ Stands image (lists_ended ends lists unit)
   pub needed : OnErr result (ends ≡ true)
   pub untouched : ends ≡ false → new ≡ old
   pub cause : HasCause (faults old.disk) (faults new.disk) result
 
--- the file has the list of a unit that is about to be recorded: the open units agree with its lists as they are, and with the
--- unit they are just these
-pub record IsSaved {D : Type 0} (tells : Bool) (reads : D → List ℕ) (may_leave : D → List ℕ → Type 0) (ledger next : Ledger) (file : BackupView D) : Type 0 where
+-- the file has the list of a unit that is about to be recorded: the open units agree with its lists as they are, and
+-- with the unit they are just these
+pub record IsSaved {D : Type 0} (tells : Bool) (reads : D → List ℕ) (may_leave : D → List ℕ → Type 0)
+    (ledger next : Ledger) (file : BackupView D) : Type 0 where
   pub usable : file.failed ≡ false
-  pub ready : IsTrue tells → (lists : List Handed) × IsReady reads may_leave file lists × AgreeAll ledger lists × AreOpenLists next lists
+  pub ready : IsTrue tells → (lists : List Handed) × IsReady reads may_leave file lists × AgreeAll ledger lists
+      × AreOpenLists next lists
 
 -- an answer that is no refusal and no row, or a failure of the store
 abbrev pub IsUnrefused : Written → Type 0
@@ -164,13 +174,15 @@ pub record KeepsUnits (ledger now : Ledger) : Type 0 where
 -- a call that writes a level at most
 abbrev pub ChangesLevels : (ledger now : Ledger) → Written → Type 0
 ChangesLevels ledger now (written.Answered r) = KeepsUnits ledger now
-ChangesLevels ledger now (written.Failed change) = KeepsUnits ledger now × OfPending (option_map (after_step now) change) (KeepsUnits ledger)
+ChangesLevels ledger now (written.Failed change) = KeepsUnits ledger now
+    × OfPending (option_map (after_step now) change) (KeepsUnits ledger)
 ChangesLevels ledger now written.Unfiled = ⊥
 
 -- ---- its end
 
 -- how a call ends that may write the file, over what is stored then: what it leaves of the file
-pub record FilesAs {D : Type 0} (tells : Bool) (reads : D → List ℕ) (may_leave : D → List ℕ → Type 0) (faults : D → ℕ) (ledger : Ledger) (old new : BackupView D) (w : Written) : Type 0 where
+pub record FilesAs {D : Type 0} (tells : Bool) (reads : D → List ℕ) (may_leave : D → List ℕ → Type 0) (faults : D → ℕ)
+    (ledger : Ledger) (old new : BackupView D) (w : Written) : Type 0 where
   pub lists : OnAnswer w (HasOpenLists tells reads may_leave ledger new)
   pub images : IsTrue tells → (image : List ℕ) → may_leave new.disk image → StandsWritten ledger w image
   pub does : MayFile faults old new (written_reply w)

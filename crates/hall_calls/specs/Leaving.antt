@@ -62,8 +62,8 @@ abbrev pub HasStoreCause : ℕ → ℕ → Reply → Type 0
 HasStoreCause before now (reply.Refused refusal.StoreFault) = (before ≤ now) × Rose before now
 HasStoreCause before now _ = now ≡ before
 
--- a call that is refused, but for a failure of the store or of the backup file, leaves what the keeper holds and what a stop
--- may leave of it, and so does one that tells a row
+-- a call that is refused, but for a failure of the store or of the backup file, leaves what the keeper holds and what a
+-- stop may leave of it, and so does one that tells a row
 abbrev pub KeepsStore : {K : Type 0} → (K → Option Rows) → (K → Rows → Type 0) → K → K → Reply → Type 0
 KeepsStore held may_leave old new (reply.Refused refusal.StoreFault) = Unit {0}
 KeepsStore held may_leave old new (reply.Refused refusal.BackupFault) = Unit {0}

@@ -141,8 +141,10 @@ taken_in (Some found) = Some found.taken
 abbrev pub flight_over : Ledger → Failure → Option Ledger
 flight_over ledger failure = option_map (after_step ledger) failure.pending
 
--- where the keeper tells its rows, those that a stop may leave stand for what is stored, with or without the change in flight
-abbrev pub LeavesKnown : {K : Type 0} → (K → Option Rows) → (K → Rows → Type 0) → K → Option Bool → Ledger → Option Ledger → Type 0
+-- where the keeper tells its rows, those that a stop may leave stand for what is stored, with or without the change in
+-- flight
+abbrev pub LeavesKnown : {K : Type 0} → (K → Option Rows) → (K → Rows → Type 0) → K → Option Bool → Ledger
+    → Option Ledger → Type 0
 LeavesKnown held may_leave keeper found stored pending =
     IfSome (held keeper) (λ _. (left : Rows) → may_leave keeper left → StandForKnown found left stored pending)
 
@@ -170,21 +172,26 @@ IsReadFault refusal.NoMemory read = Unit {0}
 IsReadFault (refusal.Unsound (bad.Store table row)) read = Unit {0}
 IsReadFault r read = ⊥
 
-pub record IsReadInVain {K : Type 0} (held : K → Option Rows) (may_leave : K → Rows → Type 0) (faults : K → ℕ) (failure : Failure) (old new : BooksView K) (r : Refusal) (read : Option Bool) : Type 0 where
+pub record IsReadInVain {K : Type 0} (held : K → Option Rows) (may_leave : K → Rows → Type 0) (faults : K → ℕ)
+    (failure : Failure) (old new : BooksView K) (r : Refusal) (read : Option Bool) : Type 0 where
   pub why : IsReadFault r read
   pub flight : IfSome read (λ taken. IsTrue taken → IsInFlight old.ledger (flight_over old.ledger failure))
   pub known : IfSome read (IsAsBefore failure.found)
   pub cause : HasStoreCause (faults old.keeper) (faults new.keeper) (reply.Refused r)
-  pub left : LeavesKnown held may_leave new.keeper (known_behind failure.found read) old.ledger (flight_over old.ledger failure)
+  pub left : LeavesKnown held may_leave new.keeper (known_behind failure.found read) old.ledger
+      (flight_over old.ledger failure)
 
 -- the same of a lock server that isn't made since the store isn't read
-abbrev pub IsUnreadInDoubt : {K : Type 0} → (K → Option Rows) → (K → Rows → Type 0) → (K → ℕ) → Failure → (old new : BooksView K) → Remade → Type 0
+abbrev pub IsUnreadInDoubt : {K : Type 0} → (K → Option Rows) → (K → Rows → Type 0) → (K → ℕ) → Failure
+    → (old new : BooksView K) → Remade → Type 0
 IsUnreadInDoubt held may_leave faults failure old new (Done taken) = ⊥
 IsUnreadInDoubt held may_leave faults failure old new (Refused r) = ⊥
-IsUnreadInDoubt held may_leave faults failure old new (InDoubt r read) = IsReadInVain held may_leave faults failure old new r read
+IsUnreadInDoubt held may_leave faults failure old new (InDoubt r read) =
+    IsReadInVain held may_leave faults failure old new r read
 
 -- or outside doubt since memory is wanting for the units
-abbrev pub IsUnread : {K : Type 0} → (K → Option Rows) → (K → Rows → Type 0) → (K → ℕ) → Condition → Failure → (old new : BooksView K) → Remade → Type 0
+abbrev pub IsUnread : {K : Type 0} → (K → Option Rows) → (K → Rows → Type 0) → (K → ℕ) → Condition → Failure
+    → (old new : BooksView K) → Remade → Type 0
 IsUnread held may_leave faults k failure old new (Done taken) = ⊥
 IsUnread held may_leave faults k failure old new (Refused r) = (r ≡ refusal.NoMemory) × (is_doubt k ≡ false)
 IsUnread held may_leave faults k failure old new (InDoubt r read) =
@@ -193,19 +200,23 @@ IsUnread held may_leave faults k failure old new (InDoubt r read) =
 -- ---- what it leaves
 
 -- what is left of the store, over what it had and the failure before
-abbrev pub LeavesRemade : {K : Type 0} → (K → Option Rows) → (K → Rows → Type 0) → K → (before now : Ledger) → Failure → Remade → Type 0
+abbrev pub LeavesRemade : {K : Type 0} → (K → Option Rows) → (K → Rows → Type 0) → K → (before now : Ledger) → Failure
+    → Remade → Type 0
 LeavesRemade held may_leave keeper before now failure (Done taken) = LeavesKnown held may_leave keeper None now None
-LeavesRemade held may_leave keeper before now failure (Refused r) = LeavesKnown held may_leave keeper failure.found before (flight_over before failure)
+LeavesRemade held may_leave keeper before now failure (Refused r) =
+    LeavesKnown held may_leave keeper failure.found before (flight_over before failure)
 LeavesRemade held may_leave keeper before now failure (InDoubt r read) =
     LeavesKnown held may_leave keeper (known_behind failure.found read) before (flight_over before failure)
 
--- What is left of the backup file: it is ready with the lists of just the open units, or as it was, or in doubt each image
--- stands for lists with which these agree.
-abbrev pub IsLeftReady : {D : Type 0} → (tells : Bool) → (D → List ℕ) → (D → List ℕ → Type 0) → (before now : Ledger) → Failure → (old new : BackupView D) → Remade → Type 0
+-- What is left of the backup file: it is ready with the lists of just the open units, or as it was, or in doubt each
+-- image stands for lists with which these agree.
+abbrev pub IsLeftReady : {D : Type 0} → (tells : Bool) → (D → List ℕ) → (D → List ℕ → Type 0) → (before now : Ledger)
+    → Failure → (old new : BackupView D) → Remade → Type 0
 IsLeftReady tells reads may_leave before now failure old new (Done taken) = HasOpenLists tells reads may_leave now new
 IsLeftReady tells reads may_leave before now failure old new (Refused r) = new ≡ old
 IsLeftReady tells reads may_leave before now failure old new (InDoubt r read) =
-    (calls : ℕ) → AllRecover tells may_leave (condition.Doubt (calls + 1)) before (flight_over before failure) (known_behind failure.found read) new
+    (calls : ℕ) → AllRecover tells may_leave (condition.Doubt (calls + 1)) before (flight_over before failure)
+    (known_behind failure.found read) new
 
 -- why the list of a replica doesn't become the table
 abbrev pub over_refusal : OverFault → Refusal

@@ -30,19 +30,22 @@ pub record IsDue (s : State) (past : List PastEntry) (c : Command) : Type 0 wher
   pub admits : Admits (with_calls s past) c
 
 -- what a call may do to the store
-pub record MayWrite {K : Type 0} (held : K → Option Rows) (may_leave : K → Rows → Type 0) (faults : K → ℕ) (old new : K) (r : Reply) : Type 0 where
+pub record MayWrite {K : Type 0} (held : K → Option Rows) (may_leave : K → Rows → Type 0) (faults : K → ℕ) (old new : K)
+    (r : Reply) : Type 0 where
   pub told : is_some (held new) ≡ is_some (held old)
   pub cause : HasStoreCause (faults old) (faults new) r
   pub kept : KeepsStore held may_leave old new r
 
 -- what a restart may do to the store, which it reads anew: nothing new may be left of it
-pub record MayReread {K : Type 0} (held : K → Option Rows) (may_leave : K → Rows → Type 0) (faults : K → ℕ) (old new : K) (r : Reply) : Type 0 where
+pub record MayReread {K : Type 0} (held : K → Option Rows) (may_leave : K → Rows → Type 0) (faults : K → ℕ)
+    (old new : K) (r : Reply) : Type 0 where
   pub told : is_some (held new) ≡ is_some (held old)
   pub cause : HasStoreCause (faults old) (faults new) r
   pub within : IsWithin (may_leave new) (may_leave old)
 
 -- a call that doesn't touch it leaves the keeper as it is
-abbrev pub DoesStore : {K : Type 0} → (K → Option Rows) → (K → Rows → Type 0) → (K → ℕ) → (remakes reaches : Bool) → K → K → Reply → Type 0
+abbrev pub DoesStore : {K : Type 0} → (K → Option Rows) → (K → Rows → Type 0) → (K → ℕ) → (remakes reaches : Bool) → K
+    → K → Reply → Type 0
 DoesStore held may_leave faults true true old new r = MayReread held may_leave faults old new r
 DoesStore held may_leave faults false true old new r = MayWrite held may_leave faults old new r
 DoesStore held may_leave faults remakes false old new r = new ≡ old
@@ -53,7 +56,8 @@ LeavesFile faults true touches old new r = HasFileCause (faults old.disk) (fault
 LeavesFile faults false touches old new r = DoesFile faults touches old new r
 
 -- what followed is lost only where the link failed or found no memory, or where the call brings another replica or none
-abbrev pub Follows : {L : Type 0} → (L → Option (List Entry)) → (faults refusals : L → ℕ) → (renews : Bool) → Following L → Following L → Type 0
+abbrev pub Follows : {L : Type 0} → (L → Option (List Entry)) → (faults refusals : L → ℕ) → (renews : Bool)
+    → Following L → Following L → Type 0
 Follows applied faults refusals true old new = IsLater applied faults refusals old new
 Follows applied faults refusals false old new = KeepsOn applied faults refusals old new
 
@@ -75,9 +79,12 @@ IsOver true locks given r = Unit {0}
 IsOver false locks given r = Unit {0}
 
 -- what a call does to the state, to the store, to the backup file and to what follows the table
-pub record Serves {K D L : Type 0} (held : K → Option Rows) (may_leave : K → Rows → Type 0) (faults : K → ℕ) (disk_faults : D → ℕ) (gives : L → List Entry) (applied : L → Option (List Entry)) (link_faults refusals : L → ℕ) (old new : View K D L) (past : List PastEntry) (c : Command) (r : Reply) : Type 0 where
+pub record Serves {K D L : Type 0} (held : K → Option Rows) (may_leave : K → Rows → Type 0) (faults : K → ℕ)
+    (disk_faults : D → ℕ) (gives : L → List Entry) (applied : L → Option (List Entry)) (link_faults refusals : L → ℕ)
+    (old new : View K D L) (past : List PastEntry) (c : Command) (r : Reply) : Type 0 where
   pub call : IsAct (with_calls old.state past) c (with_calls new.state past) r
-  pub store : DoesStore held may_leave faults (restarts (call_of c)) (reaches_store old.state (call_of c)) old.keeper new.keeper r
+  pub store : DoesStore held may_leave faults (restarts (call_of c))
+      (reaches_store old.state (call_of c)) old.keeper new.keeper r
   pub file : LeavesFile disk_faults (restarts (call_of c)) (touches_file (call_of c)) old.file new.file r
   pub follower : Follows applied link_faults refusals (renews_replica (call_of c)) old.follower new.follower
   pub over : IsOver (fails_over (call_of c)) new.state.locks (gives old.follower.link) r

@@ -18,23 +18,27 @@ use Rattle.hall_calls.specs.declared.units.Written.{Written}
 use Rattle.hall_calls.specs.declared.units.Written.TheVariants.{Answered, Failed, Unfiled}
 
 -- the keeper holds what it held, and nothing new may be left
-pub record StaysAsItWas {K : Type 0} (held : K → Option Rows) (may_leave : K → Rows → Type 0) (old new : K) : Type 0 where
+pub record StaysAsItWas {K : Type 0} (held : K → Option Rows) (may_leave : K → Rows → Type 0)
+    (old new : K) : Type 0 where
   pub rows : held new ≡ held old
   pub crash : IsWithin (may_leave new) (may_leave old)
 
--- A step was written, or memory was wanting before, or the store failed: then a stop may leave what was, or what the step
--- makes of it.
-pub record TriesStep {K : Type 0} (held : K → Option Rows) (is_open : K → Type 0) (may_leave : K → Rows → Type 0) (faults : K → ℕ) (old new : BooksView K) (step : Step) (result : Result Unit KeepFault) : Type 0 where
+-- A step was written, or memory was wanting before, or the store failed: then a stop may leave what was, or what the
+-- step makes of it.
+pub record TriesStep {K : Type 0} (held : K → Option Rows) (is_open : K → Type 0) (may_leave : K → Rows → Type 0)
+    (faults : K → ℕ) (old new : BooksView K) (step : Step) (result : Result Unit KeepFault) : Type 0 where
   pub done : OnOk result (new.ledger ≡ after_step old.ledger step)
   pub kept : OnErr result (new.ledger ≡ old.ledger)
   pub usable : UnlessFailed result (IsUsable held is_open new)
   pub told : is_some (held new.keeper) ≡ is_some (held old.keeper)
-  pub left : IfSome (held new.keeper) (λ _. (left : Rows) → may_leave new.keeper left → StandForEither left old.ledger step)
+  pub left : IfSome (held new.keeper)
+      (λ _. (left : Rows) → may_leave new.keeper left → StandForEither left old.ledger step)
   pub cause : HasFaultCause (faults old.keeper) (faults new.keeper) result
   pub untouched : OnNoMemory result (StaysAsItWas held may_leave old.keeper new.keeper)
 
 -- how a call ends that uses the store: what it leaves of the books and of the keeper
-pub record EndsAs {K : Type 0} (held : K → Option Rows) (is_open : K → Type 0) (may_leave : K → Rows → Type 0) (faults : K → ℕ) (old new : BooksView K) (w : Written) : Type 0 where
+pub record EndsAs {K : Type 0} (held : K → Option Rows) (is_open : K → Type 0) (may_leave : K → Rows → Type 0)
+    (faults : K → ℕ) (old new : BooksView K) (w : Written) : Type 0 where
   pub ledger : OnStoreFailure w (new.ledger ≡ old.ledger)
   pub usable : OnAnswer w (IsUsable held is_open new)
   pub told : is_some (held new.keeper) ≡ is_some (held old.keeper)

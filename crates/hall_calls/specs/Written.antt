@@ -45,7 +45,8 @@ locks_posted part before now = if nat_eq part 1 then now else before
 abbrev pub IsWritten : State → Command → State → Written → Type 0
 IsWritten s c after (Answered r) = IsAct s c after r
 IsWritten s c after (Failed change) =
-    IsAct s c (doubted (without_stock (call_of c) s) (call_of c) None (option_map (after_step s.stored) change)) (reply.Refused refusal.StoreFault)
+    IsAct s c (doubted (without_stock (call_of c) s) (call_of c) None (option_map (after_step s.stored) change))
+    (reply.Refused refusal.StoreFault)
 IsWritten s c after Unfiled = IsAct s c (unfiled s (call_of c) None after.stored) (reply.Refused refusal.BackupFault)
 
 -- where the store fails, or the disk of the backup file
@@ -72,7 +73,8 @@ OnAnswer (Answered r) P = P
 OnAnswer (Failed change) P = Unit {0}
 OnAnswer Unfiled P = Unit {0}
 
--- what a call that uses the store or the file is answered, and what it leaves of the condition and of the change in flight
+-- what a call that uses the store or the file is answered, and what it leaves of the condition and of the change in
+-- flight
 abbrev pub written_reply : Written → Reply
 written_reply (Answered r) = r
 written_reply (Failed change) = reply.Refused refusal.StoreFault

@@ -1,4 +1,5 @@
-//! The code of the calls: what is present, which is the state without its history and the devices, and what each call does to it.
+//! The code of the calls: what is present, which is the state without its history and the devices, and what each call
+//! does to it.
 #![tactic(auto)]
 
 mod barring;

@@ -244,8 +244,8 @@ impl<T: LockStore, K: Keeper, D: Disk, L: Link> Present<T, K, D, L> {
         (self.books.into_keeper(), disk, link)
     }
 
-    /// Tells what holds of all that is present: what a stop may leave in the store and in the backup file stands for the
-    /// state, which has whether the link tells its list.
+    /// Tells what holds of all that is present: what a stop may leave in the store and in the backup file stands for
+    /// the state, which has whether the link tells its list.
     pub fn read_invariant(&self)
         ensures left { LeavesState K.held K.may_leave self.now }
         ensures lists { LeavesLists D.tells D.may_leave self.now }

@@ -46,8 +46,8 @@ pub record IsResubmissionOf (unit : UnitKey) (call : PastEntry) : Type 0 where
   pub resubmits : is_resubmission_of unit (call_of call.command) ≡ true
   pub answered : call.reply ≡ reply.Unit unit
 
--- with this call and its answer the unit waits no more: its V1 part was posted or refused, it was cancelled, or the store
--- or the disk of the backup file failed
+-- with this call and its answer the unit waits no more: its V1 part was posted or refused, it was cancelled, or the
+-- store or the disk of the backup file failed
 abbrev pub ends_wait : UnitKey → Call → Reply → Bool
 ends_wait unit c (reply.Posted other) = same_unit other unit
 ends_wait unit c (reply.Bad other index reason) = same_unit other unit
@@ -81,26 +81,28 @@ FirmAreHanded unit s t = (e : Entry) → IsFirm unit e → Contains s.locks e �
 
 -- ---- through a history
 
--- From the state before its commit on, the unit waits; and while there is a lock server it has the locks that it had. There is
--- one where none of these calls ended it.
+-- From the state before its commit on, the unit waits; and while there is a lock server it has the locks that it had.
+-- There is one where none of these calls ended it.
 pub record WaitsLocked (unit : UnitKey) (calls : List Made) (before now : State) : Type 0 where
   pub waits : IsOpenUnit now.stored unit
   pub up : NoneOfServer calls → now.condition ≡ Up
   pub locks : WhileUp now.condition (FirmAreHanded unit before now)
 
--- A committed unit waits for its V1 part, and its locks stand, until a call ends that. A lock server that is made anew has them
--- again.
+-- A committed unit waits for its V1 part, and its locks stand, until a call ends that. A lock server that is made anew
+-- has them again.
 abbrev pub LocksStand : State → List Made → Type 0
 LocksStand first made =
     (earlier between later : List Made) (m : Made) (unit : UnitKey)
     → made ≡ earlier ++ m ∷ (between ++ later) → IsCommitOf unit m.call → NoneEndsWait unit between
     → WaitsLocked unit between (state_after first earlier) (state_after first (earlier ++ m ∷ between))
 
--- the unit waits, and while there is a lock server the locks stand that were stored with it when its V1 part was tried again
+-- the unit waits, and while there is a lock server the locks stand that were stored with it when its V1 part was tried
+-- again
 pub record ReturnsLocked (unit : UnitKey) (calls : List Made) (begun now : State) : Type 0 where
   pub waits : IsOpenUnit now.stored unit
   pub up : NoneOfServer calls → now.condition ≡ Up
-  pub locks : WhileUp now.condition ((e : Entry) → Contains (entries_of begun.stored.units unit) e → Contains now.locks e)
+  pub locks : WhileUp now.condition
+      ((e : Entry) → Contains (entries_of begun.stored.units unit) e → Contains now.locks e)
 
 -- where a unit waits for its V1 part again its stored locks stand, until a call ends that
 abbrev pub LocksReturn : State → List Made → Type 0

@@ -8,5 +8,6 @@ use Rattle.update_records.proofs.Status.{unit_other}
 use Rattle.update_records.specs.Ledger.{Ledger}
 use Rattle.update_records.specs.declared.records.Unit.{Unit as UnitOfWork}
 
-pub entries_beside : (ledger : Ledger) (unit : UnitOfWork) (other : UnitKey) → same_unit unit.key other ≡ false → entries_of (ledger.units ++ unit ∷ []) other ≡ entries_of ledger.units other
+pub entries_beside : (ledger : Ledger) (unit : UnitOfWork) (other : UnitKey) → same_unit unit.key other ≡ false
+    → entries_of (ledger.units ++ unit ∷ []) other ≡ entries_of ledger.units other
 entries_beside ledger unit other apart = ap (λ o. option_map_or (λ (u : UnitOfWork). u.entries) o []) (unit_other ledger.units unit other apart)

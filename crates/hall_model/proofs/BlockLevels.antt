@@ -35,7 +35,8 @@ blocks i upto is level within =
     elim (nat_le upto i.level) as (λ b. nat_le upto i.level ≡ b → IsBlock i upto (if b then i.level else level_with i d)) [
       | true ↦ λ e. record { risen = omega arith; within = level; reached = up_to upto i.level e }
       | false ↦ λ e.
-          let reach : upto - i.level ≤ i.buffer * d = subst (λ n. upto - i.level ≤ n) (mul_comm d i.buffer) (div_ceil_times (upto - i.level) i.buffer (above_zero i.buffer is)).0 in
+          let reach : upto - i.level ≤ i.buffer * d = subst (λ n. upto - i.level ≤ n) (mul_comm d i.buffer)
+          (div_ceil_times (upto - i.level) i.buffer (above_zero i.buffer is)).0 in
           record {
             risen = grind (arith, level, reach);
             within = grind (arith, level);

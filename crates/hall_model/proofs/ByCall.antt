@@ -77,28 +77,50 @@ pub record OfEach (P : Call → Verdict → Type 0) (found : Found) (s : State) 
   pub refuses : (call : Call) (r : Refusal) → IsPlain r → P call (Refuses r)
   pub enters : (name user : List ℕ) → is_some (session_at s.sessions name) ≡ false → P (LogsOn name user) (Leaves (entered s name user) reply.Done)
   pub logs_off : (name : List ℕ) (x : Session) → session_at s.sessions name ≡ Some x → P (OfSession name LogsOff) (Leaves (logged_off s x) reply.Done)
-  pub grants : (name : List ℕ) (x : Session) (rs : List Request) (locks : List Entry) → session_at s.sessions name ≡ Some x → asked (table_in s) (pair_of s.stored.start x) x.user rs ≡ Ok locks → P (OfSession name (Asks rs)) (Leaves (record s { locks = locks }) reply.Done)
-  pub lowers : (name : List ℕ) (x : Session) (rs : List Request) → session_at s.sessions name ≡ Some x → P (OfSession name (Frees rs)) (Leaves (lowered s x rs) reply.Done)
+  pub grants : (name : List ℕ) (x : Session) (rs : List Request) (locks : List Entry) → session_at s.sessions name ≡ Some x
+      → asked (table_in s) (pair_of s.stored.start x) x.user rs ≡ Ok locks → P (OfSession name (Asks rs)) (Leaves (record s { locks = locks }) reply.Done)
+  pub lowers : (name : List ℕ) (x : Session) (rs : List Request) → session_at s.sessions name ≡ Some x
+      → P (OfSession name (Frees rs)) (Leaves (lowered s x rs) reply.Done)
   pub frees : (name : List ℕ) (x : Session) → session_at s.sessions name ≡ Some x → P (OfSession name FreesAll) (Leaves (freed_all s x) reply.Done)
-  pub converts : (name : List ℕ) (x : Session) (wanted : List Asked) (c : Conversion) → session_at s.sessions name ≡ Some x → converted s.locks (pair_of s.stored.start x) wanted ≡ Ok c → P (OfSession name (Converts wanted)) (Leaves (record s { locks = c.entries }) reply.Done)
-  pub draws : (name : List ℕ) (x : Session) (object nr : List ℕ) (r : NumberRange) → session_at s.sessions name ≡ Some x → CanDraw s x object nr r → P (OfSession name (Draws object nr)) (Leaves (drawn s x (present s.stored.levels r.interval) (next_number r (present s.stored.levels r.interval) x)) (reply.Number (next_number r (present s.stored.levels r.interval) x) (code_of (present s.stored.levels r.interval) (next_number r (present s.stored.levels r.interval) x))))
-  pub reserves : (name : List ℕ) (x : Session) (object nr : List ℕ) (upto : ℕ) (r : NumberRange) → session_at s.sessions name ≡ Some x → CanReserve s object nr upto r → P (OfSession name (Reserves object nr upto)) (Leaves (record s { stored = raised_to (present s.stored.levels r.interval) upto s.stored }) (reply.Level (block_level (present s.stored.levels r.interval) upto)))
-  pub reads : (name : List ℕ) (x : Session) (table key : List ℕ) → session_at s.sessions name ≡ Some x → P (OfSession name (Reads table key)) (Leaves s (reply.Row (found.row table key)))
-  pub commits_nothing : (name : List ℕ) (x : Session) (parts : Parts) (stock : List Num) → session_at s.sessions name ≡ Some x → P (OfSession name (Commits parts stock)) (Leaves s reply.Done)
-  pub commits_numbers : (name : List ℕ) (x : Session) (parts : Parts) (stock : List Num) → session_at s.sessions name ≡ Some x → P (OfSession name (Commits parts stock)) (Leaves (stocked stock (numbered s x (x.draws ++ stock))) reply.Done)
-  pub commits : (name : List ℕ) (x : Session) (parts : Parts) (stock : List Num) → session_at s.sessions name ≡ Some x → P (OfSession name (Commits parts stock)) (Leaves (stocked stock (committed s x parts (x.draws ++ stock))) (reply.Unit (unit_key s.stored.start x)))
+  pub converts : (name : List ℕ) (x : Session) (wanted : List Asked) (c : Conversion) → session_at s.sessions name ≡ Some x
+      → converted s.locks (pair_of s.stored.start x) wanted ≡ Ok c → P (OfSession name (Converts wanted)) (Leaves (record s { locks = c.entries }) reply.Done)
+  pub draws : (name : List ℕ) (x : Session) (object nr : List ℕ) (r : NumberRange) → session_at s.sessions name ≡ Some x → CanDraw s x object nr r
+      → P (OfSession name (Draws object nr))
+      (Leaves (drawn s x (present s.stored.levels r.interval) (next_number r (present s.stored.levels r.interval) x))
+      (reply.Number (next_number r (present s.stored.levels r.interval) x)
+      (code_of (present s.stored.levels r.interval) (next_number r (present s.stored.levels r.interval) x))))
+  pub reserves : (name : List ℕ) (x : Session) (object nr : List ℕ) (upto : ℕ) (r : NumberRange) → session_at s.sessions name ≡ Some x
+      → CanReserve s object nr upto r → P (OfSession name (Reserves object nr upto))
+      (Leaves (record s { stored = raised_to (present s.stored.levels r.interval) upto s.stored })
+      (reply.Level (block_level (present s.stored.levels r.interval) upto)))
+  pub reads : (name : List ℕ) (x : Session) (table key : List ℕ) → session_at s.sessions name ≡ Some x
+      → P (OfSession name (Reads table key)) (Leaves s (reply.Row (found.row table key)))
+  pub commits_nothing : (name : List ℕ) (x : Session) (parts : Parts) (stock : List Num) → session_at s.sessions name ≡ Some x
+      → P (OfSession name (Commits parts stock)) (Leaves s reply.Done)
+  pub commits_numbers : (name : List ℕ) (x : Session) (parts : Parts) (stock : List Num) → session_at s.sessions name ≡ Some x
+      → P (OfSession name (Commits parts stock)) (Leaves (stocked stock (numbered s x (x.draws ++ stock))) reply.Done)
+  pub commits : (name : List ℕ) (x : Session) (parts : Parts) (stock : List Num) → session_at s.sessions name ≡ Some x
+      → P (OfSession name (Commits parts stock)) (Leaves (stocked stock (committed s x parts (x.draws ++ stock))) (reply.Unit (unit_key s.stored.start x)))
   pub rolls_back : (name : List ℕ) (x : Session) → session_at s.sessions name ≡ Some x → P (OfSession name RollsBack) (Leaves (rolled_back s x) reply.Done)
-  pub takes : (worker part : ℕ) (unit : UnitKey) → order_of s.orders worker ≡ None → first_unclaimed s.orders (waiting_for part s.stored) ≡ Some unit → P (OfWorker worker (Takes part)) (Leaves (taken s worker unit) (reply.Unit unit))
-  pub posts : (worker part : ℕ) (unit : UnitKey) → order_for part s.stored s.orders worker ≡ Some unit → P (OfWorker worker (Posts part)) (Leaves (marked part s worker unit (kind_for part (found.part part unit))) (posted_reply part unit (found.part part unit)))
-  pub drops : (worker : ℕ) (unit : UnitKey) → order_of s.orders worker ≡ Some unit → P (OfWorker worker Drops) (Leaves (record s { orders = without_order s.orders worker }) (reply.Unit unit))
+  pub takes : (worker part : ℕ) (unit : UnitKey) → order_of s.orders worker ≡ None → first_unclaimed s.orders (waiting_for part s.stored) ≡ Some unit
+      → P (OfWorker worker (Takes part)) (Leaves (taken s worker unit) (reply.Unit unit))
+  pub posts : (worker part : ℕ) (unit : UnitKey) → order_for part s.stored s.orders worker ≡ Some unit
+      → P (OfWorker worker (Posts part))
+      (Leaves (marked part s worker unit (kind_for part (found.part part unit))) (posted_reply part unit (found.part part unit)))
+  pub drops : (worker : ℕ) (unit : UnitKey) → order_of s.orders worker ≡ Some unit
+      → P (OfWorker worker Drops) (Leaves (record s { orders = without_order s.orders worker }) (reply.Unit unit))
   pub kills : s.condition ≡ condition.Up → P (OfAdmin Kills) (Leaves (killed s) reply.Done)
   pub fails_over : (list : List Entry) → IsHandedOver s list → P (OfAdmin FailsOver) (Leaves (followed_over list s) reply.Done)
   pub strays : (first second : ℕ) → IsStray found s → P (OfAdmin FailsOver) (not_over s first second)
   pub restarts : (s.condition ≡ condition.Up → ⊥) → P (OfAdmin Restarts) (Leaves (restarted (is_taken found.anew) s) reply.Done)
   pub attaches : s.condition ≡ condition.Up → P (OfAdmin Attaches) (Leaves (attached s) reply.Done)
-  pub cancels : (unit : UnitKey) (status : Status) → CanBeCancelled s.stored s.orders s.mark_limit unit status → P (OfAdmin (Cancels unit)) (Leaves (cancelled s unit status) (reply.Unit unit))
-  pub reopens : (unit : UnitKey) (es : List Entry) → status_of s.stored.units s.stored.marks unit ≡ Some Bad → readmitted (table_in s) (owners_of unit) (entries_of s.stored.units unit) ≡ Ok es → P (OfAdmin (Resubmits unit)) (Leaves (reopened s unit es) (reply.Unit unit))
-  pub reposts : (unit : UnitKey) → status_of s.stored.units s.stored.marks unit ≡ Some Bad2 → P (OfAdmin (Resubmits unit)) (Leaves (reposted s unit) (reply.Unit unit))
+  pub cancels : (unit : UnitKey) (status : Status) → CanBeCancelled s.stored s.orders s.mark_limit unit status
+      → P (OfAdmin (Cancels unit)) (Leaves (cancelled s unit status) (reply.Unit unit))
+  pub reopens : (unit : UnitKey) (es : List Entry) → status_of s.stored.units s.stored.marks unit ≡ Some Bad
+      → readmitted (table_in s) (owners_of unit) (entries_of s.stored.units unit) ≡ Ok es
+      → P (OfAdmin (Resubmits unit)) (Leaves (reopened s unit es) (reply.Unit unit))
+  pub reposts : (unit : UnitKey) → status_of s.stored.units s.stored.marks unit ≡ Some Bad2
+      → P (OfAdmin (Resubmits unit)) (Leaves (reposted s unit) (reply.Unit unit))
 
 -- ---- choices
 
@@ -122,7 +144,9 @@ cond-of_rule false x y h k = k
 asked-of_rule : (t : Table) (asker : Asker) (user : List ℕ) (rs : List Request) → IsOfRule (asked t asker user rs)
 unfolding asked
 asked-of_rule t asker user rs =
-    barred-of_rule (first_bar t.entries asker (map (λ r. r.asked) rs)) _ (cond-of_rule (has_no_room t (length (new_names t.entries (halves asker rs)))) _ _ refl (cond-of_rule (is_over t.entries (halves asker rs)) _ _ refl tt))
+    barred-of_rule (first_bar t.entries asker (map (λ r. r.asked) rs)) _
+    (cond-of_rule (has_no_room t (length (new_names t.entries (halves asker rs)))) _ _ refl
+    (cond-of_rule (is_over t.entries (halves asker rs)) _ _ refl tt))
 
 converted-of_rule : (entries : List Entry) (asker : Asker) (wanted : List Asked) → IsOfRule (converted entries asker wanted)
 unfolding converted
@@ -132,11 +156,13 @@ converted-of_rule entries asker wanted =
 
 -- ---- one kind after the other
 
-by_grant : (Q : Verdict → Type 0) (s : State) (r : Result (List Entry) AskFault) → IsOfRule r → ((f : Refusal) → IsPlain f → Q (Refuses f)) → ((locks : List Entry) → r ≡ Ok locks → Q (Leaves (record s { locks = locks }) reply.Done)) → Q (granting s r)
+by_grant : (Q : Verdict → Type 0) (s : State) (r : Result (List Entry) AskFault) → IsOfRule r → ((f : Refusal) → IsPlain f → Q (Refuses f))
+    → ((locks : List Entry) → r ≡ Ok locks → Q (Leaves (record s { locks = locks }) reply.Done)) → Q (granting s r)
 by_grant Q s (Ok locks) own refuse grant = grant locks refl
 by_grant Q s (Err f) own refuse grant = refuse (ask_refusal f) own
 
-by_conversion : (Q : Verdict → Type 0) (s : State) (r : Result Conversion AskFault) → IsOfRule r → ((f : Refusal) → IsPlain f → Q (Refuses f)) → ((c : Conversion) → r ≡ Ok c → Q (Leaves (record s { locks = c.entries }) reply.Done)) → Q (converting s r)
+by_conversion : (Q : Verdict → Type 0) (s : State) (r : Result Conversion AskFault) → IsOfRule r → ((f : Refusal) → IsPlain f → Q (Refuses f))
+    → ((c : Conversion) → r ≡ Ok c → Q (Leaves (record s { locks = c.entries }) reply.Done)) → Q (converting s r)
 by_conversion Q s (Ok c) own refuse convert = convert c refl
 by_conversion Q s (Err f) own refuse convert = refuse (ask_refusal f) own
 
@@ -166,41 +192,55 @@ in_doubt_up n e = cc
 
 module _ (P : Call → Verdict → Type 0) (found : Found) (s : State) (each : OfEach P found s) where
   -- without numbers there are none of a stock
-  nothing-holds : (name : List ℕ) (x : Session) (parts : Parts) (stock : List Num) → session_at s.sessions name ≡ Some x → length (x.draws ++ stock) ≡ 0 → P (OfSession name (Commits parts stock)) (Leaves (stocked stock s) reply.Done)
+  nothing-holds : (name : List ℕ) (x : Session) (parts : Parts) (stock : List Num) → session_at s.sessions name ≡ Some x → length (x.draws ++ stock) ≡ 0
+      → P (OfSession name (Commits parts stock)) (Leaves (stocked stock s) reply.Done)
   nothing-holds name x parts [] at none = each.commits_nothing name x parts [] at
   nothing-holds name x parts (num ∷ stock) at none =
       let long = length-append x.draws (num ∷ stock) in
       absurd (omega (arith, long, none))
 
-  commit-holds : (name : List ℕ) (x : Session) (parts : Parts) (stock : List Num) → session_at s.sessions name ≡ Some x → P (OfSession name (Commits parts stock)) (commit s x parts stock)
+  commit-holds : (name : List ℕ) (x : Session) (parts : Parts) (stock : List Num) → session_at s.sessions name ≡ Some x
+      → P (OfSession name (Commits parts stock)) (commit s x parts stock)
   commit-holds name x parts stock at =
       let numbers = x.draws ++ stock in
       let Q : Verdict → Type 0 = λ v. P (OfSession name (Commits parts stock)) (passing stock v) in
       one_of Q (nat_lt 64 (length numbers) || nat_lt 200 (effects_in parts)) _ _ (λ e. each.refuses _ _ refl)
-      (λ e. one_of Q (nat_eq (effects_in parts) 0 && nat_eq (length numbers) 0) _ _ (λ f. nothing-holds name x parts stock at (eqb-true (length numbers) 0 (and_parts (nat_eq (effects_in parts) 0) (nat_eq (length numbers) 0) f).1))
+      (λ e. one_of Q (nat_eq (effects_in parts) 0 && nat_eq (length numbers) 0) _ _
+      (λ f. nothing-holds name x parts stock at (eqb-true (length numbers) 0 (and_parts (nat_eq (effects_in parts) 0) (nat_eq (length numbers) 0) f).1))
       (λ f. by_room Q s _ (each.refuses _ _ refl)
       (one_of Q (nat_eq (effects_in parts) 0) _ _ (λ g. each.commits_numbers name x parts stock at) (λ g. each.commits name x parts stock at))))
 
-  giving-holds : (name : List ℕ) (x : Session) (object nr : List ℕ) (r : NumberRange) → session_at s.sessions name ≡ Some x → range_at s.ranges object nr ≡ Some r → nat_le 64 (length x.draws) ≡ false → other_holder s.sessions x.name (present s.stored.levels r.interval) ≡ None
+  giving-holds : (name : List ℕ) (x : Session) (object nr : List ℕ) (r : NumberRange) → session_at s.sessions name ≡ Some x
+      → range_at s.ranges object nr ≡ Some r → nat_le 64 (length x.draws) ≡ false → other_holder s.sessions x.name (present s.stored.levels r.interval) ≡ None
       → P (OfSession name (Draws object nr)) (giving s x (present s.stored.levels r.interval) (next_number r (present s.stored.levels r.interval) x))
   giving-holds name x object nr r at range few free =
-      one_of (P (OfSession name (Draws object nr))) (nat_lt r.interval.to (next_number r (present s.stored.levels r.interval) x)) _ _ (λ e. each.refuses _ _ refl)
+      one_of (P (OfSession name (Draws object nr))) (nat_lt r.interval.to (next_number r (present s.stored.levels r.interval) x)) _ _
+      (λ e. each.refuses _ _ refl)
       (λ e. each.draws name x object nr r at (record { range = range; few = few; free = free; within = e }))
 
-  holder-holds : (name : List ℕ) (x : Session) (object nr : List ℕ) (r : NumberRange) (o : Option Session) → session_at s.sessions name ≡ Some x → range_at s.ranges object nr ≡ Some r → nat_le 64 (length x.draws) ≡ false → other_holder s.sessions x.name (present s.stored.levels r.interval) ≡ o
-      → P (OfSession name (Draws object nr)) (elim o [ Some y ↦ Refuses (refusal.IntervalBusy y.name) | None ↦ giving s x (present s.stored.levels r.interval) (next_number r (present s.stored.levels r.interval) x) ])
+  holder-holds : (name : List ℕ) (x : Session) (object nr : List ℕ) (r : NumberRange) (o : Option Session) → session_at s.sessions name ≡ Some x
+      → range_at s.ranges object nr ≡ Some r → nat_le 64 (length x.draws) ≡ false → other_holder s.sessions x.name (present s.stored.levels r.interval) ≡ o
+      → P (OfSession name (Draws object nr))
+      (elim o [
+        | Some y ↦ Refuses (refusal.IntervalBusy y.name)
+        | None ↦ giving s x (present s.stored.levels r.interval)
+            (next_number r (present s.stored.levels r.interval) x)
+      ])
   holder-holds name x object nr r None at range few free = giving-holds name x object nr r at range few free
   holder-holds name x object nr r (Some y) at range few busy = each.refuses _ _ refl
 
-  drawing-holds : (name : List ℕ) (x : Session) (object nr : List ℕ) (o : Option NumberRange) → session_at s.sessions name ≡ Some x → range_at s.ranges object nr ≡ o
+  drawing-holds : (name : List ℕ) (x : Session) (object nr : List ℕ) (o : Option NumberRange) → session_at s.sessions name ≡ Some x
+      → range_at s.ranges object nr ≡ o
       → P (OfSession name (Draws object nr)) (elim o [ None ↦ Refuses refusal.IntervalNotFound | Some r ↦ drawing s x r (present s.stored.levels r.interval) ])
   drawing-holds name x object nr None at range = each.refuses _ _ refl
   drawing-holds name x object nr (Some r) at range =
       one_of (P (OfSession name (Draws object nr))) (nat_le 64 (length x.draws)) _ _ (λ e. each.refuses _ _ refl)
       (λ few. holder-holds name x object nr r (other_holder s.sessions x.name (present s.stored.levels r.interval)) at range few refl)
 
-  reserving-holds : (name : List ℕ) (x : Session) (object nr : List ℕ) (upto : ℕ) (o : Option NumberRange) → session_at s.sessions name ≡ Some x → range_at s.ranges object nr ≡ o
-      → P (OfSession name (Reserves object nr upto)) (elim o [ None ↦ Refuses refusal.IntervalNotFound | Some r ↦ reserving s (present s.stored.levels r.interval) upto ])
+  reserving-holds : (name : List ℕ) (x : Session) (object nr : List ℕ) (upto : ℕ) (o : Option NumberRange) → session_at s.sessions name ≡ Some x
+      → range_at s.ranges object nr ≡ o
+      → P (OfSession name (Reserves object nr upto))
+      (elim o [ None ↦ Refuses refusal.IntervalNotFound | Some r ↦ reserving s (present s.stored.levels r.interval) upto ])
   reserving-holds name x object nr upto None at range = each.refuses _ _ refl
   reserving-holds name x object nr upto (Some r) at range =
       let Q = P (OfSession name (Reserves object nr upto)) in
@@ -208,14 +248,17 @@ module _ (P : Call → Verdict → Type 0) (found : Found) (s : State) (each : O
       (λ buffered. one_of Q (nat_lt r.interval.to upto) _ _ (λ e. each.refuses _ _ refl)
       (λ within. each.reserves name x object nr upto r at (record { range = range; buffered = buffered; within = within })))
 
-  session-holds : (name : List ℕ) (x : Session) (call : SessionCall) → session_at s.sessions name ≡ Some x → P (OfSession name call) (session_call found s x call)
+  session-holds : (name : List ℕ) (x : Session) (call : SessionCall) → session_at s.sessions name ≡ Some x
+      → P (OfSession name call) (session_call found s x call)
   session-holds name x LogsOff at = each.logs_off name x at
   session-holds name x (Asks rs) at =
-      by_grant (P (OfSession name (Asks rs))) s _ (asked-of_rule (table_in s) (pair_of s.stored.start x) x.user rs) (each.refuses _) (λ locks e. each.grants name x rs locks at e)
+      by_grant (P (OfSession name (Asks rs))) s _ (asked-of_rule (table_in s) (pair_of s.stored.start x) x.user rs) (each.refuses _)
+      (λ locks e. each.grants name x rs locks at e)
   session-holds name x (Frees rs) at = each.lowers name x rs at
   session-holds name x FreesAll at = each.frees name x at
   session-holds name x (Converts wanted) at =
-      by_conversion (P (OfSession name (Converts wanted))) s _ (converted-of_rule s.locks (pair_of s.stored.start x) wanted) (each.refuses _) (λ c e. each.converts name x wanted c at e)
+      by_conversion (P (OfSession name (Converts wanted))) s _ (converted-of_rule s.locks (pair_of s.stored.start x) wanted) (each.refuses _)
+      (λ c e. each.converts name x wanted c at e)
   session-holds name x (Draws object nr) at = drawing-holds name x object nr (range_at s.ranges object nr) at refl
   session-holds name x (Reserves object nr upto) at = reserving-holds name x object nr upto (range_at s.ranges object nr) at refl
   session-holds name x (Reads table key) at = each.reads name x table key at
@@ -226,19 +269,26 @@ module _ (P : Call → Verdict → Type 0) (found : Found) (s : State) (each : O
   called-holds name call None at = each.refuses _ _ refl
   called-holds name call (Some x) at = session-holds name x call at
 
-  taking-holds : (worker part : ℕ) (o : Option UnitKey) → order_of s.orders worker ≡ None → first_unclaimed s.orders (waiting_for part s.stored) ≡ o → P (OfWorker worker (Takes part)) (taking s worker o)
+  taking-holds : (worker part : ℕ) (o : Option UnitKey) → order_of s.orders worker ≡ None → first_unclaimed s.orders (waiting_for part s.stored) ≡ o
+      → P (OfWorker worker (Takes part)) (taking s worker o)
   taking-holds worker part None free e = each.refuses _ _ refl
   taking-holds worker part (Some unit) free e = each.takes worker part unit free e
 
-  take-holds : (worker part : ℕ) (o : Option UnitKey) → order_of s.orders worker ≡ o → P (OfWorker worker (Takes part)) (elim o [ Some unit ↦ Refuses (refusal.WorkerBusy unit) | None ↦ taking s worker (first_unclaimed s.orders (waiting_for part s.stored)) ])
+  take-holds : (worker part : ℕ) (o : Option UnitKey) → order_of s.orders worker ≡ o
+      → P (OfWorker worker (Takes part))
+      (elim o [ Some unit ↦ Refuses (refusal.WorkerBusy unit) | None ↦ taking s worker (first_unclaimed s.orders (waiting_for part s.stored)) ])
   take-holds worker part None e = taking-holds worker part (first_unclaimed s.orders (waiting_for part s.stored)) e refl
   take-holds worker part (Some unit) e = each.refuses _ _ refl
 
-  post-holds : (worker part : ℕ) (o : Option UnitKey) → order_for part s.stored s.orders worker ≡ o → P (OfWorker worker (Posts part)) (elim o [ None ↦ Refuses refusal.NoOrder | Some unit ↦ with_room s (posting part s worker unit (found.part part unit)) ])
+  post-holds : (worker part : ℕ) (o : Option UnitKey) → order_for part s.stored s.orders worker ≡ o
+      → P (OfWorker worker (Posts part))
+      (elim o [ None ↦ Refuses refusal.NoOrder | Some unit ↦ with_room s (posting part s worker unit (found.part part unit)) ])
   post-holds worker part None e = each.refuses _ _ refl
   post-holds worker part (Some unit) e = by_room (P (OfWorker worker (Posts part))) s _ (each.refuses _ _ refl) (each.posts worker part unit e)
 
-  drop-holds : (worker : ℕ) (o : Option UnitKey) → order_of s.orders worker ≡ o → P (OfWorker worker Drops) (elim o [ None ↦ Refuses refusal.NoOrder | Some unit ↦ Leaves (record s { orders = without_order s.orders worker }) (reply.Unit unit) ])
+  drop-holds : (worker : ℕ) (o : Option UnitKey) → order_of s.orders worker ≡ o
+      → P (OfWorker worker Drops)
+      (elim o [ None ↦ Refuses refusal.NoOrder | Some unit ↦ Leaves (record s { orders = without_order s.orders worker }) (reply.Unit unit) ])
   drop-holds worker None e = each.refuses _ _ refl
   drop-holds worker (Some unit) e = each.drops worker unit e
 
@@ -338,7 +388,8 @@ plain_unavailable s call =
     plain_else (barred s call) _ (plain_if _ refusal.LogFull _ refl (plain_down s.condition call))
     (plain_else (caller_refusal s.sessions call) _ (plain_caller s.sessions call) (plain_server s.condition call))
 
-unless_holds : (Q : Verdict → Type 0) (o : Option Refusal) (v : Verdict) → ArePlain o → ((r : Refusal) → IsPlain r → Q (Refuses r)) → (o ≡ None → Q v) → Q (unless_refused o v)
+unless_holds : (Q : Verdict → Type 0) (o : Option Refusal) (v : Verdict) → ArePlain o → ((r : Refusal) → IsPlain r → Q (Refuses r)) → (o ≡ None → Q v)
+    → Q (unless_refused o v)
 unless_holds Q None v plain refuse h = h refl
 unless_holds Q (Some r) v plain refuse h = refuse r plain
 
@@ -362,7 +413,8 @@ by_restart Q anew other (OfAdmin (Cancels unit)) = other _ refl
 by_restart Q anew other (OfAdmin (Resubmits unit)) = other _ refl
 
 -- as `by_call`, of a call that may be made
-pub by_made : (P : Call → Verdict → Type 0) (found : Found) (s : State) → OfEach (λ call v. MayCall s call → P call v) found s → (call : Call) → MayCall s call → P call (call_verdict found s call)
+pub by_made : (P : Call → Verdict → Type 0) (found : Found) (s : State) → OfEach (λ call v. MayCall s call → P call v) found s → (call : Call) → MayCall s call
+    → P call (call_verdict found s call)
 by_made P found s each call may = by_call (λ c v. MayCall s c → P c v) found s each call may
 
 -- ---- a server in doubt
@@ -466,7 +518,8 @@ pub by_event : (Q : Served → Type 0) (o : DeviceOutcome) (s : State) (c : Comm
     → ((read : Option Bool) (r : Refusal) → Q (refused (doubted s (call_of c) read s.pending) r)) → Q (served o s c)
 by_event Q o s c loses well wanting unlinked fails unfiles remakes =
     let found = found_by o.reading s in
-    loses o.lost (ends_in o.event o.reading s (call_of c) (verdict found s c)) (elim o.event as (λ e. Q (ends_in e o.reading s (call_of c) (verdict found s c))) [
+    loses o.lost (ends_in o.event o.reading s (call_of c) (verdict found s c))
+    (elim o.event as (λ e. Q (ends_in e o.reading s (call_of c) (verdict found s c))) [
       | AllWell ↦ well found
       | Wanting ↦ wanting
       | StoreFails ↦ fails o.reading
@@ -477,7 +530,8 @@ by_event Q o s c loses well wanting unlinked fails unfiles remakes =
 
 -- What the store has where the disk of the backup file fails: what it had, or with the mark of a post or of a cancelling.
 pub by_filing : (P : Ledger → Type 0) (found : Found) (s : State) (call : Call) → P s.stored
-    → ((worker part : ℕ) (unit : UnitKey) → order_for part s.stored s.orders worker ≡ Some unit → P (marked part s worker unit (kind_for part (found.part part unit))).stored)
+    → ((worker part : ℕ) (unit : UnitKey) → order_for part s.stored s.orders worker ≡ Some unit
+    → P (marked part s worker unit (kind_for part (found.part part unit))).stored)
     → ((unit : UnitKey) (status : Status) → CanBeCancelled s.stored s.orders s.mark_limit unit status → P (cancelled s unit status).stored)
     → P (stored_before_file s call (call_verdict found s call))
 by_filing P found s call same posts cancels =

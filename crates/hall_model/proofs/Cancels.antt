@@ -32,19 +32,27 @@ free-plain : (o : Option ℕ) (next : Result Status Refusal) → RefusesPlainly 
 free-plain None next h = h
 free-plain (Some worker) next h = refl
 
-pub status-plain : (unit : UnitKey) (status : Status) (b : Bool) (next : Result Status Refusal) → RefusesPlainly next → RefusesPlainly (if b then next else Err (refusal.WrongStatus unit status))
+pub status-plain : (unit : UnitKey) (status : Status) (b : Bool) (next : Result Status Refusal) → RefusesPlainly next
+    → RefusesPlainly (if b then next else Err (refusal.WrongStatus unit status))
 status-plain unit status true next h = h
 status-plain unit status false next h = refl
 
 to_cancel-plain : (ledger : Ledger) (orders : List (Option UnitKey)) (limit : ℕ) (unit : UnitKey) → RefusesPlainly (to_cancel ledger orders limit unit)
 to_cancel-plain ledger orders limit unit =
-    elim (status_of ledger.units ledger.marks unit) as (λ o. RefusesPlainly (elim o [ None ↦ Err refusal.UnknownUnit | Some status ↦ if_status may_cancel unit status (if_unclaimed (worker_of orders unit) (if_room ledger limit status)) ])) [
+    elim (status_of ledger.units ledger.marks unit)
+    as (λ o. RefusesPlainly
+    (elim o [
+      | None ↦ Err refusal.UnknownUnit
+      | Some status ↦ if_status may_cancel unit status
+          (if_unclaimed (worker_of orders unit) (if_room ledger limit status))
+    ])) [
       | None ↦ refl
       | Some status ↦
           status-plain unit status (may_cancel status) _ (free-plain (worker_of orders unit) _ (room-plain limit status (nat_le limit (length ledger.marks))))
     ]
 
-pub refused_plainly : (ledger : Ledger) (orders : List (Option UnitKey)) (limit : ℕ) (unit : UnitKey) (r : Refusal) → to_cancel ledger orders limit unit ≡ Err r → IsPlain r
+pub refused_plainly : (ledger : Ledger) (orders : List (Option UnitKey)) (limit : ℕ) (unit : UnitKey) (r : Refusal) → to_cancel ledger orders limit unit ≡ Err r
+    → IsPlain r
 refused_plainly ledger orders limit unit r e = subst RefusesPlainly e (to_cancel-plain ledger orders limit unit)
 
 -- ---- cancelled
@@ -58,7 +66,8 @@ pub record CanBeCancelled (ledger : Ledger) (orders : List (Option UnitKey)) (li
 same_ok : (a b : Status) → ◌≡◌ {A = Result Status Refusal} (Ok a) (Ok b) → a ≡ b
 same_ok a b e = cc
 
-pub of_room : (limit : ℕ) (status found : Status) (full : Bool) → (if full then Err (refusal.StoreFull limit) else Ok status) ≡ Ok found → (full ≡ false) × (status ≡ found)
+pub of_room : (limit : ℕ) (status found : Status) (full : Bool) → (if full then Err (refusal.StoreFull limit) else Ok status) ≡ Ok found → (full ≡ false)
+    × (status ≡ found)
 of_room limit status found true e = absurd (cc)
 of_room limit status found false e = (refl, same_ok status found e)
 
@@ -66,11 +75,14 @@ of_free : (o : Option ℕ) (next : Result Status Refusal) (found : Status) → i
 of_free None next found e = (refl, e)
 of_free (Some worker) next found e = absurd (cc)
 
-pub of_allowed : (unit : UnitKey) (status found : Status) (b : Bool) (next : Result Status Refusal) → (if b then next else Err (refusal.WrongStatus unit status)) ≡ Ok found → (b ≡ true) × (next ≡ Ok found)
+pub of_allowed : (unit : UnitKey) (status found : Status) (b : Bool) (next : Result Status Refusal)
+    → (if b then next else Err (refusal.WrongStatus unit status)) ≡ Ok found → (b ≡ true) × (next ≡ Ok found)
 of_allowed unit status found true next e = (refl, e)
 of_allowed unit status found false next e = absurd (cc)
 
-of_status : (ledger : Ledger) (orders : List (Option UnitKey)) (limit : ℕ) (unit : UnitKey) (status found : Status) → status_of ledger.units ledger.marks unit ≡ Some status → if_status may_cancel unit status (if_unclaimed (worker_of orders unit) (if_room ledger limit status)) ≡ Ok found → CanBeCancelled ledger orders limit unit found
+of_status : (ledger : Ledger) (orders : List (Option UnitKey)) (limit : ℕ) (unit : UnitKey) (status found : Status)
+    → status_of ledger.units ledger.marks unit ≡ Some status → if_status may_cancel unit status
+    (if_unclaimed (worker_of orders unit) (if_room ledger limit status)) ≡ Ok found → CanBeCancelled ledger orders limit unit found
 of_status ledger orders limit unit status found here e =
     let may = of_allowed unit status found (may_cancel status) _ e in
     let free = of_free (worker_of orders unit) _ found may.1 in
@@ -85,9 +97,16 @@ of_status ledger orders limit unit status found here e =
 pub no_unit : (found : Status) → ◌≡◌ {A = Result Status Refusal} (Err refusal.UnknownUnit) (Ok found) → ⊥
 no_unit found e = cc
 
-pub can_be : (ledger : Ledger) (orders : List (Option UnitKey)) (limit : ℕ) (unit : UnitKey) (found : Status) → to_cancel ledger orders limit unit ≡ Ok found → CanBeCancelled ledger orders limit unit found
+pub can_be : (ledger : Ledger) (orders : List (Option UnitKey)) (limit : ℕ) (unit : UnitKey) (found : Status) → to_cancel ledger orders limit unit ≡ Ok found
+    → CanBeCancelled ledger orders limit unit found
 can_be ledger orders limit unit found =
-    elim (status_of ledger.units ledger.marks unit) as (λ o. status_of ledger.units ledger.marks unit ≡ o → (elim o [ None ↦ Err refusal.UnknownUnit | Some status ↦ if_status may_cancel unit status (if_unclaimed (worker_of orders unit) (if_room ledger limit status)) ]) ≡ Ok found → CanBeCancelled ledger orders limit unit found) [
+    elim (status_of ledger.units ledger.marks unit)
+    as (λ o. status_of ledger.units ledger.marks unit ≡ o
+    → (elim o [
+      | None ↦ Err refusal.UnknownUnit
+      | Some status ↦ if_status may_cancel unit status
+          (if_unclaimed (worker_of orders unit) (if_room ledger limit status))
+    ]) ≡ Ok found → CanBeCancelled ledger orders limit unit found) [
       | None ↦ λ here e. absurd (no_unit found e)
       | Some status ↦ λ here e. of_status ledger orders limit unit status found here e
     ] refl
@@ -104,7 +123,9 @@ may_follow_gone Cancelled h = absurd (cc)
 -- ---- both
 
 -- what holds where the call is refused, and where the unit is cancelled
-pub by_cancel : (P : Verdict → Type 0) (s : State) (unit : UnitKey) → ((r : Refusal) → IsPlain r → P (Refuses r)) → ((status : Status) → CanBeCancelled s.stored s.orders s.mark_limit unit status → P (Leaves (cancelled s unit status) (reply.Unit unit))) → P (cancel s unit)
+pub by_cancel : (P : Verdict → Type 0) (s : State) (unit : UnitKey) → ((r : Refusal) → IsPlain r → P (Refuses r))
+    → ((status : Status) → CanBeCancelled s.stored s.orders s.mark_limit unit status → P (Leaves (cancelled s unit status) (reply.Unit unit)))
+    → P (cancel s unit)
 by_cancel P s unit refuse cancels =
     elim (to_cancel s.stored s.orders s.mark_limit unit) as (λ o. to_cancel s.stored s.orders s.mark_limit unit ≡ o → P (cancelling s unit o)) [
       | Ok status ↦ λ e. cancels status (can_be s.stored s.orders s.mark_limit unit status e)
@@ -126,7 +147,8 @@ not_below a b e = grind (arith, nat_tests)
 
 no_place : {X : Type 0} (p : X → Bool) (xs : List X) → position p xs ≡ None → length xs ≤ position_or_len p xs
 no_place p xs =
-    elim (nat_lt (position_or_len p xs) (length xs)) as (λ b. nat_lt (position_or_len p xs) (length xs) ≡ b → cond b (Some (position_or_len p xs)) None ≡ None → length xs ≤ position_or_len p xs) [
+    elim (nat_lt (position_or_len p xs) (length xs))
+    as (λ b. nat_lt (position_or_len p xs) (length xs) ≡ b → cond b (Some (position_or_len p xs)) None ≡ None → length xs ≤ position_or_len p xs) [
       | true ↦ λ e h. absurd (cc)
       | false ↦ λ e h. not_below (position_or_len p xs) (length xs) e
     ] refl

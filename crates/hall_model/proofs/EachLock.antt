@@ -35,7 +35,8 @@ every_filter Q p [] h = tt
 every_filter Q p (x ∷ xs) h =
     elim (p x) as (λ b. AllByRecursion Q (cond b (x ∷ filter p xs) (filter p xs))) [ true ↦ (h.0, every_filter Q p xs h.1) | false ↦ every_filter Q p xs h.1 ]
 
-pub every_map : {A B : Type 0} (Q : A → Type 0) (P : B → Type 0) (f : A → B) → ((x : A) → Q x → P (f x)) → (xs : List A) → AllByRecursion Q xs → AllByRecursion P (map f xs)
+pub every_map : {A B : Type 0} (Q : A → Type 0) (P : B → Type 0) (f : A → B) → ((x : A) → Q x → P (f x)) → (xs : List A) → AllByRecursion Q xs
+    → AllByRecursion P (map f xs)
 every_map Q P f k [] h = tt
 every_map Q P f k (x ∷ xs) h = (k x h.0, every_map Q P f k xs h.1)
 
@@ -46,7 +47,8 @@ every_more Q P k (x ∷ xs) h = (k x h.0, every_more Q P k xs h.1)
 every_flagged : (Q : Owner → List ℕ → Type 0) (owner : Owner) (e : Entry) → OfLock Q e → OfLock Q (flagged owner e)
 every_flagged Q owner e h = elim (is_of owner e) as (λ b. OfLock Q (cond b (record e { handed = true }) e)) [ true ↦ h | false ↦ h ]
 
-pub every_handed : (Q : Owner → List ℕ → Type 0) (es : List Entry) (unit : UnitKey) → AllByRecursion (OfLock Q) es → AllByRecursion (OfLock Q) (handed_over es unit)
+pub every_handed : (Q : Owner → List ℕ → Type 0) (es : List Entry) (unit : UnitKey) → AllByRecursion (OfLock Q) es
+    → AllByRecursion (OfLock Q) (handed_over es unit)
 every_handed Q es unit h =
     every_map (OfLock Q) (OfLock Q) (flagged (Upd unit)) (every_flagged Q (Upd unit)) (without_optimistic es (Upd unit)) (every_filter (OfLock Q) _ es h)
 
@@ -72,12 +74,14 @@ HasNone status = may_hold (Some status) ≡ false
 never_holds : (o : Option Status) (status : Status) → o ≡ Some status → HasNone status → may_hold o ≡ true → ⊥
 never_holds o status is none h = let no : true ≡ false = sym h ∙ ap may_hold is ∙ none in cc
 
-pub none_held : (ledger : Ledger) (next : ℕ) (sessions : List Session) (es : List Entry) (key : UnitKey) (status : Status) → status_in ledger key ≡ Some status → HasNone status → IsOwned ledger next sessions es → (e : Entry) → Among es e → e.owner ≡ Upd key → ⊥
+pub none_held : (ledger : Ledger) (next : ℕ) (sessions : List Session) (es : List Entry) (key : UnitKey) (status : Status) → status_in ledger key ≡ Some status
+    → HasNone status → IsOwned ledger next sessions es → (e : Entry) → Among es e → e.owner ≡ Upd key → ⊥
 none_held ledger next sessions es key status is none h e k own =
     never_holds (status_in ledger key) status is none
     (subst (MayHold ledger) own (every_at (OfLock (λ owner user. MayHold ledger owner)) es e h.holders k))
 
-pub found_unit : (P : UnitOfWork → Type 0) (units : List UnitOfWork) (key : UnitKey) (unit : UnitOfWork) → unit_at units key ≡ Some unit → AllByRecursion P units → P unit × (unit.key ≡ key)
+pub found_unit : (P : UnitOfWork → Type 0) (units : List UnitOfWork) (key : UnitKey) (unit : UnitOfWork) → unit_at units key ≡ Some unit
+    → AllByRecursion P units → P unit × (unit.key ≡ key)
 found_unit P [] key unit found h = cc
 found_unit P (x ∷ xs) key unit found h =
     elim (same_unit x.key key) as (λ b. same_unit x.key key ≡ b → cond b (Some x) (unit_at xs key) ≡ Some unit → P unit × (unit.key ≡ key)) [

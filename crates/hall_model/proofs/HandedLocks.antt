@@ -52,11 +52,14 @@ handed_table t start x good =
     IsTable-filter (with_entries t (handed_over t.entries key)) (is_of (Upd key)) (IsTable-handed_over t key good)
 
 -- a lock of the session's open unit has the session's user
-user_at : (sessions : List Session) (name : List ℕ) (start : ℕ) (x : Session) (e : Entry) → session_at sessions name ≡ Some x → e.owner ≡ Upd (unit_key start x) → HasItsUser start sessions e.owner e.user → e.user ≡ x.user
+user_at : (sessions : List Session) (name : List ℕ) (start : ℕ) (x : Session) (e : Entry) → session_at sessions name ≡ Some x → e.owner ≡ Upd (unit_key start x)
+    → HasItsUser start sessions e.owner e.user → e.user ≡ x.user
 user_at sessions name start x e found own user =
     found_in (IsUserOf start e.owner e.user) (is_called name) sessions x found user (ap (is_of_session start x.number) own ∙ own_session start x)
 
-held_by : (t : Table) (sessions : List Session) (name : List ℕ) (start : ℕ) (x : Session) (parts : Parts) (numbers : List Num) (e : Entry) → session_at sessions name ≡ Some x → AllByRecursion (OfLock (HasItsUser start sessions)) t.entries → IsTable t → Among (handed_locks t.entries (unit_key start x)) e → IsHeldBy (unit_of start t.entries x parts numbers) e
+held_by : (t : Table) (sessions : List Session) (name : List ℕ) (start : ℕ) (x : Session) (parts : Parts) (numbers : List Num) (e : Entry)
+    → session_at sessions name ≡ Some x → AllByRecursion (OfLock (HasItsUser start sessions)) t.entries → IsTable t
+    → Among (handed_locks t.entries (unit_key start x)) e → IsHeldBy (unit_of start t.entries x parts numbers) e
 held_by t sessions name start x parts numbers e found users good k =
     let key = unit_key start x in
     let stood = filter_source (is_of (Upd key)) (handed_over t.entries key) e k in
@@ -64,7 +67,8 @@ held_by t sessions name start x parts numbers e found users good k =
     let source = handed_source t.entries key e own stood.0 in
     let its = every_handed (HasItsUser start sessions) t.entries key users in
     let user : HasItsUser start sessions e.owner e.user = every_at (OfLock (HasItsUser start sessions)) (handed_over t.entries key) e its stood.0 in
-    let counts = and_parts (nat_le 1 e.count) (nat_le e.count 9999) (all_among has_count (handed_locks t.entries key) e (handed_table t start x good).sound.counts k) in
+    let counts = and_parts (nat_le 1 e.count) (nat_le e.count 9999)
+    (all_among has_count (handed_locks t.entries key) e (handed_table t start x good).sound.counts k) in
     record {
       owner = own;
       user = user_at sessions name start x e found own user;
@@ -74,10 +78,13 @@ held_by t sessions name start x parts numbers e found users good k =
       handed = ap (λ (z : Entry). z.handed) source.4;
     }
 
-pub all_held : (t : Table) (sessions : List Session) (name : List ℕ) (start : ℕ) (x : Session) (parts : Parts) (numbers : List Num) → session_at sessions name ≡ Some x → AllByRecursion (OfLock (HasItsUser start sessions)) t.entries → IsTable t → All (IsHeldBy (unit_of start t.entries x parts numbers)) (handed_locks t.entries (unit_key start x))
+pub all_held : (t : Table) (sessions : List Session) (name : List ℕ) (start : ℕ) (x : Session) (parts : Parts) (numbers : List Num)
+    → session_at sessions name ≡ Some x → AllByRecursion (OfLock (HasItsUser start sessions)) t.entries → IsTable t
+    → All (IsHeldBy (unit_of start t.entries x parts numbers)) (handed_locks t.entries (unit_key start x))
 all_held t sessions name start x parts numbers found users good =
     All-from_recursion (IsHeldBy (unit_of start t.entries x parts numbers)) (handed_locks t.entries (unit_key start x))
-    (every_by (IsHeldBy (unit_of start t.entries x parts numbers)) (handed_locks t.entries (unit_key start x)) (λ e k. held_by t sessions name start x parts numbers e found users good k))
+    (every_by (IsHeldBy (unit_of start t.entries x parts numbers)) (handed_locks t.entries (unit_key start x))
+    (λ e k. held_by t sessions name start x parts numbers e found users good k))
 
 all_by : {A : Type 0} (p : A → Bool) (xs : List A) → ((x : A) → Among xs x → p x ≡ true) → list_all p xs ≡ true
 all_by p [] h = refl
@@ -91,7 +98,9 @@ firm_by es key e k =
     (ap (λ (z : Entry). not (same_mode z.mode O)) source.4 ∙ ap not source.3)
 
 -- they can stand again as they are
-pub handed_good : (t : Table) (sessions : List Session) (name : List ℕ) (start : ℕ) (x : Session) (parts : Parts) (numbers : List Num) → session_at sessions name ≡ Some x → AllByRecursion (OfLock (HasItsUser start sessions)) t.entries → IsTable t → HasGoodLocks (unit_of start t.entries x parts numbers)
+pub handed_good : (t : Table) (sessions : List Session) (name : List ℕ) (start : ℕ) (x : Session) (parts : Parts) (numbers : List Num)
+    → session_at sessions name ≡ Some x → AllByRecursion (OfLock (HasItsUser start sessions)) t.entries → IsTable t
+    → HasGoodLocks (unit_of start t.entries x parts numbers)
 handed_good t sessions name start x parts numbers found users good =
     let key = unit_key start x in
     let table = handed_table t start x good in
@@ -102,11 +111,13 @@ handed_good t sessions name start x parts numbers found users good =
         counts = table.sound.counts;
       };
       firm = all_by is_firm (handed_locks t.entries key) (λ e k. firm_by t.entries key e k);
-      used = every_by (λ (e : Entry). e.user ≡ x.user) (handed_locks t.entries key) (λ e k. (held_by t sessions name start x parts numbers e found users good k).user);
+      used = every_by (λ (e : Entry). e.user ≡ x.user) (handed_locks t.entries key)
+          (λ e k. (held_by t sessions name start x parts numbers e found users good k).user);
     }
 
 -- the locks that a commit writes into the backup file have the session's user
-pub lasting_used : (locks : List Entry) (sessions : List Session) (name : List ℕ) (start : ℕ) (x : Session) → session_at sessions name ≡ Some x → AllByRecursion (OfLock (HasItsUser start sessions)) locks → AllByRecursion (λ (e : Entry). e.user ≡ x.user) (lasting (unit_key start x) locks)
+pub lasting_used : (locks : List Entry) (sessions : List Session) (name : List ℕ) (start : ℕ) (x : Session) → session_at sessions name ≡ Some x
+    → AllByRecursion (OfLock (HasItsUser start sessions)) locks → AllByRecursion (λ (e : Entry). e.user ≡ x.user) (lasting (unit_key start x) locks)
 lasting_used locks sessions name start x found users =
     let key = unit_key start x in
     every_by (λ (e : Entry). e.user ≡ x.user) (lasting key locks)

@@ -105,14 +105,16 @@ cond_allows : {X : Type 0} (P : X → Type 0) (b : Bool) (f : AskFault) (r : Res
 cond_allows P true f r h = tt
 cond_allows P false f r h = h
 
-pub asked_allows : (P : List Entry → Type 0) (t : Table) (asker : Asker) (user : List ℕ) (rs : List Request) → P (granted t.entries user (halves asker rs)) → Allows P (asked t asker user rs)
+pub asked_allows : (P : List Entry → Type 0) (t : Table) (asker : Asker) (user : List ℕ) (rs : List Request) → P (granted t.entries user (halves asker rs))
+    → Allows P (asked t asker user rs)
 unfolding asked
 asked_allows P t asker user rs h =
     let names = halves asker rs in
     barred_allows P (first_bar t.entries asker (map (λ r. r.asked) rs)) _
     (cond_allows P (is_full t (length (new_names t.entries names))) _ _ (cond_allows P (is_over t.entries names) _ _ h))
 
-pub converted_allows : (P : Conversion → Type 0) (es : List Entry) (asker : Asker) (asked : List Asked) → P (conversion es asker asked) → Allows P (converted es asker asked)
+pub converted_allows : (P : Conversion → Type 0) (es : List Entry) (asker : Asker) (asked : List Asked) → P (conversion es asker asked)
+    → Allows P (converted es asker asked)
 unfolding converted
 converted_allows P es asker asked h =
     cond_allows P (is_lost es asker asked) _ _
@@ -127,7 +129,8 @@ firm_stays : (b c : Bool) → c ≡ false → not (b && c) ≡ true
 firm_stays true c h = ap not h
 firm_stays false c h = refl
 
-pub hands_over : (es : List Entry) (unit : UnitKey) (e : Entry) → is_of (Upd unit) e ≡ true → same_mode e.mode O ≡ false → Among es e → Among (handed_over es unit) (record e { handed = true })
+pub hands_over : (es : List Entry) (unit : UnitKey) (e : Entry) → is_of (Upd unit) e ≡ true → same_mode e.mode O ≡ false → Among es e
+    → Among (handed_over es unit) (record e { handed = true })
 hands_over es unit e own firm k =
     let owner = Upd unit in
     let turned_to : flagged owner e ≡ record e { handed = true } = ap (λ b. cond b (record e { handed = true }) e) own in
@@ -143,7 +146,8 @@ no_mode true false h k = refl
 no_mode false c h k = cc
 
 -- a lock of the unit that stands behind the handover, as it stood before
-pub handed_source : (es : List Entry) (unit : UnitKey) (e : Entry) → e.owner ≡ Upd unit → Among (handed_over es unit) e → (x : Entry) × Among es x × (x.owner ≡ Upd unit) × (same_mode x.mode O ≡ false) × (e ≡ record x { handed = true })
+pub handed_source : (es : List Entry) (unit : UnitKey) (e : Entry) → e.owner ≡ Upd unit → Among (handed_over es unit) e → (x : Entry) × Among es x
+    × (x.owner ≡ Upd unit) × (same_mode x.mode O ≡ false) × (e ≡ record x { handed = true })
 handed_source es unit e own k =
     let owner = Upd unit in
     let made = map_source (flagged owner) (without_optimistic es owner) e k in

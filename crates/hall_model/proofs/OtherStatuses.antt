@@ -22,13 +22,15 @@ use Rattle.update_records.specs.declared.records.Unit.{Unit as UnitOfWork}
 abbrev pub status_in : Ledger → UnitKey → Option Status
 status_in ledger key = status_of ledger.units ledger.marks key
 
-pub marked_other : (ledger : Ledger) (key other : UnitKey) (kind : MarkKind) → same_unit key other ≡ false → status_in (with_mark ledger key kind) other ≡ status_in ledger other
+pub marked_other : (ledger : Ledger) (key other : UnitKey) (kind : MarkKind) → same_unit key other ≡ false
+    → status_in (with_mark ledger key kind) other ≡ status_in ledger other
 marked_other ledger key other kind apart =
     let b = has_no_v2 ledger.units other in
     status_push b other None ledger.marks (next_mark ledger key kind)
     ∙ ap (λ t. if t then given b kind (status_after b other None ledger.marks) else status_after b other None ledger.marks) apart
 
-pub recorded_other : (ledger : Ledger) (unit : UnitOfWork) (other : UnitKey) → status_in ledger unit.key ≡ None → same_unit unit.key other ≡ false → status_in (with_unit ledger unit) other ≡ status_in ledger other
+pub recorded_other : (ledger : Ledger) (unit : UnitOfWork) (other : UnitKey) → status_in ledger unit.key ≡ None → same_unit unit.key other ≡ false
+    → status_in (with_unit ledger unit) other ≡ status_in ledger other
 recorded_other ledger unit other fresh apart =
     let units = ledger.units ++ unit ∷ [] in
     let b = has_no_v2 units other in
@@ -45,13 +47,15 @@ some_or_none None x h k = cc
 some_or_none (Some y) x h k = cc
 
 -- units of two statuses are two
-pub apart_by_status : (ledger : Ledger) (key other : UnitKey) (s : Status) → status_in ledger key ≡ Some s → status_in ledger other ≡ None → same_unit key other ≡ false
+pub apart_by_status : (ledger : Ledger) (key other : UnitKey) (s : Status) → status_in ledger key ≡ Some s → status_in ledger other ≡ None
+    → same_unit key other ≡ false
 apart_by_status ledger key other s here none =
     by_test _ (same_unit key other)
     (λ same. absurd (some_or_none (status_in ledger key) s here (ap (status_in ledger) (one_unit key other same) ∙ none)))
     (λ apart. apart)
 
-apart_the_other_way : (ledger : Ledger) (key other : UnitKey) (s : Status) → status_in ledger key ≡ None → status_in ledger other ≡ Some s → same_unit key other ≡ false
+apart_the_other_way : (ledger : Ledger) (key other : UnitKey) (s : Status) → status_in ledger key ≡ None → status_in ledger other ≡ Some s
+    → same_unit key other ≡ false
 apart_the_other_way ledger key other s none here =
     by_test _ (same_unit key other)
     (λ same. absurd (some_or_none (status_in ledger other) s here (ap (status_in ledger) (sym (one_unit key other same)) ∙ none)))
@@ -62,42 +66,50 @@ two_statuses None a b h k = cc
 two_statuses (Some s) a b h k = cc
 
 -- units of two statuses are two
-pub apart_by : (ledger : Ledger) (key other : UnitKey) (a b : Status) → status_in ledger key ≡ Some a → status_in ledger other ≡ Some b → (a ≡ b → ⊥) → same_unit key other ≡ false
+pub apart_by : (ledger : Ledger) (key other : UnitKey) (a b : Status) → status_in ledger key ≡ Some a → status_in ledger other ≡ Some b → (a ≡ b → ⊥)
+    → same_unit key other ≡ false
 apart_by ledger key other a b here there differ =
     by_test _ (same_unit key other)
     (λ same. absurd (differ (two_statuses (status_in ledger other) a b (ap (status_in ledger) (sym (one_unit key other same)) ∙ here) there)))
     (λ apart. apart)
 
 -- one that waits for no part is another than those that wait
-pub apart_from_waiting : (ledger : Ledger) (key other : UnitKey) (status : Status) → status_in ledger key ≡ Some status → (status ≡ Open → ⊥) → (status ≡ Posted → ⊥) → IsWaiting ledger other → same_unit other key ≡ false
+pub apart_from_waiting : (ledger : Ledger) (key other : UnitKey) (status : Status) → status_in ledger key ≡ Some status → (status ≡ Open → ⊥)
+    → (status ≡ Posted → ⊥) → IsWaiting ledger other → same_unit other key ≡ false
 apart_from_waiting ledger key other status here no_open no_posted (inl waits) = apart_by ledger other key Open status waits here (λ e. no_open (sym e))
 apart_from_waiting ledger key other status here no_open no_posted (inr waits) = apart_by ledger other key Posted status waits here (λ e. no_posted (sym e))
 
 -- a mark of a unit that was heard of leaves the unheard unheard
-pub marked_unheard : (ledger : Ledger) (key other : UnitKey) (kind : MarkKind) (s : Status) → status_in ledger key ≡ Some s → status_in ledger other ≡ None → status_in (with_mark ledger key kind) other ≡ None
+pub marked_unheard : (ledger : Ledger) (key other : UnitKey) (kind : MarkKind) (s : Status) → status_in ledger key ≡ Some s → status_in ledger other ≡ None
+    → status_in (with_mark ledger key kind) other ≡ None
 marked_unheard ledger key other kind s here none =
     marked_other ledger key other kind (apart_by_status ledger key other s here none) ∙ none
 
-recorded_status : (ledger : Ledger) (unit : UnitOfWork) (other : UnitKey) (s : Status) → status_in ledger unit.key ≡ None → status_in ledger other ≡ Some s → status_in (with_unit ledger unit) other ≡ Some s
+recorded_status : (ledger : Ledger) (unit : UnitOfWork) (other : UnitKey) (s : Status) → status_in ledger unit.key ≡ None → status_in ledger other ≡ Some s
+    → status_in (with_unit ledger unit) other ≡ Some s
 recorded_status ledger unit other s fresh here =
     recorded_other ledger unit other fresh (apart_the_other_way ledger unit.key other s fresh here) ∙ here
 
 -- a unit of which nothing was heard leaves the open ones open
-pub recorded_open : (ledger : Ledger) (unit : UnitOfWork) (other : UnitKey) → status_in ledger unit.key ≡ None → IsOpenUnit ledger other → IsOpenUnit (with_unit ledger unit) other
+pub recorded_open : (ledger : Ledger) (unit : UnitOfWork) (other : UnitKey) → status_in ledger unit.key ≡ None → IsOpenUnit ledger other
+    → IsOpenUnit (with_unit ledger unit) other
 recorded_open ledger unit other fresh here = recorded_status ledger unit other Open fresh here
 
 -- and those that wait for a part still wait for it
-pub recorded_waiting : (ledger : Ledger) (unit : UnitOfWork) (other : UnitKey) → status_in ledger unit.key ≡ None → IsWaiting ledger other → IsWaiting (with_unit ledger unit) other
+pub recorded_waiting : (ledger : Ledger) (unit : UnitOfWork) (other : UnitKey) → status_in ledger unit.key ≡ None → IsWaiting ledger other
+    → IsWaiting (with_unit ledger unit) other
 recorded_waiting ledger unit other fresh (inl here) = inl (recorded_status ledger unit other Open fresh here)
 recorded_waiting ledger unit other fresh (inr here) = inr (recorded_status ledger unit other Posted fresh here)
 
 -- a mark of another unit leaves those that wait for a part
-pub marked_waiting : (ledger : Ledger) (key other : UnitKey) (kind : MarkKind) → same_unit key other ≡ false → IsWaiting ledger other → IsWaiting (with_mark ledger key kind) other
+pub marked_waiting : (ledger : Ledger) (key other : UnitKey) (kind : MarkKind) → same_unit key other ≡ false → IsWaiting ledger other
+    → IsWaiting (with_mark ledger key kind) other
 marked_waiting ledger key other kind apart (inl here) = inl (marked_other ledger key other kind apart ∙ here)
 marked_waiting ledger key other kind apart (inr here) = inr (marked_other ledger key other kind apart ∙ here)
 
 -- numbers that are recorded alone leave every unit's status
-pub numbers_leave : (ledger : Ledger) (key other : UnitKey) (numbers : List Number) → status_in (with_mark ledger key (Num numbers)) other ≡ status_in ledger other
+pub numbers_leave : (ledger : Ledger) (key other : UnitKey) (numbers : List Number)
+    → status_in (with_mark ledger key (Num numbers)) other ≡ status_in ledger other
 numbers_leave ledger key other numbers =
     let b = has_no_v2 ledger.units other in
     let before = status_after b other None ledger.marks in
@@ -146,7 +158,8 @@ alone_by : (d : Bool) → not d ≡ false → d ≡ true
 alone_by true e = refl
 alone_by false e = cc
 
-undecided_once : (b : Bool) (key : UnitKey) (before : Option Status) (m : Mark) → decides key m ≡ false → (if same_unit m.unit key then given b m.kind before else before) ≡ before
+undecided_once : (b : Bool) (key : UnitKey) (before : Option Status) (m : Mark) → decides key m ≡ false
+    → (if same_unit m.unit key then given b m.kind before else before) ≡ before
 undecided_once b key before m h =
     by_test _ (same_unit m.unit key)
     (λ same. ap (λ t. if t then given b m.kind before else before) same
@@ -158,7 +171,8 @@ no_or true b h = (cc, cc)
 no_or false b h = (refl, h)
 
 -- marks that decide nothing of a unit leave its status
-pub undecided : (b : Bool) (key : UnitKey) (before : Option Status) (marks : List Mark) → list_any (decides key) marks ≡ false → status_after b key before marks ≡ before
+pub undecided : (b : Bool) (key : UnitKey) (before : Option Status) (marks : List Mark) → list_any (decides key) marks ≡ false
+    → status_after b key before marks ≡ before
 undecided b key before [] h = refl
 undecided b key before (m ∷ marks) h =
     let parts = no_or (decides key m) (list_any (decides key) marks) h in
@@ -168,7 +182,8 @@ undecided b key before (m ∷ marks) h =
 abbrev pub Ends : List UnitOfWork → List Mark → Status → UnitKey → Type 0
 Ends units marks status key = (before : Option Status) → status_after (has_no_v2 units key) key before marks ≡ Some status
 
-ends_more : (units : List UnitOfWork) (m : Mark) (marks : List Mark) (status : Status) (keys : List UnitKey) → AllByRecursion (Ends units marks status) keys → AllByRecursion (Ends units (m ∷ marks) status) keys
+ends_more : (units : List UnitOfWork) (m : Mark) (marks : List Mark) (status : Status) (keys : List UnitKey) → AllByRecursion (Ends units marks status) keys
+    → AllByRecursion (Ends units (m ∷ marks) status) keys
 ends_more units m marks status [] h = tt
 ends_more units m marks status (key ∷ keys) h =
     ((λ before. h.0 (if same_unit m.unit key then given (has_no_v2 units key) m.kind before else before)), ends_more units m marks status keys h.1)
@@ -182,7 +197,8 @@ second_of true true h = cc
 second_of true false h = refl
 second_of false b h = cc
 
-ends_here : (units : List UnitOfWork) (m : Mark) (marks : List Mark) (status : Status) → (has_status status (given (has_no_v2 units m.unit) m.kind None) && not (list_any (decides m.unit) marks)) ≡ true → Ends units (m ∷ marks) status m.unit
+ends_here : (units : List UnitOfWork) (m : Mark) (marks : List Mark) (status : Status)
+    → (has_status status (given (has_no_v2 units m.unit) m.kind None) && not (list_any (decides m.unit) marks)) ≡ true → Ends units (m ∷ marks) status m.unit
 ends_here units m marks status h before =
     let b = has_no_v2 units m.unit in
     let here : given b m.kind before ≡ Some status = given_any b m.kind before status (of_has status (given b m.kind None) (first_of _ _ h)) in
@@ -195,16 +211,19 @@ ends_with status units [] = tt
 ends_with status units (m ∷ marks) =
     let rest = ends_more units m marks status (units_with status units marks) (ends_with status units marks) in
     let test = has_status status (given (has_no_v2 units m.unit) m.kind None) && not (list_any (decides m.unit) marks) in
-    elim test as (λ t. test ≡ t → AllByRecursion (Ends units (m ∷ marks) status) (if t then m.unit ∷ units_with status units marks else units_with status units marks)) [
+    elim test as (λ t. test ≡ t → AllByRecursion (Ends units (m ∷ marks) status)
+    (if t then m.unit ∷ units_with status units marks else units_with status units marks)) [
       | true ↦ λ e. (ends_here units m marks status e, rest)
       | false ↦ λ e. rest
     ] refl
 
-all_wait : (ledger : Ledger) (status : Status) (keys : List UnitKey) → ((key : UnitKey) → status_in ledger key ≡ Some status → IsWaiting ledger key) → AllByRecursion (Ends ledger.units ledger.marks status) keys → AllByRecursion (IsWaiting ledger) keys
+all_wait : (ledger : Ledger) (status : Status) (keys : List UnitKey) → ((key : UnitKey) → status_in ledger key ≡ Some status → IsWaiting ledger key)
+    → AllByRecursion (Ends ledger.units ledger.marks status) keys → AllByRecursion (IsWaiting ledger) keys
 all_wait ledger status [] each h = tt
 all_wait ledger status (key ∷ keys) each h = (each key (h.0 None), all_wait ledger status keys each h.1)
 
-wait_either : (ledger : Ledger) (first : Bool) → AllByRecursion (IsWaiting ledger) (if first then waiting ledger.units ledger.marks else waiting_again ledger.units ledger.marks)
+wait_either : (ledger : Ledger) (first : Bool) → AllByRecursion (IsWaiting ledger)
+    (if first then waiting ledger.units ledger.marks else waiting_again ledger.units ledger.marks)
 wait_either ledger true = all_wait ledger Open _ (λ key h. inl h) (ends_with Open ledger.units ledger.marks)
 wait_either ledger false = all_wait ledger Posted _ (λ key h. inr h) (ends_with Posted ledger.units ledger.marks)
 
@@ -219,16 +238,19 @@ abbrev pub EndsFirst : MarkKind → Type 0
 EndsFirst kind = (b : Bool) (before : Option Status) → given b kind before ≡ Some Open → ⊥
 
 -- the status that a mark gives its own unit
-pub status_marked : (ledger : Ledger) (key : UnitKey) (kind : MarkKind) → status_in (with_mark ledger key kind) key ≡ given (has_no_v2 ledger.units key) kind (status_in ledger key)
+pub status_marked : (ledger : Ledger) (key : UnitKey) (kind : MarkKind) → status_in (with_mark ledger key kind) key ≡ given (has_no_v2 ledger.units key) kind
+    (status_in ledger key)
 status_marked ledger key kind =
     let b = has_no_v2 ledger.units key in
     status_push b key None ledger.marks (next_mark ledger key kind)
     ∙ ap (λ t. if t then given b kind (status_after b key None ledger.marks) else status_after b key None ledger.marks) (unit_refl key)
 
 -- another unit is open than the one whose part ended
-pub apart_from_ended : (ledger : Ledger) (key other : UnitKey) (kind : MarkKind) → EndsFirst kind → IsOpenUnit (with_mark ledger key kind) other → same_unit key other ≡ false
+pub apart_from_ended : (ledger : Ledger) (key other : UnitKey) (kind : MarkKind) → EndsFirst kind → IsOpenUnit (with_mark ledger key kind) other
+    → same_unit key other ≡ false
 apart_from_ended ledger key other kind ends waits =
     by_test _ (same_unit key other)
     (λ same.
-    absurd (ends (has_no_v2 ledger.units key) (status_in ledger key) (sym (status_marked ledger key kind) ∙ subst (IsOpenUnit (with_mark ledger key kind)) (sym (one_unit key other same)) waits)))
+    absurd (ends (has_no_v2 ledger.units key) (status_in ledger key)
+    (sym (status_marked ledger key kind) ∙ subst (IsOpenUnit (with_mark ledger key kind)) (sym (one_unit key other same)) waits)))
     (λ apart. apart)

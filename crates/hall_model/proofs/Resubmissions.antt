@@ -28,7 +28,8 @@ use Rattle.hall_model.proofs.Cancels.{RefusesPlainly, of_allowed, of_room, room-
 
 to_resubmit-plain : (ledger : Ledger) (limit : ℕ) (unit : UnitKey) → RefusesPlainly (to_resubmit ledger limit unit)
 to_resubmit-plain ledger limit unit =
-    elim (status_of ledger.units ledger.marks unit) as (λ o. RefusesPlainly (elim o [ None ↦ Err refusal.UnknownUnit | Some status ↦ if_status may_resubmit unit status (if_room ledger limit status) ])) [
+    elim (status_of ledger.units ledger.marks unit)
+    as (λ o. RefusesPlainly (elim o [ None ↦ Err refusal.UnknownUnit | Some status ↦ if_status may_resubmit unit status (if_room ledger limit status) ])) [
       | None ↦ refl
       | Some status ↦ status-plain unit status (may_resubmit status) _ (room-plain limit status (nat_le limit (length ledger.marks)))
     ]
@@ -43,7 +44,8 @@ pub record CanBeTriedAgain (ledger : Ledger) (limit : ℕ) (unit : UnitKey) (sta
   pub allowed : may_resubmit status ≡ true
   pub room : nat_le limit (length ledger.marks) ≡ false
 
-of_status : (ledger : Ledger) (limit : ℕ) (unit : UnitKey) (status found : Status) → status_of ledger.units ledger.marks unit ≡ Some status → if_status may_resubmit unit status (if_room ledger limit status) ≡ Ok found → CanBeTriedAgain ledger limit unit found
+of_status : (ledger : Ledger) (limit : ℕ) (unit : UnitKey) (status found : Status) → status_of ledger.units ledger.marks unit ≡ Some status
+    → if_status may_resubmit unit status (if_room ledger limit status) ≡ Ok found → CanBeTriedAgain ledger limit unit found
 of_status ledger limit unit status found here e =
     let may = of_allowed unit status found (may_resubmit status) _ e in
     let room = of_room limit status found (nat_le limit (length ledger.marks)) may.1 in
@@ -53,9 +55,13 @@ of_status ledger limit unit status found here e =
       room = room.0;
     }
 
-pub can_be_tried : (ledger : Ledger) (limit : ℕ) (unit : UnitKey) (found : Status) → to_resubmit ledger limit unit ≡ Ok found → CanBeTriedAgain ledger limit unit found
+pub can_be_tried : (ledger : Ledger) (limit : ℕ) (unit : UnitKey) (found : Status) → to_resubmit ledger limit unit ≡ Ok found
+    → CanBeTriedAgain ledger limit unit found
 can_be_tried ledger limit unit found =
-    elim (status_of ledger.units ledger.marks unit) as (λ o. status_of ledger.units ledger.marks unit ≡ o → (elim o [ None ↦ Err refusal.UnknownUnit | Some status ↦ if_status may_resubmit unit status (if_room ledger limit status) ]) ≡ Ok found → CanBeTriedAgain ledger limit unit found) [
+    elim (status_of ledger.units ledger.marks unit)
+    as (λ o. status_of ledger.units ledger.marks unit ≡ o
+    → (elim o [ None ↦ Err refusal.UnknownUnit | Some status ↦ if_status may_resubmit unit status (if_room ledger limit status) ]) ≡ Ok found
+    → CanBeTriedAgain ledger limit unit found) [
       | None ↦ λ here e. absurd (no_unit found e)
       | Some status ↦ λ here e. of_status ledger limit unit status found here e
     ] refl
@@ -89,7 +95,8 @@ full-plain false used limit r h = h
 readmitted-plain : (t : Table) (asker : Asker) (given : List Entry) → IsOfRule (readmitted t asker given)
 unfolding readmitted
 readmitted-plain t asker given =
-    barred-plain (first_bar t.entries asker (map asked_of given)) _ (full-plain (is_full t (length (newcomers t.entries given))) (length t.entries) t.limit _ tt)
+    barred-plain (first_bar t.entries asker (map asked_of given)) _
+    (full-plain (is_full t (length (newcomers t.entries given))) (length t.entries) t.limit _ tt)
 
 of_barred : (o : Option Entry) (r : Result (List Entry) AskFault) (es : List Entry) → unless_barred o r ≡ Ok es → r ≡ Ok es
 of_barred None r es e = e
@@ -115,13 +122,16 @@ readmitted_is t asker given es e =
 abbrev pub table_in : State → Table
 table_in s = record { entries = s.locks; limit = s.limit }
 
-by_locks : (P : Verdict → Type 0) (s : State) (unit : UnitKey) (r : Result (List Entry) AskFault) → IsOfRule r → ((refused : Refusal) → IsPlain refused → P (Refuses refused)) → ((es : List Entry) → r ≡ Ok es → P (Leaves (reopened s unit es) (reply.Unit unit))) → P (reopening s unit r)
+by_locks : (P : Verdict → Type 0) (s : State) (unit : UnitKey) (r : Result (List Entry) AskFault) → IsOfRule r
+    → ((refused : Refusal) → IsPlain refused → P (Refuses refused)) → ((es : List Entry) → r ≡ Ok es → P (Leaves (reopened s unit es) (reply.Unit unit)))
+    → P (reopening s unit r)
 by_locks P s unit (Ok es) plain refuse stand = stand es refl
 by_locks P s unit (Err f) plain refuse stand = refuse (ask_refusal f) plain
 
 -- what holds where the call is refused, where the V1 part waits again, and where the V2 part does
 pub by_resubmit : (P : Verdict → Type 0) (s : State) (unit : UnitKey) → ((r : Refusal) → IsPlain r → P (Refuses r))
-    → ((es : List Entry) → status_of s.stored.units s.stored.marks unit ≡ Some Bad → readmitted (table_in s) (owners_of unit) (entries_of s.stored.units unit) ≡ Ok es → P (Leaves (reopened s unit es) (reply.Unit unit)))
+    → ((es : List Entry) → status_of s.stored.units s.stored.marks unit ≡ Some Bad
+    → readmitted (table_in s) (owners_of unit) (entries_of s.stored.units unit) ≡ Ok es → P (Leaves (reopened s unit es) (reply.Unit unit)))
     → (status_of s.stored.units s.stored.marks unit ≡ Some Bad2 → P (Leaves (reposted s unit) (reply.Unit unit)))
     → P (resubmit s unit)
 by_resubmit P s unit refuse first second =
@@ -130,7 +140,8 @@ by_resubmit P s unit refuse first second =
       | Ok status ↦ λ e.
           let can = can_be_tried s.stored s.mark_limit unit status e in
           elim status as (λ x. status_of s.stored.units s.stored.marks unit ≡ Some x → may_resubmit x ≡ true → P (trying_again s unit x)) [
-            | Bad ↦ λ here may. by_locks P s unit (readmitted (table_in s) (owners_of unit) given) (readmitted-plain (table_in s) (owners_of unit) given) refuse (λ es stand. first es here stand)
+            | Bad ↦ λ here may. by_locks P s unit (readmitted (table_in s) (owners_of unit) given) (readmitted-plain (table_in s) (owners_of unit) given) refuse
+                (λ es stand. first es here stand)
             | Bad2 ↦ λ here may. second here
             | Open ↦ λ here may. absurd (never_open may)
             | Posted ↦ λ here may. absurd (never_posted may)

@@ -148,8 +148,8 @@ talks (OfAdmin FailsOver) = true
 talks (OfAdmin Attaches) = true
 talks call = false
 
--- the calls in which a change of the table may be shipped: those that want the lock server, but for the one that ends it, and the one
--- that brings a replica
+-- the calls in which a change of the table may be shipped: those that want the lock server, but for the one that ends
+-- it, and the one that brings a replica
 abbrev pub ships : Call → Bool
 ships (OfAdmin Kills) = false
 ships (OfAdmin Attaches) = false

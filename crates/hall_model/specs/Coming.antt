@@ -19,7 +19,8 @@ outcome_of (Err effect.NoMemory) = Done
 
 -- in the business tables that the marks have made; part 1 is V1, and part 2 is V2
 abbrev pub outcome_in : Ledger → ℕ → UnitKey → Outcome
-outcome_in ledger part key = outcome_of (applied (effects_of part ledger.units key) (tables_of ledger.units ledger.marks))
+outcome_in ledger part key =
+    outcome_of (applied (effects_of part ledger.units key) (tables_of ledger.units ledger.marks))
 
 -- The outcome is that in the tables which the marks have made. Where the store doesn't tell its rows, it is that in
 -- some tables.

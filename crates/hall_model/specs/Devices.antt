@@ -1,5 +1,6 @@
 -- What the devices do in a call, and which of it may be.
-use Rattle.std.specs.Prelude.{◌≡◌, ℕ, Bool, true, false, ◌&&◌, ◌||◌, ◌++◌, nat_eq, nat_lt, length, List, [], if◌then◌else◌, Option, Some, None, IfSome, IsTrue, is_ok, is_some}
+use Rattle.std.specs.Prelude.{◌≡◌, ℕ, Bool, true, false, ◌&&◌, ◌||◌, ◌++◌, nat_eq, nat_lt, length, List, []}
+use Rattle.std.specs.Prelude.{if◌then◌else◌, Option, Some, None, IfSome, IsTrue, is_ok, is_some}
 use Rattle.enq_base.specs.declared.condition.BackupBad.{BackupBad}
 use Rattle.enq_base.specs.declared.condition.Condition.{Condition}
 use Rattle.enq_base.specs.declared.condition.Condition.TheVariants as condition
@@ -16,7 +17,10 @@ use Rattle.ledger_steps.specs.Posts.{entries_of}
 use Rattle.update_records.specs.Marks.{has_status, status_of}
 use Rattle.ledger_steps.specs.declared.step.Outcome.{Outcome}
 use Rattle.hall_model.specs.declared.command.Command.{Command}
-use Rattle.hall_model.specs.Calls.{AdminCall, Kills, FailsOver, Restarts, Attaches, Cancels, Resubmits, Call, LogsOn, OfSession, OfWorker, OfAdmin, WorkerCall, Posts, SessionCall, LogsOff, Frees, FreesAll, Draws, Reserves, Reads, Commits, RollsBack, admin_touches_store, call_of, restarts, ships, talks, session_touches_store, touches_store}
+use Rattle.hall_model.specs.Calls.{AdminCall, Kills, FailsOver, Restarts, Attaches, Cancels, Resubmits, Call, LogsOn}
+use Rattle.hall_model.specs.Calls.{OfSession, OfWorker, OfAdmin, WorkerCall, Posts, SessionCall, LogsOff, Frees}
+use Rattle.hall_model.specs.Calls.{FreesAll, Draws, Reserves, Reads, Commits, RollsBack, admin_touches_store, call_of}
+use Rattle.hall_model.specs.Calls.{restarts, ships, talks, session_touches_store, touches_store}
 use Rattle.hall_model.specs.declared.command.Session.{Session}
 use Rattle.hall_model.specs.Sessions.{session_at, unit_key}
 use Rattle.number_ranges.specs.Intervals.{is_buffered}
@@ -28,7 +32,8 @@ use Rattle.hall_model.specs.Kept.{IsInFlight}
 use Rattle.hall_model.specs.Orders.{order_for}
 use Rattle.hall_model.specs.State.{State}
 use Rattle.hall_model.specs.Stocks.{MayCall}
-use Rattle.hall_model.specs.Step.{Found, Verdict, call_verdict, effects_in, found_in, leaves, row_in, to_resubmit, unavailable}
+use Rattle.hall_model.specs.Step.{Found, Verdict, call_verdict, effects_in, found_in, leaves, row_in, to_resubmit}
+use Rattle.hall_model.specs.Step.{unavailable}
 
 -- what a device gave that the state doesn't tell
 pub data Reading : Type 0 where
@@ -49,7 +54,8 @@ pub data RemakeFault : Type 0 where
   MeetsWant : RemakeFault
   -- the backup file isn't good
   FindsBad : BackupBad → RemakeFault
-  -- The store isn't good, at this row of this table; or it has neither what it had nor the change in flight, and then both are 0.
+  -- The store isn't good, at this row of this table; or it has neither what it had nor the change in flight, and then
+  -- both are 0.
   FindsBadStore : (table row : ℕ) → RemakeFault
 
 abbrev pub fault_told : RemakeFault → Refusal
@@ -144,12 +150,14 @@ is_past_level s r number = nat_lt (present s.stored.levels r.interval).level num
 
 abbrev pub raises_level : State → SessionCall → Bool
 raises_level s (Draws object nr) =
-    option_map_or (λ (r : NumberRange). is_buffered r.interval && is_past_level s r r.next) (range_at s.ranges object nr) false
+    option_map_or (λ (r : NumberRange). is_buffered r.interval && is_past_level s r r.next)
+    (range_at s.ranges object nr) false
 raises_level s (Reserves object nr upto) =
     option_map_or (λ r. is_past_level s r upto) (range_at s.ranges object nr) false
 raises_level s call = false
 
--- the calls that may touch the store: of draws and reservations those that raise a level, as the others find theirs in memory
+-- the calls that may touch the store: of draws and reservations those that raise a level, as the others find theirs in
+-- memory
 abbrev pub session_reaches_store : State → SessionCall → Bool
 session_reaches_store s (Draws object nr) = raises_level s (Draws object nr)
 session_reaches_store s (Reserves object nr upto) = raises_level s (Reserves object nr upto)
@@ -183,8 +191,8 @@ abbrev pub worker_uses_store : WorkerCall → Bool
 worker_uses_store (Posts part) = true
 worker_uses_store call = false
 
--- the calls that write the store or read it: a block of numbers, a row, a unit with effects, numbers that are recorded, a
--- part of a unit, and all that is done to one; and a restart in doubt
+-- the calls that write the store or read it: a block of numbers, a row, a unit with effects, numbers that are recorded,
+-- a part of a unit, and all that is done to one; and a restart in doubt
 abbrev pub uses_store : State → Call → Bool
 uses_store s (LogsOn session user) = false
 uses_store s (OfSession session call) = session_uses_store s session call
@@ -195,7 +203,8 @@ uses_store s (OfAdmin call) = admin_reaches_store s call
 abbrev pub hands_over : State → List ℕ → Parts → Bool
 hands_over s session parts =
     nat_lt 0 (effects_in parts)
-    && option_map_or (λ (x : Session). nat_lt 0 (length (lasting (unit_key s.stored.start x) s.locks))) (session_at s.sessions session) false
+    && option_map_or (λ (x : Session). nat_lt 0 (length (lasting (unit_key s.stored.start x) s.locks)))
+    (session_at s.sessions session) false
 
 abbrev pub session_uses_file : State → List ℕ → SessionCall → Bool
 session_uses_file s session (Commits parts stock) = hands_over s session parts
@@ -218,8 +227,8 @@ admin_uses_file s Restarts = true
 admin_uses_file s (Cancels unit) = has_status status.Open (status_of s.stored.units s.stored.marks unit)
 admin_uses_file s (Resubmits unit) = nat_lt 0 (length (refused_locks s unit))
 
--- the calls that write the backup file: those that record a unit with locks, that end a V1 part, or that cancel a unit which
--- waits for it, and those by which a refused V1 part is tried again whose unit has locks; and a restart
+-- the calls that write the backup file: those that record a unit with locks, that end a V1 part, or that cancel a unit
+-- which waits for it, and those by which a refused V1 part is tried again whose unit has locks; and a restart
 abbrev pub uses_file : State → Call → Bool
 uses_file s (LogsOn session user) = false
 uses_file s (OfSession session call) = session_uses_file s session call
@@ -265,8 +274,8 @@ abbrev pub is_want : Event → Bool
 is_want Wanting = true
 is_want event = false
 
--- the calls in which a replica may be lost: those that ship what they change, and one that brings another for which memory was
--- wanting
+-- the calls in which a replica may be lost: those that ship what they change, and one that brings another for which
+-- memory was wanting
 abbrev pub may_lose : Event → Call → Bool
 may_lose event (OfAdmin Attaches) = is_want event
 may_lose event call = ships call

@@ -1,5 +1,6 @@
 -- A call with what the devices did in it, and the history that calls make.
-use Rattle.std.specs.Prelude.{◌≡◌, ◌⊎◌, ℕ, ◌+◌, ◌||◌, ◌&&◌, not, Bool, true, false, if◌then◌else◌, List, [], ◌∷◌, ◌++◌, length, Option, Some, None, IsTrue}
+use Rattle.std.specs.Prelude.{◌≡◌, ◌⊎◌, ℕ, ◌+◌, ◌||◌, ◌&&◌, not, Bool, true, false, if◌then◌else◌, List, [], ◌∷◌, ◌++◌}
+use Rattle.std.specs.Prelude.{length, Option, Some, None, IsTrue}
 use Rattle.enq_base.specs.declared.condition.Condition.TheVariants as condition
 use Rattle.enq_base.specs.declared.refusal.Refusal.{Refusal}
 use Rattle.enq_base.specs.declared.refusal.Refusal.TheVariants as refusal
@@ -9,8 +10,11 @@ use Rattle.hall_model.specs.declared.command.Command.{Command}
 use Rattle.hall_model.specs.declared.command.PastEntry.{PastEntry}
 use Rattle.hall_model.specs.declared.command.Reply.{Reply}
 use Rattle.hall_model.specs.declared.command.Reply.TheVariants as reply
-use Rattle.hall_model.specs.Calls.{Call, OfSession, OfWorker, Commits, Posts, call_of, only_reads, who_of, writes_store_first}
-use Rattle.hall_model.specs.Devices.{DeviceOutcome, Event, AllWell, Wanting, StoreFails, BackupFails, LinkFails, NotRemade, IsAllowed, fault_told, found_by, Reading, AsKnown, Comes, Shows, Reopens, Hands}
+use Rattle.hall_model.specs.Calls.{Call, OfSession, OfWorker, Commits, Posts, call_of, only_reads, who_of}
+use Rattle.hall_model.specs.Calls.{writes_store_first}
+use Rattle.hall_model.specs.Devices.{DeviceOutcome, Event, AllWell, Wanting, StoreFails, BackupFails, LinkFails}
+use Rattle.hall_model.specs.Devices.{NotRemade, IsAllowed, fault_told, found_by, Reading, AsKnown, Comes, Shows}
+use Rattle.hall_model.specs.Devices.{Reopens, Hands}
 use Rattle.hall_model.specs.Numbers.{stocked}
 use Rattle.hall_model.specs.State.{State, unhanded}
 use Rattle.hall_model.specs.Step.{Verdict, Refuses, Leaves, call_verdict, detached}
@@ -48,8 +52,8 @@ abbrev pub known_behind : Option Bool → Option Bool → Option Bool
 known_behind before None = before
 known_behind before (Some taken) = Some taken
 
--- In doubt since this call, whose place in the history it has. The table and the replica are gone, and the store may have
--- what is pending, unless the call has read which it is.
+-- In doubt since this call, whose place in the history it has. The table and the replica are gone, and the store may
+-- have what is pending, unless the call has read which it is.
 abbrev pub doubted : State → Call → Option Bool → Option Ledger → State
 doubted s call read pending =
     record s {
@@ -72,8 +76,8 @@ abbrev pub is_unread : Reading → Call → Bool
 is_unread AsKnown (OfWorker worker (Posts part)) = true
 is_unread reading call = false
 
--- What the store may have where it fails: the change that the call makes, or where it makes none what was pending before. A
--- post makes none before it has read.
+-- What the store may have where it fails: the change that the call makes, or where it makes none what was pending
+-- before. A post makes none before it has read.
 abbrev pub pending_after : Reading → State → Call → Verdict → Option Ledger
 pending_after reading s call (Refuses r) = s.pending
 pending_after reading s call (Leaves after r) =
@@ -98,12 +102,14 @@ ends_in AllWell reading s call v = judged s v
 ends_in Wanting reading s call v = refused s refusal.NoMemory
 ends_in StoreFails reading s call v =
     refused (doubted (without_stock call s) call None (pending_after reading s call v)) refusal.StoreFault
-ends_in BackupFails reading s call v = refused (unfiled s call (read_anew reading) (stored_before_file s call v)) refusal.BackupFault
+ends_in BackupFails reading s call v = refused (unfiled s call (read_anew reading) (stored_before_file s call v))
+    refusal.BackupFault
 ends_in LinkFails reading s call v = refused (detached s) refusal.LinkFault
 ends_in (NotRemade fault) reading s call v = refused (doubted s call (read_anew reading) s.pending) (fault_told fault)
 
 abbrev pub served : DeviceOutcome → State → Command → Served
-served o s c = losing o.lost (ends_in o.event o.reading s (call_of c) (call_verdict (found_by o.reading s) s (call_of c)))
+served o s c = losing o.lost
+    (ends_in o.event o.reading s (call_of c) (call_verdict (found_by o.reading s) s (call_of c)))
 
 -- a call that finds the history full is not in it, nor is one that finds no unit to take
 abbrev pub is_unrecorded : Reply → Bool

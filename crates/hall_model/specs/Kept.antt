@@ -1,5 +1,6 @@
 -- What a state that calls lead to keeps.
-use Rattle.std.specs.Prelude.{◌≡◌, ◌≢◌, ◌⊎◌, ℕ, ◌+◌, ◌^◌, ◌≤◌, ◌<◌, Bool, true, false, not, ◌&&◌, nat_eq, List, [], ◌∷◌, length, map, count_by, Option, Some, None, IfSome, IsSomeAnd, IsTrue}
+use Rattle.std.specs.Prelude.{◌≡◌, ◌≢◌, ◌⊎◌, ℕ, ◌+◌, ◌^◌, ◌≤◌, ◌<◌, Bool, true, false, not, ◌&&◌, nat_eq, List, [], ◌∷◌}
+use Rattle.std.specs.Prelude.{length, map, count_by, Option, Some, None, IfSome, IsSomeAnd, IsTrue}
 use Rattle.std.specs.List.{AllByRecursion, list_all}
 use Rattle.enq_base.specs.declared.condition.Condition.{Condition}
 use Rattle.enq_base.specs.declared.condition.Condition.TheVariants as condition
@@ -210,8 +211,8 @@ AreSameButCaller caller [] [] = Unit {0}
 AreSameButCaller caller (x ∷ xs) (y ∷ ys) = MayHaveMoved (is_caller caller x) x y × AreSameButCaller caller xs ys
 AreSameButCaller caller xs ys = ⊥
 
--- With the change there is a state in order, over the same ranges and with the same sessions, but for the one whose call it is.
--- The locks of its open units may stand together, as a table of 32 bits holds them.
+-- With the change there is a state in order, over the same ranges and with the same sessions, but for the one whose
+-- call it is. The locks of its open units may stand together, as a table of 32 bits holds them.
 pub record HasLanding (s : State) (changed : Ledger) : Type 0 where
   pub state : State
   pub stored : state.stored ≡ changed

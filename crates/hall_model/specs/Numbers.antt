@@ -1,5 +1,6 @@
 -- Numbers that sessions draw, and what becomes of them.
-use Rattle.std.specs.Prelude.{◌≡◌, ℕ, ◌+◌, Bool, true, false, not, ◌&&◌, nat_eq, nat_le, nat_lt, List, [], ◌∷◌, length, if◌then◌else◌, Option, Some, None}
+use Rattle.std.specs.Prelude.{◌≡◌, ℕ, ◌+◌, Bool, true, false, not, ◌&&◌, nat_eq, nat_le, nat_lt, List, [], ◌∷◌, length}
+use Rattle.std.specs.Prelude.{if◌then◌else◌, Option, Some, None}
 use Rattle.std.specs.List.{find}
 use Rattle.enq_base.specs.declared.unit.Num.{Num}
 use Rattle.number_ranges.specs.Draws.{RangeState}
@@ -50,7 +51,8 @@ from_memory i number s =
     else s
 
 -- what a session draws next of an interval: nothing stands against it, and the level is one that reserves the number
-pub record IsNextDraw (sessions : List Session) (ranges : List NumberRange) (levels : Levels) (name object nr : List ℕ) (i : Interval) (number level : ℕ) (draws : List Num) : Type 0 where
+pub record IsNextDraw (sessions : List Session) (ranges : List NumberRange) (levels : Levels) (name object nr : List ℕ)
+    (i : Interval) (number level : ℕ) (draws : List Num) : Type 0 where
   pub session : Session
   pub found : session_at sessions name ≡ Some session
   pub range : NumberRange
@@ -64,7 +66,8 @@ pub record IsNextDraw (sessions : List Session) (ranges : List NumberRange) (lev
   pub drawn : draws ≡ (with_draw (num_of i number) session).draws
 
 -- what a session may reserve next: numbers up to this one, with this level
-pub record IsNextReserve (sessions : List Session) (ranges : List NumberRange) (levels : Levels) (name object nr : List ℕ) (upto : ℕ) (i : Interval) (level : ℕ) : Type 0 where
+pub record IsNextReserve (sessions : List Session) (ranges : List NumberRange) (levels : Levels)
+    (name object nr : List ℕ) (upto : ℕ) (i : Interval) (level : ℕ) : Type 0 where
   pub session : Session
   pub found : session_at sessions name ≡ Some session
   pub range : NumberRange

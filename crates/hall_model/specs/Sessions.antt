@@ -1,5 +1,6 @@
 -- Sessions that log on and off.
-use Rattle.std.specs.Prelude.{ℕ, ◌+◌, Bool, true, false, not, ◌||◌, if◌then◌else◌, List, [], ◌∷◌, ◌++◌, Option, Some, None}
+use Rattle.std.specs.Prelude.{ℕ, ◌+◌, Bool, true, false, not, ◌||◌, if◌then◌else◌, List, [], ◌∷◌, ◌++◌, Option, Some}
+use Rattle.std.specs.Prelude.{None}
 use Rattle.std.specs.List.{find, filter, list_any}
 use Rattle.std.specs.Str.{bytes_eq}
 use Rattle.enq_base.specs.declared.owner.UnitKey.{UnitKey}

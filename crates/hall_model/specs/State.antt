@@ -24,8 +24,8 @@ pub record State : Type 0 where
   -- the status of its unit: V1 of an open one, V2 of one whose V1 part is posted. No call changes the status of a unit
   -- with an order but the post that ends the order.
   pub orders : List (Option UnitKey)
-  -- In the order in which they were granted. Where the lock server was ended they are seen by nobody until another one has
-  -- them; in doubt there are none.
+  -- In the order in which they were granted. Where the lock server was ended they are seen by nobody until another one
+  -- has them; in doubt there are none.
   pub locks : List Entry
   -- how many locks may stand in the table; more than `max_locks` once more were recovered
   pub limit : ℕ
@@ -44,10 +44,11 @@ pub record State : Type 0 where
   pub stored : Ledger
   -- what the store may have instead, after a commit that failed
   pub pending : Option Ledger
-  -- Whether a restart that failed later has found what is pending in the store. None where no restart has read it since.
+  -- Whether a restart that failed later has found what is pending in the store. None where no restart has read it
+  -- since.
   pub found : Option Bool
-  -- What sessions had of the table that is there no more, and lose with the next lock server that is made anew. None where
-  -- the server is up.
+  -- What sessions had of the table that is there no more, and lose with the next lock server that is made anew. None
+  -- where the server is up.
   pub gone : List Entry
   -- the session in whose call a device failed, where the server is in doubt since then
   pub failed_caller : Option (List ℕ)
@@ -83,9 +84,11 @@ attached_in (Doubt k) attached = false
 
 -- the state that a table of locks belongs to
 abbrev pub state_of :
-    Bool → Bool → Bool → Condition → List Session → ℕ → List (Option UnitKey) → Table → ℕ → ℕ → List NumberRange → Ledger
+    Bool → Bool → Bool → Condition → List Session → ℕ → List (Option UnitKey) → Table → ℕ → ℕ → List NumberRange
+    → Ledger
     → Option Ledger → Option Bool → Option (List ℕ) → List PastEntry → State
-state_of told link_told attached condition sessions next_session orders table max_locks mark_limit ranges stored pending found failed_caller past =
+state_of told link_told attached condition sessions next_session orders table max_locks mark_limit ranges stored pending
+    found failed_caller past =
     record {
       condition = condition;
       sessions = sessions;
@@ -107,8 +110,8 @@ state_of told link_told attached condition sessions next_session orders table ma
       past = past;
     }
 
--- A start of a server with the limits and the intervals of its landscape, before any call, over a store that has this. The
--- table has the locks of the units that wait for their V1 part.
+-- A start of a server with the limits and the intervals of its landscape, before any call, over a store that has this.
+-- The table has the locks of the units that wait for their V1 part.
 abbrev pub opened : ℕ → ℕ → List Interval → Bool → Bool → Ledger → State
 opened max_locks mark_limit intervals told link_told stored =
     record {

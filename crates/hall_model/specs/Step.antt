@@ -1,5 +1,6 @@
 -- What a command does to the state, and what it is answered.
-use Rattle.std.specs.Prelude.{ℕ, ◌+◌, Bool, true, false, not, ◌&&◌, ◌||◌, nat_eq, nat_le, nat_lt, if◌then◌else◌, List, [], ◌∷◌, ◌++◌, length, fold, map, replicate, Option, Some, None, is_some, Result, Ok, Err}
+use Rattle.std.specs.Prelude.{ℕ, ◌+◌, Bool, true, false, not, ◌&&◌, ◌||◌, nat_eq, nat_le, nat_lt, if◌then◌else◌, List}
+use Rattle.std.specs.Prelude.{[], ◌∷◌, ◌++◌, length, fold, map, replicate, Option, Some, None, is_some, Result, Ok, Err}
 use Rattle.std.specs.FinMap.{get}
 use Rattle.std.specs.List.{filter, list_all}
 use Rattle.enq_base.specs.declared.condition.Bad.TheVariants as bad
@@ -48,11 +49,15 @@ use Rattle.ledger_steps.specs.Steps.{waiting_for}
 use Rattle.ledger_steps.specs.Views.{open_locks}
 use Rattle.ledger_steps.specs.declared.step.Outcome.{Outcome}
 use Rattle.ledger_steps.specs.declared.step.Outcome.TheVariants as outcome
-use Rattle.hall_model.specs.Calls.{Call, LogsOn, OfSession, OfWorker, OfAdmin, AdminCall, Kills, FailsOver, Restarts, Attaches, Cancels, Resubmits, WorkerCall, Takes, Posts, Drops, SessionCall, LogsOff, Asks, Frees, FreesAll, Converts, Draws, Reserves, Reads, Commits, RollsBack, call_of, ends_unit, restarts, wants_server}
+use Rattle.hall_model.specs.Calls.{Call, LogsOn, OfSession, OfWorker, OfAdmin, AdminCall, Kills, FailsOver, Restarts}
+use Rattle.hall_model.specs.Calls.{Attaches, Cancels, Resubmits, WorkerCall, Takes, Posts, Drops, SessionCall, LogsOff}
+use Rattle.hall_model.specs.Calls.{Asks, Frees, FreesAll, Converts, Draws, Reserves, Reads, Commits, RollsBack, call_of}
+use Rattle.hall_model.specs.Calls.{ends_unit, restarts, wants_server}
 use Rattle.hall_model.specs.Coming.{outcome_in}
 use Rattle.hall_model.specs.Orders.{order_for, order_of, with_order, without_order, first_unclaimed, worker_of}
 use Rattle.hall_model.specs.Numbers.{drawn, next_number, other_holder, raised_to, stocked, with_numbers}
-use Rattle.hall_model.specs.Sessions.{begun, bereft_if, session_at, without_draws, without_session, with_session, with_fresh_unit, with_next_unit, owners_of, pair_of, unit_key}
+use Rattle.hall_model.specs.Sessions.{begun, bereft_if, session_at, without_draws, without_session, with_session}
+use Rattle.hall_model.specs.Sessions.{with_fresh_unit, with_next_unit, owners_of, pair_of, unit_key}
 use Rattle.hall_model.specs.State.{State, unhanded}
 
 abbrev pub answer_of : Result Unit Refusal → Reply
@@ -73,7 +78,8 @@ unless_refused None v = v
 unless_refused (Some r) v = Refuses r
 
 -- What the devices give where a call reads them: what a part of a unit comes to in the rows of the store, the text of a
--- row, where a restart read the store anew, whether the change in flight is in it, and the list that the link handed over.
+-- row, where a restart read the store anew, whether the change in flight is in it, and the list that the link handed
+-- over.
 pub record Found : Type 0 where
   pub part : ℕ → UnitKey → Outcome
   pub row : List ℕ → List ℕ → Option (List ℕ)
@@ -354,7 +360,8 @@ abbrev pub to_cancel : Ledger → List (Option UnitKey) → ℕ → UnitKey → 
 to_cancel ledger orders limit unit =
     elim (status_of ledger.units ledger.marks unit) [
       | None ↦ Err refusal.UnknownUnit
-      | Some status ↦ if_status may_cancel unit status (if_unclaimed (worker_of orders unit) (if_room ledger limit status))
+      | Some status ↦ if_status may_cancel unit status
+          (if_unclaimed (worker_of orders unit) (if_room ledger limit status))
     ]
 
 -- the locks of a unit that waited for its V1 part go; any other has none
@@ -441,11 +448,12 @@ clashing s (Some places) = not_over s places.0 places.1
 abbrev pub is_sound : List Entry → Bool
 is_sound list = has_distinct_names list && (list_all has_count list && has_no_conflict list)
 
--- A list becomes the table whose locks may stand together, and that lacks nothing that was handed over and has nothing else. Else
--- it is told by two places, which are 0 where its locks may stand together.
+-- A list becomes the table whose locks may stand together, and that lacks nothing that was handed over and has nothing
+-- else. Else it is told by two places, which are 0 where its locks may stand together.
 abbrev pub handing : State → List Entry → Verdict
 handing s list =
-    if is_sound list then (if may_replace s.locks list then Leaves (followed_over list s) reply.Done else not_over s 0 0)
+    if is_sound list then
+    (if may_replace s.locks list then Leaves (followed_over list s) reply.Done else not_over s 0 0)
     else clashing s (first_clash list)
 
 -- where one followed the lock server that was ended
@@ -478,8 +486,8 @@ stored_anew true stored (Some changed) = changed
 abbrev pub settled : Bool → State → State
 settled taken s = record s { stored = stored_anew taken s.stored s.pending; pending = None; found = None }
 
--- A new lock server has the locks of the units that wait for their V1 part, and no others. No order stands, and numbers in
--- memory go on. A session that had a lock has lost it, and so has one in whose call a device failed.
+-- A new lock server has the locks of the units that wait for their V1 part, and no others. No order stands, and numbers
+-- in memory go on. A session that had a lock has lost it, and so has one in whose call a device failed.
 abbrev pub remade : (start : ℕ) → State → State
 remade start s =
     record s {
@@ -564,7 +572,8 @@ or_else (Some r) later = Some r
 
 -- why the call isn't served, whatever it asks for
 abbrev pub unavailable : State → Call → Option Refusal
-unavailable s call = or_else (barred s call) (or_else (caller_refusal s.sessions call) (server_refusal s.condition call))
+unavailable s call =
+    or_else (barred s call) (or_else (caller_refusal s.sessions call) (server_refusal s.condition call))
 
 -- ---- all calls
 

@@ -87,17 +87,24 @@ fn is_answer(reply: &Reply, answer: &Answer) -> bool {
     }
 }
 
+fn effect(alloc: Global) -> Result<Effect, Fail> {
+    let (Some(table), Some(key)) = (read_name(b"T"), Key::new(b"1")) else {
+        return Err(Fail::from("words"));
+    };
+    let Ok(text) = Text::new(alloc, b"X") else {
+        return Err(Fail::from("a text"));
+    };
+    Ok(Effect {
+        table,
+        key,
+        deed: Deed::Put(text),
+    })
+}
+
 fn parts_of(alloc: Global, effects: usize) -> Result<Parts, Fail> {
     let mut v1 = Vec::new(alloc);
     for _ in 0..effects {
-        let Ok(text) = Text::new(alloc, b"X") else {
-            return Err(Fail::from("a text"));
-        };
-        v1.push(Effect {
-            table: read_name(b"T").ok_or("a name")?,
-            key: Key::new(b"1").ok_or("a key")?,
-            deed: Deed::Put(text),
-        })?;
+        v1.push(effect(alloc)?)?;
     }
     Ok(Parts {
         v1: Items::from_vec(v1),
@@ -109,62 +116,74 @@ fn buffered_object() -> Result<Name, Fail> {
     Ok(read_name(b"ZBUF").ok_or("a name")?)
 }
 
-fn make(alloc: Global, hall: &mut MemHall, call: Call) -> Result<Reply, Fail> {
-    let session = read_name(b"A").ok_or("a name")?;
+fn logon(hall: &mut MemHall, session: Name) -> Result<Reply, Fail> {
     let user = read_name(b"MILLER").ok_or("a name")?;
+    Ok(hall.logon(1, session, user))
+}
+
+// An order's argument, a mode, and whether the dialogue and the unit are to have the lock.
+type Wish<'a> = (&'a [u8], Mode, bool, bool);
+
+fn ask(alloc: Global, hall: &mut MemHall, session: Name, wish: Wish) -> Result<Reply, Fail> {
+    let (order, mode, dialogue, update) = wish;
+    let request = lock(order, mode, dialogue, update).ok_or("a request")?;
+    Ok(hall.ask(alloc, 1, session, vec![in alloc; request]?))
+}
+
+fn free(alloc: Global, hall: &mut MemHall, session: Name, order: &[u8]) -> Result<Reply, Fail> {
+    let request = lock(order, Mode::E, true, false).ok_or("a request")?;
+    Ok(hall.free(1, session, vec![in alloc; request]?))
+}
+
+fn commit(alloc: Global, hall: &mut MemHall, session: Name, effects: usize) -> Result<Reply, Fail> {
+    let parts = parts_of(alloc, effects)?;
+    Ok(hall.commit(alloc, 1, session, parts, no_stock(alloc)))
+}
+
+fn read(alloc: Global, hall: &mut MemHall, session: Name) -> Result<Reply, Fail> {
+    let table = read_name(b"T").ok_or("a name")?;
+    let key = Key::new(b"1").ok_or("a key")?;
+    Ok(hall.read(alloc, 1, session, table, key))
+}
+
+fn number(alloc: Global, hall: &mut MemHall, session: Name) -> Result<Reply, Fail> {
+    Ok(hall.number(alloc, 1, session, buffered_object()?, *b"01"))
+}
+
+fn reserve(alloc: Global, hall: &mut MemHall, session: Name, upto: u64) -> Result<Reply, Fail> {
+    Ok(hall.reserve(alloc, 1, session, buffered_object()?, *b"01", upto))
+}
+
+// A worker's call, or the administrator's.
+fn work(alloc: Global, hall: &mut MemHall, call: &Call) -> Result<Reply, Fail> {
     match call {
-        Call::Logon => Ok(hall.logon(1, session, user)),
+        Call::Take(worker) => Ok(hall.take1(1, *worker)),
+        Call::Post(worker) => Ok(hall.do1(alloc, 1, *worker)),
+        Call::Drop(worker) => Ok(hall.drop_order(1, *worker)),
+        Call::Cancel => Ok(hall.cancel(alloc, 1, FIRST_UNIT)),
+        _ => Err(Fail::from("a call of a session")),
+    }
+}
+
+fn make(alloc: Global, hall: &mut MemHall, call: &Call) -> Result<Reply, Fail> {
+    let session = read_name(b"A").ok_or("a name")?;
+    match call {
+        Call::Logon => logon(hall, session),
         Call::Logoff => Ok(hall.logoff(1, session)),
-        Call::Ask(order) => {
-            let request = lock(order, Mode::E, true, false).ok_or("a request")?;
-            Ok(hall.ask(alloc, 1, session, vec![in alloc; request]?))
-        }
-        Call::AskForBoth(order) => {
-            let request = lock(order, Mode::E, true, true).ok_or("a request")?;
-            Ok(hall.ask(alloc, 1, session, vec![in alloc; request]?))
-        }
-        Call::AskForUnit(order, mode) => {
-            let request = lock(order, mode, false, true).ok_or("a request")?;
-            Ok(hall.ask(alloc, 1, session, vec![in alloc; request]?))
-        }
-        Call::Free(order) => {
-            let request = lock(order, Mode::E, true, false).ok_or("a request")?;
-            Ok(hall.free(1, session, vec![in alloc; request]?))
-        }
-        Call::Commit { effects } => {
-            let parts = parts_of(alloc, effects)?;
-            Ok(hall.commit(alloc, 1, session, parts, no_stock(alloc)))
-        }
+        Call::Ask(order) => ask(alloc, hall, session, (*order, Mode::E, true, false)),
+        Call::AskForBoth(order) => ask(alloc, hall, session, (*order, Mode::E, true, true)),
+        Call::AskForUnit(order, mode) => ask(alloc, hall, session, (*order, *mode, false, true)),
+        Call::Free(order) => free(alloc, hall, session, *order),
+        Call::Commit { effects } => commit(alloc, hall, session, *effects),
         Call::CommitStock {
             effects,
             first,
             count,
-        } => {
-            let parts = parts_of(alloc, effects)?;
-            commit_stock(alloc, hall, session, parts, first, count)
-        }
-        Call::Take(worker) => Ok(hall.take1(1, worker)),
-        Call::Post(worker) => Ok(hall.do1(alloc, 1, worker)),
-        Call::Drop(worker) => Ok(hall.drop_order(1, worker)),
-        Call::Cancel => Ok(hall.cancel(alloc, 1, FIRST_UNIT)),
-        Call::Read => {
-            let table = read_name(b"T").ok_or("a name")?;
-            let key = Key::new(b"1").ok_or("a key")?;
-            Ok(hall.read(alloc, 1, session, table, key))
-        }
-        Call::Number => Ok(hall.number(alloc, 1, session, buffered_object()?, *b"01")),
-        Call::Reserve { upto } => {
-            Ok(hall.reserve(alloc, 1, session, buffered_object()?, *b"01", upto))
-        }
-    }
-}
-
-// A commit with so many numbers of a stock, from this one on.
-fn stock(effects: usize, first: u64, count: u64) -> Call {
-    Call::CommitStock {
-        effects,
-        first,
-        count,
+        } => commit_stock(alloc, hall, session, *effects, (*first, *count)),
+        Call::Read => read(alloc, hall, session),
+        Call::Number => number(alloc, hall, session),
+        Call::Reserve { upto } => reserve(alloc, hall, session, *upto),
+        _ => work(alloc, hall, call),
     }
 }
 
@@ -179,11 +198,11 @@ fn commit_stock(
     alloc: Global,
     hall: &mut MemHall,
     session: Name,
-    parts: Parts,
-    first: u64,
-    count: u64,
+    effects: usize,
+    numbers: (u64, u64),
 ) -> Result<Reply, Fail> {
-    let stock = stock_of(alloc, hall, first, count)?;
+    let parts = parts_of(alloc, effects)?;
+    let stock = stock_of(alloc, hall, numbers.0, numbers.1)?;
     Ok(hall.commit(alloc, 1, session, parts, stock))
 }
 
@@ -276,7 +295,7 @@ fn is_refused(hall: &mut MemHall, times: u32) -> bool {
 
 fn draws(alloc: Global, hall: &mut MemHall, last: u64) -> Result<bool, Fail> {
     for number in 1..=last {
-        let reply = make(alloc, hall, Call::Number)?;
+        let reply = make(alloc, hall, &Call::Number)?;
         if !is_answer(&reply, &Answer::Number(number, Code::Blank)) {
             return Ok(false);
         }
@@ -287,7 +306,7 @@ fn draws(alloc: Global, hall: &mut MemHall, last: u64) -> Result<bool, Fail> {
 fn makes(
     alloc: Global,
     hall: &mut MemHall,
-    call: Call,
+    call: &Call,
     answer: &Answer,
     locks: usize,
 ) -> Result<bool, Fail> {
@@ -317,7 +336,7 @@ fn stores(
 
 fn take_step(alloc: Global, hall: &mut MemHall, step: &Step) -> Result<bool, Fail> {
     match step {
-        Step::Make(call, answer, locks) => makes(alloc, hall, *call, answer, *locks),
+        Step::Make(call, answer, locks) => makes(alloc, hall, call, answer, *locks),
         Step::Refuse(times) => Ok(is_refused(hall, *times)),
         Step::Draw(last) => draws(alloc, hall, *last),
         Step::HandedOver => Ok(hands_over(hall.entries(alloc)?.as_slice())),
@@ -335,18 +354,26 @@ fn take_all(alloc: Global, hall: &mut MemHall, steps: &[Step]) -> Result<(), Fai
     Ok(())
 }
 
-// Goes through these steps with a hall of its own, that has room for so many locks and so many marks.
+// Goes through these steps with a hall of its own, that has room for so many locks and so many marks, and one interval
+// or none.
 fn follow(
     alloc: Global,
     max_locks: u32,
     max_marks: u32,
-    intervals: Vec<Interval>,
+    is_numbered: bool,
     steps: &[Step],
 ) -> Result<(), Fail>
     requires marks { max_marks ≤ 1048576 }
-    requires intervals { AreIntervals intervals.items }
 {
-    let mut hall = opened(alloc, max_locks, max_marks, intervals)?;
+    let intervals = intervals_of(alloc, is_numbered)?;
+    match opened(alloc, b"", &[], (max_locks, max_marks), intervals)? {
+        Ok(hall) => take_all_in(alloc, hall, steps),
+        Err(_) => Err(Fail::from("a hall")),
+    }
+}
+
+fn take_all_in(alloc: Global, hall: MemHall, steps: &[Step]) -> Result<(), Fail> {
+    let mut hall = hall;
     take_all(alloc, &mut hall, steps)
 }
 
@@ -381,21 +408,48 @@ fn no_intervals(alloc: Global) -> Vec<Interval>
     Vec::new(alloc)
 }
 
+fn intervals_of(alloc: Global, is_numbered: bool) -> Result<Vec<Interval>, Fail>
+    ensures { IfOk result (λ intervals. AreIntervals intervals.items) }
+{
+    if is_numbered {
+        one_interval(alloc)
+    } else {
+        Ok(no_intervals(alloc))
+    }
+}
+
+fn disk_of(alloc: Global, bytes: &[u8], fails: &[u64]) -> Result<MemDisk, Fail> {
+    let bytes = bytes.to_vec(alloc)?;
+    Ok(MemDisk::new(alloc, bytes, fails.to_vec(alloc)?)?)
+}
+
+// The devices of a hall, with a backup file of these bytes on a disk whose calls with these numbers fail.
+fn site_of(
+    alloc: Global,
+    bytes: &[u8],
+    fails: &[u64],
+) -> Result<(MemKeeper, MemDisk, MemLink), Fail> {
+    let keeper = MemKeeper::new(alloc, Vec::new(alloc), Vec::new(alloc))?;
+    let disk = disk_of(alloc, bytes, fails)?;
+    let link = MemLink::new(alloc, Vec::new(alloc))?;
+    Ok((keeper, disk, link))
+}
+
+// A hall over such devices, with room for so many locks and so many marks, or why there is none.
 fn opened(
     alloc: Global,
-    max_locks: u32,
-    max_marks: u32,
+    bytes: &[u8],
+    fails: &[u64],
+    room: (u32, u32),
     intervals: Vec<Interval>,
-) -> Result<MemHall, Fail>
-    requires marks { max_marks ≤ 1048576 }
+) -> Result<Result<MemHall, HallFault>, Fail>
+    requires marks { room.1 ≤ 1048576 }
     requires intervals { AreIntervals intervals.items }
 {
-    let keeper = MemKeeper::new(alloc, Vec::new(alloc), Vec::new(alloc))?;
-    let disk = MemDisk::new(alloc, Vec::new(alloc), Vec::new(alloc))?;
-    let link = MemLink::new(alloc, Vec::new(alloc))?;
-    match MemHall::open(alloc, keeper, disk, link, max_locks, max_marks, intervals) {
-        Ok(hall) => Ok(hall),
-        Err(_) => Err(Fail::from("a hall")),
+    let (keeper, disk, link) = site_of(alloc, bytes, fails)?;
+    match MemHall::open(alloc, keeper, disk, link, room.0, room.1, intervals) {
+        Ok(hall) => Ok(Ok(hall)),
+        Err((fault, _, _, _)) => Ok(Err(fault)),
     }
 }
 
@@ -440,180 +494,216 @@ const UNKNOWN_SESSION: Answer = Answer::Refused(Refusal::UnknownSession);
 
 const PAST_END: Answer = Answer::Refused(Refusal::IntervalOverflow(1_000));
 
+const LOCKS: [Step; 6] = [
+    Step::Make(Call::Logon, Answer::Done, 0),
+    Step::Make(Call::Ask(FIRST_ORDER), Answer::Done, 1),
+    Step::Make(Call::Ask(SECOND_ORDER), TABLE_FULL, 1),
+    Step::Make(Call::Free(FIRST_ORDER), Answer::Done, 0),
+    Step::Make(Call::Logoff, Answer::Done, 0),
+    Step::Past(5),
+];
+
 #[test]
 fn a_hall_shows_its_locks_and_its_calls(rt: HostRuntime) -> Result<(), Fail> {
     let alloc = rt.alloc();
-    let steps = [
-        Step::Make(Call::Logon, Answer::Done, 0),
-        Step::Make(Call::Ask(FIRST_ORDER), Answer::Done, 1),
-        Step::Make(Call::Ask(SECOND_ORDER), TABLE_FULL, 1),
-        Step::Make(Call::Free(FIRST_ORDER), Answer::Done, 0),
-        Step::Make(Call::Logoff, Answer::Done, 0),
-        Step::Past(5),
-    ];
-    follow(alloc, 1, 1, no_intervals(alloc), &steps)
+    follow(alloc, 1, 1, false, &LOCKS)
 }
+
+const FULL_HISTORY: [Step; 11] = [
+    Step::Refuse(262_144),
+    Step::Make(Call::Drop(1), LOG_FULL, 0),
+    Step::Make(Call::Logon, LOG_FULL, 0),
+    Step::Make(Call::Ask(FIRST_ORDER), LOG_FULL, 0),
+    Step::Make(Call::Free(FIRST_ORDER), LOG_FULL, 0),
+    Step::Make(Call::Commit { effects: 0 }, LOG_FULL, 0),
+    Step::Make(Call::Take(1), LOG_FULL, 0),
+    Step::Make(Call::Post(1), LOG_FULL, 0),
+    Step::Make(Call::Cancel, LOG_FULL, 0),
+    Step::Make(Call::Logoff, LOG_FULL, 0),
+    Step::Past(262_144),
+];
 
 #[test]
 fn a_full_history_does_not_grow(rt: HostRuntime) -> Result<(), Fail> {
     let alloc = rt.alloc();
-    let steps = [
-        Step::Refuse(262_144),
-        Step::Make(Call::Drop(1), LOG_FULL, 0),
-        Step::Make(Call::Logon, LOG_FULL, 0),
-        Step::Make(Call::Ask(FIRST_ORDER), LOG_FULL, 0),
-        Step::Make(Call::Free(FIRST_ORDER), LOG_FULL, 0),
-        Step::Make(Call::Commit { effects: 0 }, LOG_FULL, 0),
-        Step::Make(Call::Take(1), LOG_FULL, 0),
-        Step::Make(Call::Post(1), LOG_FULL, 0),
-        Step::Make(Call::Cancel, LOG_FULL, 0),
-        Step::Make(Call::Logoff, LOG_FULL, 0),
-        Step::Past(262_144),
-    ];
-    follow(alloc, 1, 1, no_intervals(alloc), &steps)
+    follow(alloc, 1, 1, false, &FULL_HISTORY)
 }
+
+const HANDED_OVER: [Step; 5] = [
+    Step::Make(Call::Logon, Answer::Done, 0),
+    Step::Make(Call::AskForUnit(FIRST_ORDER, Mode::O), Answer::Done, 1),
+    Step::Make(Call::AskForUnit(FIRST_ORDER, Mode::E), Answer::Done, 2),
+    Step::Make(Call::Commit { effects: 1 }, Answer::Unit, 1),
+    Step::HandedOver,
+];
 
 // An optimistic lock of the unit goes, and its exclusive one is handed over.
 #[test]
 fn a_commit_hands_its_locks_over(rt: HostRuntime) -> Result<(), Fail> {
     let alloc = rt.alloc();
-    let steps = [
-        Step::Make(Call::Logon, Answer::Done, 0),
-        Step::Make(Call::AskForUnit(FIRST_ORDER, Mode::O), Answer::Done, 1),
-        Step::Make(Call::AskForUnit(FIRST_ORDER, Mode::E), Answer::Done, 2),
-        Step::Make(Call::Commit { effects: 1 }, Answer::Unit, 1),
-        Step::HandedOver,
-    ];
-    follow(alloc, 2, 1, no_intervals(alloc), &steps)
+    follow(alloc, 2, 1, false, &HANDED_OVER)
 }
+
+const FREED: [Step; 5] = [
+    Step::Make(Call::Logon, Answer::Done, 0),
+    Step::Make(Call::AskForBoth(FIRST_ORDER), Answer::Done, 2),
+    Step::Make(Call::Commit { effects: 1 }, Answer::Unit, 2),
+    Step::Make(Call::Take(1), Answer::Unit, 2),
+    Step::Make(Call::Post(1), Answer::Posted, 1),
+];
 
 // A lock of both owners is two: that of the unit goes with its post, and that of the dialogue stays.
 #[test]
 fn a_post_frees_the_locks_of_its_unit_alone(rt: HostRuntime) -> Result<(), Fail> {
     let alloc = rt.alloc();
-    let steps = [
-        Step::Make(Call::Logon, Answer::Done, 0),
-        Step::Make(Call::AskForBoth(FIRST_ORDER), Answer::Done, 2),
-        Step::Make(Call::Commit { effects: 1 }, Answer::Unit, 2),
-        Step::Make(Call::Take(1), Answer::Unit, 2),
-        Step::Make(Call::Post(1), Answer::Posted, 1),
-    ];
-    follow(alloc, 2, 2, no_intervals(alloc), &steps)
+    follow(alloc, 2, 2, false, &FREED)
 }
+
+const FULL_STORE: [Step; 12] = [
+    Step::Make(Call::Logon, Answer::Done, 0),
+    Step::Make(Call::Cancel, UNKNOWN_UNIT, 0),
+    Step::Make(Call::Commit { effects: 1 }, Answer::Unit, 0),
+    Step::Make(Call::Take(1), Answer::Unit, 0),
+    Step::Make(Call::Cancel, CLAIMED, 0),
+    Step::Make(Call::Post(1), STORE_FULL, 0),
+    Step::Make(Call::Post(2), NO_ORDER, 0),
+    Step::Make(Call::Commit { effects: 1 }, STORE_FULL, 0),
+    Step::Make(Call::Commit { effects: 201 }, TOO_LARGE, 0),
+    Step::Make(Call::Commit { effects: 0 }, Answer::Done, 0),
+    Step::Make(Call::Drop(1), Answer::Unit, 0),
+    Step::Make(Call::Cancel, STORE_FULL, 0),
+];
 
 // A store that may have one mark takes no second: neither a post nor a commit nor a cancelling. What adds no mark goes
 // on.
 #[test]
 fn a_full_store_takes_no_mark(rt: HostRuntime) -> Result<(), Fail> {
     let alloc = rt.alloc();
-    let steps = [
-        Step::Make(Call::Logon, Answer::Done, 0),
-        Step::Make(Call::Cancel, UNKNOWN_UNIT, 0),
-        Step::Make(Call::Commit { effects: 1 }, Answer::Unit, 0),
-        Step::Make(Call::Take(1), Answer::Unit, 0),
-        Step::Make(Call::Cancel, CLAIMED, 0),
-        Step::Make(Call::Post(1), STORE_FULL, 0),
-        Step::Make(Call::Post(2), NO_ORDER, 0),
-        Step::Make(Call::Commit { effects: 1 }, STORE_FULL, 0),
-        Step::Make(Call::Commit { effects: 201 }, TOO_LARGE, 0),
-        Step::Make(Call::Commit { effects: 0 }, Answer::Done, 0),
-        Step::Make(Call::Drop(1), Answer::Unit, 0),
-        Step::Make(Call::Cancel, STORE_FULL, 0),
-    ];
-    follow(alloc, 1, 1, no_intervals(alloc), &steps)
+    follow(alloc, 1, 1, false, &FULL_STORE)
 }
+
+const ROW: [Step; 9] = [
+    Step::Make(Call::Read, UNKNOWN_SESSION, 0),
+    Step::Make(Call::Logon, Answer::Done, 0),
+    Step::Make(Call::Commit { effects: 1 }, Answer::Unit, 0),
+    Step::Make(Call::Read, Answer::NoRow, 0),
+    Step::Make(Call::Take(1), Answer::Unit, 0),
+    Step::Stored(1, 1, 0),
+    Step::Make(Call::Post(1), Answer::Posted, 0),
+    Step::Make(Call::Read, Answer::Row(b"X"), 0),
+    Step::Stored(1, 2, 0),
+];
 
 // A row is read as the posted parts have left it, and the hall shows its units and marks.
 #[test]
 fn a_row_is_read_as_it_was_posted(rt: HostRuntime) -> Result<(), Fail> {
     let alloc = rt.alloc();
-    let steps = [
-        Step::Make(Call::Read, UNKNOWN_SESSION, 0),
-        Step::Make(Call::Logon, Answer::Done, 0),
-        Step::Make(Call::Commit { effects: 1 }, Answer::Unit, 0),
-        Step::Make(Call::Read, Answer::NoRow, 0),
-        Step::Make(Call::Take(1), Answer::Unit, 0),
-        Step::Stored(1, 1, 0),
-        Step::Make(Call::Post(1), Answer::Posted, 0),
-        Step::Make(Call::Read, Answer::Row(b"X"), 0),
-        Step::Stored(1, 2, 0),
-    ];
-    follow(alloc, 1, 2, no_intervals(alloc), &steps)
+    follow(alloc, 1, 2, false, &ROW)
 }
+
+const BLOCKS: [Step; 11] = [
+    Step::Make(Call::Number, UNKNOWN_SESSION, 0),
+    Step::Make(Call::Logon, Answer::Done, 0),
+    Step::Make(Call::Number, Answer::Number(1, Code::Blank), 0),
+    Step::Make(Call::Reserve { upto: 10 }, Answer::Level(10), 0),
+    Step::Make(Call::Reserve { upto: 25 }, Answer::Level(30), 0),
+    Step::Make(Call::Reserve { upto: 1_001 }, PAST_END, 0),
+    Step::Make(Call::Commit { effects: 1 }, Answer::Unit, 0),
+    Step::Make(Call::Number, Answer::Number(2, Code::Blank), 0),
+    Step::Make(Call::Commit { effects: 0 }, STORE_FULL, 0),
+    Step::Make(Call::Number, Answer::Number(3, Code::Blank), 0),
+    Step::Stored(1, 1, 1),
+];
 
 // Blocks of ten: a number or a reservation past the level raises it by whole blocks, and one that it reaches leaves it.
 // A store that takes no mark leaves the numbers that are drawn with the session.
 #[test]
 fn numbers_come_in_blocks(rt: HostRuntime) -> Result<(), Fail> {
     let alloc = rt.alloc();
-    let steps = [
-        Step::Make(Call::Number, UNKNOWN_SESSION, 0),
-        Step::Make(Call::Logon, Answer::Done, 0),
-        Step::Make(Call::Number, Answer::Number(1, Code::Blank), 0),
-        Step::Make(Call::Reserve { upto: 10 }, Answer::Level(10), 0),
-        Step::Make(Call::Reserve { upto: 25 }, Answer::Level(30), 0),
-        Step::Make(Call::Reserve { upto: 1_001 }, PAST_END, 0),
-        Step::Make(Call::Commit { effects: 1 }, Answer::Unit, 0),
-        Step::Make(Call::Number, Answer::Number(2, Code::Blank), 0),
-        Step::Make(Call::Commit { effects: 0 }, STORE_FULL, 0),
-        Step::Make(Call::Number, Answer::Number(3, Code::Blank), 0),
-        Step::Stored(1, 1, 1),
-    ];
-    follow(alloc, 1, 1, one_interval(alloc)?, &steps)
+    follow(alloc, 1, 1, true, &BLOCKS)
 }
+
+const OF_STOCK: [Step; 8] = [
+    Step::Make(Call::Logon, Answer::Done, 0),
+    Step::Make(Call::Reserve { upto: 1 }, Answer::Level(10), 0),
+    Step::Make(
+        Call::CommitStock {
+            effects: 1,
+            first: 1,
+            count: 2,
+        },
+        Answer::Unit,
+        0,
+    ),
+    Step::Stored(1, 1, 2),
+    Step::Make(Call::Number, Answer::Number(3, Code::Blank), 0),
+    Step::Make(
+        Call::CommitStock {
+            effects: 0,
+            first: 7,
+            count: 2,
+        },
+        Answer::Done,
+        0,
+    ),
+    Step::Make(Call::Number, Answer::Number(9, Code::Blank), 0),
+    Step::Stored(1, 2, 5),
+];
 
 // A unit has numbers of a stock that were reserved before, and memory then hands out what is behind them. Numbers alone
 // are recorded with those that the session drew.
 #[test]
 fn numbers_of_a_stock_are_committed(rt: HostRuntime) -> Result<(), Fail> {
     let alloc = rt.alloc();
-    let steps = [
-        Step::Make(Call::Logon, Answer::Done, 0),
-        Step::Make(Call::Reserve { upto: 1 }, Answer::Level(10), 0),
-        Step::Make(stock(1, 1, 2), Answer::Unit, 0),
-        Step::Stored(1, 1, 2),
-        Step::Make(Call::Number, Answer::Number(3, Code::Blank), 0),
-        Step::Make(stock(0, 7, 2), Answer::Done, 0),
-        Step::Make(Call::Number, Answer::Number(9, Code::Blank), 0),
-        Step::Stored(1, 2, 5),
-    ];
-    follow(alloc, 1, 2, one_interval(alloc)?, &steps)
+    follow(alloc, 1, 2, true, &OF_STOCK)
 }
+
+const COUNTED: [Step; 6] = [
+    Step::Make(Call::Logon, Answer::Done, 0),
+    Step::Draw(60),
+    Step::Make(Call::Reserve { upto: 101 }, Answer::Level(110), 0),
+    Step::Make(
+        Call::CommitStock {
+            effects: 1,
+            first: 101,
+            count: 5,
+        },
+        TOO_LARGE,
+        0,
+    ),
+    Step::Make(
+        Call::CommitStock {
+            effects: 1,
+            first: 101,
+            count: 4,
+        },
+        Answer::Unit,
+        0,
+    ),
+    Step::Stored(1, 1, 64),
+];
 
 // What a session has drawn and the numbers of a stock are counted together: 64 are a unit's, and 65 too many.
 #[test]
 fn draws_and_a_stock_are_counted_together(rt: HostRuntime) -> Result<(), Fail> {
     let alloc = rt.alloc();
-    let steps = [
-        Step::Make(Call::Logon, Answer::Done, 0),
-        Step::Draw(60),
-        Step::Make(Call::Reserve { upto: 101 }, Answer::Level(110), 0),
-        Step::Make(stock(1, 101, 5), TOO_LARGE, 0),
-        Step::Make(stock(1, 101, 4), Answer::Unit, 0),
-        Step::Stored(1, 1, 64),
-    ];
-    follow(alloc, 1, 1, one_interval(alloc)?, &steps)
+    follow(alloc, 1, 1, true, &COUNTED)
 }
 
 // Why no hall is opened over a backup file of these bytes, on a disk whose calls with these numbers fail.
 fn fault_over(alloc: Global, bytes: &[u8], fails: &[u64]) -> Result<HallFault, Fail> {
-    let keeper = MemKeeper::new(alloc, Vec::new(alloc), Vec::new(alloc))?;
-    let disk = MemDisk::new(alloc, bytes.to_vec(alloc)?, fails.to_vec(alloc)?)?;
-    let link = MemLink::new(alloc, Vec::new(alloc))?;
-    match MemHall::open(alloc, keeper, disk, link, 1, 1, no_intervals(alloc)) {
+    match opened(alloc, bytes, fails, (1, 1), no_intervals(alloc))? {
         Ok(_) => Err(Fail::from("a hall")),
-        Err((fault, _, _, _)) => Ok(fault),
+        Err(fault) => Ok(fault),
     }
 }
+
+const BAD_BYTES: HallFault = HallFault::Bad(Bad::Backup(BackupBad::Bytes { at: 0 }));
 
 #[test]
 fn a_backup_file_that_is_not_opened_is_told(rt: HostRuntime) -> Result<(), Fail> {
     let alloc = rt.alloc();
-    let bad = Bad::Backup(BackupBad::Bytes { at: 0 });
-    assert_eq!(rt;
-        fault_over(alloc, b"ENQBCK02\x01\x02", &[])?,
-        HallFault::Bad(bad)
-    );
-    assert_eq!(rt; fault_over(alloc, b"", &[1])?, HallFault::Backup);
+    assert!(rt; fault_over(alloc, b"ENQBCK02\x01\x02", &[])? == BAD_BYTES);
+    assert!(rt; fault_over(alloc, b"", &[1])? == HallFault::Backup);
     Ok(())
 }

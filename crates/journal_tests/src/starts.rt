@@ -1,3 +1,5 @@
+ghost use Rattle.std.specs.Prelude.{◌≤◌};
+
 use bk_disk::{Disk, MemDisk, StopDisk};
 use enq_base::Items;
 use enq_cmd::Site;
@@ -5,9 +7,8 @@ use io_edge::{MemSink, MemSource};
 use keeper_wal::WalKeeper;
 use replica_link::MemLink;
 use std::alloc::Global;
-use std::process::Abort;
 use std::sync::Wait;
-use std::test::Fail;
+use std::test::*;
 use std::thread::Threads;
 use wal_server::journal_main;
 
@@ -36,10 +37,20 @@ percent = 0\n";
 /// What a start has left.
 #[derive(Drop)]
 struct Left<D: Disk + Drop> {
-    replies: Vec<u8>,
+    answers: MemSink,
     status: u8,
     journal: D,
     backup: MemDisk,
+}
+
+/// What a start is given beside its disks.
+#[derive(Drop)]
+struct Given {
+    word: Items<u8>,
+    landscape: MemSource,
+    script: MemSource,
+    answers: MemSink,
+    link: MemLink,
 }
 
 fn disk_of(alloc: Global, bytes: &[u8]) -> Result<MemDisk, Fail> {
@@ -50,79 +61,121 @@ fn source_of(alloc: Global, bytes: &[u8]) -> Result<MemSource, Fail> {
     Ok(MemSource::new(bytes.to_vec(alloc)?, Vec::new(alloc))?)
 }
 
+fn make_given(alloc: Global, script: &[u8]) -> Result<Given, Fail> {
+    let landscape = source_of(alloc, LANDSCAPE)?;
+    let script = source_of(alloc, script)?;
+    let answers = MemSink::new(alloc, Vec::new(alloc))?;
+    let link = MemLink::new(alloc, Vec::new(alloc))?;
+    let word = Items::from_vec(b"replay".to_vec(alloc)?);
+    Ok(Given {
+        word,
+        landscape,
+        script,
+        answers,
+        link,
+    })
+}
+
 /// A start that replays a script, over a journal and a backup file.
 fn start<R: Threads + Wait + Sync, D: Disk + Send + Drop>(
     rt: &R,
     alloc: Global,
-    script: &[u8],
+    given: Given,
     journal: D,
     backup: MemDisk,
-) -> Result<Left<D>, Fail> {
-    let words = [Items::from_vec(b"replay".to_vec(alloc)?)];
-    let mut landscape = source_of(alloc, LANDSCAPE)?;
-    let mut script = source_of(alloc, script)?;
-    let mut sink = MemSink::new(alloc, Vec::new(alloc))?;
-    let link = MemLink::new(alloc, Vec::new(alloc))?;
+) -> Left<D> {
+    let Given {
+        word,
+        mut landscape,
+        mut script,
+        mut answers,
+        link,
+    } = given;
+    let words = [word];
     let ended = journal_main(
         rt,
         alloc,
-        words.as_slice(),
+        &words,
         &mut landscape,
         &mut script,
-        &mut sink,
+        &mut answers,
         Site {
             keeper: WalKeeper::new(alloc, journal),
             disk: backup,
             link,
         },
     );
-    let replies = sink.bytes().to_vec(alloc)?;
-    Ok(Left {
-        replies,
+    Left {
+        answers,
         status: ended.status,
         journal: ended.site.keeper.into_disk(),
         backup: ended.site.disk,
-    })
+    }
+}
+
+/// A start over a journal of these bytes, and no backup file.
+fn start_over<R: Threads + Wait + Sync>(
+    rt: &R,
+    alloc: Global,
+    journal: &[u8],
+) -> Result<Left<MemDisk>, Fail> {
+    let given = make_given(alloc, b"")?;
+    let journal = disk_of(alloc, journal)?;
+    let backup = disk_of(alloc, b"")?;
+    Ok(start(rt, alloc, given, journal, backup))
 }
 
 // A first start without a line. In table 0 the row `S` gets start 1 and no marks.
 const JOURNAL: [u8; 57] = *b"ENQWAL01\x01\0\0\0\0\0\0\0\x27\0\0\0\0\0\0\0\x01\
     \x01\0\0\0\0\0\0\0\0\x01S\0\0\0\0\0\0\0\x0c\0\0\0\x01\0\0\0\0\0\0\0\0\0";
 
-/// A start over these bytes has this status. Where they are refused they stay.
-fn ends_with<R: Abort + Threads + Wait + Sync>(
+fn is_image(alloc: Global, disk: &MemDisk, pick: u8, bytes: &[u8]) -> Result<bool, Fail>
+    requires { pick ≤ 3 }
+{
+    let image = disk.image(alloc, pick)?;
+    Ok(image.as_slice() == bytes)
+}
+
+/// Whether a start over these bytes has this status. Where they are refused they stay.
+fn ends_with<R: Threads + Wait + Sync>(
     rt: &R,
     alloc: Global,
     bytes: &[u8],
     status: u8,
-) -> Result<(), Fail> {
-    let left = start(rt, alloc, b"", disk_of(alloc, bytes)?, disk_of(alloc, b"")?)?;
-    assert_eq!(rt; left.status, status);
-    if status != 0 {
-        assert_eq!(rt; left.journal.image(alloc, 1)?.as_slice(), bytes);
-    }
-    Ok(())
+) -> Result<bool, Fail> {
+    let left = start_over(rt, alloc, bytes)?;
+    Ok(left.status == status && (status == 0 || is_image(alloc, &left.journal, 1, bytes)?))
+}
+
+fn is_first<R: Threads + Wait + Sync>(rt: &R, alloc: Global, journal: &[u8]) -> Result<bool, Fail> {
+    let left = start_over(rt, alloc, b"")?;
+    Ok(left.status == 0 && is_image(alloc, &left.journal, 0, journal)?)
 }
 
 #[test]
 fn a_start_writes_the_journal(rt: HostRuntime) -> Result<(), Fail> {
-    let alloc = rt.alloc();
-    let left = start(&rt, alloc, b"", disk_of(alloc, b"")?, disk_of(alloc, b"")?)?;
-    assert_eq!(&rt; left.status, 0);
-    assert_eq!(&rt;
-        left.journal.image(alloc, 0)?.as_slice(),
-        JOURNAL.as_slice()
-    );
+    assert!(&rt; is_first(&rt, rt.alloc(), &JOURNAL)?);
     Ok(())
+}
+
+/// The first length at which a journal that is cut has another status.
+fn wrong_cut<R: Threads + Wait + Sync>(
+    rt: &R,
+    alloc: Global,
+    journal: &[u8],
+) -> Result<Option<usize>, Fail> {
+    for length in 0..journal.len() + 1 {
+        let status = if length < 10 || length == 57 { 0 } else { 7 };
+        if !ends_with(rt, alloc, &journal[..length], status)? {
+            return Ok(Some(length));
+        }
+    }
+    Ok(None)
 }
 
 #[test]
 fn a_start_refuses_a_journal_that_is_cut(rt: HostRuntime) -> Result<(), Fail> {
-    let alloc = rt.alloc();
-    for length in 0..58 {
-        let status = if length < 10 || length == 57 { 0 } else { 7 };
-        ends_with(&rt, alloc, &JOURNAL[..length], status)?;
-    }
+    assert_eq!(&rt; wrong_cut(&rt, rt.alloc(), &JOURNAL)?, None);
     Ok(())
 }
 
@@ -138,18 +191,46 @@ fn status_of(at: usize, byte: u8) -> u8 {
     }
 }
 
-#[test]
-fn a_start_reads_a_journal_with_another_byte(rt: HostRuntime) -> Result<(), Fail> {
-    let alloc = rt.alloc();
-    for at in 0..57 {
-        for byte in [0, 0xff] {
-            let mut bytes = JOURNAL;
-            if bytes[at] != byte {
-                bytes[at] = byte;
-                ends_with(&rt, alloc, &bytes, status_of(at, byte))?;
-            }
+fn with_byte(alloc: Global, journal: &[u8], at: usize, byte: u8) -> Result<Vec<u8>, Fail> {
+    let mut bytes = journal.to_vec(alloc)?;
+    if let Some(place) = bytes.get_mut(at) {
+        *place = byte;
+    }
+    Ok(bytes)
+}
+
+/// Whether a start over the journal with this byte in this place, where another one stands, has its status.
+fn is_other<R: Threads + Wait + Sync>(
+    rt: &R,
+    alloc: Global,
+    journal: &[u8],
+    at: usize,
+    byte: u8,
+) -> Result<bool, Fail> {
+    if journal.get(at) == Some(&byte) {
+        return Ok(true);
+    }
+    let bytes = with_byte(alloc, journal, at, byte)?;
+    ends_with(rt, alloc, &bytes, status_of(at, byte))
+}
+
+/// The first place at which a journal with another byte has another status.
+fn wrong_byte<R: Threads + Wait + Sync>(
+    rt: &R,
+    alloc: Global,
+    journal: &[u8],
+) -> Result<Option<usize>, Fail> {
+    for at in 0..journal.len() {
+        if !is_other(rt, alloc, journal, at, 0)? || !is_other(rt, alloc, journal, at, 0xff)? {
+            return Ok(Some(at));
         }
     }
+    Ok(None)
+}
+
+#[test]
+fn a_start_reads_a_journal_with_another_byte(rt: HostRuntime) -> Result<(), Fail> {
+    assert_eq!(&rt; wrong_byte(&rt, rt.alloc(), &JOURNAL)?, None);
     Ok(())
 }
 
@@ -224,40 +305,88 @@ fn contains(bytes: &[u8], part: &[u8]) -> bool {
 }
 
 /// Whether the counts are those behind the lines that were answered, or behind the one after them too.
-fn may_be(replies: &[u8], counts: &[u8]) -> bool {
+fn may_be(replies: &[u8], counts: &[u8], steps: &[(&'static [u8], &'static [u8])]) -> bool {
     let mut answered = NO_UNITS;
-    for (answer, next) in STEPS {
-        if !contains(replies, answer) {
-            return counts == answered || counts == next;
+    for (answer, next) in steps {
+        if !contains(replies, *answer) {
+            return counts == answered || counts == *next;
         }
-        answered = next;
+        answered = *next;
     }
     counts == answered
 }
 
+/// What a start leaves over a journal whose disk stops at a call.
+fn stopped_at<R: Threads + Wait + Sync>(
+    rt: &R,
+    alloc: Global,
+    k: u64,
+) -> Result<Left<MemDisk>, Fail> {
+    let given = make_given(alloc, SCRIPT)?;
+    let backup = disk_of(alloc, b"")?;
+    let journal = StopDisk::new(disk_of(alloc, b"")?, k);
+    let left = start(rt, alloc, given, journal, backup);
+    Ok(Left {
+        answers: left.answers,
+        status: left.status,
+        journal: left.journal.into_disk(),
+        backup: left.backup,
+    })
+}
+
+fn image_of(alloc: Global, disk: &MemDisk, pick: u8) -> Result<MemDisk, Fail>
+    requires { pick ≤ 3 }
+{
+    let bytes = disk.image(alloc, pick)?;
+    disk_of(alloc, &bytes)
+}
+
+/// Whether a start over the images that a crash then leaves shows what was answered.
+fn is_shown<R: Threads + Wait + Sync>(
+    rt: &R,
+    alloc: Global,
+    left: &Left<MemDisk>,
+    pick: u8,
+) -> Result<bool, Fail>
+    requires { pick ≤ 3 }
+{
+    let given = make_given(alloc, b"? AUDIT\n")?;
+    let journal = image_of(alloc, &left.journal, pick)?;
+    let backup = image_of(alloc, &left.backup, pick)?;
+    let next = start(rt, alloc, given, journal, backup);
+    Ok(next.status == 0 && may_be(left.answers.bytes(), next.answers.bytes(), &STEPS))
+}
+
+fn are_shown<R: Threads + Wait + Sync>(
+    rt: &R,
+    alloc: Global,
+    left: &Left<MemDisk>,
+) -> Result<bool, Fail> {
+    for pick in 0..4 {
+        if !is_shown(rt, alloc, left, pick)? {
+            return Ok(false);
+        }
+    }
+    Ok(true)
+}
+
 /// Stops at a call of the journal's disk, and starts from each image that a crash then leaves. Tells whether the script
 /// came to its end before.
-fn stop_at<R: Abort + Threads + Wait + Sync>(rt: &R, alloc: Global, k: u64) -> Result<bool, Fail> {
-    let disk = StopDisk::new(disk_of(alloc, b"")?, k);
-    let stopped = start(rt, alloc, SCRIPT, disk, disk_of(alloc, b"")?)?;
-    let is_done = stopped.replies.as_slice() == REPLIES;
-    assert_eq!(rt; stopped.status, if is_done { 0 } else { 7 });
-    let journal = stopped.journal.into_disk();
-    for pick in 0..4 {
-        let image = disk_of(alloc, &journal.image(alloc, pick)?)?;
-        let backup = disk_of(alloc, &stopped.backup.image(alloc, pick)?)?;
-        let next = start(rt, alloc, b"? AUDIT\n", image, backup)?;
-        assert_eq!(rt; next.status, 0);
-        assert!(rt; may_be(&stopped.replies, &next.replies));
+fn stop_at<R: Threads + Wait + Sync>(rt: &R, alloc: Global, k: u64) -> Result<bool, Fail> {
+    let left = stopped_at(rt, alloc, k)?;
+    let is_done = left.answers.bytes() == REPLIES;
+    let is_told = left.status == if is_done { 0 } else { 7 };
+    if are_shown(rt, alloc, &left)? && is_told {
+        Ok(is_done)
+    } else {
+        Err(Fail::from("another status, or other counts"))
     }
-    Ok(is_done)
 }
 
 #[test]
 fn a_stop_leaves_what_was_answered(rt: HostRuntime) -> Result<(), Fail> {
-    let alloc = rt.alloc();
     for k in 1..100 {
-        if stop_at(&rt, alloc, k)? {
+        if stop_at(&rt, rt.alloc(), k)? {
             return Ok(());
         }
     }

@@ -28,7 +28,8 @@ pub record HasFaultCause {T : Type 0} (before now : ℕ) (result : Result T Keep
   pub quiet : UnlessFailed result (now ≡ before)
 
 -- the rows are as before, and what was allowed still is
-pub record Stays {K : Type 0} (held : K → Option Rows) (is_open : K → Type 0) (has_room : K → List Change → Type 0) (old new : K) : Type 0 where
+pub record Stays {K : Type 0} (held : K → Option Rows) (is_open : K → Type 0) (has_room : K → List Change → Type 0)
+    (old new : K) : Type 0 where
   pub rows : held new ≡ held old
   pub opened : is_open new
   pub room : (batch : List Change) → has_room old batch → has_room new batch

@@ -59,7 +59,8 @@ pub trait Keeper {
         requires opened { is_open self.old }
         requires some { 1 ≤ n }
         requires few { n ≤ 1000 }
-        ensures rows { IfOk result (λ page. IfSome (held self.old) (λ rows. page.items ≡ page_of rows table after.now n)) }
+        ensures rows { IfOk result
+            (λ page. IfSome (held self.old) (λ rows. page.items ≡ page_of rows table after.now n)) }
         ensures shape { IfOk result (λ page. IsPage after.now n page.items) }
         ensures stays { UnlessFailed result (Stays held is_open has_room self.old self.new) }
         ensures told { is_some (held self.new) ≡ is_some (held self.old) }
@@ -83,8 +84,10 @@ pub trait Keeper {
         requires room { has_room self.old batch.now }
         ensures done { OnOk result (held self.new ≡ held_after batch.now (held self.old)) }
         ensures opened { OnOk result (is_open self.new) }
-        ensures either { IfSome (held self.old) (λ rows. (left : Rows) → may_leave self.new left → IsBeforeOrAfter rows (changed batch.now rows) left) }
-        ensures both { OnErr result (IfSome (held self.old) (λ rows. AreBothLeft rows (changed batch.now rows) (may_leave self.new))) }
+        ensures either { IfSome (held self.old)
+            (λ rows. (left : Rows) → may_leave self.new left → IsBeforeOrAfter rows (changed batch.now rows) left) }
+        ensures both { OnErr result
+            (IfSome (held self.old) (λ rows. AreBothLeft rows (changed batch.now rows) (may_leave self.new))) }
         ensures told { is_some (held self.new) ≡ is_some (held self.old) }
         ensures cause { HasCause (faults self.old) (faults self.new) result };
 

@@ -26,7 +26,8 @@ not_one gate closed = elim (gate == 1) as (λ b. (gate == 1) ≡ b → b ≡ fal
   | false ↦ λ e. refl
 ] refl
 
-batches_lead : (n : ℕ) (records : List (List Change)) (s t : Rows) (byte : ℕ) (rest : List ℕ) → length records < n → Leads grammar s records t → byte ≢ 1 → rows_from n s (flat_map (opened grammar) records ++ byte ∷ rest) ≡ t
+batches_lead : (n : ℕ) (records : List (List Change)) (s t : Rows) (byte : ℕ) (rest : List ℕ) → length records < n → Leads grammar s records t → byte ≢ 1
+    → rows_from n s (flat_map (opened grammar) records ++ byte ∷ rest) ≡ t
 batches_lead zero records s t byte rest few leads closed = absurd (omega (arith, few))
 batches_lead (suc n) [] s t byte rest few leads closed = ap (λ b. cond b (after_batch (rows_from n) s (batch_at rest)) s) (not_one byte closed) ∙ leads
 batches_lead (suc n) (r ∷ rs) s t byte rest few leads closed =
@@ -39,7 +40,14 @@ batches_lead (suc n) (r ∷ rs) s t byte rest few leads closed =
 
 few_batches : (records : List (List Change)) → length records ≤ length (flat_map (opened grammar) records)
 few_batches [] = omega arith
-few_batches (r ∷ rs) = omega (arith, few_batches rs, ap (λ (b : List ℕ). length b) (flat_map-cons (opened grammar) r rs), length-append (opened grammar r) (flat_map (opened grammar) rs))
+few_batches (r ∷ rs) =
+    omega (
+      arith,
+      few_batches rs,
+      ap (λ (b : List ℕ). length b) (flat_map-cons (opened grammar) r rs),
+      length-append (opened grammar r)
+          (flat_map (opened grammar) rs),
+    )
 
 -- what bytes stand for is what is read of them
 pub read_is : (bytes : List ℕ) (rows : Rows) → Stands bytes rows → rows_in bytes ≡ rows
@@ -50,12 +58,20 @@ read_is bytes rows (inl short) = ap (λ b. cond b (rows_from (length bytes) empt
 read_is bytes rows (inr (long, (front, is_front, shut))) =
     let tail = shut.byte ∷ shut.rest in
     let records = is_front.records in
-    let behind : drop 8 bytes ≡ flat_map (opened grammar) records ++ tail = ap (λ (b : List ℕ). drop 8 b) (shut.whole ∙ ap (λ (b : List ℕ). b ++ tail) is_front.spelled) in
+    let behind : drop 8 bytes ≡ flat_map (opened grammar) records ++ tail =
+    ap (λ (b : List ℕ). drop 8 b) (shut.whole ∙ ap (λ (b : List ℕ). b ++ tail) is_front.spelled) in
     let size = ap (λ (b : List ℕ). length b) (shut.whole ∙ ap (λ (b : List ℕ). b ++ tail) is_front.spelled) in
     ap (λ b. cond b (rows_from (length bytes) empty (drop 8 bytes)) empty) (is_long (length bytes) long)
     ∙ ap (rows_from (length bytes) empty) behind
     ∙ batches_lead (length bytes) records empty rows shut.byte shut.rest
-    (omega (arith, few_batches records, size, length-append (name ++ flat_map (opened grammar) records) tail, length-append name (flat_map (opened grammar) records))) is_front.leads shut.closed where
+    (omega (
+      arith,
+      few_batches records,
+      size,
+      length-append (name ++ flat_map (opened grammar) records) tail,
+      length-append name
+          (flat_map (opened grammar) records),
+    )) is_front.leads shut.closed where
       is_long : (n : ℕ) → 9 < n → nat_lt 9 n ≡ true
       is_long n h = grind (arith, h)
 
@@ -129,7 +145,8 @@ module _ (bytes : List ℕ) (fits : IsBytes bytes) (long : IsLong bytes) where
           | Some read ↦ λ is. elim (dec_legal read.0) [
             | inl legal ↦
                 let less = shorter grammar batch_at batch_reader bytes (gate ∷ behind) s upto behind open_gate fits read.0 read.1 is in
-                scanned n read.1 (changed read.0 s) (omega (arith, few, less)) (goes_on grammar batch_at batch_reader bytes (gate ∷ behind) s upto behind open_gate fits read.0 read.1 is legal)
+                scanned n read.1 (changed read.0 s) (omega (arith, few, less))
+                (goes_on grammar batch_at batch_reader bytes (gate ∷ behind) s upto behind open_gate fits read.0 read.1 is legal)
             | inr illegal ↦ inr (_, illegal_record grammar batch_at batch_reader bytes (gate ∷ behind) s upto behind open_gate long read.0 read.1 is illegal)
           ]
         ] refl
@@ -154,7 +171,8 @@ meaning bytes fits = elim (cases_lt 9 (length bytes)) [
 ]
 
 -- a keeper over a disk that is yet to be read leaves what the images stand for
-pub fresh_left : {D : Type 0} (tells : Bool) (reads : D → List ℕ) (images : D → List ℕ → Type 0) → ((disk : D) → IsTrue tells → images disk (reads disk)) → (k : WalView D) → k.rows ≡ rows_in (reads k.since) → k.in_doubt ≡ false
+pub fresh_left : {D : Type 0} (tells : Bool) (reads : D → List ℕ) (images : D → List ℕ → Type 0) → ((disk : D) → IsTrue tells → images disk (reads disk))
+    → (k : WalView D) → k.rows ≡ rows_in (reads k.since) → k.in_doubt ≡ false
     → IsTrue tells → (rows : Rows) → Leaves tells images k rows → (c : List ℕ) × images k.since c × StandsForNoOther c rows
 fresh_left tells reads images left k is sure t rows leaves = elim (leaves t) [
   | inl image ↦ image

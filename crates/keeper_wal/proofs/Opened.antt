@@ -50,15 +50,19 @@ module _ {D : Type 0} (tells : Bool) (images : D → List ℕ → Type 0) (k : W
   nothing_left c left none rows t = let from = is t c left in inl (from.0, from.1, λ others stands. absurd (none others ((from.2 others).0 stands)))
 
   -- and those for which the bytes stand
-  pub found_left : (reads : D → List ℕ) → ((disk : D) → IsTrue tells → images disk (reads disk)) → (rows : Rows) → (IsTrue tells → Stands (reads k.disk) rows) → Leaves tells images k rows
+  pub found_left : (reads : D → List ℕ) → ((disk : D) → IsTrue tells → images disk (reads disk)) → (rows : Rows) → (IsTrue tells → Stands (reads k.disk) rows)
+      → Leaves tells images k rows
   found_left reads left rows stands t = stands_left (reads k.disk) (left k.disk t) rows (stands t) t
 
 -- an open keeper whose rows might be left leaves nothing new
-pub within : {D : Type 0} (tells : Bool) (reads : D → List ℕ) (images : D → List ℕ → Type 0) (old new : WalView D) → IsOpen tells reads images new → Leaves tells images old new.rows → IsWithin (Leaves tells images new) (Leaves tells images old)
-within tells reads images old new is found left leaves = λ t. subst (Leaves tells images old) (sym ((only_rows tells reads images new is t).alone left leaves)) found t
+pub within : {D : Type 0} (tells : Bool) (reads : D → List ℕ) (images : D → List ℕ → Type 0) (old new : WalView D) → IsOpen tells reads images new
+    → Leaves tells images old new.rows → IsWithin (Leaves tells images new) (Leaves tells images old)
+within tells reads images old new is found left leaves = λ t. subst (Leaves tells images old)
+    (sym ((only_rows tells reads images new is t).alone left leaves)) found t
 
 -- another batch may wait
-pub with_rows : {D : Type 0} (tells : Bool) (reads : D → List ℕ) (images : D → List ℕ → Type 0) {k : WalView D} → IsOpen tells reads images k → (rows made : Rows) (text : List ℕ) → rows ≡ k.rows
+pub with_rows : {D : Type 0} (tells : Bool) (reads : D → List ℕ) (images : D → List ℕ → Type 0) {k : WalView D} → IsOpen tells reads images k
+    → (rows made : Rows) (text : List ℕ) → rows ≡ k.rows
     → IsOpen tells reads images (record k { rows = rows; made = made; text = text })
 with_rows tells reads images {k = k} is rows made text same = record {
   opened = is.opened;

@@ -19,14 +19,17 @@ no_other bytes rows stands others other = one_rows bytes others rows other stand
 -- an opened journal stands for its rows
 pub opened_stands : (bytes : List ℕ) (images : List ℕ → Type 0) (gate : ℕ) (rows : Rows) → IsOpened bytes images gate rows → Stands bytes rows
 opened_stands bytes images gate rows o =
-    shut_stands grammar o.front bytes rows o.is_front (record { byte = o.at_rest.byte; rest = o.at_rest.more; whole = o.at_rest.whole; closed = o.at_rest.closed })
+    shut_stands grammar o.front bytes rows o.is_front
+    (record { byte = o.at_rest.byte; rest = o.at_rest.more; whole = o.at_rest.whole; closed = o.at_rest.closed })
 
 -- and so does each image
-pub image_stands : (bytes : List ℕ) (images : List ℕ → Type 0) (gate : ℕ) (rows : Rows) → IsOpened bytes images gate rows → (c : List ℕ) → images c → Stands c rows
+pub image_stands : (bytes : List ℕ) (images : List ℕ → Type 0) (gate : ℕ) (rows : Rows) → IsOpened bytes images gate rows → (c : List ℕ) → images c
+    → Stands c rows
 image_stands bytes images gate rows o c left = subst (λ b. Stands b rows) (sym (o.at_rest.durable c left)) (opened_stands bytes images gate rows o)
 
 -- a keeper whose journal is opened, and which remembers the disk as it is
-pub is_open : {D : Type 0} (tells : Bool) (reads : D → List ℕ) (images : D → List ℕ → Type 0) (k : WalView D) → k.is_open ≡ true → k.is_known ≡ true → k.in_doubt ≡ false → k.since ≡ k.disk → (IsTrue tells → IsReady reads images k) → IsOpen tells reads images k
+pub is_open : {D : Type 0} (tells : Bool) (reads : D → List ℕ) (images : D → List ℕ → Type 0) (k : WalView D) → k.is_open ≡ true → k.is_known ≡ true
+    → k.in_doubt ≡ false → k.since ≡ k.disk → (IsTrue tells → IsReady reads images k) → IsOpen tells reads images k
 is_open tells reads images k opened was_read sure since ready = record {
   opened = opened;
   was_read = was_read;

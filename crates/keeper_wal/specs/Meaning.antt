@@ -1,5 +1,6 @@
 -- The rows to which the batches of a journal lead, as a function of its bytes.
-use Rattle.std.specs.Prelude.{ℕ, zero, suc, List, [], ◌∷◌, length, drop, Option, Some, None, nat_lt, ◌==◌, if◌then◌else◌}
+use Rattle.std.specs.Prelude.{ℕ, zero, suc, List, [], ◌∷◌, length, drop, Option, Some, None, nat_lt, ◌==◌}
+use Rattle.std.specs.Prelude.{if◌then◌else◌}
 use Rattle.std.specs.FinMap.{empty}
 use Rattle.keeper_api.specs.Batch.{changed}
 use Rattle.keeper_api.specs.Rows.{Rows}

@@ -1,5 +1,6 @@
 -- What a keeper over a journal keeps.
-use Rattle.std.specs.Prelude.{◌≡◌, ◌⊎◌, ℕ, ◌+◌, ◌≤◌, ◌^◌, Bool, true, false, List, [], ◌∷◌, ◌++◌, length, refl, IsTrue, IfSome, Option, Some, None}
+use Rattle.std.specs.Prelude.{◌≡◌, ◌⊎◌, ℕ, ◌+◌, ◌≤◌, ◌^◌, Bool, true, false, List, [], ◌∷◌, ◌++◌, length, refl, IsTrue}
+use Rattle.std.specs.Prelude.{IfSome, Option, Some, None}
 use Rattle.std.proofs.Common.{sym, inl, inr}
 use Rattle.bk_disk.specs.Disk.{Follows}
 use Rattle.enq_base.specs.Causes.{one_more}
@@ -11,10 +12,11 @@ use Rattle.keeper_wal.specs.Journal.{StandsForNoOther, SameRows, AllStandFor}
 use Rattle.keeper_wal.specs.Opening.{IsOpened}
 use Rattle.keeper_wal.specs.Spelling.{spelling, IsRecord}
 
--- the disk, the disk as it was left by the last commit or the last opening that went well, where the closed gate stands, the
--- rows, which before the first opening are those that stand on the disk, the rows that the waiting batch would make, that batch as the journal will have it, how many calls the keeper failed
--- itself, where the journal broke as it was last read, whether it was ever opened, whether the last commit failed
--- and nothing was opened since, and whether calls are allowed
+-- the disk, the disk as it was left by the last commit or the last opening that went well, where the closed gate
+-- stands, the rows, which before the first opening are those that stand on the disk, the rows that the waiting batch
+-- would make, that batch as the journal will have it, how many calls the keeper failed itself, where the journal broke
+-- as it was last read, whether it was ever opened, whether the last commit failed and nothing was opened since, and
+-- whether calls are allowed
 pub record WalView (D : Type 0) : Type 0 where
   pub disk : D
   pub since : D
@@ -46,11 +48,12 @@ all_faults faults k = faults k.disk + k.faults
 abbrev pub IsOnHand : {D : Type 0} → WalView D → Rows → Type 0
 IsOnHand k left = (left ≡ k.rows) ⊎ (IsTrue k.in_doubt × (left ≡ k.made))
 
--- Where the disk tells what it holds, an image stands for these rows, or they are on hand. One that stands for nothing may leave
--- any rows. It is an image of the disk as the last call that went well left it, since an opening may end for want of memory
--- behind a sync, and then leaves what could be left before.
+-- Where the disk tells what it holds, an image stands for these rows, or they are on hand. One that stands for nothing
+-- may leave any rows. It is an image of the disk as the last call that went well left it, since an opening may end for
+-- want of memory behind a sync, and then leaves what could be left before.
 abbrev pub Leaves : {D : Type 0} → Bool → (D → List ℕ → Type 0) → WalView D → Rows → Type 0
-Leaves tells images k left = IsTrue tells → ((c : List ℕ) × images k.since c × StandsForNoOther c left) ⊎ IsOnHand k left
+Leaves tells images k left = IsTrue tells → ((c : List ℕ) × images k.since c × StandsForNoOther c left)
+    ⊎ IsOnHand k left
 
 -- each image stands for what one of the remembered disk stands for
 abbrev pub IsRemembered : {D : Type 0} → Bool → (D → List ℕ → Type 0) → D → D → Type 0
@@ -61,7 +64,8 @@ abbrev pub IsReady : {D : Type 0} → (D → List ℕ) → (D → List ℕ → T
 IsReady reads images k = IsOpened (reads k.disk) (images k.disk) k.gate k.rows
 
 -- calls are allowed, and each image stands for the rows
-pub record IsOpen {D : Type 0} (tells : Bool) (reads : D → List ℕ) (images : D → List ℕ → Type 0) (k : WalView D) : Type 0 where
+pub record IsOpen {D : Type 0} (tells : Bool) (reads : D → List ℕ) (images : D → List ℕ → Type 0)
+    (k : WalView D) : Type 0 where
   pub opened : k.is_open ≡ true
   pub was_read : k.is_known ≡ true
   pub sure : k.in_doubt ≡ false
@@ -78,7 +82,8 @@ not_sure true e h = cc
 not_sure false e h = cc
 
 -- a crash leaves the rows of an open keeper and no others
-pub only_rows : {D : Type 0} (tells : Bool) (reads : D → List ℕ) (images : D → List ℕ → Type 0) (k : WalView D) → IsOpen tells reads images k → IsTrue tells → IsOnly k.rows (Leaves tells images k)
+pub only_rows : {D : Type 0} (tells : Bool) (reads : D → List ℕ) (images : D → List ℕ → Type 0) (k : WalView D)
+    → IsOpen tells reads images k → IsTrue tells → IsOnly k.rows (Leaves tells images k)
 only_rows tells reads images k is t = record {
   itself = λ t. inr (inl refl);
   alone = λ left leaves. elim (leaves t) [
@@ -88,10 +93,13 @@ only_rows tells reads images k is t = record {
   ];
 }
 
-pub settled_rows : {D : Type 0} (tells : Bool) (reads : D → List ℕ) (images : D → List ℕ → Type 0) (k : WalView D) → IsOpen tells reads images k → IfSome (told tells k.rows) (λ rows. IsOnly rows (Leaves tells images k))
-settled_rows tells reads images k is = if_told tells k.rows (λ rows. IsOnly rows (Leaves tells images k)) (only_rows tells reads images k is)
+pub settled_rows : {D : Type 0} (tells : Bool) (reads : D → List ℕ) (images : D → List ℕ → Type 0) (k : WalView D)
+    → IsOpen tells reads images k → IfSome (told tells k.rows) (λ rows. IsOnly rows (Leaves tells images k))
+settled_rows tells reads images k is = if_told tells k.rows (λ rows. IsOnly rows (Leaves tells images k))
+    (only_rows tells reads images k is)
 
-pub held_rows_left : {D : Type 0} (tells : Bool) (images : D → List ℕ → Type 0) (k : WalView D) → IfSome (told tells k.rows) (λ rows. Leaves tells images k rows)
+pub held_rows_left : {D : Type 0} (tells : Bool) (images : D → List ℕ → Type 0) (k : WalView D)
+    → IfSome (told tells k.rows) (λ rows. Leaves tells images k rows)
 held_rows_left tells images k = if_told tells k.rows (λ rows. Leaves tells images k rows) (λ told t. inr (inl refl))
 
 -- an open gate, the batch and a closed gate; nothing for a batch without changes

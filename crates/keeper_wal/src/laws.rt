@@ -18,8 +18,8 @@ pub fn one_meaning()
     ensures not_both { (bytes : List ℕ) (rows : Rows) (at : ℕ) → Stands bytes rows → IsBad bytes at → ⊥ }
 {}
 
-/// What an image of the journal stands for is among the rows that the keeper may leave, and where one breaks any rows are.
-/// So whatever is said of all rows that may be left is said of each image.
+/// What an image of the journal stands for is among the rows that the keeper may leave, and where one breaks any rows
+/// are. So whatever is said of all rows that may be left is said of each image.
 pub fn images_tell<D: Disk>(keeper: &WalKeeper<D>)
     ensures stands { (image : List ℕ) → D.may_leave keeper.now.disk image
         → (rows : Rows) → Stands image rows → Leaves D.tells D.may_leave keeper.now rows }

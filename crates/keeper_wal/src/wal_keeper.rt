@@ -213,7 +213,8 @@ impl<D: Disk> WalKeeper<D> {
         ensures added { IsTrue D.tells → (front body : List ℕ)
             → IsAtRest (D.reads self.old.disk) (D.may_leave self.old.disk) self.old.gate front
             → self.old.text ≡ 1 ∷ (body ++ 0 ∷ [])
-            → OnOk result (IsAtRest (D.reads self.new.disk) (D.may_leave self.new.disk) self.new.gate (front ++ 1 ∷ body)) }
+            → OnOk result (IsAtRest (D.reads self.new.disk) (D.may_leave self.new.disk) self.new.gate
+            (front ++ 1 ∷ body)) }
         ensures images { IsTrue D.tells → (front body : List ℕ)
             → IsAtRest (D.reads self.old.disk) (D.may_leave self.old.disk) self.old.gate front
             → self.old.text ≡ 1 ∷ (body ++ 0 ∷ [])
@@ -365,7 +366,8 @@ impl<D: Disk> Keeper for WalKeeper<D> {
         ensures told { is_some (told D.tells self.new.rows) ≡ is_some (told D.tells self.old.rows) }
         ensures cause { HasCause (all_faults D.faults self.old) (all_faults D.faults self.new) result }
 
-        // Each image stands for the rows before or those after the batch, and where all went well for those after alone.
+        // Each image stands for the rows before or those after the batch, and where all went well for those after
+        // alone.
         ensures images { IsTrue D.tells → (c : List ℕ) → D.may_leave self.new.disk c
             → Stands c self.old.rows ⊎ Stands c (changed _batch.now self.old.rows) }
         ensures alone { IsTrue D.tells → OnOk result (AllStandFor self.new.rows (D.may_leave self.new.disk)) }

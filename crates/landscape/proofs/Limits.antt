@@ -83,7 +83,8 @@ turns_if : {A : Type 0} (read : List A → Data → Result A ℕ) (P : List A �
     → (front : List A) (ds : List Data) → P front → MatchResult (in_turn read front ds) P IsOfDocument
 unfolding in_turn
 turns_if read P each front [] h = h
-turns_if {A} read P each front (d ∷ ds) h = by_first (read front d) (each front d h) (λ (x : A) (k : P (front ++ x ∷ [])). turns_if read P each (front ++ x ∷ []) ds k)
+turns_if {A} read P each front (d ∷ ds) h = by_first (read front d) (each front d h)
+    (λ (x : A) (k : P (front ++ x ∷ [])). turns_if read P each (front ++ x ∷ []) ds k)
   where
     by_first : (r : Result A ℕ) → MatchResult r (λ x. P (front ++ x ∷ [])) (λ r. r < 15)
         → ((x : A) → P (front ++ x ∷ []) → MatchResult (in_turn read (front ++ x ∷ []) ds) P IsOfDocument)
@@ -131,7 +132,8 @@ bounds_if s =
 
 amounts_if : (s : RangeShape) → IfSome (amounts_of s) AreAmounts
 unfolding amounts_of
-amounts_if s = bind_all _ _ (number_within 0 1000000 s.buffer) (λ buffer. bind_if _ _ (number_within 0 99 s.percent) (within_if 0 99 s.percent) (λ percent h. h))
+amounts_if s = bind_all _ _ (number_within 0 1000000 s.buffer)
+    (λ buffer. bind_if _ _ (number_within 0 99 s.percent) (within_if 0 99 s.percent) (λ percent h. h))
 
 -- a range behind those before it
 pub record IsRangeBehind (earlier : List Interval) (i : Interval) : Type 0 where
@@ -150,7 +152,8 @@ interval_from name bounds amounts =
       percent = amounts.1;
     }
 
-range_from : (name : List ℕ × List ℕ) (bounds amounts : ℕ × ℕ) → IsNamed name → AreBounds bounds → AreAmounts amounts → IsRange (interval_from name bounds amounts)
+range_from : (name : List ℕ × List ℕ) (bounds amounts : ℕ × ℕ) → IsNamed name → AreBounds bounds → AreAmounts amounts
+    → IsRange (interval_from name bounds amounts)
 range_from name bounds amounts n b a =
     let names = and_parts _ _ n in
     let ends = and_parts (nat_le 1 bounds.0 && nat_le bounds.0 bounds.1) (nat_le bounds.1 999999999999999999) b in
@@ -198,7 +201,8 @@ names_behind : (is : List Interval) (i : Interval) → HaveOwnNames is → list_
 names_behind [] i h e = (refl, tt)
 names_behind (j ∷ is) i h e =
     let parts = either_false (is_named i.object i.nr j) (list_any (is_named i.object i.nr) is) e in (
-      list_any-append (is_named j.object j.nr) is (i ∷ []) ∙ ap (λ b. b || (is_named j.object j.nr i || false)) h.0 ∙ ap (λ b. b || false) (named_alike i j parts.0),
+      list_any-append (is_named j.object j.nr) is (i ∷ []) ∙ ap (λ b. b || (is_named j.object j.nr i || false)) h.0
+          ∙ ap (λ b. b || false) (named_alike i j parts.0),
       names_behind is i h.1 parts.1,
     )
 
@@ -208,7 +212,8 @@ ranges_behind earlier i h b = record { each = all_behind IsRange earlier i h.eac
 ranges_if : (ds : List Data) → MatchResult (ranges_of ds) AreRanges IsOfDocument
 ranges_if ds = turns_if range_of AreRanges behind [] ds (record { each = tt; apart = tt })
   where
-    turned : (front : List Interval) → AreRanges front → (r : Result Interval ℕ) → MatchResult r (IsRangeBehind front) (λ r. r < 15) → MatchResult r (λ i. AreRanges (front ++ i ∷ [])) (λ r. r < 15)
+    turned : (front : List Interval) → AreRanges front → (r : Result Interval ℕ) → MatchResult r (IsRangeBehind front) (λ r. r < 15)
+        → MatchResult r (λ i. AreRanges (front ++ i ∷ [])) (λ r. r < 15)
     turned front h (Ok i) k = ranges_behind front i h k
     turned front h (Err rule) k = k
 
@@ -238,8 +243,10 @@ landscape_in_if top =
     let object_items : List Data = listed (items_at (codes "object") top) in
     let range_items : List Data = listed (items_at (codes "range") top) in
     cond_if (is_top top) _ _ HasLimits IsOfDocument (λ _.
-    then_if (λ n. n ≤ 100000) HasLimits IsOfDocument (at_top 4 locks_at) _ (at_top_if (λ n. n ≤ 100000) 4 locks_at (omega arith) (limit_if 100000 (get_member (codes "max_locks") top))) (λ max_locks locks.
-    then_if (λ n. n ≤ 1048576) HasLimits IsOfDocument (at_top 5 marks_at) _ (at_top_if (λ n. n ≤ 1048576) 5 marks_at (omega arith) (limit_if 1048576 (get_member (codes "max_marks") top))) (λ max_marks marks.
+    then_if (λ n. n ≤ 100000) HasLimits IsOfDocument (at_top 4 locks_at) _
+    (at_top_if (λ n. n ≤ 100000) 4 locks_at (omega arith) (limit_if 100000 (get_member (codes "max_locks") top))) (λ max_locks locks.
+    then_if (λ n. n ≤ 1048576) HasLimits IsOfDocument (at_top 5 marks_at) _
+    (at_top_if (λ n. n ≤ 1048576) 5 marks_at (omega arith) (limit_if 1048576 (get_member (codes "max_marks") top))) (λ max_marks marks.
     then_if (λ _. Unit {0}) HasLimits IsOfDocument (objects_of object_items) _ (objects_rule object_items) (λ objects _.
     then_if AreRanges HasLimits IsOfDocument (ranges_of range_items) _ (ranges_if range_items) (λ ranges good.
     within max_locks max_marks objects ranges locks marks good))))) (λ _. omega arith)

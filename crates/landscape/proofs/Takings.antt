@@ -7,7 +7,8 @@ use Rattle.landscape.specs.Reading.{IsAll, IsMore, TakesAll, TakesMore}
 use Rattle.landscape.specs.declared.land_fault.LandFault.{LandFault}
 use Rattle.landscape.specs.declared.land_fault.LandFault.TheVariants as fault
 
-same_fault : (left : Option (List ℕ)) (start before now : ℕ) (old new more taken : List ℕ) (f : LandFault) → before ≡ start → IsMore left before now old new more (Err f) → IsAll left start now taken (Err f)
+same_fault : (left : Option (List ℕ)) (start before now : ℕ) (old new more taken : List ℕ) (f : LandFault) → before ≡ start
+    → IsMore left before now old new more (Err f) → IsAll left start now taken (Err f)
 same_fault left start before now old new more taken (fault.Bad r p) e h = h
 same_fault left start before now old new more taken fault.Failed e h = subst (λ b. Rose b now) e h
 same_fault left start before now old new more taken fault.NoMemory e h = h ∙ e

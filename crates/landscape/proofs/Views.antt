@@ -27,6 +27,7 @@ all_map p (v ∷ vs) = ap (λ b. p (view v) && b) (all_map p vs)
 pub next : (vs : List Value) (i : ℕ) (v : Value) → i < length vs → v ≡ get_or vs i v → map view (drop i vs) ≡ view v ∷ map view (drop (i + 1) vs)
 next vs i v h e = ap (map view) (drop_more vs i v h) ∙ ap (λ x. view x ∷ map view (drop (i + 1) vs)) (sym e)
 
-pub all_keys : (p : List ℕ → Bool) (es : List (String Global × Value)) → list_all p (keys_of (members_view es)) ≡ list_all (λ k. p (string_bytes k)) (map (λ e. e.0) es)
+pub all_keys : (p : List ℕ → Bool) (es : List (String Global × Value)) → list_all p (keys_of (members_view es)) ≡ list_all (λ k. p (string_bytes k))
+    (map (λ e. e.0) es)
 all_keys p [] = refl
 all_keys p (e ∷ es) = ap (λ b. p (string_bytes e.0) && b) (all_keys p es)

@@ -13,7 +13,8 @@ pub bind_all : {A B : Type 0} (f : A → Option B) (P : B → Type 0) (o : Optio
 bind_all f P None h = tt
 bind_all f P (Some x) h = h x
 
-pub bind_if : {A B : Type 0} {Q : A → Type 0} (f : A → Option B) (P : B → Type 0) (o : Option A) → IfSome o Q → ((x : A) → Q x → IfSome (f x) P) → IfSome (o >>= f) P
+pub bind_if : {A B : Type 0} {Q : A → Type 0} (f : A → Option B) (P : B → Type 0) (o : Option A) → IfSome o Q → ((x : A) → Q x → IfSome (f x) P)
+    → IfSome (o >>= f) P
 bind_if f P None q h = tt
 bind_if f P (Some x) q h = h x q
 

@@ -23,7 +23,8 @@ IsAnswer left before now taken (Err Failed) = Rose before now
 IsAnswer left before now taken (Err NoMemory) = now ≡ before
 
 -- at most one byte more than a document may have was taken, and the answer is that of the bytes taken
-pub record ReadsLandscape (left_before left_after : Option (List ℕ)) (before now : ℕ) (result : Result Landscape LandFault) : Type 0 where
+pub record ReadsLandscape (left_before left_after : Option (List ℕ)) (before now : ℕ)
+    (result : Result Landscape LandFault) : Type 0 where
   pub taken : List ℕ
   pub consumed : Consumes left_before left_after taken
   pub most : length taken ≤ 1048577
@@ -46,7 +47,8 @@ IsMore left before now old new more (Err (Bad rule place)) = ⊥
 IsMore left before now old new more (Err Failed) = Rose before now
 IsMore left before now old new more (Err NoMemory) = now ≡ before
 
-pub record TakesMore (left_before left_after : Option (List ℕ)) (before now room : ℕ) (old new : List ℕ) (result : Result ℕ LandFault) : Type 0 where
+pub record TakesMore (left_before left_after : Option (List ℕ)) (before now room : ℕ) (old new : List ℕ)
+    (result : Result ℕ LandFault) : Type 0 where
   pub more : List ℕ
   pub consumed : Consumes left_before left_after more
   pub fits : length more ≤ room
@@ -59,7 +61,8 @@ IsAll left before now taken (Err (Bad rule place)) = ⊥
 IsAll left before now taken (Err Failed) = Rose before now
 IsAll left before now taken (Err NoMemory) = now ≡ before
 
-pub record TakesAll (left_before left_after : Option (List ℕ)) (before now : ℕ) (result : Result (Vec ℕ) LandFault) : Type 0 where
+pub record TakesAll (left_before left_after : Option (List ℕ)) (before now : ℕ)
+    (result : Result (Vec ℕ) LandFault) : Type 0 where
   pub taken : List ℕ
   pub consumed : Consumes left_before left_after taken
   pub most : length taken ≤ 1048577

@@ -1,6 +1,8 @@
 -- What stands at the keys of a table.
-use Rattle.std.specs.Prelude.{ℕ, suc, ◌&&◌, nat_eq, nat_le, ℤ, pos, negsuc, List, [], ◌∷◌, if◌then◌else◌, Option, Some, None, option_and_then, option_map}
-use Rattle.toml.specs.Data.{Data, Items, no_items, item, Members, no_members, member, get_member, as_str, as_integer, as_array, as_table}
+use Rattle.std.specs.Prelude.{ℕ, suc, ◌&&◌, nat_eq, nat_le, ℤ, pos, negsuc, List, [], ◌∷◌, if◌then◌else◌, Option, Some}
+use Rattle.std.specs.Prelude.{None, option_and_then, option_map}
+use Rattle.toml.specs.Data.{Data, Items, no_items, item, Members, no_members, member, get_member, as_str, as_integer}
+use Rattle.toml.specs.Data.{as_array, as_table}
 use Rattle.enq_base.specs.Grammar.{is_name}
 use Rattle.enq_base.specs.Number.{◌>>=◌}
 

@@ -100,13 +100,15 @@ told is_kind has gains units key before (m ∷ marks) h known is =
           let follows : may_follow s m.kind ≡ true = subst (λ k. may_follow (status_of units before k) m.kind ≡ true) (one_unit m.unit key same) h.0 in
           let now : status_of units (before ++ m ∷ []) key ≡ given b m.kind s = push ∙ ap (λ t. if t then given b m.kind s else s) same in
           let here : p m ≡ is_kind m.kind = ap (λ t. is_kind m.kind && t) same ∙ and_true (is_kind m.kind) in
-          ap (λ t. list_any p before || t) here ∙ by_or (is_kind m.kind) (has s) (list_any p before) (gains s m.kind follows b (subst (λ o. has o ≡ true) now has_now)) known
+          ap (λ t. list_any p before || t) here ∙ by_or (is_kind m.kind) (has s) (list_any p before)
+          (gains s m.kind follows b (subst (λ o. has o ≡ true) now has_now)) known
       | false ↦ λ same.
           let now : status_of units (before ++ m ∷ []) key ≡ s = push ∙ ap (λ t. if t then given b m.kind s else s) same in
           or_left (p m) (list_any p before) (known (subst (λ o. has o ≡ true) now has_now))
     ] refl
     ) in
-    subst (λ ms. list_any p ms ≡ true) e (told is_kind has gains units key (before ++ m ∷ []) marks h.1 one_more (subst (λ ms. has (status_of units ms key) ≡ true) (sym e) is))
+    subst (λ ms. list_any p ms ≡ true) e
+    (told is_kind has gains units key (before ++ m ∷ []) marks h.1 one_more (subst (λ ms. has (status_of units ms key) ≡ true) (sym e) is))
 
 -- the marks before one are legal, and it may follow them
 legal_at : (units : List UnitOfWork) (before earlier : List Mark) (m : Mark) (later : List Mark) → IsLegalAfter units before (earlier ++ m ∷ later)

@@ -101,7 +101,8 @@ and_false : (b : Bool) → (b && false) ≡ false
 and_false true = refl
 and_false false = refl
 
-counted : (is_kind : MarkKind → Bool) (may : Option Status → Bool) → ((s : Option Status) (kind : MarkKind) → may_follow s kind ≡ true → Spends is_kind may s kind)
+counted : (is_kind : MarkKind → Bool) (may : Option Status → Bool)
+    → ((s : Option Status) (kind : MarkKind) → may_follow s kind ≡ true → Spends is_kind may s kind)
     → (units : List UnitOfWork) (key : UnitKey) (before marks : List Mark) → IsLegalAfter units before marks
     → count_by (tells is_kind key) marks ≤ bit (may (status_of units before key))
 counted is_kind may spends units key before [] h = omega arith
@@ -116,7 +117,8 @@ counted is_kind may spends units key before (m ∷ marks) h =
           let now : status_of units (before ++ m ∷ []) key ≡ given b m.kind s = push ∙ ap (λ t. if t then given b m.kind s else s) is in
           let one : tells is_kind key m ≡ is_kind m.kind = ap (λ t. is_kind m.kind && t) is ∙ and_true (is_kind m.kind) in
           let step : bit (is_kind m.kind) + bit (may (given b m.kind s)) ≤ bit (may s) = spends s m.kind follows b in
-          let tail : count_by (tells is_kind key) marks ≤ bit (may (given b m.kind s)) = subst (λ o. count_by (tells is_kind key) marks ≤ bit (may o)) now rest in
+          let tail : count_by (tells is_kind key) marks ≤ bit (may (given b m.kind s)) =
+          subst (λ o. count_by (tells is_kind key) marks ≤ bit (may o)) now rest in
           let head : count_by (tells is_kind key) (m ∷ marks) ≡ bit (is_kind m.kind) + count_by (tells is_kind key) marks =
           count_cons (tells is_kind key) m marks ∙ ap (λ t. bit t + count_by (tells is_kind key) marks) one in
           omega (arith, step, tail, head)

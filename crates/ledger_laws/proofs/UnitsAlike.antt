@@ -81,7 +81,8 @@ locks_there unit r h table =
 
 -- ---- what the records tell of effects and of locks
 
-steps_numbered : (key : UnitKey) (part index : ℕ) (effects : List Effect) → map index_in (steps_of key part index effects) ≡ range_with_len index (length effects)
+steps_numbered : (key : UnitKey) (part index : ℕ) (effects : List Effect)
+    → map index_in (steps_of key part index effects) ≡ range_with_len index (length effects)
 steps_numbered key part index [] = refl
 steps_numbered key part index (e ∷ effects) = ap (λ (ns : List ℕ). index ∷ ns) (steps_numbered key part (index + 1) effects)
 
@@ -174,7 +175,8 @@ module _ (u v : UnitOfWork) (is_u : IsUnit u) (is_v : IsUnit v) (key : u.key ≡
       same_entries u v key users 1 u.entries v.entries
       (recursion_from_All (IsEntryOf u) u.entries is_u.entries)
       (recursion_from_All (IsEntryOf v) v.entries is_v.entries)
-      (same_numbered index_in xs ys 1 (length u.entries) (locks_numbered u.key 1 u.entries) (locks_numbered v.key 1 v.entries ∙ ap (range_with_len 1) long) there)
+      (same_numbered index_in xs ys 1 (length u.entries) (locks_numbered u.key 1 u.entries)
+      (locks_numbered v.key 1 v.entries ∙ ap (range_with_len 1) long) there)
 
   pub unit_alike : u ≡ v
   unit_alike = λ i. record {

@@ -53,8 +53,8 @@ pub record AreInTurn (marks : List Mark) : Type 0 where
   pub recorded : ComesBehind posts_v1 records marks
   pub v1 : ComesBehind posts_v2 posts_v1 marks
 
--- each part is posted at most once, and behind what it stands on; a posted part was applied whole, and a refused one left
--- nothing; no committed number repeats
+-- each part is posted at most once, and behind what it stands on; a posted part was applied whole, and a refused one
+-- left nothing; no committed number repeats
 pub record AreBooksRight (ledger : Ledger) : Type 0 where
   pub once : IsEachOnce ledger.marks
   pub turn : AreInTurn ledger.marks

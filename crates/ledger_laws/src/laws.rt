@@ -6,8 +6,9 @@ ghost use Rattle.update_records.specs.Marks.{IsLegal};
 ghost use Rattle.update_records.specs.declared.records.Mark.{Mark};
 ghost use Rattle.update_records.specs.declared.records.Unit.{Unit as UnitOfWork};
 
-/// In legal marks no unit is recorded twice and no part of one posted twice, and each comes behind what it stands on. So in
-/// a store that stands for a ledger each posted part counts once, and the business rows are what the posted parts made.
+/// In legal marks no unit is recorded twice and no part of one posted twice, and each comes behind what it stands on.
+/// So in a store that stands for a ledger each posted part counts once, and the business rows are what the posted parts
+/// made.
 pub fn lawful_books_are_right()
     ensures once { (units : List UnitOfWork) (marks : List Mark) → IsLegal units marks → IsEachOnce marks }
     ensures turn { (units : List UnitOfWork) (marks : List Mark) → IsLegal units marks → AreInTurn marks }

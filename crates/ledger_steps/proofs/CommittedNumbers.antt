@@ -15,7 +15,8 @@ use Rattle.update_records.proofs.Status.{NoneOf, unit_other, flip, unit_new}
 
 other_numbers : (units : List UnitOfWork) (u : UnitOfWork) (seq : ℕ) (key : UnitKey) (kind : MarkKind) → (same_unit key u.key && not (draws_alone kind)) ≡ false
     → numbers_in (units ++ u ∷ []) (record { seq = seq; unit = key; kind = kind }) ≡ numbers_in units (record { seq = seq; unit = key; kind = kind })
-other_numbers units u seq key Rec h = ap (λ o. option_map_or (λ (x : UnitOfWork). x.numbers) o []) (unit_other units u key (flip u.key key (plain (same_unit key u.key) h)))
+other_numbers units u seq key Rec h = ap (λ o. option_map_or (λ (x : UnitOfWork). x.numbers) o [])
+    (unit_other units u key (flip u.key key (plain (same_unit key u.key) h)))
 other_numbers units u seq key V1 h = refl
 other_numbers units u seq key V2 h = refl
 other_numbers units u seq key (Num numbers) h = refl
@@ -25,16 +26,20 @@ other_numbers units u seq key Again1 h = refl
 other_numbers units u seq key Again2 h = refl
 other_numbers units u seq key Gone h = refl
 
-pub numbers_grow : (units : List UnitOfWork) (u : UnitOfWork) (marks : List Mark) → NoneOf u.key marks → numbers_of (units ++ u ∷ []) marks ≡ numbers_of units marks
+pub numbers_grow : (units : List UnitOfWork) (u : UnitOfWork) (marks : List Mark) → NoneOf u.key marks
+    → numbers_of (units ++ u ∷ []) marks ≡ numbers_of units marks
 numbers_grow units u [] none = refl
-numbers_grow units u (m ∷ marks) none = ap (λ n. n ++ numbers_of (units ++ u ∷ []) marks) (other_numbers units u m.seq m.unit m.kind none.0) ∙ ap (λ r. numbers_in units m ++ r) (numbers_grow units u marks none.1)
+numbers_grow units u (m ∷ marks) none = ap (λ n. n ++ numbers_of (units ++ u ∷ []) marks) (other_numbers units u m.seq m.unit m.kind none.0)
+    ∙ ap (λ r. numbers_in units m ++ r) (numbers_grow units u marks none.1)
 
 pub numbers_push : (units : List UnitOfWork) (marks : List Mark) (m : Mark) → numbers_of units (marks ++ m ∷ []) ≡ numbers_of units marks ++ numbers_in units m
 numbers_push units [] m = append-nil (numbers_in units m)
-numbers_push units (x ∷ marks) m = ap (λ r. numbers_in units x ++ r) (numbers_push units marks m) ∙ sym (append_assoc (numbers_in units x) (numbers_of units marks) (numbers_in units m))
+numbers_push units (x ∷ marks) m = ap (λ r. numbers_in units x ++ r) (numbers_push units marks m)
+    ∙ sym (append_assoc (numbers_in units x) (numbers_of units marks) (numbers_in units m))
 
 -- a mark that draws nothing leaves the numbers
-pub numbers_same : (units : List UnitOfWork) (marks : List Mark) (m : Mark) → numbers_in units m ≡ [] → numbers_of units (marks ++ m ∷ []) ≡ numbers_of units marks
+pub numbers_same : (units : List UnitOfWork) (marks : List Mark) (m : Mark) → numbers_in units m ≡ []
+    → numbers_of units (marks ++ m ∷ []) ≡ numbers_of units marks
 numbers_same units marks m h = numbers_push units marks m ∙ ap (λ n. numbers_of units marks ++ n) h ∙ append-nil (numbers_of units marks)
 
 -- a unit's numbers come last when it is recorded
@@ -45,7 +50,8 @@ numbers_recorded units unit marks seq none absent =
     ∙ ap (λ n. n ++ numbers_in (units ++ unit ∷ []) (record { seq = seq; unit = unit.key; kind = Rec })) (numbers_grow units unit marks none)
     ∙ ap (λ o. numbers_of units marks ++ option_map_or (λ (x : UnitOfWork). x.numbers) o []) (unit_new units unit absent)
 
-pub draws_nothing : (units : List UnitOfWork) (seq : ℕ) (key : UnitKey) (kind : MarkKind) → draws_alone kind ≡ false → (kind ≡ Rec → ⊥) → numbers_in units (record { seq = seq; unit = key; kind = kind }) ≡ []
+pub draws_nothing : (units : List UnitOfWork) (seq : ℕ) (key : UnitKey) (kind : MarkKind) → draws_alone kind ≡ false → (kind ≡ Rec → ⊥)
+    → numbers_in units (record { seq = seq; unit = key; kind = kind }) ≡ []
 draws_nothing units seq key (Num numbers) h k = cc
 draws_nothing units seq key Rec h k = absurd (k refl)
 draws_nothing units seq key V1 h k = refl

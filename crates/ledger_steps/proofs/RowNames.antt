@@ -43,4 +43,6 @@ pub first_called : (name : RowName) (items : List StoredInterval) → find row_c
 first_called name [] = refl
 first_called name (j ∷ items) =
     ap (λ b. cond b (Some (level_of j)) (find row_cmp name (map entry_of items))) (sym (called_row name (named j)))
-    ∙ elim (is_called name j) as (λ b. cond b (Some (level_of j)) (find row_cmp name (map entry_of items)) ≡ option_map level_of (cond b (Some j) (first (is_called name) items))) [ true ↦ refl | false ↦ first_called name items ]
+    ∙ elim (is_called name j)
+    as (λ b. cond b (Some (level_of j)) (find row_cmp name (map entry_of items)) ≡ option_map level_of (cond b (Some j) (first (is_called name) items)))
+    [ true ↦ refl | false ↦ first_called name items ]

@@ -1,5 +1,7 @@
--- Numbers that sessions have drawn from intervals, beside those that are committed. The draws of each session are one list.
-use Rattle.std.specs.Prelude.{◌≡◌, ◌≤◌, ◌<◌, ◌+◌, Contains, IsSomeAnd, IsTrue, ℕ, Bool, true, false, not, ◌&&◌, nat_eq, nat_lt, List, count_by, fold, map, max, sum_by, if◌then◌else◌}
+-- Numbers that sessions have drawn from intervals, beside those that are committed. The draws of each session are one
+-- list.
+use Rattle.std.specs.Prelude.{◌≡◌, ◌≤◌, ◌<◌, ◌+◌, Contains, IsSomeAnd, IsTrue, ℕ, Bool, true, false, not, ◌&&◌, nat_eq}
+use Rattle.std.specs.Prelude.{nat_lt, List, count_by, fold, map, max, sum_by, if◌then◌else◌}
 use Rattle.std.specs.List.{AllByRecursion, filter, find, list_any, range_with_len}
 use Rattle.enq_base.specs.declared.unit.Num.{Num}
 use Rattle.number_ranges.specs.Intervals.{is_buffered, is_named, with_level}
@@ -62,7 +64,8 @@ IsDrawnAs false i next draws committed = IsDrawnPlain i draws
 IsDrawnAs true i next draws committed = IsDrawnBuffered i next draws committed
 
 abbrev pub IsDrawnRight : Levels → List (List Num) → List Num → NumberRange → Type 0
-IsDrawnRight levels draws committed r = IsDrawnAs (is_buffered r.interval) (present levels r.interval) r.next draws committed
+IsDrawnRight levels draws committed r = IsDrawnAs (is_buffered r.interval)
+    (present levels r.interval) r.next draws committed
 
 -- the number is of one of the intervals
 abbrev pub IsOfOne : List Interval → Num → Type 0
@@ -72,7 +75,8 @@ abbrev pub AreOfOne : List Interval → List Num → Type 0
 AreOfOne intervals nums = AllByRecursion (IsOfOne intervals) nums
 
 -- what sessions have drawn is right, over intervals of a landscape that the stored levels fit
-pub record AreDrawnRight (ranges : List NumberRange) (levels : Levels) (draws : List (List Num)) (committed : List Num) : Type 0 where
+pub record AreDrawnRight (ranges : List NumberRange) (levels : Levels) (draws : List (List Num))
+    (committed : List Num) : Type 0 where
   pub intervals : AreIntervals (intervals_of ranges)
   pub fit : FitLevels (intervals_of ranges) levels
   pub each : AllByRecursion (IsDrawnRight levels draws committed) ranges
@@ -102,14 +106,17 @@ pub record IsUpToLevel (levels : Levels) (number : ℕ) (i : Interval) : Type 0 
   pub last : number ≤ level_in levels i
 
 abbrev pub IsReserved : List Interval → Levels → Num → Type 0
-IsReserved intervals levels num = IsSomeAnd (find (is_named num.object num.nr) intervals) (IsUpToLevel levels num.number)
+IsReserved intervals levels num = IsSomeAnd (find (is_named num.object num.nr) intervals)
+    (IsUpToLevel levels num.number)
 
 -- Numbers of a stock that may be committed: each is reserved, none stands among them twice, none is committed, and no
 -- session has drawn one of them.
-pub record IsStock (intervals : List Interval) (levels : Levels) (draws : List (List Num)) (committed : List Num) (stock : List Num) : Type 0 where
+pub record IsStock (intervals : List Interval) (levels : Levels) (draws : List (List Num)) (committed : List Num)
+    (stock : List Num) : Type 0 where
   pub reserved : AllByRecursion (IsReserved intervals levels) stock
   pub once : (i : Interval) → Contains intervals i → (number : ℕ) → times i number stock ≤ 1
-  pub fresh : (i : Interval) → Contains intervals i → (number : ℕ) → 1 ≤ times i number stock → times_given i draws committed number ≡ 0
+  pub fresh : (i : Interval) → Contains intervals i → (number : ℕ) → 1 ≤ times i number stock
+      → times_given i draws committed number ≡ 0
 
 -- ---- rows that are written
 
@@ -126,8 +133,9 @@ is_settled_by nums i = not (is_buffered i) && has_drawn i nums
 abbrev pub with_level_behind : List Num → Interval → Interval
 with_level_behind nums i = with_level (i.level + drawn_of i nums) i
 
--- The rows of the intervals without a buffer, their levels at the last of these numbers. The level of a buffered one was
--- raised when the number was drawn.
+-- The rows of the intervals without a buffer, their levels at the last of these numbers. The level of a buffered one
+-- was raised when the number was drawn.
 abbrev pub settled_rows : Levels → List NumberRange → List Num → List StoredInterval
 settled_rows levels ranges nums =
-    map (λ i. stored_as (with_level_behind nums i)) (filter (is_settled_by nums) (map (present levels) (intervals_of ranges)))
+    map (λ i. stored_as (with_level_behind nums i))
+    (filter (is_settled_by nums) (map (present levels) (intervals_of ranges)))

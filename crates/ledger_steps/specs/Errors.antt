@@ -7,7 +7,8 @@ use Rattle.update_records.specs.declared.records.Mark.{Mark}
 use Rattle.update_records.specs.declared.records.MarkKind.{MarkKind}
 use Rattle.update_records.specs.declared.records.MarkKind.TheVariants.{Num, Bad1, Bad2}
 
--- the refusal that a mark tells, by the one before it: the effect's number and the reason; numbers alone tell nothing new
+-- the refusal that a mark tells, by the one before it: the effect's number and the reason; numbers alone tell nothing
+-- new
 abbrev pub told : MarkKind → Option (ℕ × Reason) → Option (ℕ × Reason)
 told (Num numbers) before = before
 told (Bad1 index reason) before = Some (index, reason)

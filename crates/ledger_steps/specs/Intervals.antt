@@ -17,7 +17,8 @@ use Rattle.update_records.specs.declared.records.Mark.{Mark}
 use Rattle.update_records.specs.declared.stored.StoredInterval.{StoredInterval}
 
 abbrev pub interval_of_entry : RowName × Level → StoredInterval
-interval_of_entry e = record { object = e.0.0; nr = e.0.1; from = e.1.from; to = e.1.to; level = e.1.level; buffered = e.1.buffered }
+interval_of_entry e =
+    record { object = e.0.0; nr = e.0.1; from = e.1.from; to = e.1.to; level = e.1.level; buffered = e.1.buffered }
 
 -- each put under its name, in order
 abbrev pub with_levels : List StoredInterval → Levels → Levels

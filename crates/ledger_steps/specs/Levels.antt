@@ -1,5 +1,6 @@
 -- Intervals of a landscape, over the levels that a store has.
-use Rattle.std.specs.Prelude.{◌≡◌, ◌≤◌, ◌+◌, Contains, IfSome, IsTrue, ℕ, Bool, true, false, not, ◌&&◌, nat_eq, nat_le, List, [], ◌∷◌, map, Option, Some}
+use Rattle.std.specs.Prelude.{◌≡◌, ◌≤◌, ◌+◌, Contains, IfSome, IsTrue, ℕ, Bool, true, false, not, ◌&&◌, nat_eq, nat_le}
+use Rattle.std.specs.Prelude.{List, [], ◌∷◌, map, Option, Some}
 use Rattle.std.specs.Bool.{beq}
 use Rattle.std.specs.FinMap.{get}
 use Rattle.std.specs.List.{AllByRecursion, find, list_all, list_any, position}
@@ -53,7 +54,8 @@ present levels i = with_level (level_in levels i) i
 -- a stored row is that of this interval: name, first number and buffering are one, and the level isn't past the end
 abbrev pub is_row_of : StoredInterval → Interval → Bool
 is_row_of row i =
-    (is_named row.object row.nr i && nat_eq row.from i.from) && (beq row.buffered (is_buffered i) && nat_le row.level i.to)
+    (is_named row.object row.nr i && nat_eq row.from i.from)
+    && (beq row.buffered (is_buffered i) && nat_le row.level i.to)
 
 -- a stored row is that of one of these intervals
 abbrev pub fits : List Interval → StoredInterval → Bool
@@ -82,7 +84,8 @@ pub record IsRowOf (i : Interval) (l : Level) : Type 0 where
 -- the same by the names of the rows
 abbrev pub FitLevels : List Interval → Levels → Type 0
 FitLevels intervals levels =
-    (name : RowName) → IfSome (get levels name) (λ l. (i : Interval) × Contains intervals i × (name_of i ≡ name) × IsRowOf i l)
+    (name : RowName) → IfSome (get levels name)
+    (λ l. (i : Interval) × Contains intervals i × (name_of i ≡ name) × IsRowOf i l)
 
 -- ---- ranges
 

@@ -85,7 +85,8 @@ HoldsTables rows tables = (name : RowName) → text_at rows name ≡ get tables 
 -- the effects come to this in the tables, and leave these spots; where one is refused, none
 abbrev pub IsPost : List Effect → Tables → Outcome → List Spot → Type 0
 IsPost effects tables Done spots = applied effects tables ≡ Ok (with_spots spots tables)
-IsPost effects tables (Refused index reason) spots = (applied effects tables ≡ Err (effect_fault.Refused index reason)) × (spots ≡ [])
+IsPost effects tables (Refused index reason) spots = (applied effects tables ≡ Err (effect_fault.Refused index reason))
+    × (spots ≡ [])
 
 -- ---- writing
 
@@ -102,4 +103,5 @@ note_changes start spots m = row_changes spots ++ mark_row m ∷ meta_row start 
 -- a mark says what its part gives in the tables so far, and the part leaves these spots
 pub record IsNote (ledger : Ledger) (m : Mark) (spots : List Spot) : Type 0 where
   pub right : IsRightMark ledger.units (tables_of ledger.units ledger.marks) m
-  pub leaves : posted (part_of ledger.units m) (tables_of ledger.units ledger.marks) ≡ with_spots spots (tables_of ledger.units ledger.marks)
+  pub leaves : posted (part_of ledger.units m) (tables_of ledger.units ledger.marks) ≡ with_spots spots
+      (tables_of ledger.units ledger.marks)

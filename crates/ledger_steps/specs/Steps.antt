@@ -1,5 +1,6 @@
 -- What a prepared change adds to the ledger.
-use Rattle.std.specs.Prelude.{ℕ, ◌≡◌, ◌≤◌, ◌+◌, ◌<◌, ◌-◌, ◌^◌, nat_eq, List, [], ◌∷◌, length, if◌then◌else◌, Option, Some, None, Result, Ok, Err, IsTrue, IsSome, true, slice_get}
+use Rattle.std.specs.Prelude.{ℕ, ◌≡◌, ◌≤◌, ◌+◌, ◌<◌, ◌-◌, ◌^◌, nat_eq, List, [], ◌∷◌, length, if◌then◌else◌, Option}
+use Rattle.std.specs.Prelude.{Some, None, Result, Ok, Err, IsTrue, IsSome, true, slice_get}
 use Rattle.std.specs.List.{All}
 use Rattle.enq_base.specs.Grammar.{is_name}
 use Rattle.update_records.specs.Grammar.{HasDigits, IsUnitKey, IsEffect, IsEntryOf, IsHeldBy, IsNumber}
@@ -113,7 +114,8 @@ pub record MayGet (ledger : Ledger) (key : UnitKey) (kind : MarkKind) : Type 0 w
 
 -- the units that wait for a part, the one whose last mark is oldest first
 abbrev pub waiting_for : ℕ → Ledger → List UnitKey
-waiting_for part ledger = if nat_eq part 1 then waiting ledger.units ledger.marks else waiting_again ledger.units ledger.marks
+waiting_for part ledger = if nat_eq part 1 then waiting ledger.units ledger.marks else waiting_again ledger.units
+    ledger.marks
 
 -- the item at a place, counted from 1
 abbrev pub at_place : {X : Type 0} → ℕ → List X → Option X

@@ -37,7 +37,8 @@ unit_more k =
     ∙ ap (λ ls. unit_lines k ++ ls) (append-nil (lines_of_unit (k + 1)))
 
 -- the lines of one unit more
-pub one_more : (old before now : List ℕ) (k : ℕ) → before ≡ old ++ text_of (unit_lines k) → now ≡ before ++ text_of (lines_of_unit (k + 1)) → now ≡ old ++ text_of (unit_lines (k + 1))
+pub one_more : (old before now : List ℕ) (k : ℕ) → before ≡ old ++ text_of (unit_lines k) → now ≡ before ++ text_of (lines_of_unit (k + 1))
+    → now ≡ old ++ text_of (unit_lines (k + 1))
 one_more old before now k so_far more =
     more ∙ ap (λ t. t ++ text_of (lines_of_unit (k + 1))) so_far ∙ append_assoc old (text_of (unit_lines k)) (text_of (lines_of_unit (k + 1)))
     ∙ ap (λ t. old ++ t) (sym (flat_map-append line_text (unit_lines k) (lines_of_unit (k + 1))) ∙ sym (ap text_of (unit_more k)))

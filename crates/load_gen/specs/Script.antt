@@ -36,7 +36,8 @@ order_digits k = replicate (10 - length (decimal k)) 48 ++ decimal k
 -- the lock of the order
 abbrev pub lock_line : ℕ → ℕ → List (List ℕ)
 lock_line s k =
-    session s ∷ codes "ENQ" ∷ codes "EZORDER" ∷ codes "E" ∷ codes "2" ∷ codes "MANDT=100" ∷ (codes "ORDNR=" ++ order_digits k) ∷ []
+    session s ∷ codes "ENQ" ∷ codes "EZORDER" ∷ codes "E" ∷ codes "2" ∷ codes
+    "MANDT=100" ∷ (codes "ORDNR=" ++ order_digits k) ∷ []
 
 -- a number, which is kept as N
 abbrev pub number_line : ℕ → List (List ℕ)
@@ -59,7 +60,8 @@ commit_line s = session s ∷ codes "COMMIT" ∷ []
 -- a worker takes the unit and does its V1 part, and then its V2 part
 abbrev pub work_lines : List (List (List ℕ))
 work_lines =
-    (codes "@1" ∷ codes "TAKE1" ∷ []) ∷ (codes "@1" ∷ codes "DO1" ∷ []) ∷ (codes "@1" ∷ codes "TAKE2" ∷ []) ∷ (codes "@1" ∷ codes "DO2" ∷ []) ∷ []
+    (codes "@1" ∷ codes "TAKE1" ∷ []) ∷ (codes "@1" ∷ codes "DO1" ∷ []) ∷ (codes "@1" ∷ codes "TAKE2" ∷ [])
+    ∷ (codes "@1" ∷ codes "DO2" ∷ []) ∷ []
 
 -- the lines of a unit k that session s records
 abbrev pub lines_by : ℕ → ℕ → List (List (List ℕ))

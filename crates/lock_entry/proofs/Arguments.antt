@@ -46,7 +46,8 @@ fits-Decides key p = (fits-to key p, fits-from key p)
 abbrev common_byte : ℕ → ℕ → ℕ
 common_byte a b = cond (nat_eq a 64) (cond (nat_eq b 64) 32 b) a
 
-common_byte-cases : (a b : ℕ) → bytes_meet a b ≡ true → is_text_byte a ≡ true → is_text_byte b ≡ true → (byte_fits (common_byte a b) a ≡ true) × (byte_fits (common_byte a b) b ≡ true) × (is_plain_byte (common_byte a b) ≡ true)
+common_byte-cases : (a b : ℕ) → bytes_meet a b ≡ true → is_text_byte a ≡ true → is_text_byte b ≡ true → (byte_fits (common_byte a b) a ≡ true)
+    × (byte_fits (common_byte a b) b ≡ true) × (is_plain_byte (common_byte a b) ≡ true)
 common_byte-cases a b m ta tb = grind (arith, nat_tests)
 
 common_key : (p q : List ℕ) → meets p q ≡ true → list_all is_text_byte p ≡ true → list_all is_text_byte q ≡ true → Meets p q

@@ -60,7 +60,8 @@ places_meet-place b a k s m =
     ∙ m
 
 -- a filter of what a filter_map keeps
-filter-filter_map : {A B : Type 0} (q : B → Bool) (f : A → Option B) (xs : List A) → filter q (filter_map f xs) ≡ filter_map (λ x. option_and_then (λ y. cond (q y) (Some y) None) (f x)) xs
+filter-filter_map : {A B : Type 0} (q : B → Bool) (f : A → Option B) (xs : List A)
+    → filter q (filter_map f xs) ≡ filter_map (λ x. option_and_then (λ y. cond (q y) (Some y) None) (f x)) xs
 filter-filter_map q f [] = refl
 filter-filter_map {A = A} {B = B} q f (x ∷ xs) = go (filter-filter_map q f xs) (f x)
   where
@@ -68,7 +69,9 @@ filter-filter_map {A = A} {B = B} q f (x ∷ xs) = go (filter-filter_map q f xs)
     put true y ys = refl
     put false y ys = refl
 
-    go : filter q (filter_map f xs) ≡ filter_map (λ z. option_and_then (λ y. cond (q y) (Some y) None) (f z)) xs → (o : Option B) → filter q (cons_option o (filter_map f xs)) ≡ cons_option (option_and_then (λ y. cond (q y) (Some y) None) o) (filter_map (λ z. option_and_then (λ y. cond (q y) (Some y) None) (f z)) xs)
+    go : filter q (filter_map f xs) ≡ filter_map (λ z. option_and_then (λ y. cond (q y) (Some y) None) (f z)) xs → (o : Option B)
+        → filter q (cons_option o (filter_map f xs)) ≡ cons_option (option_and_then (λ y. cond (q y) (Some y) None) o)
+        (filter_map (λ z. option_and_then (λ y. cond (q y) (Some y) None) (f z)) xs)
     go rest None = rest
     go rest (Some y) = put (q y) y (filter q (filter_map f xs)) ∙ ap (λ (ys : List B). cons_option (cond (q y) (Some y) None) ys) rest
 
@@ -85,7 +88,8 @@ module _ (asker : Asker) (asked : List Asked) (pair : IsPair asker) where
   after all e = option_and_then (λ y. cond (stays y) (Some y) None) (turned_entry (turns asker asked) all e)
 
   -- an entry outside the pair that stays doesn't meet one that turns
-  turned-clear : (a b : Entry) → turns asker asked a ≡ true → in_pair asker b.owner ≡ false → stays b ≡ true → steady b ≡ true → places_meet (asked_of b) (asked_of a) ≡ false
+  turned-clear : (a b : Entry) → turns asker asked a ≡ true → in_pair asker b.owner ≡ false → stays b ≡ true → steady b ≡ true
+      → places_meet (asked_of b) (asked_of a) ≡ false
   turned-clear a b turned out kept calm =
       let asks = (and_parts (in_pair asker a.owner) (list_any (λ k. same_place k (asked_of a)) asked) turned).1 in
       elim (cases_Bool (places_meet (asked_of b) (asked_of a))) [
@@ -94,11 +98,14 @@ module _ (asker : Asker) (asked : List Asked) (pair : IsPair asker) where
             let outside : not (in_pair asker b.owner) ≡ true = not_from_false (in_pair asker b.owner) out in
             elim (cases_Bool (same_mode b.mode O)) [
               | inl mild ↦
-                  let some = list_any-weaken (λ k. same_place k (asked_of a)) (places_meet (asked_of b)) (λ k s. places_meet-place (asked_of b) (asked_of a) k s meet) asked asks in
+                  let some = list_any-weaken (λ k. same_place k (asked_of a)) (places_meet (asked_of b))
+                  (λ k s. places_meet-place (asked_of b) (asked_of a) k s meet) asked asks in
                   absurd (let goes : gives_way asker asked b ≡ true = and_from _ _ outside (and_from _ _ mild some) in let k = not-true _ kept in cc)
               | inr strong ↦
                   let some = list_any-weaken (λ k. same_place k (asked_of a)) (λ k. withstands asker k b)
-                  (λ k s. and_from (not (in_pair asker b.owner)) _ outside (and_from (not (same_mode b.mode O)) _ (not_from_false (same_mode b.mode O) strong) (places_meet-place (asked_of b) (asked_of a) k s meet))) asked asks in
+                  (λ k s. and_from (not (in_pair asker b.owner)) _ outside
+                  (and_from (not (same_mode b.mode O)) _ (not_from_false (same_mode b.mode O) strong)
+                  (places_meet-place (asked_of b) (asked_of a) k s meet))) asked asks in
                   absurd (let none = not-true _ calm in cc)
             ]
       ]
@@ -136,7 +143,8 @@ module _ (asker : Asker) (asked : List Asked) (pair : IsPair asker) where
   kept-is : (y a' : Entry) → stays y ≡ true → cond (stays y) (Some y) None ≡ Some a' → y ≡ a'
   kept-is y a' h k = let l = rw h at k in cc
 
-  by_mode : (all : List Entry) (a a' : Entry) (m : Mode) → a.mode ≡ m → turns asker asked a ≡ true → option_and_then (λ y. cond (stays y) (Some y) None) (turned_by m all a) ≡ Some a' → Keeps a a' ⊎ Turns all a a'
+  by_mode : (all : List Entry) (a a' : Entry) (m : Mode) → a.mode ≡ m → turns asker asked a ≡ true
+      → option_and_then (λ y. cond (stays y) (Some y) None) (turned_by m all a) ≡ Some a' → Keeps a a' ⊎ Turns all a a'
   by_mode all a a' S m t h = let s = kept-is a a' (in_pair-stays a t) h in inl (subst (Keeps a) s (same-Keeps a (in_pair-stays a t)))
   by_mode all a a' X m t h = let s = kept-is a a' (in_pair-stays a t) h in inl (subst (Keeps a) s (same-Keeps a (in_pair-stays a t)))
   by_mode all a a' E m t h = inl (go (find (has_name (name_in O a)) all) h)
@@ -172,7 +180,8 @@ module _ (asker : Asker) (asked : List Asked) (pair : IsPair asker) where
   unmet-calm a b m = and_right (not (are_related a.owner b.owner)) _ (and_left (places_meet (asked_of a) (asked_of b)) _ m)
 
   -- one that turns and one that stays
-  conflict-turned : (a b : Entry) → turns asker asked a ≡ true → stays b ≡ true → steady b ≡ true → (in_conflict (record a { mode = E }) b ≡ false) × (in_conflict b (record a { mode = E }) ≡ false)
+  conflict-turned : (a b : Entry) → turns asker asked a ≡ true → stays b ≡ true → steady b ≡ true → (in_conflict (record a { mode = E }) b ≡ false)
+      × (in_conflict b (record a { mode = E }) ≡ false)
   conflict-turned a b t kept calm =
       let within = (and_parts (in_pair asker a.owner) _ t).0 in
       elim (cases_Bool (in_pair asker b.owner)) [
@@ -195,7 +204,9 @@ module _ (asker : Asker) (asked : List Asked) (pair : IsPair asker) where
       ap (λ (m : Mode). same_owner a.owner b.owner && (same_place (asked_of a) (asked_of b) && same_mode m b.mode)) ma
       ∙ ap (λ (m : Mode). same_owner a.owner b.owner && (same_place (asked_of a) (asked_of b) && same_mode O m)) mb
 
-  pair-apart : (all : List Entry) (a b a' b' : Entry) → Keeps a a' ⊎ Turns all a a' → Keeps b b' ⊎ Turns all b b' → are_apart a b ≡ true → (stands all (name_in E a) ≡ false → has_name (name_in E a) b ≡ false) → (stands all (name_in E b) ≡ false → has_name (name_in E b) a ≡ false) → steady a ≡ true → steady b ≡ true → are_apart a' b' ≡ true
+  pair-apart : (all : List Entry) (a b a' b' : Entry) → Keeps a a' ⊎ Turns all a a' → Keeps b b' ⊎ Turns all b b' → are_apart a b ≡ true
+      → (stands all (name_in E a) ≡ false → has_name (name_in E a) b ≡ false) → (stands all (name_in E b) ≡ false → has_name (name_in E b) a ≡ false)
+      → steady a ≡ true → steady b ≡ true → are_apart a' b' ≡ true
   pair-apart all a b a' b' (inl ka) (inl kb) h na nb sa sb = through (record a { count = ka.n }) (record b { count = kb.n }) a' b' ka.is kb.is h
   pair-apart all a b a' b' (inr ka) (inr kb) h na nb sa sb =
       let parts = and_parts (names_differ a b) (not (in_conflict a b)) h in
@@ -207,7 +218,8 @@ module _ (asker : Asker) (asked : List Asked) (pair : IsPair asker) where
       (related-calm (record a { mode = E }) (record b { mode = E }) (pair-related asker a.owner b.owner pair wa wb)))
   pair-apart all a b a' b' (inr ka) (inl kb) h na nb sa sb =
       through (record a { mode = E }) (record b { count = kb.n }) a' b' ka.is kb.is
-      (apart-from (record a { mode = E }) (record b { count = kb.n }) (not_from_false (has_name (name_in E a) b) (na ka.alone)) (conflict-turned a b ka.turned kb.kept sb).0)
+      (apart-from (record a { mode = E }) (record b { count = kb.n }) (not_from_false (has_name (name_in E a) b) (na ka.alone))
+      (conflict-turned a b ka.turned kb.kept sb).0)
   pair-apart all a b a' b' (inl ka) (inr kb) h na nb sa sb =
       through (record a { count = ka.n }) (record b { mode = E }) a' b' ka.is kb.is
       (apart-from (record a { count = ka.n }) (record b { mode = E })
@@ -226,7 +238,8 @@ module _ (asker : Asker) (asked : List Asked) (pair : IsPair asker) where
       let parts = or_parts (p a) (list_any p (b ∷ es)) (s p h) in
       or_from (p a) (list_any p es) parts.0 (or_parts (p b) (list_any p es) parts.1).1
 
-  from-one : (all : List Entry) (a a' : Entry) (es : List Entry) → Keeps a a' ⊎ Turns all a a' → list_all (are_apart a) es ≡ true → Sub all (a ∷ es) → steady a ≡ true → list_all steady es ≡ true → list_all (are_apart a') (filter_map (after all) es) ≡ true
+  from-one : (all : List Entry) (a a' : Entry) (es : List Entry) → Keeps a a' ⊎ Turns all a a' → list_all (are_apart a) es ≡ true → Sub all (a ∷ es)
+      → steady a ≡ true → list_all steady es ≡ true → list_all (are_apart a') (filter_map (after all) es) ≡ true
   from-one all a a' [] k h s sa ss = refl
   from-one all a a' (b ∷ es) k h s sa ss = go (from-one all a a' es k hs.1 (sub-skip all a b es s) sa ts.1) (after all b) refl
     where
@@ -242,14 +255,16 @@ module _ (asker : Asker) (asked : List Asked) (pair : IsPair asker) where
       second : (p : Entry → Bool) → list_any p all ≡ false → p b ≡ false
       second p n = (or_parts (p b) (list_any p es) (or_parts (p a) (list_any p (b ∷ es)) (s p n)).1).0
 
-      go : list_all (are_apart a') (filter_map (after all) es) ≡ true → (o : Option Entry) → after all b ≡ o → list_all (are_apart a') (cons_option o (filter_map (after all) es)) ≡ true
+      go : list_all (are_apart a') (filter_map (after all) es) ≡ true → (o : Option Entry) → after all b ≡ o
+          → list_all (are_apart a') (cons_option o (filter_map (after all) es)) ≡ true
       go rest None e = rest
       go rest (Some b') e =
           and_from (are_apart a' b') _
           (pair-apart all a b a' b' k (after-cases all b b' e) hs.0 (second (has_name (name_in E a))) (first (has_name (name_in E b))) sa ts.0)
           rest
 
-  all_pairs-after : (all es : List Entry) → Sub all es → all_pairs are_apart es ≡ true → list_all steady es ≡ true → all_pairs are_apart (filter_map (after all) es) ≡ true
+  all_pairs-after : (all es : List Entry) → Sub all es → all_pairs are_apart es ≡ true → list_all steady es ≡ true
+      → all_pairs are_apart (filter_map (after all) es) ≡ true
   all_pairs-after all [] s h ss = refl
   all_pairs-after all (a ∷ es) s h ss = go (all_pairs-after all es (sub-tail all a es s) hs.1 ts.1) (after all a) refl
     where
@@ -259,7 +274,8 @@ module _ (asker : Asker) (asked : List Asked) (pair : IsPair asker) where
       ts : (steady a ≡ true) × (list_all steady es ≡ true)
       ts = and_parts (steady a) (list_all steady es) ss
 
-      go : all_pairs are_apart (filter_map (after all) es) ≡ true → (o : Option Entry) → after all a ≡ o → all_pairs are_apart (cons_option o (filter_map (after all) es)) ≡ true
+      go : all_pairs are_apart (filter_map (after all) es) ≡ true → (o : Option Entry) → after all a ≡ o
+          → all_pairs are_apart (cons_option o (filter_map (after all) es)) ≡ true
       go rest None e = rest
       go rest (Some a') e = and_from _ _ (from-one all a a' es (after-cases all a a' e) hs.0 s ts.0 ts.1) rest
 
@@ -274,7 +290,8 @@ module _ (asker : Asker) (asked : List Asked) (pair : IsPair asker) where
       one a' (inl k) = k.good hs.0
       one a' (inr k) = sym (ap has_count k.is) ∙ hs.0
 
-      go : list_all has_count (filter_map (after all) es) ≡ true → (o : Option Entry) → after all a ≡ o → list_all has_count (cons_option o (filter_map (after all) es)) ≡ true
+      go : list_all has_count (filter_map (after all) es) ≡ true → (o : Option Entry) → after all a ≡ o
+          → list_all has_count (cons_option o (filter_map (after all) es)) ≡ true
       go rest None e = rest
       go rest (Some a') e = and_from (has_count a') _ (one a' (after-cases all a a' e)) rest
 
@@ -283,11 +300,13 @@ module _ (asker : Asker) (asked : List Asked) (pair : IsPair asker) where
   not_or x y h =
       let hs = and_parts (not x) (not y) h in not_from_false (x || y) (or_from x y (not-true x hs.0) (not-true y hs.1))
 
-  all-steady : (all : List Entry) (ks : List Asked) → first_withstanding all asker ks ≡ None → list_all (λ b. not (list_any (λ k. withstands asker k b) ks)) all ≡ true
+  all-steady : (all : List Entry) (ks : List Asked) → first_withstanding all asker ks ≡ None
+      → list_all (λ b. not (list_any (λ k. withstands asker k b) ks)) all ≡ true
   all-steady all [] h = list_all-true all
   all-steady all (k ∷ ks) h =
       let parts = option_or-None (find (withstands asker k) all) (first_withstanding all asker ks) h in
-      list_all-weaken (λ b. not (withstands asker k b) && not (list_any (λ j. withstands asker j b) ks)) (λ b. not (withstands asker k b || list_any (λ j. withstands asker j b) ks))
+      list_all-weaken (λ b. not (withstands asker k b) && not (list_any (λ j. withstands asker j b) ks))
+      (λ b. not (withstands asker k b || list_any (λ j. withstands asker j b) ks))
       (λ b. not_or (withstands asker k b) (list_any (λ j. withstands asker j b) ks)) all
       (list_all-both (λ b. not (withstands asker k b)) (λ b. not (list_any (λ j. withstands asker j b) ks)) all
       (list_all-not_any (withstands asker k) all (find-None (withstands asker k) all parts.0))
@@ -309,7 +328,8 @@ not_over-Ok true c d h = absurd (cc)
 not_over-Ok false c d h = cc
 
 -- A conversion keeps the table good.
-pub IsTable-converted : (t : Table) (asker : Asker) (asked : List Asked) (c : Conversion) → IsTable t → IsPair asker → converted t.entries asker asked ≡ Ok c → IsTable (with_entries t c.entries)
+pub IsTable-converted : (t : Table) (asker : Asker) (asked : List Asked) (c : Conversion) → IsTable t → IsPair asker → converted t.entries asker asked ≡ Ok c
+    → IsTable (with_entries t c.entries)
 unfolding converted
 IsTable-converted t asker asked c good pair h =
     let es = t.entries in
@@ -319,6 +339,7 @@ IsTable-converted t asker asked c good pair h =
     let d = not_over-Ok (sum_exceeds es asker asked) new c b.1 in
     let within = good.within in
     let fewer : length (turned es (turns asker asked)) ≤ length es = length-filter_map (turned_entry (turns asker asked) es) es in
-    let short : length new.entries ≤ length (turned es (turns asker asked)) = length-filter_le (λ e. not (gives_way asker asked e)) (turned es (turns asker asked)) in
+    let short : length new.entries ≤ length (turned es (turns asker asked)) =
+    length-filter_le (λ e. not (gives_way asker asked e)) (turned es (turns asker asked)) in
     let P : Conversion → Type 0 = λ x. IsTable (with_entries t x.entries) in
     subst P d (record { sound = conversion-sound asker asked pair es good.sound b.0; within = omega arith; limit_fits = good.limit_fits })

@@ -15,10 +15,12 @@ module _ (es : List Entry) (asker : Asker) (asked : List Asked) where
   unfolding converted
   converted-Foreign e h f = rw (sym h, sym f) refl
 
-  pub converted-Count : false ≡ is_lost es asker asked → None ≡ first_withstanding es asker asked → true ≡ sum_exceeds es asker asked → converted es asker asked ≡ Err Count
+  pub converted-Count : false ≡ is_lost es asker asked → None ≡ first_withstanding es asker asked → true ≡ sum_exceeds es asker asked
+      → converted es asker asked ≡ Err Count
   unfolding converted
   converted-Count h f o = rw (sym h, sym f, sym o) refl
 
-  pub converted-Ok : false ≡ is_lost es asker asked → None ≡ first_withstanding es asker asked → false ≡ sum_exceeds es asker asked → converted es asker asked ≡ Ok (conversion es asker asked)
+  pub converted-Ok : false ≡ is_lost es asker asked → None ≡ first_withstanding es asker asked → false ≡ sum_exceeds es asker asked
+      → converted es asker asked ≡ Ok (conversion es asker asked)
   unfolding converted
   converted-Ok h f o = rw (sym h, sym f, sym o) refl

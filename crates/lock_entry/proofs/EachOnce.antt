@@ -49,8 +49,10 @@ pub each_once-push : (ns : List LockName) (n : LockName) → each_once (ns ++ n 
 each_once-push [] n = refl
 each_once-push (m ∷ ms) n =
     let q : LockName → Bool = λ k. not (same_name m k) in
-    let ih : filter q (each_once (ms ++ n ∷ [])) ≡ filter q (each_once ms) ++ filter q (cond (list_any (same_name n) ms) [] (n ∷ [])) = ap (filter q) (each_once-push ms n) ∙ filter-append q (each_once ms) (cond (list_any (same_name n) ms) [] (n ∷ [])) in
-    let last : filter q (cond (list_any (same_name n) ms) [] (n ∷ [])) ≡ cond (same_name n m || list_any (same_name n) ms) [] (n ∷ []) = filter_one q n (same_name n m) (list_any (same_name n) ms) (ap not (same_name-sym m n)) in
+    let ih : filter q (each_once (ms ++ n ∷ [])) ≡ filter q (each_once ms) ++ filter q (cond (list_any (same_name n) ms) [] (n ∷ [])) =
+    ap (filter q) (each_once-push ms n) ∙ filter-append q (each_once ms) (cond (list_any (same_name n) ms) [] (n ∷ [])) in
+    let last : filter q (cond (list_any (same_name n) ms) [] (n ∷ [])) ≡ cond (same_name n m || list_any (same_name n) ms) [] (n ∷ []) =
+    filter_one q n (same_name n m) (list_any (same_name n) ms) (ap not (same_name-sym m n)) in
     ap (λ (r : List LockName). m ∷ r) (ih ∙ ap (λ (r : List LockName). filter q (each_once ms) ++ r) last)
 
 pub list_all-each_once : (p : LockName → Bool) (ns : List LockName) → list_all p ns ≡ true → list_all p (each_once ns) ≡ true

@@ -52,7 +52,8 @@ length-lowered : (e : Entry) → length (lowered e) ≤ 1
 length-lowered e = elim (cases_Bool (nat_le e.count 1)) [ inl c ↦ rw c (omega arith) | inr c ↦ rw c (omega arith) ]
 
 -- a test that an entry passes with one taken, where it passed before
-list_all-replace : (q p : Entry → Bool) → ((e : Entry) → q e ≡ true → list_all q (lowered e) ≡ true) → (es : List Entry) → list_all q es ≡ true → list_all q (replace_first p lowered es) ≡ true
+list_all-replace : (q p : Entry → Bool) → ((e : Entry) → q e ≡ true → list_all q (lowered e) ≡ true) → (es : List Entry) → list_all q es ≡ true
+    → list_all q (replace_first p lowered es) ≡ true
 list_all-replace q p k [] h = refl
 list_all-replace q p k (e ∷ es) h =
     let hs = and_parts (q e) (list_all q es) h in
@@ -76,11 +77,13 @@ has_count-lowered e h =
       | inr c ↦
           let low : 1 < e.count = leb-false e.count 1 c in
           let high : e.count ≤ 9999 = leb-true e.count 9999 hs.1 in
-          let good : has_count (one_less e) ≡ true = and_from (nat_le 1 (e.count - 1)) (nat_le (e.count - 1) 9999) (le-leb 1 (e.count - 1) (omega arith)) (le-leb (e.count - 1) 9999 (omega arith)) in
+          let good : has_count (one_less e) ≡ true = and_from (nat_le 1 (e.count - 1)) (nat_le (e.count - 1) 9999) (le-leb 1 (e.count - 1) (omega arith))
+          (le-leb (e.count - 1) 9999 (omega arith)) in
           rw c (and_from (has_count (one_less e)) true good refl)
     ]
 
-all_pairs-lowered : (e : Entry) (es : List Entry) → list_all (are_apart e) es ≡ true → all_pairs are_apart es ≡ true → all_pairs are_apart (lowered e ++ es) ≡ true
+all_pairs-lowered : (e : Entry) (es : List Entry) → list_all (are_apart e) es ≡ true → all_pairs are_apart es ≡ true
+    → all_pairs are_apart (lowered e ++ es) ≡ true
 all_pairs-lowered e es a s =
     elim (cases_Bool (nat_le e.count 1)) [
       | inl c ↦ rw c s

@@ -32,14 +32,16 @@ abbrev of_pair : Asker → LockName → Bool
 of_pair asker n = in_pair asker n.owner
 
 -- what is true of both owners' names is true of a request's halves
-list_all-halves_of : (p : LockName → Bool) (asker : Asker) (r : Request) → p (record { owner = asker.dialogue; asked = r.asked }) ≡ true → p (record { owner = asker.update; asked = r.asked }) ≡ true → list_all p (halves_of asker r) ≡ true
+list_all-halves_of : (p : LockName → Bool) (asker : Asker) (r : Request) → p (record { owner = asker.dialogue; asked = r.asked }) ≡ true
+    → p (record { owner = asker.update; asked = r.asked }) ≡ true → list_all p (halves_of asker r) ≡ true
 list_all-halves_of p asker r d u =
     elim (cases_Bool r.dialogue) [
       | inl a ↦ elim (cases_Bool r.update) [ inl b ↦ rw (a, b) (and_from _ _ d (and_from _ _ u refl)) | inr b ↦ rw (a, b) (and_from _ _ d refl) ]
       | inr a ↦ elim (cases_Bool r.update) [ inl b ↦ rw (a, b) (and_from _ _ u refl) | inr b ↦ rw (a, b) refl ]
     ]
 
-halves-unbarred : (es : List Entry) (asker : Asker) (rs : List Request) → first_bar es asker (map (λ r. r.asked) rs) ≡ None → list_all (unbarred es asker) (halves asker rs) ≡ true
+halves-unbarred : (es : List Entry) (asker : Asker) (rs : List Request) → first_bar es asker (map (λ r. r.asked) rs) ≡ None
+    → list_all (unbarred es asker) (halves asker rs) ≡ true
 halves-unbarred es asker [] h = refl
 halves-unbarred es asker (r ∷ rs) h =
     let parts = option_or-None (find (bars asker r.asked) es) (first_bar es asker (map (λ k. k.asked) rs)) h in
@@ -52,14 +54,16 @@ halves-of_pair asker [] = refl
 halves-of_pair asker (r ∷ rs) =
     list_all-append (of_pair asker) (halves_of asker r) (halves asker rs)
     ∙ and_from _ _
-    (list_all-halves_of (of_pair asker) asker r (or_left _ _ (same_owner-refl asker.dialogue)) (or_right (same_owner asker.update asker.dialogue) _ (same_owner-refl asker.update)))
+    (list_all-halves_of (of_pair asker) asker r (or_left _ _ (same_owner-refl asker.dialogue))
+    (or_right (same_owner asker.update asker.dialogue) _ (same_owner-refl asker.update)))
     (halves-of_pair asker rs)
 
 -- what holds of all names holds of the new ones
 list_all-new_names : (p : LockName → Bool) (es : List Entry) (ns : List LockName) → list_all p ns ≡ true → list_all p (new_names es ns) ≡ true
 list_all-new_names p es ns h = list_all-each_once p (filter (λ n. not (stands es n)) ns) (list_all-filter p (λ n. not (stands es n)) ns h)
 
-names-named : (all ns : List LockName) → ((n : LockName) → list_any (same_name n) ns ≡ true → list_any (same_name n) all ≡ true) → list_all (λ n. list_any (same_name n) all) ns ≡ true
+names-named : (all ns : List LockName) → ((n : LockName) → list_any (same_name n) ns ≡ true → list_any (same_name n) all ≡ true)
+    → list_all (λ n. list_any (same_name n) all) ns ≡ true
 names-named all [] k = refl
 names-named all (n ∷ ns) k =
     and_from _ _ (k n (or_left _ _ (same_name-refl n))) (names-named all ns (λ m h. k m (or_right (same_name m n) _ h)))
@@ -69,7 +73,8 @@ not_over-Ok true xs ys h = absurd (cc)
 not_over-Ok false xs ys h = (refl, (cc))
 
 -- the count of the entry of a name that is named stays within bounds
-pub not_over-named : (es : List Entry) (all names : List LockName) (n : LockName) → list_any (λ m. nat_lt 9999 (count_at es m + times all m)) names ≡ false → list_any (same_name n) names ≡ true → count_at es n + times all n ≤ 9999
+pub not_over-named : (es : List Entry) (all names : List LockName) (n : LockName) → list_any (λ m. nat_lt 9999 (count_at es m + times all m)) names ≡ false
+    → list_any (same_name n) names ≡ true → count_at es n + times all n ≤ 9999
 not_over-named es all [] n fine h = absurd (cc)
 not_over-named es all (m ∷ ms) n fine h =
     let parts = or_parts (nat_lt 9999 (count_at es m + times all m)) (list_any (λ k. nat_lt 9999 (count_at es k + times all k)) ms) fine in
@@ -100,17 +105,21 @@ counts-own (e ∷ es) d =
     es (list_all-both (names_differ e) (λ a. nat_eq (count_at es (name_of a)) a.count) es ds.0 (counts-own es ds.1)))
 
 module _ (asker : Asker) (user : List ℕ) (all : List LockName) (pair : IsPair asker) where
-  new-apart : (n m : LockName) → of_pair asker n ≡ true → of_pair asker m ≡ true → not (same_name n m) ≡ true → are_apart (new_entry user all n) (new_entry user all m) ≡ true
-  new-apart n m hn hm d = apart-from (new_entry user all n) (new_entry user all m) d (related-calm (new_entry user all n) (new_entry user all m) (pair-related asker n.owner m.owner pair hn hm))
+  new-apart : (n m : LockName) → of_pair asker n ≡ true → of_pair asker m ≡ true → not (same_name n m) ≡ true
+      → are_apart (new_entry user all n) (new_entry user all m) ≡ true
+  new-apart n m hn hm d = apart-from (new_entry user all n) (new_entry user all m) d
+      (related-calm (new_entry user all n) (new_entry user all m) (pair-related asker n.owner m.owner pair hn hm))
 
-  new-apart_all : (n : LockName) (ns : List LockName) → of_pair asker n ≡ true → list_all (of_pair asker) ns ≡ true → list_all (λ m. not (same_name n m)) ns ≡ true → list_all (are_apart (new_entry user all n)) (map (new_entry user all) ns) ≡ true
+  new-apart_all : (n : LockName) (ns : List LockName) → of_pair asker n ≡ true → list_all (of_pair asker) ns ≡ true
+      → list_all (λ m. not (same_name n m)) ns ≡ true → list_all (are_apart (new_entry user all n)) (map (new_entry user all) ns) ≡ true
   new-apart_all n [] hn hs d = refl
   new-apart_all n (m ∷ ms) hn hs d =
       let h' = and_parts (of_pair asker m) (list_all (of_pair asker) ms) hs in
       let d' = and_parts (not (same_name n m)) (list_all (λ k. not (same_name n k)) ms) d in
       and_from _ _ (new-apart n m hn h'.0 d'.0) (new-apart_all n ms hn h'.1 d'.1)
 
-  all_pairs-new : (ns : List LockName) → list_all (of_pair asker) ns ≡ true → all_pairs (λ n m. not (same_name n m)) ns ≡ true → all_pairs are_apart (map (new_entry user all) ns) ≡ true
+  all_pairs-new : (ns : List LockName) → list_all (of_pair asker) ns ≡ true → all_pairs (λ n m. not (same_name n m)) ns ≡ true
+      → all_pairs are_apart (map (new_entry user all) ns) ≡ true
   all_pairs-new [] h d = refl
   all_pairs-new (n ∷ ns) h d =
       let h' = and_parts (of_pair asker n) (list_all (of_pair asker) ns) h in
@@ -118,7 +127,8 @@ module _ (asker : Asker) (user : List ℕ) (all : List LockName) (pair : IsPair 
       and_from _ _ (new-apart_all n ns h'.0 h'.1 d'.0) (all_pairs-new ns h'.1 d'.1)
 
   -- a new entry stands apart from each that stood, risen or not
-  old-apart : (es : List Entry) (n : LockName) → of_pair asker n ≡ true → list_any (has_name n) es ≡ false → list_any (bars asker n.asked) es ≡ false → list_all (λ e. are_apart (raised all e) (new_entry user all n)) es ≡ true
+  old-apart : (es : List Entry) (n : LockName) → of_pair asker n ≡ true → list_any (has_name n) es ≡ false → list_any (bars asker n.asked) es ≡ false
+      → list_all (λ e. are_apart (raised all e) (new_entry user all n)) es ≡ true
   old-apart [] n hn s b = refl
   old-apart (e ∷ es) n hn s b =
       let s' = or_parts (has_name n e) (list_any (has_name n) es) s in
@@ -129,7 +139,8 @@ module _ (asker : Asker) (user : List ℕ) (all : List LockName) (pair : IsPair 
       (conflict-unbarred asker e (new_entry user all n) pair hn b'.0))
       (old-apart es n hn s'.1 b'.1)
 
-  old-apart_all : (es : List Entry) (ns : List LockName) → list_all (of_pair asker) ns ≡ true → list_all (λ n. not (stands es n)) ns ≡ true → list_all (unbarred es asker) ns ≡ true → list_all (λ e. list_all (are_apart (raised all e)) (map (new_entry user all) ns)) es ≡ true
+  old-apart_all : (es : List Entry) (ns : List LockName) → list_all (of_pair asker) ns ≡ true → list_all (λ n. not (stands es n)) ns ≡ true
+      → list_all (unbarred es asker) ns ≡ true → list_all (λ e. list_all (are_apart (raised all e)) (map (new_entry user all) ns)) es ≡ true
   old-apart_all es [] h s b = list_all-true es
   old-apart_all es (n ∷ ns) h s b =
       let h' = and_parts (of_pair asker n) (list_all (of_pair asker) ns) h in
@@ -139,12 +150,14 @@ module _ (asker : Asker) (user : List ℕ) (all : List LockName) (pair : IsPair 
       (old-apart es n h'.0 (not-true _ s'.0) (not-true _ b'.0))
       (old-apart_all es ns h'.1 s'.1 b'.1)
 
-  list_all-raised : (es : List Entry) (new : List Entry) → list_all (λ e. list_all (are_apart (raised all e)) new) es ≡ true → list_all (λ e. list_all (are_apart e) new) (map (raised all) es) ≡ true
+  list_all-raised : (es : List Entry) (new : List Entry) → list_all (λ e. list_all (are_apart (raised all e)) new) es ≡ true
+      → list_all (λ e. list_all (are_apart e) new) (map (raised all) es) ≡ true
   list_all-raised [] new h = refl
   list_all-raised (e ∷ es) new h = let hs = and_parts _ _ h in and_from _ _ hs.0 (list_all-raised es new hs.1)
 
 -- good counts of those that stood, once the names are granted
-raised-count : (es : List Entry) (names : List LockName) (e : Entry) → is_over es names ≡ false → has_count e ≡ true → nat_eq (count_at es (name_of e)) e.count ≡ true → has_count (raised names e) ≡ true
+raised-count : (es : List Entry) (names : List LockName) (e : Entry) → is_over es names ≡ false → has_count e ≡ true
+    → nat_eq (count_at es (name_of e)) e.count ≡ true → has_count (raised names e) ≡ true
 raised-count es names e fine good own =
     let hs = and_parts (nat_le 1 e.count) (nat_le e.count 9999) good in
     let low : 1 ≤ e.count = leb-true 1 e.count hs.0 in
@@ -158,7 +171,8 @@ raised-count es names e fine good own =
     ] in
     and_from (nat_le 1 (e.count + n)) (nat_le (e.count + n) 9999) (le-leb 1 (e.count + n) (omega arith)) (le-leb (e.count + n) 9999 within)
 
-counts-raised : (es : List Entry) (names : List LockName) (xs : List Entry) → is_over es names ≡ false → list_all has_count xs ≡ true → list_all (λ e. nat_eq (count_at es (name_of e)) e.count) xs ≡ true → list_all has_count (map (raised names) xs) ≡ true
+counts-raised : (es : List Entry) (names : List LockName) (xs : List Entry) → is_over es names ≡ false → list_all has_count xs ≡ true
+    → list_all (λ e. nat_eq (count_at es (name_of e)) e.count) xs ≡ true → list_all has_count (map (raised names) xs) ≡ true
 counts-raised es names [] fine h o = refl
 counts-raised es names (e ∷ xs) fine h o =
     let hs = and_parts (has_count e) (list_all has_count xs) h in
@@ -166,7 +180,8 @@ counts-raised es names (e ∷ xs) fine h o =
     and_from _ _ (raised-count es names e fine hs.0 os.0) (counts-raised es names xs fine hs.1 os.1)
 
 -- good counts of the new ones
-counts-new : (es : List Entry) (names : List LockName) (user : List ℕ) (ns : List LockName) → is_over es names ≡ false → list_all (λ n. list_any (same_name n) names) ns ≡ true → list_all has_count (map (new_entry user names) ns) ≡ true
+counts-new : (es : List Entry) (names : List LockName) (user : List ℕ) (ns : List LockName) → is_over es names ≡ false
+    → list_all (λ n. list_any (same_name n) names) ns ≡ true → list_all has_count (map (new_entry user names) ns) ≡ true
 counts-new es names user [] fine h = refl
 counts-new es names user (n ∷ ns) fine h =
     let hs = and_parts (list_any (same_name n) names) _ h in
@@ -184,7 +199,8 @@ pub new_names-named : (es : List Entry) (names : List LockName) → list_all (λ
 new_names-named es names = list_all-new_names (λ n. list_any (same_name n) names) es names (names-named names names (λ n h. h))
 
 module _ (t : Table) (asker : Asker) (user : List ℕ) (rs : List Request) (good : IsTable t) (pair : IsPair asker) where
-  granted-sound : first_bar t.entries asker (map (λ r. r.asked) rs) ≡ None → is_over t.entries (halves asker rs) ≡ false → IsSound (granted t.entries user (halves asker rs))
+  granted-sound : first_bar t.entries asker (map (λ r. r.asked) rs) ≡ None → is_over t.entries (halves asker rs) ≡ false
+      → IsSound (granted t.entries user (halves asker rs))
   granted-sound free fine =
       let es = t.entries in
       let names = halves asker rs in

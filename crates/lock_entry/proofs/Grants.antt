@@ -28,15 +28,18 @@ module _ (t : Table) (asker : Asker) (user : List ℕ) (rs : List Request) where
   unfolding asked
   asked-Foreign e h = rw h refl
 
-  pub asked-Full : first_bar t.entries asker (map (λ r. r.asked) rs) ≡ None → is_full t (length (new_names t.entries (halves asker rs))) ≡ true → asked t asker user rs ≡ Err (Full (length t.entries) t.limit)
+  pub asked-Full : first_bar t.entries asker (map (λ r. r.asked) rs) ≡ None → is_full t (length (new_names t.entries (halves asker rs))) ≡ true
+      → asked t asker user rs ≡ Err (Full (length t.entries) t.limit)
   unfolding asked
   asked-Full h f = rw (h, f) refl
 
-  pub asked-Count : first_bar t.entries asker (map (λ r. r.asked) rs) ≡ None → is_full t (length (new_names t.entries (halves asker rs))) ≡ false → is_over t.entries (halves asker rs) ≡ true → asked t asker user rs ≡ Err Count
+  pub asked-Count : first_bar t.entries asker (map (λ r. r.asked) rs) ≡ None → is_full t (length (new_names t.entries (halves asker rs))) ≡ false
+      → is_over t.entries (halves asker rs) ≡ true → asked t asker user rs ≡ Err Count
   unfolding asked
   asked-Count h f o = rw (h, f, o) refl
 
-  pub asked-Ok : first_bar t.entries asker (map (λ r. r.asked) rs) ≡ None → is_full t (length (new_names t.entries (halves asker rs))) ≡ false → is_over t.entries (halves asker rs) ≡ false → asked t asker user rs ≡ Ok (granted t.entries user (halves asker rs))
+  pub asked-Ok : first_bar t.entries asker (map (λ r. r.asked) rs) ≡ None → is_full t (length (new_names t.entries (halves asker rs))) ≡ false
+      → is_over t.entries (halves asker rs) ≡ false → asked t asker user rs ≡ Ok (granted t.entries user (halves asker rs))
   unfolding asked
   asked-Ok h f o = rw (h, f, o) refl
 
@@ -46,10 +49,12 @@ module _ (t : Table) (asker : Asker) (given : List Entry) where
   unfolding readmitted
   readmitted-Foreign e h = rw h refl
 
-  pub readmitted-Full : first_bar t.entries asker (map asked_of given) ≡ None → is_full t (length (newcomers t.entries given)) ≡ true → readmitted t asker given ≡ Err (Full (length t.entries) t.limit)
+  pub readmitted-Full : first_bar t.entries asker (map asked_of given) ≡ None → is_full t (length (newcomers t.entries given)) ≡ true
+      → readmitted t asker given ≡ Err (Full (length t.entries) t.limit)
   unfolding readmitted
   readmitted-Full h f = rw (h, f) refl
 
-  pub readmitted-Ok : first_bar t.entries asker (map asked_of given) ≡ None → is_full t (length (newcomers t.entries given)) ≡ false → readmitted t asker given ≡ Ok (freed_owner t.entries asker.update ++ given)
+  pub readmitted-Ok : first_bar t.entries asker (map asked_of given) ≡ None → is_full t (length (newcomers t.entries given)) ≡ false
+      → readmitted t asker given ≡ Ok (freed_owner t.entries asker.update ++ given)
   unfolding readmitted
   readmitted-Ok h f = rw (h, f) refl

@@ -160,7 +160,8 @@ all_pairs-filter r p (x ∷ xs) h =
     ]
 
 -- each two of two lists, where each of the one passes with each of the other
-pub all_pairs-append : {X : Type 0} (r : X → X → Bool) (xs ys : List X) → all_pairs r xs ≡ true → all_pairs r ys ≡ true → list_all (λ x. list_all (r x) ys) xs ≡ true → all_pairs r (xs ++ ys) ≡ true
+pub all_pairs-append : {X : Type 0} (r : X → X → Bool) (xs ys : List X) → all_pairs r xs ≡ true → all_pairs r ys ≡ true
+    → list_all (λ x. list_all (r x) ys) xs ≡ true → all_pairs r (xs ++ ys) ≡ true
 all_pairs-append r [] ys a b c = b
 all_pairs-append r (x ∷ xs) ys a b c =
     let as' = and_parts (list_all (r x) xs) (all_pairs r xs) a in
@@ -168,26 +169,30 @@ all_pairs-append r (x ∷ xs) ys a b c =
     and_from _ _ (list_all-append (r x) xs ys ∙ and_from _ _ as'.0 cs.0) (all_pairs-append r xs ys as'.1 b cs.1)
 
 -- a change of the elements that leaves the test alone
-list_all-mapped : {X : Type 0} (r : X → X → Bool) (f : X → X) → ((a b : X) → r (f a) (f b) ≡ r a b) → (a : X) (xs : List X) → list_all (r a) xs ≡ true → list_all (r (f a)) (map f xs) ≡ true
+list_all-mapped : {X : Type 0} (r : X → X → Bool) (f : X → X) → ((a b : X) → r (f a) (f b) ≡ r a b) → (a : X) (xs : List X) → list_all (r a) xs ≡ true
+    → list_all (r (f a)) (map f xs) ≡ true
 list_all-mapped r f k a [] h = refl
 list_all-mapped r f k a (x ∷ xs) h =
     let hs = and_parts (r a x) (list_all (r a) xs) h in and_from _ _ (k a x ∙ hs.0) (list_all-mapped r f k a xs hs.1)
 
-pub all_pairs-map : {X : Type 0} (r : X → X → Bool) (f : X → X) → ((a b : X) → r (f a) (f b) ≡ r a b) → (xs : List X) → all_pairs r xs ≡ true → all_pairs r (map f xs) ≡ true
+pub all_pairs-map : {X : Type 0} (r : X → X → Bool) (f : X → X) → ((a b : X) → r (f a) (f b) ≡ r a b) → (xs : List X) → all_pairs r xs ≡ true
+    → all_pairs r (map f xs) ≡ true
 all_pairs-map r f k [] h = refl
 all_pairs-map r f k (x ∷ xs) h =
     let hs = and_parts (list_all (r x) xs) (all_pairs r xs) h in
     and_from _ _ (list_all-mapped r f k x xs hs.0) (all_pairs-map r f k xs hs.1)
 
 -- two tests of each two
-pub all_pairs-both : {X : Type 0} (r s : X → X → Bool) (xs : List X) → all_pairs r xs ≡ true → all_pairs s xs ≡ true → all_pairs (λ a b. r a b && s a b) xs ≡ true
+pub all_pairs-both : {X : Type 0} (r s : X → X → Bool) (xs : List X) → all_pairs r xs ≡ true → all_pairs s xs ≡ true
+    → all_pairs (λ a b. r a b && s a b) xs ≡ true
 all_pairs-both r s [] h k = refl
 all_pairs-both r s (x ∷ xs) h k =
     let hs = and_parts (list_all (r x) xs) (all_pairs r xs) h in
     let ks = and_parts (list_all (s x) xs) (all_pairs s xs) k in
     and_from _ _ (list_all-both (r x) (s x) xs hs.0 ks.0) (all_pairs-both r s xs hs.1 ks.1)
 
-pub all_pairs-weaken : {X : Type 0} (r s : X → X → Bool) → ((a b : X) → r a b ≡ true → s a b ≡ true) → (xs : List X) → all_pairs r xs ≡ true → all_pairs s xs ≡ true
+pub all_pairs-weaken : {X : Type 0} (r s : X → X → Bool) → ((a b : X) → r a b ≡ true → s a b ≡ true) → (xs : List X) → all_pairs r xs ≡ true
+    → all_pairs s xs ≡ true
 all_pairs-weaken r s k [] h = refl
 all_pairs-weaken r s k (x ∷ xs) h =
     let hs = and_parts (list_all (r x) xs) (all_pairs r xs) h in

@@ -11,7 +11,8 @@ use Rattle.lock_entry.proofs.Lists.{list_all-both, list_all-true}
 use Rattle.lock_entry.proofs.Sounds.{sound-apart, sound-from}
 
 -- with no clash the rest is sound, and stands apart from what came before
-clash-sound : (before es : List Entry) → clash_after before es ≡ None → (list_all has_count es ≡ true) × (all_pairs are_apart es ≡ true) × (list_all (λ a. list_all (are_apart a) es) before ≡ true)
+clash-sound : (before es : List Entry) → clash_after before es ≡ None → (list_all has_count es ≡ true) × (all_pairs are_apart es ≡ true)
+    × (list_all (λ a. list_all (are_apart a) es) before ≡ true)
 clash-sound before [] h = (refl, refl, list_all-true before)
 clash-sound before (e ∷ es) h =
     elim (cases_Bool (stands_with before e)) [
@@ -32,7 +33,8 @@ pub first_clash-sound : (es : List Entry) → first_clash es ≡ None → IsSoun
 first_clash-sound es h = let s = clash-sound [] es h in sound-from es s.0 s.1
 
 -- a sound rest that stands apart from what came before has no clash
-sound-clash : (before es : List Entry) → list_all has_count es ≡ true → all_pairs are_apart es ≡ true → list_all (λ a. list_all (are_apart a) es) before ≡ true → clash_after before es ≡ None
+sound-clash : (before es : List Entry) → list_all has_count es ≡ true → all_pairs are_apart es ≡ true → list_all (λ a. list_all (are_apart a) es) before ≡ true
+    → clash_after before es ≡ None
 sound-clash before [] c a b = refl
 sound-clash before (e ∷ es) c a b =
     let cs = and_parts (has_count e) (list_all has_count es) c in
@@ -44,7 +46,8 @@ sound-clash before (e ∷ es) c a b =
     cond-true (stands_with before e) (clash_after (before ++ e ∷ []) es) (Some (first_against before e, length before + 1)) good
     ∙ sound-clash (before ++ e ∷ []) es cs.1 as'.1 later
   where
-    list_all-heads : (e : Entry) (es before : List Entry) → list_all (λ a. list_all (are_apart a) (e ∷ es)) before ≡ true → (list_all (λ a. are_apart a e) before ≡ true) × (list_all (λ a. list_all (are_apart a) es) before ≡ true)
+    list_all-heads : (e : Entry) (es before : List Entry) → list_all (λ a. list_all (are_apart a) (e ∷ es)) before ≡ true
+        → (list_all (λ a. are_apart a e) before ≡ true) × (list_all (λ a. list_all (are_apart a) es) before ≡ true)
     list_all-heads e es [] h = (refl, refl)
     list_all-heads e es (a ∷ before) h =
         let hs = and_parts (list_all (are_apart a) (e ∷ es)) _ h in
@@ -58,17 +61,25 @@ first_clash-unsound es x h s =
     let none : first_clash es ≡ None = sound-clash [] es s.counts (sound-apart es s) refl in cc
 
 -- one step of the walk over the list
-pub clash_after-step : (es : List Entry) (i : ℕ) (d : Entry) → i < length es → clash_after (take i es) (drop i es) ≡ cond (stands_with (take i es) (get_or es i d)) (clash_after (take (i + 1) es) (drop (i + 1) es)) (Some (first_against (take i es) (get_or es i d), i + 1))
+pub clash_after-step : (es : List Entry) (i : ℕ) (d : Entry) → i < length es
+    → clash_after (take i es) (drop i es) ≡ cond (stands_with (take i es) (get_or es i d)) (clash_after (take (i + 1) es) (drop (i + 1) es))
+    (Some (first_against (take i es) (get_or es i d), i + 1))
 clash_after-step es i d h =
     let long : length (take i es) ≡ i = length-take-le i es (omega arith) in
     let e = get_or es i d in
-    let walk : clash_after (take i es) (drop i es) ≡ cond (stands_with (take i es) e) (clash_after (take i es ++ e ∷ []) (drop (i + 1) es)) (Some (first_against (take i es) e, length (take i es) + 1)) = ap (λ r. clash_after (take i es) r) (drop_more es i d h) in
+    let walk : clash_after (take i es) (drop i es) ≡ cond (stands_with (take i es) e) (clash_after (take i es ++ e ∷ []) (drop (i + 1) es))
+    (Some (first_against (take i es) e, length (take i es) + 1)) = ap (λ r. clash_after (take i es) r) (drop_more es i d h) in
     walk
-    ∙ ap (λ (b : List Entry). cond (stands_with (take i es) e) (clash_after b (drop (i + 1) es)) (Some (first_against (take i es) e, length (take i es) + 1))) (sym (take_more es i d h))
+    ∙ ap (λ (b : List Entry). cond (stands_with (take i es) e) (clash_after b (drop (i + 1) es)) (Some (first_against (take i es) e, length (take i es) + 1)))
+    (sym (take_more es i d h))
     ∙ ap (λ (n : ℕ). cond (stands_with (take i es) e) (clash_after (take (i + 1) es) (drop (i + 1) es)) (Some (first_against (take i es) e, n + 1))) long
 
-pub clash_after-stop : (es : List Entry) (i : ℕ) (e : Entry) → i < length es → e ≡ get_or es i e → stands_with (take i es) e ≡ false → clash_after (take i es) (drop i es) ≡ Some (first_against (take i es) e, i + 1)
-clash_after-stop es i e h r t = rw (← r) at (clash_after-step es i e h) ∙ cond-false (stands_with (take i es) e) (clash_after (take (i + 1) es) (drop (i + 1) es)) (Some (first_against (take i es) e, i + 1)) t
+pub clash_after-stop : (es : List Entry) (i : ℕ) (e : Entry) → i < length es → e ≡ get_or es i e → stands_with (take i es) e ≡ false
+    → clash_after (take i es) (drop i es) ≡ Some (first_against (take i es) e, i + 1)
+clash_after-stop es i e h r t = rw (← r) at (clash_after-step es i e h) ∙ cond-false (stands_with (take i es) e)
+    (clash_after (take (i + 1) es) (drop (i + 1) es)) (Some (first_against (take i es) e, i + 1)) t
 
-pub clash_after-go : (es : List Entry) (i : ℕ) (e : Entry) → i < length es → e ≡ get_or es i e → stands_with (take i es) e ≡ true → clash_after (take i es) (drop i es) ≡ clash_after (take (i + 1) es) (drop (i + 1) es)
-clash_after-go es i e h r t = rw (← r) at (clash_after-step es i e h) ∙ cond-true (stands_with (take i es) e) (clash_after (take (i + 1) es) (drop (i + 1) es)) (Some (first_against (take i es) e, i + 1)) t
+pub clash_after-go : (es : List Entry) (i : ℕ) (e : Entry) → i < length es → e ≡ get_or es i e → stands_with (take i es) e ≡ true
+    → clash_after (take i es) (drop i es) ≡ clash_after (take (i + 1) es) (drop (i + 1) es)
+clash_after-go es i e h r t = rw (← r) at (clash_after-step es i e h) ∙ cond-true (stands_with (take i es) e) (clash_after (take (i + 1) es) (drop (i + 1) es))
+    (Some (first_against (take i es) e, i + 1)) t

@@ -82,7 +82,9 @@ same_mode-same O E h = absurd (cc)
 same_mode-same O X h = absurd (cc)
 
 pub same_name-refl : (n : LockName) → same_name n n ≡ true
-same_name-refl n = and_from _ _ (same_owner-refl n.owner) (and_from _ _ (and_from _ _ (bytes_eq-refl n.asked.table) (bytes_eq-refl n.asked.pattern)) (same_mode-refl n.asked.mode))
+same_name-refl n =
+    and_from _ _ (same_owner-refl n.owner)
+    (and_from _ _ (and_from _ _ (bytes_eq-refl n.asked.table) (bytes_eq-refl n.asked.pattern)) (same_mode-refl n.asked.mode))
 
 pub same_name-same : (a b : LockName) → same_name a b ≡ true → a ≡ b
 same_name-same a b h =

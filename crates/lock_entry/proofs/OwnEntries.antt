@@ -20,7 +20,8 @@ filter-filter p q (x ∷ xs) =
     ]
 
 -- the owner's entries may be handed over by themselves
-pub handed_over-own : (owner : Owner) (es : List Entry) → map (flagged owner) (without_optimistic (filter (is_of owner) es) owner) ≡ filter (is_of owner) (map (flagged owner) (without_optimistic es owner))
+pub handed_over-own : (owner : Owner) (es : List Entry) → map (flagged owner) (without_optimistic (filter (is_of owner) es) owner) ≡ filter (is_of owner)
+    (map (flagged owner) (without_optimistic es owner))
 handed_over-own owner [] = refl
 handed_over-own owner (e ∷ es) =
     let rest = handed_over-own owner es in

@@ -17,7 +17,12 @@ ltb-more n m = grind (arith, nat_tests)
 -- some element passes the test exactly where the first such place is within the list
 pub list_any-position : {X : Type 0} (p : X → Bool) (xs : List X) → list_any p xs ≡ nat_lt (position_or_len p xs) (length xs)
 list_any-position p [] = refl
-list_any-position p (x ∷ xs) = elim (cases_Bool (p x)) [ inl e ↦ rw e (sym (lt-ltb 0 (suc (length xs)) (omega arith))) | inr e ↦ rw e (list_any-position p xs ∙ sym (ltb-more (position_or_len p xs) (length xs))) ]
+list_any-position p (x ∷ xs) =
+    elim (cases_Bool (p x)) [
+      | inl e ↦ rw e (sym (lt-ltb 0 (suc (length xs)) (omega arith)))
+      | inr e ↦ rw e
+          (list_any-position p xs ∙ sym (ltb-more (position_or_len p xs) (length xs)))
+    ]
 
 -- no element passes
 pub replace_first-none : {X : Type 0} (p : X → Bool) (f : X → List X) (xs : List X) → list_any p xs ≡ false → replace_first p f xs ≡ xs
@@ -29,7 +34,8 @@ replace_first-none p f (x ∷ xs) h =
     ]
 
 -- the element at the first such place is replaced
-pub replace_first-at : {X : Type 0} (p : X → Bool) (f : X → List X) (xs : List X) (i : ℕ) (d : X) → position_or_len p xs ≡ i → i < length xs → replace_first p f xs ≡ take i xs ++ (f (get_or xs i d) ++ drop (suc i) xs)
+pub replace_first-at : {X : Type 0} (p : X → Bool) (f : X → List X) (xs : List X) (i : ℕ) (d : X) → position_or_len p xs ≡ i → i < length xs
+    → replace_first p f xs ≡ take i xs ++ (f (get_or xs i d) ++ drop (suc i) xs)
 replace_first-at p f [] i d e h = absurd (omega arith)
 replace_first-at p f (x ∷ xs) zero d e h =
     elim (cases_Bool (p x)) [
@@ -82,7 +88,8 @@ position-any p xs i h =
     let below : position_or_len p xs < length xs = rw at.0 at.1 in
     list_any-position p xs ∙ lt-ltb _ _ below
 
-pub position-replace : {X : Type 0} (p : X → Bool) (f : X → List X) (xs : List X) (i : ℕ) (d : X) → position p xs ≡ Some i → replace_first p f xs ≡ take i xs ++ (f (get_or xs i d) ++ drop (suc i) xs)
+pub position-replace : {X : Type 0} (p : X → Bool) (f : X → List X) (xs : List X) (i : ℕ) (d : X) → position p xs ≡ Some i
+    → replace_first p f xs ≡ take i xs ++ (f (get_or xs i d) ++ drop (suc i) xs)
 position-replace p f xs i d h =
     let at = position-Some p xs i h in replace_first-at p f xs i d at.0 at.1
 
@@ -93,7 +100,8 @@ write_back n old new h k =
     rw (past, append-nil new) (take_all n new (omega arith))
 
 -- one step of a walk that rewrites each element where it stands
-pub map_written : {X : Type 0} (f : X → X) (xs ys : List X) (i : ℕ) (x y : X) → i < length xs → ys ≡ map f (take i xs) ++ drop i xs → x ≡ get_or ys i x → y ≡ f (get_or ys i x) → set ys i y ≡ map f (take (i + 1) xs) ++ drop (i + 1) xs
+pub map_written : {X : Type 0} (f : X → X) (xs ys : List X) (i : ℕ) (x y : X) → i < length xs → ys ≡ map f (take i xs) ++ drop i xs → x ≡ get_or ys i x
+    → y ≡ f (get_or ys i x) → set ys i y ≡ map f (take (i + 1) xs) ++ drop (i + 1) xs
 map_written f xs ys i x y below walked read turned = rw (turned ∙ ap f (sym read)) (map_over_more f xs ys i x below walked read)
 
 -- the first place of a list that begins with one more element
@@ -101,7 +109,8 @@ position-cons : {X : Type 0} (p : X → Bool) (x : X) (xs : List X) → position
 position-cons p x xs =
     elim (cases_Bool (p x)) [
       | inl e ↦ rw e (ap (λ b. cond b (Some 0) None) (lt-ltb 0 (suc (length xs)) (omega arith)))
-      | inr e ↦ rw e (ap (λ b. cond b (Some (1 + position_or_len p xs)) None) (ltb-more (position_or_len p xs) (length xs)) ∙ moved (nat_lt (position_or_len p xs) (length xs)) (position_or_len p xs))
+      | inr e ↦ rw e (ap (λ b. cond b (Some (1 + position_or_len p xs)) None) (ltb-more (position_or_len p xs) (length xs))
+          ∙ moved (nat_lt (position_or_len p xs) (length xs)) (position_or_len p xs))
     ]
   where
     moved : (b : Bool) (n : ℕ) → cond b (Some (1 + n)) None ≡ option_map (λ i. i + 1) (cond b (Some n) None)
@@ -121,19 +130,22 @@ position-push p (x ∷ xs) y =
     last true = ap (λ (k : ℕ). Some k) (let s : length xs + 1 ≡ suc (length xs) = omega arith in s)
     last false = refl
 
-    moved : (b : Bool) (o : Option ℕ) (c : Bool) → cond b (Some 0) (option_map (λ i. i + 1) (option_or o (cond c (Some (length xs)) None))) ≡ option_or (cond b (Some 0) (option_map (λ i. i + 1) o)) (cond c (Some (suc (length xs))) None)
+    moved : (b : Bool) (o : Option ℕ) (c : Bool) → cond b (Some 0) (option_map (λ i. i + 1) (option_or o (cond c (Some (length xs)) None))) ≡ option_or
+        (cond b (Some 0) (option_map (λ i. i + 1) o)) (cond c (Some (suc (length xs))) None)
     moved true o c = refl
     moved false None c = last c
     moved false (Some i) c = refl
 
 -- one step of a walk that looks for the first place
-pub position-more : {X : Type 0} (p : X → Bool) (xs : List X) (i : ℕ) (x : X) → i < length xs → x ≡ get_or xs i x → position p (take (i + 1) xs) ≡ option_or (position p (take i xs)) (cond (p x) (Some i) None)
+pub position-more : {X : Type 0} (p : X → Bool) (xs : List X) (i : ℕ) (x : X) → i < length xs → x ≡ get_or xs i x
+    → position p (take (i + 1) xs) ≡ option_or (position p (take i xs)) (cond (p x) (Some i) None)
 position-more {X = X} p xs i x h r =
     let long : length (take i xs) ≡ i = length-take-le i xs (omega arith) in
     let longer : take (i + 1) xs ≡ take i xs ++ x ∷ [] = take_more xs i x h ∙ ap (λ (y : X). take i xs ++ y ∷ []) (sym r) in
     ap (position p) longer ∙ position-push p (take i xs) x ∙ ap (λ (n : ℕ). option_or (position p (take i xs)) (cond (p x) (Some n) None)) long
 
-pub find-more : {X : Type 0} (p : X → Bool) (xs : List X) (i : ℕ) (x : X) → i < length xs → x ≡ get_or xs i x → find p (take (i + 1) xs) ≡ option_or (find p (take i xs)) (cond (p x) (Some x) None)
+pub find-more : {X : Type 0} (p : X → Bool) (xs : List X) (i : ℕ) (x : X) → i < length xs → x ≡ get_or xs i x
+    → find p (take (i + 1) xs) ≡ option_or (find p (take i xs)) (cond (p x) (Some x) None)
 find-more {X = X} p xs i x h r =
     let longer : take (i + 1) xs ≡ take i xs ++ x ∷ [] = take_more xs i x h ∙ ap (λ (y : X). take i xs ++ y ∷ []) (sym r) in
     ap (find p) longer ∙ find-append p (take i xs) (x ∷ [])

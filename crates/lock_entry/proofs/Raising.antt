@@ -50,7 +50,9 @@ named-alone n e (a ∷ es) h d =
     not_true true k = absurd (cc)
     not_true false k = refl
 
-raised-at_place : (ns : List LockName) (n : LockName) (es added : List Entry) (i : ℕ) (d : Entry) → has_distinct_names es ≡ true → position_or_len (has_name n) es ≡ i → i < length es → set (map (raised ns) es ++ added) i (one_more (get_or (map (raised ns) es ++ added) i d)) ≡ map (raised (ns ++ n ∷ [])) es ++ added
+raised-at_place : (ns : List LockName) (n : LockName) (es added : List Entry) (i : ℕ) (d : Entry) → has_distinct_names es ≡ true
+    → position_or_len (has_name n) es ≡ i → i < length es → set (map (raised ns) es ++ added) i (one_more (get_or (map (raised ns) es ++ added) i d)) ≡ map
+    (raised (ns ++ n ∷ [])) es ++ added
 raised-at_place ns n [] added i d u e h = absurd (omega arith)
 raised-at_place ns n (x ∷ es) added zero d u e h =
     let us = and_parts (list_all (names_differ x) es) (has_distinct_names es) u in
@@ -75,10 +77,13 @@ raised-at_place ns n (x ∷ es) added (suc i) d u e h =
     ]
 
 -- the entry at the place of the name rises by one
-pub raised-at : (ns : List LockName) (n : LockName) (es added : List Entry) (i : ℕ) (d : Entry) → has_distinct_names es ≡ true → position (has_name n) es ≡ Some i → set (map (raised ns) es ++ added) i (one_more (get_or (map (raised ns) es ++ added) i d)) ≡ map (raised (ns ++ n ∷ [])) es ++ added
+pub raised-at : (ns : List LockName) (n : LockName) (es added : List Entry) (i : ℕ) (d : Entry) → has_distinct_names es ≡ true
+    → position (has_name n) es ≡ Some i → set (map (raised ns) es ++ added) i (one_more (get_or (map (raised ns) es ++ added) i d)) ≡ map
+    (raised (ns ++ n ∷ [])) es ++ added
 raised-at ns n es added i d u h = let at = position-Some (has_name n) es i h in raised-at_place ns n es added i d u at.0 at.1
 
-raised-count_place : (ns : List LockName) (n : LockName) (es added : List Entry) (i : ℕ) (d : Entry) → position_or_len (has_name n) es ≡ i → i < length es → (get_or (map (raised ns) es ++ added) i d).count ≡ count_at es n + times ns n
+raised-count_place : (ns : List LockName) (n : LockName) (es added : List Entry) (i : ℕ) (d : Entry) → position_or_len (has_name n) es ≡ i → i < length es
+    → (get_or (map (raised ns) es ++ added) i d).count ≡ count_at es n + times ns n
 raised-count_place ns n [] added i d e h = absurd (omega arith)
 raised-count_place ns n (x ∷ es) added zero d e h =
     elim (cases_Bool (has_name n x)) [
@@ -101,5 +106,6 @@ raised-count_place ns n (x ∷ es) added (suc i) d e h =
     ]
 
 -- its count so far
-pub raised-count_at : (ns : List LockName) (n : LockName) (es added : List Entry) (i : ℕ) (d : Entry) → position (has_name n) es ≡ Some i → (get_or (map (raised ns) es ++ added) i d).count ≡ count_at es n + times ns n
+pub raised-count_at : (ns : List LockName) (n : LockName) (es added : List Entry) (i : ℕ) (d : Entry) → position (has_name n) es ≡ Some i
+    → (get_or (map (raised ns) es ++ added) i d).count ≡ count_at es n + times ns n
 raised-count_at ns n es added i d h = let at = position-Some (has_name n) es i h in raised-count_place ns n es added i d at.0 at.1

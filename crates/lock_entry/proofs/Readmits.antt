@@ -36,7 +36,8 @@ filter_name-one n (g ∷ gs) h =
     elim (cases_Bool (has_name n g)) [
       | inl e ↦
           let s : n ≡ name_of g = same_name-same n (name_of g) e in
-          let others : list_all (λ k. not (same_name n (name_of k))) gs ≡ true = ap (λ (m : LockName). list_all (λ k. not (same_name m (name_of k))) gs) s ∙ hs.0 in
+          let others : list_all (λ k. not (same_name n (name_of k))) gs ≡ true =
+          ap (λ (m : LockName). list_all (λ k. not (same_name m (name_of k))) gs) s ∙ hs.0 in
           let all : length (filter (λ k. not (has_name n k)) gs) ≡ length gs = ap length (filter_name-none n gs others) in
           rw e (omega arith)
       | inr e ↦
@@ -45,7 +46,8 @@ filter_name-one n (g ∷ gs) h =
     ]
 
 -- the two tests of one more entry
-filter_both : (q : Entry → Bool) (g : Entry) (ss rs : List Entry) (a b : Bool) → q g ≡ not a → rs ≡ filter q ss → cond (not (a || b)) (g ∷ rs) rs ≡ filter q (cond (not b) (g ∷ ss) ss)
+filter_both : (q : Entry → Bool) (g : Entry) (ss rs : List Entry) (a b : Bool) → q g ≡ not a → rs ≡ filter q ss
+    → cond (not (a || b)) (g ∷ rs) rs ≡ filter q (cond (not b) (g ∷ ss) ss)
 filter_both q g ss rs true true e h = h
 filter_both q g ss rs true false e h = rw e h
 filter_both q g ss rs false true e h = h
@@ -74,7 +76,8 @@ other_name owner e g outside h =
     ]
 
 -- entries of one owner with distinct names are no more than the owner's that stand and those that are new
-count_newcomers : (owner : Owner) (es gs : List Entry) → list_all (is_of owner) gs ≡ true → has_distinct_names gs ≡ true → length gs ≤ length (filter (is_of owner) es) + length (newcomers es gs)
+count_newcomers : (owner : Owner) (es gs : List Entry) → list_all (is_of owner) gs ≡ true → has_distinct_names gs ≡ true
+    → length gs ≤ length (filter (is_of owner) es) + length (newcomers es gs)
 count_newcomers owner [] gs o d = let all : length (newcomers [] gs) ≡ length gs = ap length (newcomers-nil gs) in omega arith
 count_newcomers owner (e ∷ es) gs o d =
     let n = name_of e in
@@ -89,7 +92,8 @@ count_newcomers owner (e ∷ es) gs o d =
           let differs : list_all (λ g. not (same_name n (name_of g))) gs ≡ true =
           list_all-weaken (is_of owner) (λ g. not (same_name n (name_of g))) (λ g h. other_name owner e g outside h) gs o in
           let none : length (filter (λ g. not (has_name n g)) (newcomers es gs)) ≡ length (newcomers es gs) =
-          ap length (filter_name-none n (newcomers es gs) (list_all-filter (λ g. not (same_name n (name_of g))) (λ g. not (stands es (name_of g))) gs differs)) in
+          ap length (filter_name-none n (newcomers es gs)
+          (list_all-filter (λ g. not (same_name n (name_of g))) (λ g. not (stands es (name_of g))) gs differs)) in
           rw outside (omega arith)
     ]
 
@@ -116,7 +120,8 @@ module _ (asker : Asker) (pair : IsPair asker) where
       and_from _ _ (list_all-both (names_differ g) (λ a. not (in_conflict g a)) gs d'.0 calm) (given-apart gs o'.1 d'.1)
 
   -- an entry of the update owner that isn't barred stands apart from the entries of others
-  others-apart : (es : List Entry) (g : Entry) → is_of asker.update g ≡ true → list_any (bars asker (asked_of g)) es ≡ false → list_all (λ e. are_apart e g) (freed_owner es asker.update) ≡ true
+  others-apart : (es : List Entry) (g : Entry) → is_of asker.update g ≡ true → list_any (bars asker (asked_of g)) es ≡ false
+      → list_all (λ e. are_apart e g) (freed_owner es asker.update) ≡ true
   others-apart [] g o b = refl
   others-apart (e ∷ es) g o b =
       let b' = or_parts (bars asker (asked_of g) e) (list_any (bars asker (asked_of g)) es) b in
@@ -128,7 +133,8 @@ module _ (asker : Asker) (pair : IsPair asker) where
             (others-apart es g o b'.1))
       ]
 
-  others-apart_all : (es gs : List Entry) → list_all (is_of asker.update) gs ≡ true → first_bar es asker (map asked_of gs) ≡ None → list_all (λ e. list_all (are_apart e) gs) (freed_owner es asker.update) ≡ true
+  others-apart_all : (es gs : List Entry) → list_all (is_of asker.update) gs ≡ true → first_bar es asker (map asked_of gs) ≡ None
+      → list_all (λ e. list_all (are_apart e) gs) (freed_owner es asker.update) ≡ true
   others-apart_all es [] o b = list_all-true (freed_owner es asker.update)
   others-apart_all es (g ∷ gs) o b =
       let o' = and_parts (is_of asker.update g) (list_all (is_of asker.update) gs) o in
@@ -137,7 +143,8 @@ module _ (asker : Asker) (pair : IsPair asker) where
       (others-apart es g o'.0 (find-None (bars asker (asked_of g)) es b'.0))
       (others-apart_all es gs o'.1 b'.1)
 
-readmitted-within : (t : Table) (asker : Asker) (given : List Entry) → IsTable t → ReadmitsOnly asker given → is_full t (length (newcomers t.entries given)) ≡ false → length (freed_owner t.entries asker.update ++ given) ≤ t.limit
+readmitted-within : (t : Table) (asker : Asker) (given : List Entry) → IsTable t → ReadmitsOnly asker given
+    → is_full t (length (newcomers t.entries given)) ≡ false → length (freed_owner t.entries asker.update ++ given) ≤ t.limit
 readmitted-within t asker given good only fine =
     let kept = freed_owner t.entries asker.update in
     let owned = filter (is_of asker.update) t.entries in
@@ -152,7 +159,8 @@ readmitted-within t asker given good only fine =
     ]
 
 -- A readmission keeps the table good.
-pub IsTable-readmitted : (t : Table) (asker : Asker) (given es : List Entry) → IsTable t → IsPair asker → ReadmitsOnly asker given → readmitted t asker given ≡ Ok es → IsTable (with_entries t es)
+pub IsTable-readmitted : (t : Table) (asker : Asker) (given es : List Entry) → IsTable t → IsPair asker → ReadmitsOnly asker given
+    → readmitted t asker given ≡ Ok es → IsTable (with_entries t es)
 unfolding readmitted
 IsTable-readmitted t asker given es good pair only h =
     let kept = freed_owner t.entries asker.update in
@@ -168,4 +176,5 @@ IsTable-readmitted t asker given es good pair only h =
     (given-apart asker pair given only.owners only.names)
     (others-apart_all asker pair t.entries given only.owners a.0) in
     let P : List Entry → Type 0 = λ xs. IsTable (with_entries t xs) in
-    subst P same (record { sound = sound-from (kept ++ given) counts together; within = readmitted-within t asker given good only b.0; limit_fits = good.limit_fits })
+    subst P same (record
+    { sound = sound-from (kept ++ given) counts together; within = readmitted-within t asker given good only b.0; limit_fits = good.limit_fits })

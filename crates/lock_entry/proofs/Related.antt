@@ -27,13 +27,15 @@ pair-related asker a b p ha hb =
     from_dialogue ax =
         elim (or_cases (same_owner b asker.dialogue) (same_owner b asker.update) hb) [
           | inl bd ↦ both asker.dialogue asker.dialogue ax (same_owner-same b asker.dialogue bd) (or_left _ _ (same_owner-refl asker.dialogue))
-          | inr bu ↦ both asker.dialogue asker.update ax (same_owner-same b asker.update bu) (or_right (same_owner asker.dialogue asker.update) _ (or_left _ _ p))
+          | inr bu ↦ both asker.dialogue asker.update ax (same_owner-same b asker.update bu)
+              (or_right (same_owner asker.dialogue asker.update) _ (or_left _ _ p))
         ]
 
     from_update : a ≡ asker.update → are_related a b ≡ true
     from_update ax =
         elim (or_cases (same_owner b asker.dialogue) (same_owner b asker.update) hb) [
-          | inl bd ↦ both asker.update asker.dialogue ax (same_owner-same b asker.dialogue bd) (or_right (same_owner asker.update asker.dialogue) _ (or_right (of_one_session asker.update asker.dialogue) _ p))
+          | inl bd ↦ both asker.update asker.dialogue ax (same_owner-same b asker.dialogue bd)
+              (or_right (same_owner asker.update asker.dialogue) _ (or_right (of_one_session asker.update asker.dialogue) _ p))
           | inr bu ↦ both asker.update asker.update ax (same_owner-same b asker.update bu) (or_left _ _ (same_owner-refl asker.update))
         ]
 
@@ -45,7 +47,8 @@ pub apart-from : (a b : Entry) → names_differ a b ≡ true → in_conflict a b
 apart-from a b n c = and_from (names_differ a b) (not (in_conflict a b)) n (not_from_false (in_conflict a b) c)
 
 -- an entry that doesn't bar isn't in conflict with what an owner of the pair is granted
-pub conflict-unbarred : (asker : Asker) (e f : Entry) → IsPair asker → in_pair asker f.owner ≡ true → bars asker (asked_of f) e ≡ false → in_conflict e f ≡ false
+pub conflict-unbarred : (asker : Asker) (e f : Entry) → IsPair asker → in_pair asker f.owner ≡ true → bars asker (asked_of f) e ≡ false
+    → in_conflict e f ≡ false
 conflict-unbarred asker e f p hf free =
     elim (cases_Bool (in_conflict e f)) [
       | inr none ↦ none
@@ -56,6 +59,7 @@ conflict-unbarred asker e f p hf free =
             | inl within ↦ absurd (let r = pair-related asker e.owner f.owner p within hf in let u = not-true _ parts.0 in cc)
             | inr outside ↦
                 let clash : modes_bar (in_pair asker e.owner) e.mode f.mode ≡ true = rw outside meeting.1 in
-                absurd (let bar : bars asker (asked_of f) e ≡ true = and_from (places_meet (asked_of e) (asked_of f)) (modes_bar (in_pair asker e.owner) e.mode f.mode) meeting.0 clash in cc)
+                absurd (let bar : bars asker (asked_of f) e ≡ true = and_from (places_meet (asked_of e) (asked_of f))
+                (modes_bar (in_pair asker e.owner) e.mode f.mode) meeting.0 clash in cc)
           ]
     ]

@@ -20,10 +20,12 @@ sound-from es c a = record {
 pub IsSound-filter : (p : Entry → Bool) (es : List Entry) → IsSound es → IsSound (filter p es)
 IsSound-filter p es h = sound-from (filter p es) (list_all-filter has_count p es h.counts) (all_pairs-filter are_apart p es (sound-apart es h))
 
-list_all-counts : (f : Entry → Entry) → ((e : Entry) → has_count e ≡ true → has_count (f e) ≡ true) → (es : List Entry) → list_all has_count es ≡ true → list_all has_count (map f es) ≡ true
+list_all-counts : (f : Entry → Entry) → ((e : Entry) → has_count e ≡ true → has_count (f e) ≡ true) → (es : List Entry) → list_all has_count es ≡ true
+    → list_all has_count (map f es) ≡ true
 list_all-counts f k [] h = refl
 list_all-counts f k (e ∷ es) h = let hs = and_parts (has_count e) (list_all has_count es) h in and_from _ _ (k e hs.0) (list_all-counts f k es hs.1)
 
 -- f changes no name, and leaves good counts good
-pub IsSound-map : (f : Entry → Entry) → ((a b : Entry) → are_apart (f a) (f b) ≡ are_apart a b) → ((e : Entry) → has_count e ≡ true → has_count (f e) ≡ true) → (es : List Entry) → IsSound es → IsSound (map f es)
+pub IsSound-map : (f : Entry → Entry) → ((a b : Entry) → are_apart (f a) (f b) ≡ are_apart a b) → ((e : Entry) → has_count e ≡ true → has_count (f e) ≡ true)
+    → (es : List Entry) → IsSound es → IsSound (map f es)
 IsSound-map f k c es h = sound-from (map f es) (list_all-counts f c es h.counts) (all_pairs-map are_apart f k es (sound-apart es h))

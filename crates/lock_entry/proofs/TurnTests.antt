@@ -32,17 +32,20 @@ turns-IsPlaceTest asker asked = record { mode = λ e m. refl; count = λ e n. re
 pub is_at-IsPlaceTest : (owner : Owner) (table pattern : List ℕ) → IsPlaceTest (is_at owner table pattern)
 is_at-IsPlaceTest owner table pattern = record { mode = λ e m. refl; count = λ e n. refl; place = λ e x o t p. rw (o, t, p) refl }
 
-filter_map-then : {A B C : Type 0} (f : A → Option B) (g : B → Option C) (xs : List A) → filter_map g (filter_map f xs) ≡ filter_map (λ x. option_and_then g (f x)) xs
+filter_map-then : {A B C : Type 0} (f : A → Option B) (g : B → Option C) (xs : List A)
+    → filter_map g (filter_map f xs) ≡ filter_map (λ x. option_and_then g (f x)) xs
 filter_map-then f g [] = refl
 filter_map-then {A = A} {B = B} {C = C} f g (x ∷ xs) = go (filter_map-then f g xs) (f x)
   where
-    go : filter_map g (filter_map f xs) ≡ filter_map (λ z. option_and_then g (f z)) xs → (o : Option B) → filter_map g (cons_option o (filter_map f xs)) ≡ cons_option (option_and_then g o) (filter_map (λ z. option_and_then g (f z)) xs)
+    go : filter_map g (filter_map f xs) ≡ filter_map (λ z. option_and_then g (f z)) xs → (o : Option B)
+        → filter_map g (cons_option o (filter_map f xs)) ≡ cons_option (option_and_then g o) (filter_map (λ z. option_and_then g (f z)) xs)
     go rest None = rest
     go rest (Some y) = ap (λ (zs : List C). cons_option (g y) zs) rest
 
 filter_map-agree : {A B : Type 0} (f g : A → Option B) → ((x : A) → f x ≡ g x) → (xs : List A) → filter_map f xs ≡ filter_map g xs
 filter_map-agree f g k [] = refl
-filter_map-agree {B = B} f g k (x ∷ xs) = ap (λ (o : Option B). cons_option o (filter_map f xs)) (k x) ∙ ap (λ (ys : List B). cons_option (g x) ys) (filter_map-agree f g k xs)
+filter_map-agree {B = B} f g k (x ∷ xs) = ap (λ (o : Option B). cons_option o (filter_map f xs)) (k x)
+    ∙ ap (λ (ys : List B). cons_option (g x) ys) (filter_map-agree f g k xs)
 
 filter_map-some : {X : Type 0} (xs : List X) → filter_map (λ x. Some x) xs ≡ xs
 filter_map-some [] = refl
@@ -138,25 +141,32 @@ module _ (p : Entry → Bool) (is : IsPlaceTest p) (es : List Entry) where
   gone e [] he = refl
   gone e (x ∷ xs) he = go (gone e xs he) (turned_entry p es x) refl
     where
-      go : list_any (has_name (name_in O e)) (filter_map (turned_entry p es) xs) ≡ false → (o : Option Entry) → turned_entry p es x ≡ o → list_any (has_name (name_in O e)) (cons_option o (filter_map (turned_entry p es) xs)) ≡ false
+      go : list_any (has_name (name_in O e)) (filter_map (turned_entry p es) xs) ≡ false → (o : Option Entry) → turned_entry p es x ≡ o
+          → list_any (has_name (name_in O e)) (cons_option o (filter_map (turned_entry p es) xs)) ≡ false
       go rest None h = rest
       go rest (Some y) h = or_from _ _ (turned_entry-gone e x y he h) rest
 
   -- what is found elsewhere stays
-  found_elsewhere : (m : Mode) (e : Entry) (xs : List Entry) → p e ≡ false → find (has_name (name_in m e)) (filter_map (turned_entry p es) xs) ≡ find (has_name (name_in m e)) xs
+  found_elsewhere : (m : Mode) (e : Entry) (xs : List Entry) → p e ≡ false
+      → find (has_name (name_in m e)) (filter_map (turned_entry p es) xs) ≡ find (has_name (name_in m e)) xs
   found_elsewhere m e [] he = refl
   found_elsewhere m e (x ∷ xs) he =
       let n = name_in m e in
       let rest = found_elsewhere m e xs he in
       elim (cases_Bool (p x)) [
         | inr away ↦
-            ap (λ (o : Option Entry). find (has_name n) (cons_option o (filter_map (turned_entry p es) xs))) (ap (λ b. cond b (turned_by x.mode es x) (Some x)) away)
+            ap (λ (o : Option Entry). find (has_name n) (cons_option o (filter_map (turned_entry p es) xs)))
+            (ap (λ b. cond b (turned_by x.mode es x) (Some x)) away)
             ∙ ap (λ (f : Option Entry). cond (has_name n x) (Some x) f) rest
         | inl at ↦
             skipped m e x xs he at rest (turned_by x.mode es x) refl
       ]
     where
-      skipped : (m : Mode) (e x : Entry) (xs : List Entry) → p e ≡ false → p x ≡ true → find (has_name (name_in m e)) (filter_map (turned_entry p es) xs) ≡ find (has_name (name_in m e)) xs → (o : Option Entry) → turned_by x.mode es x ≡ o → find (has_name (name_in m e)) (cons_option (cond (p x) (turned_by x.mode es x) (Some x)) (filter_map (turned_entry p es) xs)) ≡ cond (has_name (name_in m e) x) (Some x) (find (has_name (name_in m e)) xs)
+      skipped : (m : Mode) (e x : Entry) (xs : List Entry) → p e ≡ false → p x ≡ true
+          → find (has_name (name_in m e)) (filter_map (turned_entry p es) xs) ≡ find (has_name (name_in m e)) xs → (o : Option Entry)
+          → turned_by x.mode es x ≡ o
+          → find (has_name (name_in m e)) (cons_option (cond (p x) (turned_by x.mode es x) (Some x)) (filter_map (turned_entry p es) xs)) ≡ cond
+          (has_name (name_in m e) x) (Some x) (find (has_name (name_in m e)) xs)
       skipped m e x xs he at rest None h =
           ap (λ b. find (has_name (name_in m e)) (cons_option (cond b (turned_by x.mode es x) (Some x)) (filter_map (turned_entry p es) xs))) at
           ∙ ap (λ (o : Option Entry). find (has_name (name_in m e)) (cons_option o (filter_map (turned_entry p es) xs))) h
@@ -207,7 +217,8 @@ module _ (p q : Entry → Bool) (is : IsPlaceTest p) (es : List Entry) where
     where
       kept : (b : Bool) → cond b (turned_by E after (record e { mode = E })) (Some (record e { mode = E })) ≡ Some (record e { mode = E })
       kept false = refl
-      kept true = ap (λ (o : Option Entry). Some (option_map_or (with_count_of (record e { mode = E })) o (record e { mode = E }))) (none_there (record e { mode = E }) (is.mode e E ∙ he))
+      kept true = ap (λ (o : Option Entry). Some (option_map_or (with_count_of (record e { mode = E })) o (record e { mode = E })))
+          (none_there (record e { mode = E }) (is.mode e E ∙ he))
 
   -- an entry elsewhere turns as it would have
   unmoved : (m : Mode) (e : Entry) → p e ≡ false → turned_by m after e ≡ turned_by m es e
@@ -245,7 +256,8 @@ turned-agree p q k es =
 
 -- none turns by a test that none passes
 pub turned-nothing : (p : Entry → Bool) → ((e : Entry) → p e ≡ false) → (es : List Entry) → turned es p ≡ es
-turned-nothing p k es = filter_map-agree (turned_entry p es) (λ e. Some e) (λ e. ap (λ b. cond b (turned_by e.mode es e) (Some e)) (k e)) es ∙ filter_map-some es
+turned-nothing p k es = filter_map-agree (turned_entry p es) (λ e. Some e) (λ e. ap (λ b. cond b (turned_by e.mode es e) (Some e)) (k e)) es
+    ∙ filter_map-some es
 
 -- the tests of one more argument
 turns-bits : (x y l s : Bool) → ((((x || y) && l) || (x && s)) || (y && s)) ≡ ((x || y) && (l || (s || false)))
@@ -260,7 +272,8 @@ turns-bits false true false true = refl
 turns-bits false true false false = refl
 turns-bits false false l s = refl
 
-turns-push : (asker : Asker) (ks : List Asked) (a : Asked) (e : Entry) → ((turns asker ks e || is_at asker.dialogue a.table a.pattern e) || is_at asker.update a.table a.pattern e) ≡ turns asker (ks ++ a ∷ []) e
+turns-push : (asker : Asker) (ks : List Asked) (a : Asked) (e : Entry) →
+    ((turns asker ks e || is_at asker.dialogue a.table a.pattern e) || is_at asker.update a.table a.pattern e) ≡ turns asker (ks ++ a ∷ []) e
 turns-push asker ks a e =
     let l = list_any (λ k. same_place k (asked_of e)) ks in
     let s = same_place a (asked_of e) in
@@ -270,7 +283,9 @@ turns-push asker ks a e =
     ∙ ap (λ b. in_pair asker e.owner && b) (sym (list_any-append (λ k. same_place k (asked_of e)) ks (a ∷ [])))
 
 -- The turns of one more argument, the dialogue owner's and the update owner's.
-pub turned-push : (es : List Entry) (asker : Asker) (ks : List Asked) (a : Asked) → turned (turned (turned es (turns asker ks)) (is_at asker.dialogue a.table a.pattern)) (is_at asker.update a.table a.pattern) ≡ turned es (turns asker (ks ++ a ∷ []))
+pub turned-push : (es : List Entry) (asker : Asker) (ks : List Asked) (a : Asked)
+    → turned (turned (turned es (turns asker ks)) (is_at asker.dialogue a.table a.pattern)) (is_at asker.update a.table a.pattern) ≡ turned es
+    (turns asker (ks ++ a ∷ []))
 turned-push es asker ks a =
     let p = turns asker ks in
     let d = is_at asker.dialogue a.table a.pattern in

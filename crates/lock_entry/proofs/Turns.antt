@@ -18,18 +18,21 @@ use Rattle.lock_entry.proofs.Naming.{same_owner-same, bytes_eq-same}
 use Rattle.lock_entry.proofs.Lists.{find-None}
 
 -- where each element but those that pass the test stays, as f makes it
-filter_map-map : {X Y : Type 0} (q : X → Bool) (g : X → Option Y) (f : X → Y) → ((x : X) → q x ≡ false → g x ≡ Some (f x)) → (xs : List X) → list_any q xs ≡ false → filter_map g xs ≡ map f xs
+filter_map-map : {X Y : Type 0} (q : X → Bool) (g : X → Option Y) (f : X → Y) → ((x : X) → q x ≡ false → g x ≡ Some (f x)) → (xs : List X)
+    → list_any q xs ≡ false → filter_map g xs ≡ map f xs
 filter_map-map q g f k [] h = refl
 filter_map-map {Y = Y} q g f k (x ∷ xs) h =
     let hs = or_parts (q x) (list_any q xs) h in
     ap (λ (o : Option Y). cons_option o (filter_map g xs)) (k x hs.0) ∙ ap (λ (ys : List Y). f x ∷ ys) (filter_map-map q g f k xs hs.1)
 
-cons_kept : {X Y : Type 0} (b : Bool) (x : X) (y : Y) (f : X → Y) (xs : List X) → f x ≡ y → cons_option (cond b (Some y) None) (map f xs) ≡ map f (cond b (x ∷ xs) xs)
+cons_kept : {X Y : Type 0} (b : Bool) (x : X) (y : Y) (f : X → Y) (xs : List X) → f x ≡ y
+    → cons_option (cond b (Some y) None) (map f xs) ≡ map f (cond b (x ∷ xs) xs)
 cons_kept true x y f xs e = ap (λ z. z ∷ map f xs) (sym e)
 cons_kept false x y f xs e = refl
 
 -- where each element goes, or stays as f makes it
-filter_map-filter : {X Y : Type 0} (p : X → Bool) (g : X → Option Y) (f : X → Y) → ((x : X) → g x ≡ cond (p x) (Some (f x)) None) → (xs : List X) → filter_map g xs ≡ map f (filter p xs)
+filter_map-filter : {X Y : Type 0} (p : X → Bool) (g : X → Option Y) (f : X → Y) → ((x : X) → g x ≡ cond (p x) (Some (f x)) None) → (xs : List X)
+    → filter_map g xs ≡ map f (filter p xs)
 filter_map-filter p g f k [] = refl
 filter_map-filter {Y = Y} p g f k (x ∷ xs) =
     ap (λ (o : Option Y). cons_option o (filter_map g xs)) (k x)
@@ -45,7 +48,8 @@ and_assoc true b c = refl
 and_assoc false b c = refl
 
 -- one test of the name and of the place
-has_name-at : (m : Mode) (owner : Owner) (table pattern : List ℕ) (e : Entry) → has_name (name_at m owner table pattern) e ≡ (is_at owner table pattern e && same_mode m e.mode)
+has_name-at : (m : Mode) (owner : Owner) (table pattern : List ℕ) (e : Entry)
+    → has_name (name_at m owner table pattern) e ≡ (is_at owner table pattern e && same_mode m e.mode)
 has_name-at m owner table pattern e = and_assoc (same_owner owner e.owner) (bytes_eq table e.table && bytes_eq pattern e.pattern) (same_mode m e.mode)
 
 -- an entry of this owner, table and argument has the names of the place
@@ -112,7 +116,8 @@ module _ (es : List Entry) (owner : Owner) (table pattern : List ℕ) where
       ]
 
   pub turned-none : find (has_name optimistic) es ≡ None → es ≡ turned es here
-  turned-none none = sym (filter_map-map (has_name optimistic) (turned_entry here es) (λ e. e) (stays none) es (find-None (has_name optimistic) es none) ∙ map_same es)
+  turned-none none =
+      sym (filter_map-map (has_name optimistic) (turned_entry here es) (λ e. e) (stays none) es (find-None (has_name optimistic) es none) ∙ map_same es)
 
   -- the E entry stands there too
   joins-mode : (m : Mode) (e o : Entry) → after_turn (Some o) true m e ≡ cond (not (same_mode O m)) (Some (cond (same_mode E m) (with_count_of e o) e)) None
@@ -121,7 +126,8 @@ module _ (es : List Entry) (owner : Owner) (table pattern : List ℕ) where
   joins-mode X e o = refl
   joins-mode O e o = refl
 
-  joins : (o : Entry) → find (has_name optimistic) es ≡ Some o → stands es exclusive ≡ true → (e : Entry) → turned_entry here es e ≡ cond (not (has_name optimistic e)) (Some (joined exclusive o e)) None
+  joins : (o : Entry) → find (has_name optimistic) es ≡ Some o → stands es exclusive ≡ true → (e : Entry)
+      → turned_entry here es e ≡ cond (not (has_name optimistic e)) (Some (joined exclusive o e)) None
   joins o found twin e =
       elim (cases_Bool (here e)) [
         | inr away ↦
@@ -137,7 +143,8 @@ module _ (es : List Entry) (owner : Owner) (table pattern : List ℕ) where
             ∙ ap (λ b. cond (not (same_mode O e.mode)) (Some (cond b (with_count_of e o) e)) None) (named-by_mode E e at))
       ]
 
-  pub turned-joined : (o : Entry) → find (has_name optimistic) es ≡ Some o → stands es exclusive ≡ true → map (joined exclusive o) (without es optimistic) ≡ turned es here
+  pub turned-joined : (o : Entry) → find (has_name optimistic) es ≡ Some o → stands es exclusive ≡ true
+      → map (joined exclusive o) (without es optimistic) ≡ turned es here
   turned-joined o found twin = sym (filter_map-filter (λ e. not (has_name optimistic e)) (turned_entry here es) (joined exclusive o) (joins o found twin) es)
 
   -- the E entry doesn't stand there
@@ -147,7 +154,8 @@ module _ (es : List Entry) (owner : Owner) (table pattern : List ℕ) where
   makes-mode X e o h = refl
   makes-mode O e o h = refl
 
-  makes : (o : Entry) → find (has_name optimistic) es ≡ Some o → stands es exclusive ≡ false → (e : Entry) → has_name exclusive e ≡ false → turned_entry here es e ≡ Some (made_exclusive optimistic e)
+  makes : (o : Entry) → find (has_name optimistic) es ≡ Some o → stands es exclusive ≡ false → (e : Entry) → has_name exclusive e ≡ false
+      → turned_entry here es e ≡ Some (made_exclusive optimistic e)
   makes o found alone e h =
       elim (cases_Bool (here e)) [
         | inr away ↦ turned-elsewhere e away ∙ sym (ap (λ b. Some (cond b (record e { mode = E }) e)) (unnamed O e away))

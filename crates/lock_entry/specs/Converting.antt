@@ -34,16 +34,19 @@ withstands asker a e = not (in_pair asker e.owner) && (not (same_mode e.mode O) 
 -- the oldest entry that withstands the first argument that is withstood
 abbrev pub first_withstanding : List Entry → Asker → List Asked → Option Entry
 first_withstanding entries asker [] = None
-first_withstanding entries asker (a ∷ rest) = option_or (find (withstands asker a) entries) (first_withstanding entries asker rest)
+first_withstanding entries asker (a ∷ rest) = option_or (find (withstands asker a) entries)
+    (first_withstanding entries asker rest)
 
 -- the sum of an E entry's count and that of the O entry that goes into it would exceed 9,999
 abbrev pub sum_exceeds : List Entry → Asker → List Asked → Bool
 sum_exceeds entries asker asked =
-    list_any (λ e. turns asker asked e && (same_mode e.mode E && nat_lt 9999 (e.count + count_at entries (name_in O e)))) entries
+    list_any (λ e. turns asker asked e
+    && (same_mode e.mode E && nat_lt 9999 (e.count + count_at entries (name_in O e)))) entries
 
 -- an O entry outside the pair that meets an argument
 abbrev pub gives_way : Asker → List Asked → Entry → Bool
-gives_way asker asked e = not (in_pair asker e.owner) && (same_mode e.mode O && list_any (places_meet (asked_of e)) asked)
+gives_way asker asked e = not (in_pair asker e.owner) &&
+    (same_mode e.mode O && list_any (places_meet (asked_of e)) asked)
 
 -- the entries afterwards, and those of others that went
 pub record Conversion : Type 0 where

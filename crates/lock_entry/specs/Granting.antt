@@ -1,5 +1,6 @@
 -- What a table answers to requests, and to entries that are to be granted again.
-use Rattle.std.specs.Prelude.{ℕ, ◌+◌, Bool, not, ◌&&◌, cond, nat_lt, List, [], ◌∷◌, ◌++◌, length, map, Option, Some, None, Result, Ok, Err, false}
+use Rattle.std.specs.Prelude.{ℕ, ◌+◌, Bool, not, ◌&&◌, cond, nat_lt, List, [], ◌∷◌, ◌++◌, length, map, Option, Some}
+use Rattle.std.specs.Prelude.{None, Result, Ok, Err, false}
 use Rattle.std.specs.List.{list_any, filter, find}
 use Rattle.std.specs.Option.{option_or}
 use Rattle.lock_entry.specs.declared.entry.Asked.{Asked}
@@ -37,7 +38,17 @@ raised names e = record e { count = e.count + times names (name_of e) }
 
 -- a new entry, whose count is the number of the halves that name it
 abbrev pub new_entry : List ℕ → List LockName → LockName → Entry
-new_entry user names n = record { owner = n.owner; user = user; table = n.asked.table; pattern = n.asked.pattern; mode = n.asked.mode; count = times names n; handed = false }
+new_entry user names n =
+    record {
+      owner = n.owner;
+      user = user;
+      table = n.asked.table;
+      pattern = n.asked.pattern;
+      mode =
+          n.asked.mode;
+      count = times names n;
+      handed = false;
+    }
 
 -- each named entry rises, and the other names become entries at the end
 abbrev pub granted : List Entry → List ℕ → List LockName → List Entry

@@ -62,7 +62,8 @@ has_distinct_names entries = all_pairs names_differ entries
 
 -- each half of a request names one entry: the dialogue owner's first, then the update owner's
 abbrev pub halves_of : Asker → Request → List LockName
-halves_of asker r = cond r.dialogue (named asker.dialogue r.asked ∷ []) [] ++ cond r.update (named asker.update r.asked ∷ []) []
+halves_of asker r = cond r.dialogue (named asker.dialogue r.asked ∷ []) [] ++ cond r.update
+    (named asker.update r.asked ∷ []) []
 
 -- the names that the halves of the requests name, in order
 abbrev pub halves : Asker → List Request → List LockName

@@ -1,5 +1,6 @@
 -- The lists of entries that may stand together.
-use Rattle.std.specs.Prelude.{ℕ, ◌+◌, Bool, not, ◌&&◌, cond, nat_le, List, [], ◌∷◌, ◌++◌, length, Option, Some, None, IsTrue}
+use Rattle.std.specs.Prelude.{ℕ, ◌+◌, Bool, not, ◌&&◌, cond, nat_le, List, [], ◌∷◌, ◌++◌, length, Option, Some, None}
+use Rattle.std.specs.Prelude.{IsTrue}
 use Rattle.std.specs.List.{list_all, position}
 use Rattle.std.specs.Option.{option_map_or}
 use Rattle.mode_rules.specs.Modes.{modes_clash}
@@ -15,7 +16,8 @@ has_count e = nat_le 1 e.count && nat_le e.count 9999
 
 -- entries of unrelated owners that meet and whose modes clash
 abbrev pub in_conflict : Entry → Entry → Bool
-in_conflict a b = not (are_related a.owner b.owner) && (places_meet (asked_of a) (asked_of b) && modes_clash a.mode b.mode)
+in_conflict a b = not (are_related a.owner b.owner) &&
+    (places_meet (asked_of a) (asked_of b) && modes_clash a.mode b.mode)
 
 -- no two entries are in conflict
 abbrev pub has_no_conflict : List Entry → Bool
@@ -46,7 +48,8 @@ clash_after before (e ∷ es) =
     (clash_after (before ++ e ∷ []) es)
     (Some (first_against before e, length before + 1))
 
--- the two places, from 1, of the first entry that may not stand with those before it: the one that it breaks soundness with, and its own
+-- the two places, from 1, of the first entry that may not stand with those before it: the one that it breaks soundness
+-- with, and its own
 abbrev pub first_clash : List Entry → Option (ℕ × ℕ)
 first_clash entries = clash_after [] entries
 

@@ -12,7 +12,8 @@ use Rattle.lock_entry.specs.declared.entry.LockName.{LockName}
 use Rattle.lock_entry.specs.Names.{has_name, stands}
 
 abbrev pub name_at : Mode → Owner → (table pattern : List ℕ) → LockName
-name_at mode owner table pattern = record { owner = owner; asked = record { table = table; pattern = pattern; mode = mode } }
+name_at mode owner table pattern =
+    record { owner = owner; asked = record { table = table; pattern = pattern; mode = mode } }
 
 -- the name of the entry, in this mode
 abbrev pub name_in : Mode → Entry → LockName
@@ -22,7 +23,8 @@ name_in mode e = name_at mode e.owner e.table e.pattern
 abbrev pub with_count_of : Entry → Entry → Entry
 with_count_of e other = record e { count = min 9999 (e.count + other.count) }
 
--- what becomes of an entry where the O entries of its owner, table and argument turn: an O entry becomes E, or goes where the E entry stands, and that one takes its count
+-- what becomes of an entry where the O entries of its owner, table and argument turn: an O entry becomes E, or goes
+-- where the E entry stands, and that one takes its count
 abbrev pub turned_by : Mode → List Entry → Entry → Option Entry
 turned_by O entries e = cond (stands entries (name_in E e)) None (Some (record e { mode = E }))
 turned_by E entries e = Some (option_map_or (with_count_of e) (find (has_name (name_in O e)) entries) e)

@@ -15,8 +15,8 @@ use enq_base::{Name, NoMemory, Owner, UnitKey};
 use std::alloc::Global;
 
 /// A lock table (The SAP Lock Concept): its entries in order of granting, and how many may stand. The entries are
-/// always sound: no two of unrelated owners meet and clash, names are distinct, and counts are 1 to 9,999. Calls without
-/// an allocator take no memory.
+/// always sound: no two of unrelated owners meet and clash, names are distinct, and counts are 1 to 9,999. Calls
+/// without an allocator take no memory.
 pub trait LockStore: Sized + Drop {
     ghost table: { Self → Table };
 
@@ -26,8 +26,8 @@ pub trait LockStore: Sized + Drop {
         ensures good { IfOk result (λ s. IsTable (table s)) };
 
     /// Just these entries, with their counts and flags. Clash comes exactly where they aren't sound: `second` is the
-    /// first place whose entry has a wrong count or may not stand with one before it, and `first` the first such one, or
-    /// `second` itself where there is none.
+    /// first place whose entry has a wrong count or may not stand with one before it, and `first` the first such one,
+    /// or `second` itself where there is none.
     fn load(alloc: Global, limit: u32, entries: Vec<Entry>) -> Result<Self, LoadFault>
         requires { length entries.items ≤ limit }
         ensures entries { IfOk result (λ s. table s ≡ record { entries = entries.items; limit = limit }) }
@@ -43,8 +43,10 @@ pub trait LockStore: Sized + Drop {
         requests: &[Request],
     ) -> Result<(), AskFault>
         requires { IsPair asker.now }
-        ensures granted { OnOk result (granting.asked (table self.old) asker.now user.now requests.now ≡ Ok (table self.new).entries) }
-        ensures refused { IfErr result (λ f. IsFaultOf (granting.asked (table self.old) asker.now user.now requests.now) f) }
+        ensures granted { OnOk result
+            (granting.asked (table self.old) asker.now user.now requests.now ≡ Ok (table self.new).entries) }
+        ensures refused { IfErr result
+            (λ f. IsFaultOf (granting.asked (table self.old) asker.now user.now requests.now) f) }
         ensures unchanged { OnErr result (table self.new ≡ table self.old) }
         ensures limit { (table self.new).limit ≡ (table self.old).limit }
         ensures good { IsTable (table self.new) };
@@ -54,7 +56,8 @@ pub trait LockStore: Sized + Drop {
     fn readmit(&mut self, alloc: Global, asker: &Asker, entries: &[Entry]) -> Result<(), AskFault>
         requires pair { IsPair asker.now }
         requires entries { ReadmitsOnly asker.now entries.now }
-        ensures granted { OnOk result (granting.readmitted (table self.old) asker.now entries.now ≡ Ok (table self.new).entries) }
+        ensures granted { OnOk result
+            (granting.readmitted (table self.old) asker.now entries.now ≡ Ok (table self.new).entries) }
         ensures refused { IfErr result (λ f. IsFaultOf (granting.readmitted (table self.old) asker.now entries.now) f) }
         ensures unchanged { OnErr result (table self.new ≡ table self.old) }
         ensures limit { (table self.new).limit ≡ (table self.old).limit }
@@ -63,13 +66,15 @@ pub trait LockStore: Sized + Drop {
     /// Takes one from the entry of this name, which goes at 0. Tells whether it stood.
     fn free_one(&mut self, owner: &Owner, asked: &Asked) -> bool
         ensures stood { result ≡ stands (table self.old).entries (named owner.now asked.now) }
-        ensures after { table self.new ≡ with_entries (table self.old) (freed (table self.old).entries (named owner.now asked.now)) }
+        ensures after { table self.new ≡ with_entries (table self.old)
+            (freed (table self.old).entries (named owner.now asked.now)) }
         ensures good { IsTable (table self.new) };
 
     /// Removes the owner's entries. Tells how many there were.
     fn free_owner(&mut self, owner: &Owner) -> u32
         ensures count { result ≡ count_by (is_of owner.now) (table self.old).entries }
-        ensures after { table self.new ≡ with_entries (table self.old) (freed_owner (table self.old).entries owner.now) }
+        ensures after { table self.new ≡ with_entries (table self.old)
+            (freed_owner (table self.old).entries owner.now) }
         ensures good { IsTable (table self.new) };
 
     /// Turns the pair's optimistic entries at these tables and arguments into exclusive ones, all or none, and removes
@@ -82,7 +87,9 @@ pub trait LockStore: Sized + Drop {
         asked: &[Asked],
     ) -> Result<Vec<Entry>, AskFault>
         requires { IsPair asker.now }
-        ensures converted { IfOk result (λ removed. converted (table self.old).entries asker.now asked.now ≡ Ok (record { entries = (table self.new).entries; removed = removed.items })) }
+        ensures converted { IfOk result
+            (λ removed. converted (table self.old).entries asker.now asked.now ≡ Ok
+            (record { entries = (table self.new).entries; removed = removed.items })) }
         ensures refused { IfErr result (λ f. IsFaultOf (converted (table self.old).entries asker.now asked.now) f) }
         ensures unchanged { OnErr result (table self.new ≡ table self.old) }
         ensures limit { (table self.new).limit ≡ (table self.old).limit }

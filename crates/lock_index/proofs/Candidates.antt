@@ -38,7 +38,8 @@ named-meets n e h =
     let ts = and_parts (bytes_eq n.asked.table e.table) (bytes_eq n.asked.pattern e.pattern) ps.0 in
     let t : n.asked.table ≡ e.table = bytes_eq-same n.asked.table e.table ts.0 in
     let p : n.asked.pattern ≡ e.pattern = bytes_eq-same n.asked.pattern e.pattern ts.1 in
-    and_from (bytes_eq e.table n.asked.table) (meets e.pattern n.asked.pattern) (ap (bytes_eq e.table) t ∙ bytes_eq-refl e.table) (ap (meets e.pattern) p ∙ meets-refl e.pattern)
+    and_from (bytes_eq e.table n.asked.table) (meets e.pattern n.asked.pattern) (ap (bytes_eq e.table) t ∙ bytes_eq-refl e.table)
+    (ap (meets e.pattern) p ∙ meets-refl e.pattern)
 
 pub finds-meets : (s : Search) (e : Entry) → finds s e ≡ true → places_meet (asked_of e) (place_of s) ≡ true
 finds-meets (Bars asker asked) e h = (and_parts (places_meet (asked_of e) asked.now) (modes_bar (in_pair asker.now e.owner) e.mode asked.now.mode) h).0
@@ -69,7 +70,8 @@ any-equal g n ns h t = list_any-weaken (nat_eq n) g (λ k e. subst (λ i. g i �
 
 module _ (slots : List (Option Entry)) (m : NumberMap) (shown : IsShown slots m) where
   -- an entry that meets the argument stands under the key for its number of literal bytes
-  among : (a : Asked) (e : Entry) (j : ℕ) → slot_at slots j ≡ Some e → places_meet (asked_of e) a ≡ true → (s : Search) → is_under m (candidates a (literal e.pattern)) j ≡ true
+  among : (a : Asked) (e : Entry) (j : ℕ) → slot_at slots j ≡ Some e → places_meet (asked_of e) a ≡ true → (s : Search)
+      → is_under m (candidates a (literal e.pattern)) j ≡ true
   among a e j at h s =
       let hs = and_parts (bytes_eq e.table a.table) (meets e.pattern a.pattern) h in
       let n = literal e.pattern in
@@ -80,35 +82,47 @@ module _ (slots : List (Option Entry)) (m : NumberMap) (shown : IsShown slots m)
       elim (cases_Bool (nat_le n (literal a.pattern))) [
         | inl l ↦
             let k = spot_at a.table (take n a.pattern) in
-            let is : candidates a n ≡ Some k = ap (λ b. cond b None (cond (nat_le n (literal a.pattern)) (Some k) (Some (stretch_at a.table n)))) within ∙ ap (λ b. cond b (Some k) (Some (stretch_at a.table n))) l in
+            let is : candidates a n ≡ Some k = ap (λ b. cond b None (cond (nat_le n (literal a.pattern)) (Some k) (Some (stretch_at a.table n)))) within
+            ∙ ap (λ b. cond b (Some k) (Some (stretch_at a.table n))) l in
             let le : n ≤ literal a.pattern = leb-true n (literal a.pattern) l in
             let prefix : take n a.pattern ≡ take n e.pattern = meets-prefix e.pattern a.pattern hs.1 le in
-            let own : same_key (spot_key e.table e.pattern) k ≡ true = eq-eqb (digest e.table (take n e.pattern)) (digest a.table (take n a.pattern)) (λ i. digest (table i) (sym prefix i)) in
+            let own : same_key (spot_key e.table e.pattern) k ≡ true = eq-eqb (digest e.table (take n e.pattern)) (digest a.table (take n a.pattern))
+            (λ i. digest (table i) (sym prefix i)) in
             ap (λ o. is_under m o j) is ∙ shown.exact k j refl ∙ ap (on_some (has_key k)) at
             ∙ or_right (same_key (owner_key e.owner) k) _ (or_left (same_key (spot_key e.table e.pattern) k) _ own)
         | inr l ↦
             let k = stretch_at a.table n in
-            let is : candidates a n ≡ Some k = ap (λ b. cond b None (cond (nat_le n (literal a.pattern)) (Some (spot_at a.table (take n a.pattern))) (Some k))) within ∙ ap (λ b. cond b (Some (spot_at a.table (take n a.pattern))) (Some k)) l in
-            let own : same_key (stretch_key e.table e.pattern) k ≡ true = and_from (nat_eq (digest e.table []) (digest a.table [])) (nat_eq n n) (eq-eqb (digest e.table []) (digest a.table []) (ap (λ t. digest t []) table)) (eq-eqb n n refl) in
+            let is : candidates a n ≡ Some k = ap (λ b. cond b None (cond (nat_le n (literal a.pattern)) (Some (spot_at a.table (take n a.pattern))) (Some k)))
+            within ∙ ap (λ b. cond b (Some (spot_at a.table (take n a.pattern))) (Some k)) l in
+            let own : same_key (stretch_key e.table e.pattern) k ≡ true =
+            and_from (nat_eq (digest e.table []) (digest a.table [])) (nat_eq n n)
+            (eq-eqb (digest e.table []) (digest a.table []) (ap (λ t. digest t []) table)) (eq-eqb n n refl) in
             ap (λ o. is_under m o j) is ∙ shown.exact k j refl ∙ ap (on_some (has_key k)) at
-            ∙ or_right (same_key (owner_key e.owner) k) _ (or_right (same_key (spot_key e.table e.pattern) k) _ (or_left (same_key (stretch_key e.table e.pattern) k) _ own))
+            ∙ or_right (same_key (owner_key e.owner) k) _
+            (or_right (same_key (spot_key e.table e.pattern) k) _ (or_left (same_key (stretch_key e.table e.pattern) k) _ own))
       ]
 
-  all-among : (s : Search) (j : ℕ) → on_some (finds s) (slot_at slots j) ≡ true → list_any (λ n. is_under m (candidates (place_of s) n) j) (members m (lengths_key (place_of s).table)) ≡ true
+  all-among : (s : Search) (j : ℕ) → on_some (finds s) (slot_at slots j) ≡ true
+      → list_any (λ n. is_under m (candidates (place_of s) n) j) (members m (lengths_key (place_of s).table)) ≡ true
   all-among s j h = go (slot_at slots j) refl h
     where
-      go : (o : Option Entry) → slot_at slots j ≡ o → on_some (finds s) o ≡ true → list_any (λ n. is_under m (candidates (place_of s) n) j) (members m (lengths_key (place_of s).table)) ≡ true
+      go : (o : Option Entry) → slot_at slots j ≡ o → on_some (finds s) o ≡ true
+          → list_any (λ n. is_under m (candidates (place_of s) n) j) (members m (lengths_key (place_of s).table)) ≡ true
       go None at t = absurd (cc)
       go (Some e) at t =
           let meet = finds-meets s e t in
           let a = place_of s in
           let table : e.table ≡ a.table = bytes_eq-same e.table a.table (and_parts (bytes_eq e.table a.table) (meets e.pattern a.pattern) meet).0 in
-          let known : list_any (nat_eq (literal e.pattern)) (members m (lengths_key a.table)) ≡ true = ap (λ x. has m (lengths_key x) (literal e.pattern)) (sym table) ∙ shown.lengths j e at in
+          let known : list_any (nat_eq (literal e.pattern)) (members m (lengths_key a.table)) ≡ true =
+          ap (λ x. has m (lengths_key x) (literal e.pattern)) (sym table) ∙ shown.lengths j e at in
           any-equal (λ n. is_under m (candidates a n) j) (literal e.pattern) (members m (lengths_key a.table)) (among a e j at meet s) known
 
   -- what is found is among them
-  pub found-among : (s : Search) (j : ℕ) → (list_any (λ n. is_under m (candidates (place_of s) n) j) (members m (lengths_key (place_of s).table)) && on_some (finds s) (slot_at slots j)) ≡ on_some (finds s) (slot_at slots j)
-  found-among s j = same (list_any (λ n. is_under m (candidates (place_of s) n) j) (members m (lengths_key (place_of s).table))) (on_some (finds s) (slot_at slots j)) (all-among s j)
+  pub found-among : (s : Search) (j : ℕ)
+      → (list_any (λ n. is_under m (candidates (place_of s) n) j) (members m (lengths_key (place_of s).table)) && on_some (finds s) (slot_at slots j)) ≡ on_some
+      (finds s) (slot_at slots j)
+  found-among s j = same (list_any (λ n. is_under m (candidates (place_of s) n) j) (members m (lengths_key (place_of s).table)))
+      (on_some (finds s) (slot_at slots j)) (all-among s j)
     where
       same : (b f : Bool) → (f ≡ true → b ≡ true) → (b && f) ≡ f
       same true f h = refl
@@ -119,9 +133,11 @@ module _ (slots : List (Option Entry)) (m : NumberMap) (shown : IsShown slots m)
   oldest-is s =
       let ns = members m (lengths_key (place_of s).table) in
       let found : ℕ → Bool = λ j. on_some (finds s) (slot_at slots j) in
-      let looked : IsOldest (λ j. false || (list_any (λ n. is_under m (candidates (place_of s) n) j) ns && found j)) (oldest_over slots m s None ns) = oldest-over slots s m ns (λ j. false) None (λ i. refl) in
+      let looked : IsOldest (λ j. false || (list_any (λ n. is_under m (candidates (place_of s) n) j) ns && found j)) (oldest_over slots m s None ns) =
+      oldest-over slots s m ns (λ j. false) None (λ i. refl) in
       oldest-one found (oldest_over slots m s None ns) (position (on_some (finds s)) slots)
-      (oldest-same (λ j. false || (list_any (λ n. is_under m (candidates (place_of s) n) j) ns && found j)) found (λ j. same (list_any (λ n. is_under m (candidates (place_of s) n) j) ns) (found j) (all-among s j)) (oldest_over slots m s None ns) looked)
+      (oldest-same (λ j. false || (list_any (λ n. is_under m (candidates (place_of s) n) j) ns && found j)) found
+      (λ j. same (list_any (λ n. is_under m (candidates (place_of s) n) j) ns) (found j) (all-among s j)) (oldest_over slots m s None ns) looked)
       (position-oldest (finds s) slots)
     where
       same : (b f : Bool) → (f ≡ true → b ≡ true) → (false || (b && f)) ≡ f
@@ -130,13 +146,15 @@ module _ (slots : List (Option Entry)) (m : NumberMap) (shown : IsShown slots m)
       same false false h = refl
 
   -- an entry of this name stands under the key of its literal bytes
-  pub named-is : (r : Bor LockName) → oldest_of slots (Named r) None (members m (spot_key r.now.asked.table r.now.asked.pattern)) ≡ position (on_some (has_name r.now)) slots
+  pub named-is : (r : Bor LockName) → oldest_of slots (Named r) None (members m (spot_key r.now.asked.table r.now.asked.pattern)) ≡ position
+      (on_some (has_name r.now)) slots
   named-is r =
       let n = r.now in
       let k = spot_key n.asked.table n.asked.pattern in
       let found : ℕ → Bool = λ j. on_some (has_name n) (slot_at slots j) in
       oldest-one found (oldest_of slots (Named r) None (members m k)) (position (on_some (has_name n)) slots)
-      (oldest-same (λ j. false || (has m k j && found j)) found (λ j. same (has m k j) (found j) (λ t. under-spot n j t)) (oldest_of slots (Named r) None (members m k))
+      (oldest-same (λ j. false || (has m k j && found j)) found (λ j. same (has m k j) (found j) (λ t. under-spot n j t))
+      (oldest_of slots (Named r) None (members m k))
       (oldest-of slots (Named r) (members m k) (λ j. false) None (λ i. refl)))
       (position-oldest (has_name n) slots)
     where

@@ -36,7 +36,8 @@ pub live-some : (es : List Entry) → live (map (λ (e : Entry). Some e) es) ≡
 live-some [] = refl
 live-some (e ∷ es) = ap (λ (l : List Entry). e ∷ l) (live-some es)
 
-pub none-before : (q : Entry → Bool) (ss : List (Option Entry)) (i : ℕ) → ((j : ℕ) → on_some q (slot_at ss j) ≡ true → i ≤ j) → list_any q (live (take i ss)) ≡ false
+pub none-before : (q : Entry → Bool) (ss : List (Option Entry)) (i : ℕ) → ((j : ℕ) → on_some q (slot_at ss j) ≡ true → i ≤ j)
+    → list_any q (live (take i ss)) ≡ false
 none-before q ss zero h = refl
 none-before q [] (suc i) h = refl
 none-before q (None ∷ ss) (suc i) h = none-before q ss i (λ j t. let l : suc i ≤ suc j = h (suc j) t in omega arith)
@@ -71,7 +72,8 @@ any-middle q (x ∷ xs) ys e h = or_right (q x) _ (any-middle q xs ys e h)
 pub first-any : (q : Entry → Bool) (ss : List (Option Entry)) (i : ℕ) (e : Entry) → IsFirst q ss i e → list_any q (live ss) ≡ true
 first-any q ss i e f = ap (list_any q) (live-split ss i e f.at) ∙ any-middle q (live (take i ss)) (live (drop (suc i) ss)) e f.passes
 
-replace-split : (q : Entry → Bool) (f : Entry → List Entry) (xs ys : List Entry) (e : Entry) → list_any q xs ≡ false → q e ≡ true → replace_first q f (xs ++ e ∷ ys) ≡ xs ++ (f e ++ ys)
+replace-split : (q : Entry → Bool) (f : Entry → List Entry) (xs ys : List Entry) (e : Entry) → list_any q xs ≡ false → q e ≡ true
+    → replace_first q f (xs ++ e ∷ ys) ≡ xs ++ (f e ++ ys)
 replace-split q f [] ys e h t = rw t refl
 replace-split q f (x ∷ xs) ys e h t =
     elim (cases_Bool (q x)) [
@@ -87,13 +89,16 @@ replace-none q f (x ∷ xs) h =
       | inr b ↦ let k = rw b at h in rw b (ap (λ (l : List Entry). x ∷ l) (replace-none q f xs k))
     ]
 
-pub freed-first : (n : LockName) (ss : List (Option Entry)) (i : ℕ) (e : Entry) → IsFirst (has_name n) ss i e → freed (live ss) n ≡ live (take i ss) ++ (lowered e ++ live (drop (suc i) ss))
-freed-first n ss i e f = ap (λ es. freed es n) (live-split ss i e f.at) ∙ replace-split (has_name n) lowered (live (take i ss)) (live (drop (suc i) ss)) e f.before f.passes
+pub freed-first : (n : LockName) (ss : List (Option Entry)) (i : ℕ) (e : Entry) → IsFirst (has_name n) ss i e
+    → freed (live ss) n ≡ live (take i ss) ++ (lowered e ++ live (drop (suc i) ss))
+freed-first n ss i e f = ap (λ es. freed es n) (live-split ss i e f.at) ∙ replace-split (has_name n) lowered (live (take i ss))
+    (live (drop (suc i) ss)) e f.before f.passes
 
 pub freed-none : (n : LockName) (es : List Entry) → list_any (has_name n) es ≡ false → freed es n ≡ es
 freed-none n es h = replace-none (has_name n) lowered es h
 
-map-none : (n : LockName) (f : Entry → Entry) → ((x : Entry) → has_name n x ≡ false → f x ≡ x) → (xs : List Entry) → list_any (has_name n) xs ≡ false → map f xs ≡ xs
+map-none : (n : LockName) (f : Entry → Entry) → ((x : Entry) → has_name n x ≡ false → f x ≡ x) → (xs : List Entry) → list_any (has_name n) xs ≡ false
+    → map f xs ≡ xs
 map-none n f k [] h = refl
 map-none n f k (x ∷ xs) h =
     elim (cases_Bool (has_name n x)) [
@@ -101,7 +106,8 @@ map-none n f k (x ∷ xs) h =
       | inr b ↦ let l = rw b at h in (λ i. k x b i ∷ map-none n f k xs l i)
     ]
 
-pub none-after : (n : LockName) (xs ys : List Entry) (e : Entry) → has_distinct_names (xs ++ e ∷ ys) ≡ true → has_name n e ≡ true → list_any (has_name n) ys ≡ false
+pub none-after : (n : LockName) (xs ys : List Entry) (e : Entry) → has_distinct_names (xs ++ e ∷ ys) ≡ true → has_name n e ≡ true
+    → list_any (has_name n) ys ≡ false
 none-after n [] ys e h t = others ys (and_parts (list_all (names_differ e) ys) _ h).0
   where
     same : n ≡ name_of e
@@ -116,7 +122,8 @@ none-after n [] ys e h t = others ys (and_parts (list_all (names_differ e) ys) _
 none-after n (x ∷ xs) ys e h t = none-after n xs ys e (and_parts (list_all (names_differ x) (xs ++ e ∷ ys)) _ h).1 t
 
 -- an entry alone has its name, so a change of entries by that name changes this one
-pub mapped-first : (n : LockName) (f : Entry → Entry) → ((x : Entry) → has_name n x ≡ false → f x ≡ x) → (ss : List (Option Entry)) (i : ℕ) (e : Entry) → has_distinct_names (live ss) ≡ true → IsFirst (has_name n) ss i e → live (set ss i (Some (f e))) ≡ map f (live ss)
+pub mapped-first : (n : LockName) (f : Entry → Entry) → ((x : Entry) → has_name n x ≡ false → f x ≡ x) → (ss : List (Option Entry)) (i : ℕ) (e : Entry)
+    → has_distinct_names (live ss) ≡ true → IsFirst (has_name n) ss i e → live (set ss i (Some (f e))) ≡ map f (live ss)
 mapped-first n f k ss i e h first =
     let xs = live (take i ss) in
     let ys = live (drop (suc i) ss) in
@@ -125,7 +132,8 @@ mapped-first n f k ss i e h first =
     live-set ss i e (Some (f e)) first.at
     ∙ sym (ap (map f) split ∙ map-append f xs (e ∷ ys) ∙ (λ j. map-none n f k xs first.before j ++ f e ∷ map-none n f k ys after j))
 
-pub mapped-none : (n : LockName) (f : Entry → Entry) → ((x : Entry) → has_name n x ≡ false → f x ≡ x) → (es : List Entry) → list_any (has_name n) es ≡ false → es ≡ map f es
+pub mapped-none : (n : LockName) (f : Entry → Entry) → ((x : Entry) → has_name n x ≡ false → f x ≡ x) → (es : List Entry) → list_any (has_name n) es ≡ false
+    → es ≡ map f es
 mapped-none n f k es h = sym (map-none n f k es h)
 
 -- where no entry has the name, none goes
@@ -138,7 +146,8 @@ without-none n (e ∷ es) h =
     ]
 
 -- the entry that alone has its name goes
-pub without-first : (n : LockName) (ss : List (Option Entry)) (i : ℕ) (e : Entry) → has_distinct_names (live ss) ≡ true → IsFirst (has_name n) ss i e → live (set ss i None) ≡ without (live ss) n
+pub without-first : (n : LockName) (ss : List (Option Entry)) (i : ℕ) (e : Entry) → has_distinct_names (live ss) ≡ true → IsFirst (has_name n) ss i e
+    → live (set ss i None) ≡ without (live ss) n
 without-first n ss i e h first =
     let xs = live (take i ss) in
     let ys = live (drop (suc i) ss) in

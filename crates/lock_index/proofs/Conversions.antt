@@ -32,7 +32,8 @@ spread true false l m = refl
 spread true true l m = refl
 
 -- one argument more
-pub gives-more : (asker : Asker) (ks : List Asked) (i : ℕ) (a : Asked) → i < length ks → a ≡ get_or ks i a → (o : Option Entry) → on_some (gives_way asker (take (i + 1) ks)) o ≡ (on_some (gives_way asker (take i ks)) o || on_some (yields asker a) o)
+pub gives-more : (asker : Asker) (ks : List Asked) (i : ℕ) (a : Asked) → i < length ks → a ≡ get_or ks i a → (o : Option Entry)
+    → on_some (gives_way asker (take (i + 1) ks)) o ≡ (on_some (gives_way asker (take i ks)) o || on_some (yields asker a) o)
 gives-more asker ks i a below read None = refl
 gives-more asker ks i a below read (Some e) =
     ap (λ b. not (in_pair asker e.owner) && (same_mode e.mode O && b)) (any-more (places_meet (asked_of e)) ks i a below read)
@@ -69,14 +70,16 @@ any-kept p q k (x ∷ xs) =
     ]
 
 -- a filter before a change of the elements that stay is one behind it
-filter-changed : (f g : Entry → Option Entry) (q : Entry → Bool) → ((x : Entry) → q x ≡ true → f x ≡ g x) → ((x : Entry) → q x ≡ false → f x ≡ Some x) → ((x y : Entry) → q x ≡ true → f x ≡ Some y → q y ≡ true) → (xs : List Entry) → filter_map g (filter q xs) ≡ filter q (filter_map f xs)
+filter-changed : (f g : Entry → Option Entry) (q : Entry → Bool) → ((x : Entry) → q x ≡ true → f x ≡ g x) → ((x : Entry) → q x ≡ false → f x ≡ Some x)
+    → ((x y : Entry) → q x ≡ true → f x ≡ Some y → q y ≡ true) → (xs : List Entry) → filter_map g (filter q xs) ≡ filter q (filter_map f xs)
 filter-changed f g q same away kept [] = refl
 filter-changed f g q same away kept (x ∷ xs) =
     let rest : filter_map g (filter q xs) ≡ filter q (filter_map f xs) = filter-changed f g q same away kept xs in
     elim (cases_Bool (q x)) [
       | inr h ↦
           ap (λ b. filter_map g (cond b (x ∷ filter q xs) (filter q xs))) h ∙ rest
-          ∙ sym (ap (λ (o : Option Entry). filter q (cons_option o (filter_map f xs))) (away x h) ∙ ap (λ b. cond b (x ∷ filter q (filter_map f xs)) (filter q (filter_map f xs))) h)
+          ∙ sym (ap (λ (o : Option Entry). filter q (cons_option o (filter_map f xs))) (away x h)
+          ∙ ap (λ b. cond b (x ∷ filter q (filter_map f xs)) (filter q (filter_map f xs))) h)
       | inl h ↦
           ap (λ b. filter_map g (cond b (x ∷ filter q xs) (filter q xs))) h
           ∙ ap (λ (o : Option Entry). cons_option o (filter_map g (filter q xs))) (sym (same x h))
@@ -163,7 +166,8 @@ and_assoc : (a b c : Bool) → (a && (b && c)) ≡ ((a && b) && c)
 and_assoc true b c = refl
 and_assoc false b c = refl
 
-has_name-at : (m : Mode) (owner : Owner) (table pattern : List ℕ) (e : Entry) → has_name (name_at m owner table pattern) e ≡ (is_at owner table pattern e && same_mode m e.mode)
+has_name-at : (m : Mode) (owner : Owner) (table pattern : List ℕ) (e : Entry)
+    → has_name (name_at m owner table pattern) e ≡ (is_at owner table pattern e && same_mode m e.mode)
 has_name-at m owner table pattern e = and_assoc (same_owner owner e.owner) (bytes_eq table e.table && bytes_eq pattern e.pattern) (same_mode m e.mode)
 
 name_in-at : (m : Mode) (owner : Owner) (table pattern : List ℕ) (e : Entry) → is_at owner table pattern e ≡ true → name_in m e ≡ name_at m owner table pattern
@@ -180,7 +184,8 @@ and-false true = refl
 and-false false = refl
 
 -- of distinct names one entry at most has this one
-one-named : (n : LockName) (q : Entry → Bool) (es : List Entry) → has_distinct_names es ≡ true → list_any (λ e. has_name n e && q e) es ≡ option_map_or q (find (has_name n) es) false
+one-named : (n : LockName) (q : Entry → Bool) (es : List Entry) → has_distinct_names es ≡ true
+    → list_any (λ e. has_name n e && q e) es ≡ option_map_or q (find (has_name n) es) false
 one-named n q [] h = refl
 one-named n q (e ∷ es) h =
     elim (cases_Bool (has_name n e)) [
@@ -267,7 +272,11 @@ module _ (es : List Entry) (asker : Asker) (distinct : has_distinct_names es ≡
       shape false true false false true = refl
       shape false false s l true = refl
 
-      each : (e : Entry) → (turns asker (a ∷ rest) e && over e) ≡ (((is_at asker.dialogue a.table a.pattern e && over e) || (is_at asker.update a.table a.pattern e && over e)) || (turns asker rest e && over e))
+      each : (e : Entry)
+          → (turns asker (a ∷ rest) e && over e)
+          ≡ (((is_at asker.dialogue a.table a.pattern e && over e) || (is_at asker.update a.table a.pattern e && over e)) || (turns asker rest e && over e))
       each e =
-          shape (same_owner e.owner asker.dialogue) (same_owner e.owner asker.update) (same_place a (asked_of e)) (list_any (λ k. same_place k (asked_of e)) rest) (over e)
-          ∙ (λ i. (((same_owner-sym e.owner asker.dialogue i && same_place a (asked_of e)) && over e) || ((same_owner-sym e.owner asker.update i && same_place a (asked_of e)) && over e)) || (turns asker rest e && over e))
+          shape (same_owner e.owner asker.dialogue) (same_owner e.owner asker.update) (same_place a (asked_of e))
+          (list_any (λ k. same_place k (asked_of e)) rest) (over e)
+          ∙ (λ i. (((same_owner-sym e.owner asker.dialogue i && same_place a (asked_of e)) && over e)
+          || ((same_owner-sym e.owner asker.update i && same_place a (asked_of e)) && over e)) || (turns asker rest e && over e))

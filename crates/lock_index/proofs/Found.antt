@@ -30,7 +30,9 @@ module _ (slots : List (Option Entry)) (s : Search) where
   found j = on_some (finds s) (slot_at slots j)
 
   -- one place more
-  pub place-more : (ps : List ℕ) (k : ℕ) (h : Bool) (i : ℕ) → k < length ps → ((h || (list_any (nat_eq i) (take k ps) && found i)) || (found (get_or ps k 0) && nat_eq i (get_or ps k 0))) ≡ (h || (list_any (nat_eq i) (take (k + 1) ps) && found i))
+  pub place-more : (ps : List ℕ) (k : ℕ) (h : Bool) (i : ℕ) → k < length ps
+      → ((h || (list_any (nat_eq i) (take k ps) && found i)) || (found (get_or ps k 0) && nat_eq i (get_or ps k 0)))
+      ≡ (h || (list_any (nat_eq i) (take (k + 1) ps) && found i))
   place-more ps k h i below =
       let p = get_or ps k 0 in
       let m = list_any (nat_eq i) (take k ps) in
@@ -49,7 +51,8 @@ module _ (slots : List (Option Entry)) (s : Search) where
       ]
 
   -- one number of literal bytes more
-  pub length-more : (under : ℕ → Bool) (ns : List ℕ) (k : ℕ) (h : Bool) (i : ℕ) → k < length ns → ((h || (list_any under (take k ns) && found i)) || (under (get_or ns k 0) && found i)) ≡ (h || (list_any under (take (k + 1) ns) && found i))
+  pub length-more : (under : ℕ → Bool) (ns : List ℕ) (k : ℕ) (h : Bool) (i : ℕ) → k < length ns
+      → ((h || (list_any under (take k ns) && found i)) || (under (get_or ns k 0) && found i)) ≡ (h || (list_any under (take (k + 1) ns) && found i))
   length-more under ns k h i below =
       let n = get_or ns k 0 in
       with-more h (list_any under (take k ns)) (under n) (found i)

@@ -86,7 +86,8 @@ times-distinct (k ∷ ks) d j =
     others (z ∷ zs) a = ap (λ b. b || list_any (nat_eq k) zs) a.0 ∙ others zs a.1
 
 -- another place may be emptied
-read-other : (p : ℕ) (ss : List (Option Entry)) (ps : List ℕ) → p < length ss → times p ps ≡ 0 → filter_map (slot_at (set ss p None)) ps ≡ filter_map (slot_at ss) ps
+read-other : (p : ℕ) (ss : List (Option Entry)) (ps : List ℕ) → p < length ss → times p ps ≡ 0
+    → filter_map (slot_at (set ss p None)) ps ≡ filter_map (slot_at ss) ps
 read-other p ss [] within h = refl
 read-other p ss (q ∷ qs) within h =
     let more = times-cons p q qs in
@@ -94,7 +95,8 @@ read-other p ss (q ∷ qs) within h =
       | inl e ↦ absurd (let one : times p (q ∷ qs) ≡ 1 + times p qs = more ∙ ap (λ b. bit b + times p qs) e in omega arith)
       | inr e ↦
           let rest : times p (q ∷ qs) ≡ 0 + times p qs = more ∙ ap (λ b. bit b + times p qs) e in
-          ap (λ (o : Option Entry). cons_option o (filter_map (slot_at (set ss p None)) qs)) (slot-set ss p None q within ∙ ap (λ b. cond b None (slot_at ss q)) e)
+          ap (λ (o : Option Entry). cons_option o (filter_map (slot_at (set ss p None)) qs))
+          (slot-set ss p None q within ∙ ap (λ b. cond b None (slot_at ss q)) e)
           ∙ ap (λ (l : List Entry). cons_option (slot_at ss q) l) (read-other p ss qs within (omega arith))
     ]
 
@@ -111,18 +113,21 @@ bit-false true h = absurd (omega arith)
 bit-false false h = refl
 
 -- the first of them stands before the others
-filter-first : (q : Entry → Bool) (ss : List (Option Entry)) (p : ℕ) (e : Entry) → slot_at ss p ≡ Some e → q e ≡ true → list_any q (live (take p ss)) ≡ false → e ∷ filter q (live (set ss p None)) ≡ filter q (live ss)
+filter-first : (q : Entry → Bool) (ss : List (Option Entry)) (p : ℕ) (e : Entry) → slot_at ss p ≡ Some e → q e ≡ true → list_any q (live (take p ss)) ≡ false
+    → e ∷ filter q (live (set ss p None)) ≡ filter q (live ss)
 filter-first q ss p e at passes before =
     let xs = live (take p ss) in
     let ys = live (drop (suc p) ss) in
     let none : filter q xs ≡ [] = filter-none q xs before in
-    let rest : filter q (live (set ss p None)) ≡ filter q ys = ap (filter q) (live-set ss p e None at) ∙ filter-append q xs ys ∙ ap (λ (l : List Entry). l ++ filter q ys) none in
+    let rest : filter q (live (set ss p None)) ≡ filter q ys = ap (filter q) (live-set ss p e None at) ∙ filter-append q xs ys
+    ∙ ap (λ (l : List Entry). l ++ filter q ys) none in
     let all : filter q (live ss) ≡ e ∷ filter q ys =
     ap (filter q) (live-split ss p e at) ∙ filter-append q xs (e ∷ ys) ∙ ap (λ (l : List Entry). l ++ filter q (e ∷ ys)) none
     ∙ ap (λ b. cond b (e ∷ filter q ys) (filter q ys)) passes in
     ap (λ (l : List Entry). e ∷ l) rest ∙ sym all
 
-places-read : (q : Entry → Bool) (ps : List ℕ) (ss : List (Option Entry)) → rising ps ≡ true → ((j : ℕ) → times j ps ≡ bit (on_some q (slot_at ss j))) → filter_map (slot_at ss) ps ≡ filter q (live ss)
+places-read : (q : Entry → Bool) (ps : List ℕ) (ss : List (Option Entry)) → rising ps ≡ true → ((j : ℕ) → times j ps ≡ bit (on_some q (slot_at ss j)))
+    → filter_map (slot_at ss) ps ≡ filter q (live ss)
 places-read q [] ss up h = sym (filter-none q (live ss) (any-none q ss (λ j. bit-false (on_some q (slot_at ss j)) (sym (h j) ∙ times-none j [] refl))))
 places-read q (p ∷ ps) ss up h = go (slot_at ss p) refl (places-read q ps (set ss p None) (and_parts (list_all (nat_le p) ps) (rising ps) up).1)
   where
@@ -145,7 +150,9 @@ places-read q (p ∷ ps) ss up h = go (slot_at ss p) refl (places-read q ps (set
           | inr e ↦ let one : times j ps ≡ 1 = other j e ∙ ap bit t in times-above p j ps above (omega arith)
         ]
 
-    go : (o : Option Entry) → slot_at ss p ≡ o → (((j : ℕ) → times j ps ≡ bit (on_some q (slot_at (set ss p None) j))) → filter_map (slot_at (set ss p None)) ps ≡ filter q (live (set ss p None))) → filter_map (slot_at ss) (p ∷ ps) ≡ filter q (live ss)
+    go : (o : Option Entry) → slot_at ss p ≡ o
+        → (((j : ℕ) → times j ps ≡ bit (on_some q (slot_at (set ss p None) j))) → filter_map (slot_at (set ss p None)) ps ≡ filter q (live (set ss p None)))
+        → filter_map (slot_at ss) (p ∷ ps) ≡ filter q (live ss)
     go None at rest = absurd (let none : 1 + times p ps ≡ 0 = own ∙ ap (λ o. bit (on_some q o)) at in omega arith)
     go (Some e) at rest =
         elim (cases_Bool (q e)) [
@@ -169,7 +176,9 @@ places-read q (p ∷ ps) ss up h = go (slot_at ss p) refl (places-read q ps (set
         ]
 
 -- The entries at distinct places, once these are sorted, are in order of granting those that the places are shown for.
-pub in-order : (q : Entry → Bool) (places sorted : List ℕ) (ss : List (Option Entry)) → IsDistinct nat_eq places → ((j : ℕ) → list_any (nat_eq j) places ≡ on_some q (slot_at ss j)) → IsPermutation places sorted → IsNonDecreasing sorted → filter_map (slot_at ss) sorted ≡ filter q (live ss)
+pub in-order : (q : Entry → Bool) (places sorted : List ℕ) (ss : List (Option Entry)) → IsDistinct nat_eq places
+    → ((j : ℕ) → list_any (nat_eq j) places ≡ on_some q (slot_at ss j)) → IsPermutation places sorted → IsNonDecreasing sorted
+    → filter_map (slot_at ss) sorted ≡ filter q (live ss)
 in-order q places sorted ss d shown moved up =
     places-read q sorted ss (rising-from sorted up)
     (λ j. times-moved j places sorted moved ∙ times-distinct places d j ∙ ap bit (shown j))

@@ -24,7 +24,8 @@ live-split (s ∷ ss) zero e h = ap (λ o. cons_option o (live ss)) h
 live-split (None ∷ ss) (suc i) e h = live-split ss i e h
 live-split (Some x ∷ ss) (suc i) e h = ap (λ (l : List Entry). x ∷ l) (live-split ss i e h)
 
-pub live-set : (ss : List (Option Entry)) (i : ℕ) (e : Entry) (x : Option Entry) → slot_at ss i ≡ Some e → live (set ss i x) ≡ live (take i ss) ++ cons_option x (live (drop (suc i) ss))
+pub live-set : (ss : List (Option Entry)) (i : ℕ) (e : Entry) (x : Option Entry) → slot_at ss i ≡ Some e
+    → live (set ss i x) ≡ live (take i ss) ++ cons_option x (live (drop (suc i) ss))
 live-set [] i e x h = absurd (cc)
 live-set (s ∷ ss) zero e x h = refl
 live-set (None ∷ ss) (suc i) e x h = live-set ss i e x h
@@ -33,7 +34,8 @@ live-set (Some y ∷ ss) (suc i) e x h = ap (λ (l : List Entry). y ∷ l) (live
 pub live-fewer : (ss : List (Option Entry)) (i : ℕ) (e : Entry) → slot_at ss i ≡ Some e → length (live ss) ≡ suc (length (live (set ss i None)))
 live-fewer ss i e h =
     ap length (live-split ss i e h) ∙ length-append (live (take i ss)) (e ∷ live (drop (suc i) ss))
-    ∙ (let s : length (live (take i ss)) + suc (length (live (drop (suc i) ss))) ≡ suc (length (live (take i ss)) + length (live (drop (suc i) ss))) = omega arith in s)
+    ∙ (let s : length (live (take i ss)) + suc (length (live (drop (suc i) ss))) ≡ suc (length (live (take i ss)) + length (live (drop (suc i) ss))) =
+    omega arith in s)
     ∙ ap (λ (n : ℕ). suc n) (sym (ap length (live-set ss i e None h) ∙ length-append (live (take i ss)) (live (drop (suc i) ss))))
 
 pub live-as_many : (ss : List (Option Entry)) (i : ℕ) (e f : Entry) → slot_at ss i ≡ Some e → length (live (set ss i (Some f))) ≡ length (live ss)
@@ -47,17 +49,21 @@ live-more ss e = ap length (live-append ss (Some e ∷ [])) ∙ length-append (l
 -- the first entry that passes a test stands at the first such place
 pub find-live : (q : Entry → Bool) (ss : List (Option Entry)) → find q (live ss) ≡ option_and_then (slot_at ss) (position (on_some q) ss)
 find-live q [] = refl
-find-live q (None ∷ ss) = find-live q ss ∙ moved (position (on_some q) ss) ∙ sym (ap (option_and_then (slot_at (None ∷ ss))) (position-cons (on_some q) None ss))
+find-live q (None ∷ ss) = find-live q ss ∙ moved (position (on_some q) ss)
+    ∙ sym (ap (option_and_then (slot_at (None ∷ ss))) (position-cons (on_some q) None ss))
   where
     moved : (o : Option ℕ) → option_and_then (slot_at ss) o ≡ option_and_then (slot_at (None ∷ ss)) (option_map (λ i. i + 1) o)
     moved None = refl
     moved (Some i) = ap (slot_at (None ∷ ss)) (let s : suc i ≡ i + 1 = omega arith in s)
 find-live q (Some e ∷ ss) =
     elim (cases_Bool (q e)) [
-      | inl t ↦ ap (λ b. cond b (Some e) (find q (live ss))) t ∙ sym (ap (option_and_then (slot_at (Some e ∷ ss))) (position-cons (on_some q) (Some e) ss ∙ ap (λ b. cond b (Some 0) (option_map (λ i. i + 1) (position (on_some q) ss))) t))
+      | inl t ↦ ap (λ b. cond b (Some e) (find q (live ss))) t
+          ∙ sym (ap (option_and_then (slot_at (Some e ∷ ss)))
+          (position-cons (on_some q) (Some e) ss ∙ ap (λ b. cond b (Some 0) (option_map (λ i. i + 1) (position (on_some q) ss))) t))
       | inr t ↦
           ap (λ b. cond b (Some e) (find q (live ss))) t ∙ find-live q ss ∙ moved (position (on_some q) ss)
-          ∙ sym (ap (option_and_then (slot_at (Some e ∷ ss))) (position-cons (on_some q) (Some e) ss ∙ ap (λ b. cond b (Some 0) (option_map (λ i. i + 1) (position (on_some q) ss))) t))
+          ∙ sym (ap (option_and_then (slot_at (Some e ∷ ss)))
+          (position-cons (on_some q) (Some e) ss ∙ ap (λ b. cond b (Some 0) (option_map (λ i. i + 1) (position (on_some q) ss))) t))
     ]
   where
     moved : (o : Option ℕ) → option_and_then (slot_at ss) o ≡ option_and_then (slot_at (Some e ∷ ss)) (option_map (λ i. i + 1) o)
@@ -67,7 +73,8 @@ find-live q (Some e ∷ ss) =
 pub live-push : (ss : List (Option Entry)) (e : Entry) → live (ss ++ Some e ∷ []) ≡ live ss ++ e ∷ []
 live-push ss e = live-append ss (Some e ∷ [])
 
-pub live-next : (ss : List (Option Entry)) (i : ℕ) (s : Option Entry) → i < length ss → s ≡ get_or ss i s → live (take (i + 1) ss) ≡ live (take i ss) ++ cons_option s []
+pub live-next : (ss : List (Option Entry)) (i : ℕ) (s : Option Entry) → i < length ss → s ≡ get_or ss i s
+    → live (take (i + 1) ss) ≡ live (take i ss) ++ cons_option s []
 live-next ss i s below read =
     ap live (take_more ss i s below ∙ ap (λ (x : Option Entry). take i ss ++ x ∷ []) (sym read)) ∙ live-append (take i ss) (s ∷ [])
 

@@ -37,7 +37,8 @@ module _ {S T : Type 0} where
   abbrev in_set : IndexMap Key (IndexSet ℕ S) T → Key → ℕ → Bool
   in_set m k i = list_any (nat_eq i) (set_members m k)
 
-  module _ (old new : IndexMap Key (IndexSet ℕ S) T) (key : Key) (set : IndexSet ℕ S) (update : (q : Key) → get same_key new q ≡ cond (same_key key q) (Some set) (get same_key old q)) where
+  module _ (old new : IndexMap Key (IndexSet ℕ S) T) (key : Key) (set : IndexSet ℕ S)
+      (update : (q : Key) → get same_key new q ≡ cond (same_key key q) (Some set) (get same_key old q)) where
     here : (k : Key) → same_key key k ≡ true → set_members new k ≡ set.keys
     here k e = ap (λ o. option_map_or (λ s. s.keys) o []) (update k ∙ ap (λ b. cond b (Some set) (get same_key old k)) e)
 
@@ -69,7 +70,8 @@ module _ {S T : Type 0} where
         ]
 
   -- a key without numbers goes
-  pub keeps-empty : (old new : IndexMap Key (IndexSet ℕ S) T) (key : Key) → ((q : Key) → get same_key new q ≡ cond (same_key key q) None (get same_key old q)) → set_members old key ≡ [] → KeepsSets old new
+  pub keeps-empty : (old new : IndexMap Key (IndexSet ℕ S) T) (key : Key) → ((q : Key) → get same_key new q ≡ cond (same_key key q) None (get same_key old q))
+      → set_members old key ≡ [] → KeepsSets old new
   keeps-empty old new key update none k i =
       elim (cases_Bool (same_key key k)) [
         | inl e ↦
@@ -80,10 +82,13 @@ module _ {S T : Type 0} where
       ]
 
   -- the sets after one of them is written or goes
-  pub set-written : (old new : IndexMap Key (IndexSet ℕ S) T) (key : Key) (o : Option (IndexSet ℕ S)) → ((q : Key) → get same_key new q ≡ cond (same_key key q) o (get same_key old q)) → (k : Key) → set_members new k ≡ cond (same_key key k) (option_map_or (λ s. s.keys) o []) (set_members old k)
+  pub set-written : (old new : IndexMap Key (IndexSet ℕ S) T) (key : Key) (o : Option (IndexSet ℕ S))
+      → ((q : Key) → get same_key new q ≡ cond (same_key key q) o (get same_key old q)) → (k : Key)
+      → set_members new k ≡ cond (same_key key k) (option_map_or (λ s. s.keys) o []) (set_members old k)
   set-written old new key o update k = ap (λ o. option_map_or (λ s. s.keys) o []) (update k) ∙ within (same_key key k) (get same_key old k)
     where
-      within : (b : Bool) (x : Option (IndexSet ℕ S)) → option_map_or (λ s. s.keys) (cond b o x) [] ≡ cond b (option_map_or (λ s. s.keys) o []) (option_map_or (λ s. s.keys) x [])
+      within : (b : Bool) (x : Option (IndexSet ℕ S)) → option_map_or (λ s. s.keys) (cond b o x) [] ≡ cond b (option_map_or (λ s. s.keys) o [])
+          (option_map_or (λ s. s.keys) x [])
       within true x = refl
       within false x = refl
 
@@ -96,7 +101,9 @@ nat_eq-flip i j = grind (arith, nat_tests)
 
 module _ (old new : NumberMap) (key : Key) where
   -- the numbers after those alone and the sets are written at one key
-  pub both-written : (a : Option ℕ) (ns : List ℕ) → ((q : Key) → get same_key new.alone q ≡ cond (same_key key q) a (get same_key old.alone q)) → ((q : Key) → set_members new.sets q ≡ cond (same_key key q) ns (set_members old.sets q)) → (k : Key) → members new k ≡ cond (same_key key k) (alone_or a ns) (members old k)
+  pub both-written : (a : Option ℕ) (ns : List ℕ) → ((q : Key) → get same_key new.alone q ≡ cond (same_key key q) a (get same_key old.alone q))
+      → ((q : Key) → set_members new.sets q ≡ cond (same_key key q) ns (set_members old.sets q)) → (k : Key)
+      → members new k ≡ cond (same_key key k) (alone_or a ns) (members old k)
   both-written a ns alone sets k = (λ i. alone_or (alone k i) (sets k i)) ∙ joined (same_key key k) (get same_key old.alone k) (set_members old.sets k)
     where
       joined : (b : Bool) (x : Option ℕ) (ys : List ℕ) → alone_or (cond b a x) (cond b ns ys) ≡ cond b (alone_or a ns) (alone_or x ys)
@@ -129,7 +136,10 @@ module _ (old new : NumberMap) (key : Key) where
         ]
 
   -- the number that a key has alone goes into a set with another
-  pub adds-second : (first n : ℕ) (ns : List ℕ) → get same_key old.alone key ≡ Some first → ((i : ℕ) → list_any (nat_eq i) ns ≡ cond (nat_eq n i) true (cond (nat_eq first i) true false)) → ((q : Key) → get same_key new.alone q ≡ cond (same_key key q) None (get same_key old.alone q)) → ((q : Key) → set_members new.sets q ≡ cond (same_key key q) ns (set_members old.sets q)) → Adds old new key n
+  pub adds-second : (first n : ℕ) (ns : List ℕ) → get same_key old.alone key ≡ Some first
+      → ((i : ℕ) → list_any (nat_eq i) ns ≡ cond (nat_eq n i) true (cond (nat_eq first i) true false))
+      → ((q : Key) → get same_key new.alone q ≡ cond (same_key key q) None (get same_key old.alone q))
+      → ((q : Key) → set_members new.sets q ≡ cond (same_key key q) ns (set_members old.sets q)) → Adds old new key n
   adds-second first n ns had both alone sets =
       adds-one ns (both-written None ns alone sets) n
       (λ i.
@@ -166,7 +176,8 @@ any-push p (x ∷ xs) y = ap (λ b. p x || b) (any-push p xs y) ∙ grouped (p x
     grouped true b c = refl
     grouped false b c = refl
 
-pub any-more : {X : Type 0} (p : X → Bool) (xs : List X) (i : ℕ) (x : X) → i < length xs → x ≡ get_or xs i x → list_any p (take (i + 1) xs) ≡ (list_any p (take i xs) || p x)
+pub any-more : {X : Type 0} (p : X → Bool) (xs : List X) (i : ℕ) (x : X) → i < length xs → x ≡ get_or xs i x
+    → list_any p (take (i + 1) xs) ≡ (list_any p (take i xs) || p x)
 any-more {X = X} p xs i x h r =
     let longer : take (i + 1) xs ≡ take i xs ++ x ∷ [] = take_more xs i x h ∙ ap (λ (y : X). take i xs ++ y ∷ []) (sym r) in
     ap (list_any p) longer ∙ any-push p (take i xs) x

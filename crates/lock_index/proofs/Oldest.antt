@@ -79,15 +79,18 @@ module _ (slots : List (Option Entry)) (s : Search) where
   abbrev found : ℕ → Bool
   found j = on_some (finds s) (slot_at slots j)
 
-  pub oldest-of : (ps : List ℕ) (hit : ℕ → Bool) (best : Option ℕ) → IsOldest hit best → IsOldest (λ j. hit j || (list_any (nat_eq j) ps && found j)) (oldest_of slots s best ps)
+  pub oldest-of : (ps : List ℕ) (hit : ℕ → Bool) (best : Option ℕ) → IsOldest hit best
+      → IsOldest (λ j. hit j || (list_any (nat_eq j) ps && found j)) (oldest_of slots s best ps)
   oldest-of [] hit best h = oldest-same hit (λ j. hit j || (false && found j)) (λ j. or-nothing (hit j)) best h
   oldest-of (i ∷ is) hit best h =
-      oldest-same (λ j. (hit j || (found i && nat_eq j i)) || (list_any (nat_eq j) is && found j)) (λ j. hit j || ((nat_eq j i || list_any (nat_eq j) is) && found j))
+      oldest-same (λ j. (hit j || (found i && nat_eq j i)) || (list_any (nat_eq j) is && found j))
+      (λ j. hit j || ((nat_eq j i || list_any (nat_eq j) is) && found j))
       (λ j. same j (cases_Bool (nat_eq j i)))
       (oldest_of slots s (earlier best (found i) i) is)
       (oldest-of is (λ j. hit j || (found i && nat_eq j i)) (earlier best (found i) i) (oldest-earlier hit best (found i) i h))
     where
-      same : (j : ℕ) → (nat_eq j i ≡ true) ⊎ (nat_eq j i ≡ false) → ((hit j || (found i && nat_eq j i)) || (list_any (nat_eq j) is && found j)) ≡ (hit j || ((nat_eq j i || list_any (nat_eq j) is) && found j))
+      same : (j : ℕ) → (nat_eq j i ≡ true) ⊎ (nat_eq j i ≡ false) → ((hit j || (found i && nat_eq j i)) || (list_any (nat_eq j) is && found j))
+          ≡ (hit j || ((nat_eq j i || list_any (nat_eq j) is) && found j))
       same j (inl e) =
           let is' : i ≡ j = sym (eqb-true j i e) in
           ap (λ b. (hit j || (found i && b)) || (list_any (nat_eq j) is && found j)) e
@@ -100,16 +103,19 @@ module _ (slots : List (Option Entry)) (s : Search) where
           ∙ ap (λ b. hit j || ((b || list_any (nat_eq j) is) && found j)) (sym e)
 
   module _ (m : NumberMap) where
-    oldest-under : (k : Option Key) (hit : ℕ → Bool) (best : Option ℕ) → IsOldest hit best → IsOldest (λ j. hit j || (is_under m k j && found j)) (oldest_under slots m s best k)
+    oldest-under : (k : Option Key) (hit : ℕ → Bool) (best : Option ℕ) → IsOldest hit best
+        → IsOldest (λ j. hit j || (is_under m k j && found j)) (oldest_under slots m s best k)
     oldest-under None hit best h = oldest-same hit (λ j. hit j || (false && found j)) (λ j. or-nothing (hit j)) best h
     oldest-under (Some k) hit best h = oldest-of (Rattle.lock_index.specs.Members.members m k) hit best h
 
-    pub oldest-over : (ns : List ℕ) (hit : ℕ → Bool) (best : Option ℕ) → IsOldest hit best → IsOldest (λ j. hit j || (list_any (λ n. is_under m (candidates (place_of s) n) j) ns && found j)) (oldest_over slots m s best ns)
+    pub oldest-over : (ns : List ℕ) (hit : ℕ → Bool) (best : Option ℕ) → IsOldest hit best
+        → IsOldest (λ j. hit j || (list_any (λ n. is_under m (candidates (place_of s) n) j) ns && found j)) (oldest_over slots m s best ns)
     oldest-over [] hit best h = oldest-same hit (λ j. hit j || (false && found j)) (λ j. or-nothing (hit j)) best h
     oldest-over (n ∷ ns) hit best h =
         let k = candidates (place_of s) n in
         let best' = oldest_under slots m s best k in
-        oldest-same (λ j. (hit j || (is_under m k j && found j)) || (list_any (λ q. is_under m (candidates (place_of s) q) j) ns && found j)) (λ j. hit j || ((is_under m k j || list_any (λ q. is_under m (candidates (place_of s) q) j) ns) && found j))
+        oldest-same (λ j. (hit j || (is_under m k j && found j)) || (list_any (λ q. is_under m (candidates (place_of s) q) j) ns && found j))
+        (λ j. hit j || ((is_under m k j || list_any (λ q. is_under m (candidates (place_of s) q) j) ns) && found j))
         (λ j. with-more (hit j) (is_under m k j) (list_any (λ q. is_under m (candidates (place_of s) q) j) ns) (found j))
         (oldest_over slots m s best' ns)
         (oldest-over ns (λ j. hit j || (is_under m k j && found j)) best' (oldest-under k hit best h))
@@ -122,7 +128,8 @@ pub position-cons : {X : Type 0} (p : X → Bool) (x : X) (xs : List X) → posi
 position-cons p x xs =
     elim (cases_Bool (p x)) [
       | inl e ↦ rw e (ap (λ b. cond b (Some 0) None) (lt-ltb 0 (suc (length xs)) (omega arith)))
-      | inr e ↦ rw e (ap (λ b. cond b (Some (1 + position_or_len p xs)) None) (ltb-more (position_or_len p xs) (length xs)) ∙ moved (nat_lt (position_or_len p xs) (length xs)) (position_or_len p xs))
+      | inr e ↦ rw e (ap (λ b. cond b (Some (1 + position_or_len p xs)) None) (ltb-more (position_or_len p xs) (length xs))
+          ∙ moved (nat_lt (position_or_len p xs) (length xs)) (position_or_len p xs))
     ]
   where
     moved : (b : Bool) (n : ℕ) → cond b (Some (1 + n)) None ≡ option_map (λ i. i + 1) (cond b (Some n) None)
@@ -135,10 +142,12 @@ position-oldest q [] = λ i. refl
 position-oldest q (s ∷ ss) =
     elim (cases_Bool (on_some q s)) [
       | inl e ↦
-          let at : position (on_some q) (s ∷ ss) ≡ Some 0 = position-cons (on_some q) s ss ∙ ap (λ b. cond b (Some 0) (option_map (λ i. i + 1) (position (on_some q) ss))) e in
+          let at : position (on_some q) (s ∷ ss) ≡ Some 0 = position-cons (on_some q) s ss
+          ∙ ap (λ b. cond b (Some 0) (option_map (λ i. i + 1) (position (on_some q) ss))) e in
           subst (IsOldest (λ j. on_some q (slot_at (s ∷ ss) j))) (sym at) (e, λ i t. omega arith)
       | inr e ↦
-          let at : position (on_some q) (s ∷ ss) ≡ option_map (λ i. i + 1) (position (on_some q) ss) = position-cons (on_some q) s ss ∙ ap (λ b. cond b (Some 0) (option_map (λ i. i + 1) (position (on_some q) ss))) e in
+          let at : position (on_some q) (s ∷ ss) ≡ option_map (λ i. i + 1) (position (on_some q) ss) =
+          position-cons (on_some q) s ss ∙ ap (λ b. cond b (Some 0) (option_map (λ i. i + 1) (position (on_some q) ss))) e in
           subst (IsOldest (λ j. on_some q (slot_at (s ∷ ss) j))) (sym at) (shifted e (position (on_some q) ss) (position-oldest q ss))
     ]
   where
@@ -150,7 +159,8 @@ position-oldest q (s ∷ ss) =
     above r e h zero t = absurd (true≢false (sym t ∙ e))
     above r e h (suc i) t = let l : r ≤ i = h i t in omega arith
 
-    shifted : on_some q s ≡ false → (o : Option ℕ) → IsOldest (λ j. on_some q (slot_at ss j)) o → IsOldest (λ j. on_some q (slot_at (s ∷ ss) j)) (option_map (λ i. i + 1) o)
+    shifted : on_some q s ≡ false → (o : Option ℕ) → IsOldest (λ j. on_some q (slot_at ss j)) o
+        → IsOldest (λ j. on_some q (slot_at (s ∷ ss) j)) (option_map (λ i. i + 1) o)
     shifted e None h = none e h
     shifted e (Some r) h =
         let up : r + 1 ≡ suc r = omega arith in

@@ -49,7 +49,8 @@ never false = refl
 -- the entries under the key of an owner are the owner's
 module _ (e : Entry) where
   abbrev keyed : Owner → Mode → Key → Bool
-  keyed o m k = same_key (owner_key o) k || (same_key (spot_key e.table e.pattern) k || (same_key (stretch_key e.table e.pattern) k || (same_key (optimistic_key o m) k || false)))
+  keyed o m k = same_key (owner_key o) k
+      || (same_key (spot_key e.table e.pattern) k || (same_key (stretch_key e.table e.pattern) k || (same_key (optimistic_key o m) k || false)))
 
   owned : (a b : Owner) (m : Mode) → keyed b m (owner_key a) ≡ same_owner b a
   owned (Dlg s n) (Dlg t k) m = twice (nat_eq t s && nat_eq k n)
@@ -81,7 +82,8 @@ not-lengths (Dlg s n) = refl
 not-lengths (Upd u) = refl
 
 -- an entry that a filter drops
-pub filter-dropped : (p : Entry → Bool) (ss : List (Option Entry)) (i : ℕ) (e : Entry) → slot_at ss i ≡ Some e → p e ≡ false → filter p (live (set ss i None)) ≡ filter p (live ss)
+pub filter-dropped : (p : Entry → Bool) (ss : List (Option Entry)) (i : ℕ) (e : Entry) → slot_at ss i ≡ Some e → p e ≡ false
+    → filter p (live (set ss i None)) ≡ filter p (live ss)
 filter-dropped p ss i e at h =
     let xs = live (take i ss) in
     let ys = live (drop (suc i) ss) in
@@ -94,7 +96,8 @@ filter-all p [] h = refl
 filter-all p (x ∷ xs) h =
     elim (cases_Bool (p x)) [
       | inl t ↦ absurd (let k = rw t at h in cc)
-      | inr t ↦ let k = rw t at h in ap (λ b. cond (not b) (x ∷ filter (λ e. not (p e)) xs) (filter (λ e. not (p e)) xs)) t ∙ ap (λ (l : List Entry). x ∷ l) (filter-all p xs k)
+      | inr t ↦ let k = rw t at h in ap (λ b. cond (not b) (x ∷ filter (λ e. not (p e)) xs) (filter (λ e. not (p e)) xs)) t
+          ∙ ap (λ (l : List Entry). x ∷ l) (filter-all p xs k)
     ]
 
 -- where no place passes the test, the filter keeps all
@@ -104,7 +107,8 @@ filter-kept p ss h = sym (filter-all p (live ss) (any-none p ss h))
 count-append : (p : Entry → Bool) (xs ys : List Entry) → count_by p (xs ++ ys) ≡ count_by p xs + count_by p ys
 count-append p xs ys = sum_by-append (λ e. cond (p e) 1 0) xs ys
 
-count-less : (q : Entry → Bool) (ss : List (Option Entry)) (i : ℕ) (e : Entry) → slot_at ss i ≡ Some e → q e ≡ true → count_by q (live ss) ≡ suc (count_by q (live (set ss i None)))
+count-less : (q : Entry → Bool) (ss : List (Option Entry)) (i : ℕ) (e : Entry) → slot_at ss i ≡ Some e → q e ≡ true
+    → count_by q (live ss) ≡ suc (count_by q (live (set ss i None)))
 count-less q ss i e at h =
     let xs = live (take i ss) in
     let ys = live (drop (suc i) ss) in
@@ -114,7 +118,8 @@ count-less q ss i e at h =
     omega arith
 
 -- places that are distinct are as many as the entries at them
-pub distinct-count : (q : Entry → Bool) (ks : List ℕ) (ss : List (Option Entry)) → IsDistinct nat_eq ks → ((j : ℕ) → list_any (nat_eq j) ks ≡ on_some q (slot_at ss j)) → length ks ≡ count_by q (live ss)
+pub distinct-count : (q : Entry → Bool) (ks : List ℕ) (ss : List (Option Entry)) → IsDistinct nat_eq ks
+    → ((j : ℕ) → list_any (nat_eq j) ks ≡ on_some q (slot_at ss j)) → length ks ≡ count_by q (live ss)
 unfolding IsDistinct
 distinct-count q [] ss d h = sym (count_by-none q (live ss) (any-none q ss (λ j. sym (h j))))
 distinct-count q (k ∷ ks) ss d h = go (slot_at ss k) refl (sym (h k) ∙ or_left (nat_eq k k) _ (eq-eqb k k refl)) (distinct-count q ks (set ss k None) d.1)
@@ -126,7 +131,9 @@ distinct-count q (k ∷ ks) ss d h = go (slot_at ss k) refl (sym (h k) ∙ or_le
     flip : (j : ℕ) → nat_eq k j ≡ false → nat_eq j k ≡ false
     flip j f = grind (arith, nat_tests)
 
-    go : (o : Option Entry) → slot_at ss k ≡ o → on_some q (slot_at ss k) ≡ true → (((j : ℕ) → list_any (nat_eq j) ks ≡ on_some q (slot_at (set ss k None) j)) → length ks ≡ count_by q (live (set ss k None))) → length (k ∷ ks) ≡ count_by q (live ss)
+    go : (o : Option Entry) → slot_at ss k ≡ o → on_some q (slot_at ss k) ≡ true
+        → (((j : ℕ) → list_any (nat_eq j) ks ≡ on_some q (slot_at (set ss k None) j)) → length ks ≡ count_by q (live (set ss k None)))
+        → length (k ∷ ks) ≡ count_by q (live ss)
     go None at t rest = absurd (true≢false (sym t ∙ ap (on_some q) at))
     go (Some e) at t rest =
         let within = slot-within ss k e at in
@@ -177,7 +184,8 @@ shown-flagged k ss m shown = record {
   lengths = λ j f h. known j f (slot_at ss j) refl (sym (slot-flagged k ss j) ∙ h);
 }
   where
-    known : (j : ℕ) (f : Entry) (o : Option Entry) → slot_at ss j ≡ o → flag_slot k (slot_at ss j) ≡ Some f → has m (lengths_key f.table) (literal f.pattern) ≡ true
+    known : (j : ℕ) (f : Entry) (o : Option Entry) → slot_at ss j ≡ o → flag_slot k (slot_at ss j) ≡ Some f
+        → has m (lengths_key f.table) (literal f.pattern) ≡ true
     known j f None at h = absurd (let g = rw at at h in cc)
     known j f (Some e) at h = go (has_key k e) (sym (ap (flag_slot k) at) ∙ h)
       where
@@ -190,12 +198,15 @@ length-flagged k [] = refl
 length-flagged k (None ∷ ss) = length-flagged k ss
 length-flagged k (Some e ∷ ss) = ap (λ (n : ℕ). suc n) (length-flagged k ss)
 
-pub flagged-is : (k : Key) (old new : List (Option Entry)) (ps : List ℕ) → length new ≡ length old → ((j : ℕ) → slot_at new j ≡ cond (list_any (nat_eq j) ps) (option_map handed (slot_at old j)) (slot_at old j)) → ((j : ℕ) → list_any (nat_eq j) ps ≡ on_some (has_key k) (slot_at old j)) → new ≡ map (flag_slot k) old
+pub flagged-is : (k : Key) (old new : List (Option Entry)) (ps : List ℕ) → length new ≡ length old
+    → ((j : ℕ) → slot_at new j ≡ cond (list_any (nat_eq j) ps) (option_map handed (slot_at old j)) (slot_at old j))
+    → ((j : ℕ) → list_any (nat_eq j) ps ≡ on_some (has_key k) (slot_at old j)) → new ≡ map (flag_slot k) old
 flagged-is k old new ps l h shown =
     slots-same new (map (flag_slot k) old) (l ∙ sym (length-map old (flag_slot k)))
     (λ j. h j ∙ ap (λ b. cond b (option_map handed (slot_at old j)) (slot_at old j)) (shown j) ∙ flag-cond k (slot_at old j) ∙ sym (slot-flagged k old j))
 
-live-flagged : (k : Key) (f : Entry → Entry) → ((e : Entry) → cond (has_key k e) (handed e) e ≡ f e) → (ss : List (Option Entry)) → live (map (flag_slot k) ss) ≡ map f (live ss)
+live-flagged : (k : Key) (f : Entry → Entry) → ((e : Entry) → cond (has_key k e) (handed e) e ≡ f e) → (ss : List (Option Entry))
+    → live (map (flag_slot k) ss) ≡ map f (live ss)
 live-flagged k f h [] = refl
 live-flagged k f h (None ∷ ss) = live-flagged k f h ss
 live-flagged k f h (Some e ∷ ss) = λ i. h e i ∷ live-flagged k f h ss i
@@ -203,17 +214,20 @@ live-flagged k f h (Some e ∷ ss) = λ i. h e i ∷ live-flagged k f h ss i
 pub live-handed : (o : Owner) (ss : List (Option Entry)) → live (map (flag_slot (owner_key o)) ss) ≡ map (flagged o) (live ss)
 live-handed o ss = live-flagged (owner_key o) (flagged o) (λ e. ap (λ b. cond b (handed e) e) (owner-is e o)) ss
 
-pub slot-handed : (ss : List (Option Entry)) (i : ℕ) (e : Entry) → slot_at ss i ≡ Some e → (j : ℕ) → slot_at (set ss i (Some (handed e))) j ≡ cond (nat_eq i j) (option_map handed (slot_at ss j)) (slot_at ss j)
+pub slot-handed : (ss : List (Option Entry)) (i : ℕ) (e : Entry) → slot_at ss i ≡ Some e → (j : ℕ)
+    → slot_at (set ss i (Some (handed e))) j ≡ cond (nat_eq i j) (option_map handed (slot_at ss j)) (slot_at ss j)
 slot-handed ss i e at j =
     slot-set ss i (Some (handed e)) j (slot-within ss i e at)
     ∙ elim (cases_Bool (nat_eq i j)) [
       | inl t ↦
           let is : i ≡ j = eqb-true i j t in
-          ap (λ b. cond b (Some (handed e)) (slot_at ss j)) t ∙ sym (ap (λ b. cond b (option_map handed (slot_at ss j)) (slot_at ss j)) t ∙ ap (option_map handed) (ap (slot_at ss) (sym is) ∙ at))
+          ap (λ b. cond b (Some (handed e)) (slot_at ss j)) t
+          ∙ sym (ap (λ b. cond b (option_map handed (slot_at ss j)) (slot_at ss j)) t ∙ ap (option_map handed) (ap (slot_at ss) (sym is) ∙ at))
       | inr t ↦ ap (λ b. cond b (Some (handed e)) (slot_at ss j)) t ∙ sym (ap (λ b. cond b (option_map handed (slot_at ss j)) (slot_at ss j)) t)
     ]
 
-pub slot-none : (ss : List (Option Entry)) (i : ℕ) → slot_at ss i ≡ None → (j : ℕ) → slot_at ss j ≡ cond (nat_eq i j) (option_map handed (slot_at ss j)) (slot_at ss j)
+pub slot-none : (ss : List (Option Entry)) (i : ℕ) → slot_at ss i ≡ None → (j : ℕ)
+    → slot_at ss j ≡ cond (nat_eq i j) (option_map handed (slot_at ss j)) (slot_at ss j)
 slot-none ss i at j =
     elim (cases_Bool (nat_eq i j)) [
       | inl t ↦
@@ -228,18 +242,23 @@ get_or-same [] i a b h = absurd (omega arith)
 get_or-same (x ∷ xs) zero a b h = refl
 get_or-same (x ∷ xs) (suc i) a b h = get_or-same xs i a b (omega arith)
 
-pub flag-more : (old mid new : List (Option Entry)) (ps : List ℕ) (i : ℕ) → i < length ps → ((j : ℕ) → slot_at mid j ≡ cond (list_any (nat_eq j) (take i ps)) (option_map handed (slot_at old j)) (slot_at old j)) → ((j : ℕ) → slot_at new j ≡ cond (nat_eq (get_or ps i 0) j) (option_map handed (slot_at mid j)) (slot_at mid j)) → (j : ℕ) → slot_at new j ≡ cond (list_any (nat_eq j) (take (i + 1) ps)) (option_map handed (slot_at old j)) (slot_at old j)
+pub flag-more : (old mid new : List (Option Entry)) (ps : List ℕ) (i : ℕ) → i < length ps
+    → ((j : ℕ) → slot_at mid j ≡ cond (list_any (nat_eq j) (take i ps)) (option_map handed (slot_at old j)) (slot_at old j))
+    → ((j : ℕ) → slot_at new j ≡ cond (nat_eq (get_or ps i 0) j) (option_map handed (slot_at mid j)) (slot_at mid j)) → (j : ℕ)
+    → slot_at new j ≡ cond (list_any (nat_eq j) (take (i + 1) ps)) (option_map handed (slot_at old j)) (slot_at old j)
 flag-more old mid new ps i below so_far step j =
     let p = get_or ps i 0 in
     step j
     ∙ ap (λ o. cond (nat_eq p j) (option_map handed o) o) (so_far j)
     ∙ joined (nat_eq p j) (list_any (nat_eq j) (take i ps)) (slot_at old j)
-    ∙ ap (λ b. cond b (option_map handed (slot_at old j)) (slot_at old j)) (ap (λ b. list_any (nat_eq j) (take i ps) || b) (flip p j) ∙ sym (any-more (nat_eq j) ps i p below (get_or-same ps i 0 p below)))
+    ∙ ap (λ b. cond b (option_map handed (slot_at old j)) (slot_at old j))
+    (ap (λ b. list_any (nat_eq j) (take i ps) || b) (flip p j) ∙ sym (any-more (nat_eq j) ps i p below (get_or-same ps i 0 p below)))
   where
     flip : (a b : ℕ) → nat_eq a b ≡ nat_eq b a
     flip a b = grind (arith, nat_tests)
 
-    joined : (b a : Bool) (o : Option Entry) → cond b (option_map handed (cond a (option_map handed o) o)) (cond a (option_map handed o) o) ≡ cond (a || b) (option_map handed o) o
+    joined : (b a : Bool) (o : Option Entry) → cond b (option_map handed (cond a (option_map handed o) o)) (cond a (option_map handed o) o) ≡ cond (a || b)
+        (option_map handed o) o
     joined true true None = refl
     joined true true (Some e) = refl
     joined true false o = refl

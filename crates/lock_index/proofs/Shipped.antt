@@ -23,7 +23,8 @@ use Rattle.replica_link.specs.Operations.{instead_of, put}
 -- entries of one name are found by the same keys
 pub same-keys : (k : Key) (a b : Entry) → name_of a ≡ name_of b → has_key k a ≡ has_key k b
 same-keys k a b h =
-    ap (λ (n : LockName). list_any (λ q. same_key q k) (owner_key n.owner ∷ spot_key n.asked.table n.asked.pattern ∷ stretch_key n.asked.table n.asked.pattern ∷ optimistic_key n.owner n.asked.mode ∷ [])) h
+    ap (λ (n : LockName). list_any (λ q. same_key q k)
+    (owner_key n.owner ∷ spot_key n.asked.table n.asked.pattern ∷ stretch_key n.asked.table n.asked.pattern ∷ optimistic_key n.owner n.asked.mode ∷ [])) h
 
 flagged-names : (o : Owner) (a b : Entry) → names_differ (flagged o a) (flagged o b) ≡ names_differ a b
 flagged-names o a b = go (is_of o a) (is_of o b)
@@ -56,12 +57,14 @@ instead-other : (e x : Entry) → has_name (name_of e) x ≡ false → instead_o
 instead-other e x h = ap (λ b. cond b e x) h
 
 -- the entry in the place of the one that alone has its name
-pub instead-first : (e old : Entry) (ss : List (Option Entry)) (i : ℕ) → has_distinct_names (live ss) ≡ true → IsFirst (has_name (name_of e)) ss i old → live (set ss i (Some e)) ≡ map (instead_of e) (live ss)
+pub instead-first : (e old : Entry) (ss : List (Option Entry)) (i : ℕ) → has_distinct_names (live ss) ≡ true → IsFirst (has_name (name_of e)) ss i old
+    → live (set ss i (Some e)) ≡ map (instead_of e) (live ss)
 instead-first e old ss i h first =
     ap (λ (b : Bool). live (set ss i (Some (cond b e old)))) (sym first.passes)
     ∙ mapped-first (name_of e) (instead_of e) (instead-other e) ss i old h first
 
-pub put-first : (e old : Entry) (ss : List (Option Entry)) (i : ℕ) → has_distinct_names (live ss) ≡ true → IsFirst (has_name (name_of e)) ss i old → live (set ss i (Some e)) ≡ put (live ss) e
+pub put-first : (e old : Entry) (ss : List (Option Entry)) (i : ℕ) → has_distinct_names (live ss) ≡ true → IsFirst (has_name (name_of e)) ss i old
+    → live (set ss i (Some e)) ≡ put (live ss) e
 put-first e old ss i h first =
     instead-first e old ss i h first
     ∙ ap (λ (b : Bool). cond b (map (instead_of e) (live ss)) (live ss ++ e ∷ [])) (sym (first-any (has_name (name_of e)) ss i old first))
@@ -78,7 +81,8 @@ distinct-pushed e es h none = all_pairs-append names_differ es (e ∷ []) h refl
           | inr t ↦
               let l : stands xs (name_of e) ≡ false = rw t at k in
               let apart : names_differ x e ≡ true = ap not (same_name-sym (name_of x) (name_of e) ∙ t) in
-              and_from (list_all (names_differ x) (e ∷ [])) (list_all (λ y. list_all (names_differ y) (e ∷ [])) xs) (and_from (names_differ x e) true apart refl) (others xs l)
+              and_from (list_all (names_differ x) (e ∷ [])) (list_all (λ y. list_all (names_differ y) (e ∷ [])) xs)
+              (and_from (names_differ x e) true apart refl) (others xs l)
         ]
 
 -- no entry has the name of one behind it

@@ -73,14 +73,16 @@ module _ (owner : Owner) (table pattern : List ℕ) where
             ]
       ]
 
-  differ-all : (a : Entry) (es : List Entry) → list_all (names_differ a) es ≡ true → has_name exclusive a ≡ false → list_any (has_name exclusive) es ≡ false → list_all (names_differ (made a)) (map made es) ≡ true
+  differ-all : (a : Entry) (es : List Entry) → list_all (names_differ a) es ≡ true → has_name exclusive a ≡ false → list_any (has_name exclusive) es ≡ false
+      → list_all (names_differ (made a)) (map made es) ≡ true
   differ-all a [] d ha none = refl
   differ-all a (e ∷ es) d ha none =
       let ds = and_parts (names_differ a e) (list_all (names_differ a) es) d in
       let ns = or_parts (has_name exclusive e) (list_any (has_name exclusive) es) none in
       and_from (names_differ (made a) (made e)) (list_all (names_differ (made a)) (map made es)) (differ-made a e ds.0 ha ns.0) (differ-all a es ds.1 ha ns.1)
 
-  pub distinct-made : (es : List Entry) → has_distinct_names es ≡ true → stands es (name_at E owner table pattern) ≡ false → has_distinct_names (map (made_exclusive (name_at O owner table pattern)) es) ≡ true
+  pub distinct-made : (es : List Entry) → has_distinct_names es ≡ true → stands es (name_at E owner table pattern) ≡ false
+      → has_distinct_names (map (made_exclusive (name_at O owner table pattern)) es) ≡ true
   distinct-made [] h none = refl
   distinct-made (e ∷ es) h none =
       let hs = and_parts (list_all (names_differ e) es) (has_distinct_names es) h in

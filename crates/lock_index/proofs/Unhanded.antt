@@ -55,7 +55,8 @@ module _ (q p : Entry → Bool) where
     pub any-placed : (ps : List ℕ) → ((j : ℕ) → list_any (nat_eq j) ps ≡ on_some q (slot_at ss j)) → list_any passes ps ≡ list_any both (live ss)
     any-placed ps shown =
         both_ways (list_any passes ps) (list_any both (live ss))
-        (any-member (list_any both (live ss)) ps (λ j m t. at-any ss j (on-both (slot_at ss j) ∙ and_from (on_some q (slot_at ss j)) (passes j) (sym (shown j) ∙ m) t)))
+        (any-member (list_any both (live ss)) ps
+        (λ j m t. at-any ss j (on-both (slot_at ss j) ∙ and_from (on_some q (slot_at ss j)) (passes j) (sym (shown j) ∙ m) t)))
         (any-at ss (list_any passes ps)
         (λ j h.
         let hs = and_parts (on_some q (slot_at ss j)) (passes j) (sym (on-both (slot_at ss j)) ∙ h) in

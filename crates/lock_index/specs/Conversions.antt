@@ -12,4 +12,5 @@ use Rattle.lock_entry.specs.Turning.{name_at}
 -- the owner's E entry at the table and the argument would exceed 9,999 with the count of its O entry there
 abbrev pub exceeds_at : List Entry → Owner → Asked → Bool
 exceeds_at entries owner a =
-    option_map_or (λ e. nat_lt 9999 (e.count + count_at entries (name_at O owner a.table a.pattern))) (find (has_name (name_at E owner a.table a.pattern)) entries) false
+    option_map_or (λ e. nat_lt 9999 (e.count + count_at entries (name_at O owner a.table a.pattern)))
+    (find (has_name (name_at E owner a.table a.pattern)) entries) false

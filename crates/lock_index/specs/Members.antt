@@ -15,14 +15,17 @@ module _ {S T : Type 0} where
 
   -- the number stands in the set under this key too, and all else is as it was
   abbrev pub AddsToSet : IndexMap Key (IndexSet ℕ S) T → IndexMap Key (IndexSet ℕ S) T → Key → ℕ → Type 0
-  AddsToSet old new key n = (k : Key) (i : ℕ) → list_any (nat_eq i) (set_members new k) ≡ (list_any (nat_eq i) (set_members old k) || (same_key key k && nat_eq n i))
+  AddsToSet old new key n = (k : Key) (i : ℕ) → list_any (nat_eq i)
+      (set_members new k) ≡ (list_any (nat_eq i) (set_members old k) || (same_key key k && nat_eq n i))
 
   -- the number stands no longer in the set under this key, and all else is as it was
   abbrev pub TakesFromSet : IndexMap Key (IndexSet ℕ S) T → IndexMap Key (IndexSet ℕ S) T → Key → ℕ → Type 0
-  TakesFromSet old new key n = (k : Key) (i : ℕ) → list_any (nat_eq i) (set_members new k) ≡ (list_any (nat_eq i) (set_members old k) && not (same_key key k && nat_eq n i))
+  TakesFromSet old new key n = (k : Key) (i : ℕ) → list_any (nat_eq i)
+      (set_members new k) ≡ (list_any (nat_eq i) (set_members old k) && not (same_key key k && nat_eq n i))
 
   abbrev pub KeepsSets : IndexMap Key (IndexSet ℕ S) T → IndexMap Key (IndexSet ℕ S) T → Type 0
-  KeepsSets old new = (k : Key) (i : ℕ) → list_any (nat_eq i) (set_members new k) ≡ list_any (nat_eq i) (set_members old k)
+  KeepsSets old new = (k : Key) (i : ℕ) → list_any (nat_eq i) (set_members new k) ≡ list_any (nat_eq i)
+      (set_members old k)
 
 -- a number that stands alone, or those of a set
 abbrev pub alone_or : Option ℕ → List ℕ → List ℕ
@@ -54,11 +57,14 @@ Keeps old new = (k : Key) (i : ℕ) → has new k i ≡ has old k i
 
 -- the number stands under each of the keys too, and all else is as it was
 abbrev pub AddsAll : NumberMap → NumberMap → List Key → ℕ → Type 0
-AddsAll old new keys n = (k : Key) (i : ℕ) → has new k i ≡ (has old k i || (list_any (λ q. same_key q k) keys && nat_eq n i))
+AddsAll old new keys n = (k : Key) (i : ℕ) → has new k
+    i ≡ (has old k i || (list_any (λ q. same_key q k) keys && nat_eq n i))
 
 -- it stands under some of them too, and all else is as it was
 abbrev pub AddsSome : NumberMap → NumberMap → List Key → ℕ → Type 0
-AddsSome old new keys n = (k : Key) (i : ℕ) → (has old k i ≡ true → has new k i ≡ true) × (has new k i ≡ true → (has old k i || (list_any (λ q. same_key q k) keys && nat_eq n i)) ≡ true)
+AddsSome old new keys n = (k : Key) (i : ℕ) → (has old k i ≡ true → has new k i ≡ true)
+    × (has new k i ≡ true → (has old k i || (list_any (λ q. same_key q k) keys && nat_eq n i)) ≡ true)
 
 abbrev pub TakesAll : NumberMap → NumberMap → List Key → ℕ → Type 0
-TakesAll old new keys n = (k : Key) (i : ℕ) → has new k i ≡ (has old k i && not (list_any (λ q. same_key q k) keys && nat_eq n i))
+TakesAll old new keys n = (k : Key) (i : ℕ) → has new k
+    i ≡ (has old k i && not (list_any (λ q. same_key q k) keys && nat_eq n i))

@@ -96,7 +96,8 @@ to_two : {X : Type 0} (r : X → X → Bool) → ((a b : X) → r a b ≡ r b a)
 to_two r s [] h i j d low high other = absurd (omega (arith, low))
 to_two r s (x ∷ xs) h zero zero d low high other = absurd (other refl)
 to_two r s (x ∷ xs) h zero (suc j) d low high other = all_at (r x) xs j d (omega (arith, high)) (and_parts (list_all (r x) xs) (all_pairs r xs) h).0
-to_two r s (x ∷ xs) h (suc i) zero d low high other = s (get_or xs i d) x ∙ all_at (r x) xs i d (omega (arith, low)) (and_parts (list_all (r x) xs) (all_pairs r xs) h).0
+to_two r s (x ∷ xs) h (suc i) zero d low high other = s (get_or xs i d) x
+    ∙ all_at (r x) xs i d (omega (arith, low)) (and_parts (list_all (r x) xs) (all_pairs r xs) h).0
 to_two r s (x ∷ xs) h (suc i) (suc j) d low high other =
     to_two r s xs (and_parts (list_all (r x) xs) (all_pairs r xs) h).1 i j d (omega (arith, low)) (omega (arith, high)) (λ e. other (ap suc e))
 
@@ -172,8 +173,10 @@ two_swapped r xs a b la lb h = λ i j d low high other.
     (source_low (length xs) a b i la lb (subst (λ m. i < m) n low)) (source_low (length xs) a b j la lb (subst (λ m. j < m) n high))
     (λ e. other (sym (source_twice a b i) ∙ ap (source a b) e ∙ source_twice a b j))
 
-pub all_pairs-permutation : {X : Type 0} (r : X → X → Bool) → ((a b : X) → r a b ≡ r b a) → (xs ys : List X) → IsPermutation xs ys → all_pairs r xs ≡ true → all_pairs r ys ≡ true
-all_pairs-permutation r s xs ys p h = from_two r ys (IsPermutation-keeps xs (EachTwo r) (to_two r s xs h) (λ l i j low high k. two_swapped r l i j low high k) ys p)
+pub all_pairs-permutation : {X : Type 0} (r : X → X → Bool) → ((a b : X) → r a b ≡ r b a) → (xs ys : List X) → IsPermutation xs ys → all_pairs r xs ≡ true
+    → all_pairs r ys ≡ true
+all_pairs-permutation r s xs ys p h =
+    from_two r ys (IsPermutation-keeps xs (EachTwo r) (to_two r s xs h) (λ l i j low high k. two_swapped r l i j low high k) ys p)
 
 all_counted : (xs ys : List Entry) → IsPermutation xs ys → list_all has_count xs ≡ true → list_all has_count ys ≡ true
 all_counted xs ys p h =
@@ -192,14 +195,16 @@ IsSound-permutation xs ys p h =
 
 -- ---- the entries of some owners, one owner behind the other
 
-with_first : {Y : Type 0} (r : Y → Y → Bool) (x : Y) (zs ys : List Y) → list_all (λ y. r y x) ys ≡ true → list_all (λ y. list_all (r y) zs) ys ≡ true → list_all (λ y. list_all (r y) (x ∷ zs)) ys ≡ true
+with_first : {Y : Type 0} (r : Y → Y → Bool) (x : Y) (zs ys : List Y) → list_all (λ y. r y x) ys ≡ true → list_all (λ y. list_all (r y) zs) ys ≡ true
+    → list_all (λ y. list_all (r y) (x ∷ zs)) ys ≡ true
 with_first r x zs [] a b = refl
 with_first r x zs (y ∷ ys) a b =
     let as' = and_parts (r y x) (list_all (λ z. r z x) ys) a in
     let bs = and_parts (list_all (r y) zs) (list_all (λ z. list_all (r z) zs) ys) b in
     and_from _ _ (and_from _ _ as'.0 bs.0) (with_first r x zs ys as'.1 bs.1)
 
-two_kinds : {X : Type 0} (r : X → X → Bool) → ((a b : X) → r a b ≡ r b a) → (p q : X → Bool) → ((x : X) → p x ≡ true → q x ≡ false) → (xs : List X) → all_pairs r xs ≡ true → list_all (λ x. list_all (r x) (filter q xs)) (filter p xs) ≡ true
+two_kinds : {X : Type 0} (r : X → X → Bool) → ((a b : X) → r a b ≡ r b a) → (p q : X → Bool) → ((x : X) → p x ≡ true → q x ≡ false) → (xs : List X)
+    → all_pairs r xs ≡ true → list_all (λ x. list_all (r x) (filter q xs)) (filter p xs) ≡ true
 two_kinds r s p q apart [] h = refl
 two_kinds r s p q apart (x ∷ xs) h =
     let hs = and_parts (list_all (r x) xs) (all_pairs r xs) h in
@@ -210,12 +215,14 @@ two_kinds r s p q apart (x ∷ xs) h =
       | inr e ↦
           elim (cases_Bool (q x)) [
             | inl f ↦ (λ i. list_all (λ y. list_all (r y) (cond (f i) (x ∷ filter q xs) (filter q xs))) (cond (e i) (x ∷ filter p xs) (filter p xs)))
-                ∙ with_first r x (filter q xs) (filter p xs) (list_all-filter (λ y. r y x) p xs (list_all-weaken (r x) (λ y. r y x) (λ y k. s y x ∙ k) xs hs.0)) rest
+                ∙ with_first r x (filter q xs) (filter p xs) (list_all-filter (λ y. r y x) p xs (list_all-weaken (r x) (λ y. r y x) (λ y k. s y x ∙ k) xs hs.0))
+                rest
             | inr f ↦ (λ i. list_all (λ y. list_all (r y) (cond (f i) (x ∷ filter q xs) (filter q xs))) (cond (e i) (x ∷ filter p xs) (filter p xs))) ∙ rest
           ]
     ]
 
-list_all-both_parts : (r : Entry → Entry → Bool) (us vs ys : List Entry) → list_all (λ y. list_all (r y) us) ys ≡ true → list_all (λ y. list_all (r y) vs) ys ≡ true → list_all (λ y. list_all (r y) (us ++ vs)) ys ≡ true
+list_all-both_parts : (r : Entry → Entry → Bool) (us vs ys : List Entry) → list_all (λ y. list_all (r y) us) ys ≡ true
+    → list_all (λ y. list_all (r y) vs) ys ≡ true → list_all (λ y. list_all (r y) (us ++ vs)) ys ≡ true
 list_all-both_parts r us vs [] a b = refl
 list_all-both_parts r us vs (y ∷ ys) a b =
     let as' = and_parts (list_all (r y) us) (list_all (λ z. list_all (r z) us) ys) a in
@@ -225,7 +232,8 @@ list_all-both_parts r us vs (y ∷ ys) a b =
 other_owner : (o p : Owner) → not (same_owner o p) ≡ true → (e : Entry) → is_of o e ≡ true → is_of p e ≡ false
 other_owner o p h e own = ap (λ x. same_owner x p) (same_owner-same e.owner o own) ∙ not-true (same_owner o p) h
 
-others_apart : (o : Owner) (os : List Owner) (xs : List Entry) → list_all (λ p. not (same_owner o p)) os ≡ true → all_pairs are_apart xs ≡ true → list_all (λ y. list_all (are_apart y) (of_owners os xs)) (filter (is_of o) xs) ≡ true
+others_apart : (o : Owner) (os : List Owner) (xs : List Entry) → list_all (λ p. not (same_owner o p)) os ≡ true → all_pairs are_apart xs ≡ true
+    → list_all (λ y. list_all (are_apart y) (of_owners os xs)) (filter (is_of o) xs) ≡ true
 others_apart o [] xs h a = list_all-true (filter (is_of o) xs)
 others_apart o (p ∷ os) xs h a =
     let hs = and_parts (not (same_owner o p)) (list_all (λ q. not (same_owner o q)) os) h in
@@ -239,7 +247,8 @@ owners_apart [] xs d a = refl
 owners_apart (o ∷ os) xs d a =
     let ds = and_parts (list_all (λ p. not (same_owner o p)) os) (are_distinct os) d in
     subst (λ es. all_pairs are_apart es ≡ true) (sym (flat_map-cons (λ q. filter (is_of q) xs) o os))
-    (all_pairs-append are_apart (filter (is_of o) xs) (of_owners os xs) (all_pairs-filter are_apart (is_of o) xs a) (owners_apart os xs ds.1 a) (others_apart o os xs ds.0 a))
+    (all_pairs-append are_apart (filter (is_of o) xs) (of_owners os xs) (all_pairs-filter are_apart (is_of o) xs a) (owners_apart os xs ds.1 a)
+    (others_apart o os xs ds.0 a))
 
 owners_counted : (os : List Owner) (xs : List Entry) → list_all has_count xs ≡ true → list_all has_count (of_owners os xs) ≡ true
 owners_counted [] xs c = refl

@@ -26,13 +26,19 @@ pub fn do_load(alloc: Global, order: &Order) -> Option<Tally>
     requires { order.now.locks ≤ 1000000 }
 {
     let mut table = IndexTable::empty(alloc, order.locks).ok()?;
-    let granted = grant_all(alloc, &mut table, order.locks)?;
+    do_load_over(alloc, &mut table, order)
+}
+
+fn do_load_over(alloc: Global, table: &mut IndexTable, order: &Order) -> Option<Tally>
+    requires { order.now.locks ≤ 1000000 }
+{
+    let granted = grant_all(alloc, table, order.locks)?;
     let refused = match order.load {
-        Load::Asks => ask_again(alloc, &mut table, order.locks, order.asks)?,
+        Load::Asks => ask_again(alloc, table, order.locks, order.asks)?,
         Load::Grants | Load::Frees => 0,
     };
     let freed = match order.load {
-        Load::Frees => free_all(&mut table, order.locks)?,
+        Load::Frees => free_all(table, order.locks)?,
         Load::Grants | Load::Asks => 0,
     };
     Some(Tally {
@@ -106,16 +112,20 @@ fn dialogue_request(asked: Asked) -> Request {
 fn ask_again(alloc: Global, table: &mut IndexTable, locks: u32, asks: u32) -> Option<u32>
     requires { locks ≤ 1000000 }
 {
+    let requests = requests_for(alloc, locks)?;
+    ask_each(alloc, table, requests.as_slice(), asks)
+}
+
+fn ask_each(alloc: Global, table: &mut IndexTable, requests: &[Request], asks: u32) -> Option<u32> {
     let asker = owners_of(2);
     let user = user()?;
-    let requests = requests_for(alloc, locks)?;
     let mut next: usize = 0;
     let mut refused: u32 = 0;
     for _ in 0..asks {
         if next >= requests.len() {
             next = 0;
         }
-        let request = requests.as_slice().get(next..next + 1)?;
+        let request = requests.get(next..next + 1)?;
         match table.ask(alloc, &asker, &user, request) {
             Err(AskFault::Foreign(_)) => refused = refused.saturating_add(1),
             Err(AskFault::NoMemory) => return None,

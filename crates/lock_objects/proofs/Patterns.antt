@@ -33,7 +33,9 @@ is_right fields v = option_map_or (λ (f : Field). is_none (text_fault f.width v
 value-right : (fields : List Field) (before : List FieldValue) (v : FieldValue) → value_fault fields before v ≡ None → is_right fields v ≡ true
 value-right fields before v h = go (field_named fields v.field) refl h
   where
-    go : (o : Option Field) → field_named fields v.field ≡ o → option_map_or (λ (f : Field). cond (list_any (λ (w : FieldValue). bytes_eq w.field v.field) before) (Some fault.Repeat) (text_fault f.width v.value)) o (Some fault.UnknownField) ≡ None → option_map_or (λ (f : Field). is_none (text_fault f.width v.value)) o false ≡ true
+    go : (o : Option Field) → field_named fields v.field ≡ o → option_map_or
+        (λ (f : Field). cond (list_any (λ (w : FieldValue). bytes_eq w.field v.field) before) (Some fault.Repeat) (text_fault f.width v.value)) o
+        (Some fault.UnknownField) ≡ None → option_map_or (λ (f : Field). is_none (text_fault f.width v.value)) o false ≡ true
     go None e k = absurd (cc)
     go (Some f) e k =
         elim (cases_Bool (list_any (λ (w : FieldValue). bytes_eq w.field v.field) before)) [
@@ -82,7 +84,8 @@ padded-Filled width (Given text) h =
             | inr wrong ↦ absurd (let l = rw wrong at k in cc)
             | inl plain ↦
                 let front : Filled (length text) text = record { long = refl; text = list_all-weaken is_plain_byte is_text_byte text-plain text plain } in
-                let all = Filled-append (length text) (width - length text) text (replicate (width - length text) 32) front (Filled-replicate (width - length text) 32 refl) in
+                let all = Filled-append (length text) (width - length text) text (replicate (width - length text) 32) front
+                (Filled-replicate (width - length text) 32 refl) in
                 let sum : length text + (width - length text) ≡ width = omega arith in
                 record { long = all.long ∙ sum; text = all.text }
           ]
@@ -109,12 +112,14 @@ module _ (fields : List Field) (values : List FieldValue) (right : list_all (is_
   part-Filled : (f : Field) → field_named fields f.name ≡ Some f → Filled f.width (part values f)
   part-Filled f named = go (value_named values f.name) refl
     where
-      go : (o : Option FieldValue) → value_named values f.name ≡ o → Filled f.width (option_map_or (λ (v : FieldValue). padded f.width v.value) o (replicate f.width generic))
+      go : (o : Option FieldValue) → value_named values f.name ≡ o → Filled f.width
+          (option_map_or (λ (v : FieldValue). padded f.width v.value) o (replicate f.width generic))
       go None e = Filled-replicate f.width generic refl
       go (Some v) e =
           let good : is_right fields v ≡ true = find-all (λ (w : FieldValue). bytes_eq w.field f.name) (is_right fields) values v e right in
           let is : field_named fields v.field ≡ Some f = ap (field_named fields) (value_named-is values f.name v e) ∙ named in
-          let fine : is_none (text_fault f.width v.value) ≡ true = sym (ap (λ (o : Option Field). option_map_or (λ (g : Field). is_none (text_fault g.width v.value)) o false) is) ∙ good in
+          let fine : is_none (text_fault f.width v.value) ≡ true =
+          sym (ap (λ (o : Option Field). option_map_or (λ (g : Field). is_none (text_fault g.width v.value)) o false) is) ∙ good in
           padded-Filled f.width v.value fine
 
   key_part-Filled : (key : List ℕ) → Filled (key_width fields key) (key_part fields values key)
@@ -127,7 +132,8 @@ module _ (fields : List Field) (values : List FieldValue) (right : list_all (is_
   argument-Filled : (keys : List (List ℕ)) → Filled (argument_length fields keys) (argument fields values keys)
   argument-Filled [] = record { long = refl; text = refl }
   argument-Filled (k ∷ keys) =
-      let all = Filled-append (key_width fields k) (argument_length fields keys) (key_part fields values k) (argument fields values keys) (key_part-Filled k) (argument-Filled keys) in
+      let all = Filled-append (key_width fields k) (argument_length fields keys) (key_part fields values k) (argument fields values keys) (key_part-Filled k)
+      (argument-Filled keys) in
       record { long = all.long ∙ sym (sum_by-cons (key_width fields) k keys); text = all.text }
 
 wrong_length-None : (n : ℕ) → wrong_length n ≡ None → (nat_le 1 n ≡ true) × (nat_le n 150 ≡ true)
@@ -138,10 +144,13 @@ wrong_length-None n h =
     ]
 
 -- the arguments of the tables are lock arguments
-patterns : (fields : List Field) (values : List FieldValue) (tables : List KeyTable) → list_all (is_right fields) values ≡ true → first_some (λ (t : KeyTable). wrong_length (argument_length fields t.keys)) tables ≡ None → list_all (λ (t : KeyTable). is_pattern (argument fields values t.keys)) tables ≡ true
+patterns : (fields : List Field) (values : List FieldValue) (tables : List KeyTable) → list_all (is_right fields) values ≡ true
+    → first_some (λ (t : KeyTable). wrong_length (argument_length fields t.keys)) tables ≡ None
+    → list_all (λ (t : KeyTable). is_pattern (argument fields values t.keys)) tables ≡ true
 patterns fields values [] right h = refl
 patterns fields values (t ∷ tables) right h =
-    let hs = option_or-None (wrong_length (argument_length fields t.keys)) (first_some (λ (s : KeyTable). wrong_length (argument_length fields s.keys)) tables) h in
+    let hs = option_or-None (wrong_length (argument_length fields t.keys))
+    (first_some (λ (s : KeyTable). wrong_length (argument_length fields s.keys)) tables) h in
     let bounds = wrong_length-None (argument_length fields t.keys) hs.0 in
     let filled = argument-Filled fields values right t.keys in
     and_from _ _
@@ -149,7 +158,8 @@ patterns fields values (t ∷ tables) right h =
     (patterns fields values tables right hs.1)
 
 -- Right values make lock arguments of a right object.
-pub arguments-are_patterns : (fields : List Field) (tables : List KeyTable) (values : List FieldValue) → IsObject fields tables → values_fault fields values ≡ None → list_all (λ (t : KeyTable). is_pattern (argument fields values t.keys)) tables ≡ true
+pub arguments-are_patterns : (fields : List Field) (tables : List KeyTable) (values : List FieldValue) → IsObject fields tables
+    → values_fault fields values ≡ None → list_all (λ (t : KeyTable). is_pattern (argument fields values t.keys)) tables ≡ true
 arguments-are_patterns fields tables values object fine =
     let a = option_or-None (tables_fault tables) _ object.right in
     let b = option_or-None (repeat_fault fields tables) _ a.1 in

@@ -1,5 +1,6 @@
 -- The lock arguments that values of an object's fields make.
-use Rattle.std.specs.Prelude.{◌≡◌, ℕ, ◌-◌, nat_lt, cond, List, [], ◌∷◌, ◌++◌, length, map, replicate, Option, Some, None}
+use Rattle.std.specs.Prelude.{◌≡◌, ℕ, ◌-◌, nat_lt, cond, List, [], ◌∷◌, ◌++◌, length, map, replicate, Option, Some}
+use Rattle.std.specs.Prelude.{None}
 use Rattle.std.specs.List.{find, list_any, list_all, flat_map}
 use Rattle.std.specs.Option.{option_or, option_map_or}
 use Rattle.std.specs.Str.{bytes_eq}
@@ -50,7 +51,8 @@ arguments o values mode = map (asked_of o.fields values mode) o.tables
 
 -- why a value is none of a field of this width
 abbrev pub given_fault : (width : ℕ) → List ℕ → Option ArgFault
-given_fault width text = cond (nat_lt width (length text)) (Some fault.TooWide) (cond (list_all is_plain_byte text) None (Some fault.BadByte))
+given_fault width text = cond (nat_lt width (length text)) (Some fault.TooWide)
+    (cond (list_all is_plain_byte text) None (Some fault.BadByte))
 
 abbrev pub text_fault : (width : ℕ) → Value → Option ArgFault
 text_fault width (Given text) = given_fault width text
@@ -60,7 +62,8 @@ text_fault width Long = Some fault.TooWide
 -- why a value is refused, after those before it
 abbrev pub value_fault : List Field → (before : List FieldValue) → FieldValue → Option ArgFault
 value_fault fields before v =
-    option_map_or (λ f. cond (list_any (λ w. bytes_eq w.field v.field) before) (Some fault.Repeat) (text_fault f.width v.value))
+    option_map_or (λ f. cond (list_any (λ w. bytes_eq w.field v.field) before) (Some fault.Repeat)
+    (text_fault f.width v.value))
     (field_named fields v.field) (Some fault.UnknownField)
 
 -- the fault of the first value that has one

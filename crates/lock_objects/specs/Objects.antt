@@ -1,12 +1,14 @@
 -- Which fields and tables make a lock object.
-use Rattle.std.specs.Prelude.{◌≡◌, ℕ, min, Bool, not, ◌&&◌, nat_eq, nat_lt, nat_le, cond, List, [], ◌∷◌, ◌++◌, length, map, sum_by, Option, Some, None, IsTrue, is_some, option_map}
+use Rattle.std.specs.Prelude.{◌≡◌, ℕ, min, Bool, not, ◌&&◌, nat_eq, nat_lt, nat_le, cond, List, [], ◌∷◌, ◌++◌, length}
+use Rattle.std.specs.Prelude.{map, sum_by, Option, Some, None, IsTrue, is_some, option_map}
 use Rattle.std.specs.List.{find, list_all, list_any}
 use Rattle.std.specs.Option.{option_or, option_map_or}
 use Rattle.std.specs.Str.{bytes_eq}
 use Rattle.lock_objects.specs.declared.field.Field.{Field}
 use Rattle.lock_objects.specs.declared.field.KeyTable.{KeyTable}
 use Rattle.lock_objects.specs.declared.field.ObjectFault.{ObjectFault}
-use Rattle.lock_objects.specs.declared.field.ObjectFault.TheVariants.{NoTable, TooManyTables, TooLong, UnknownField, Repeat}
+use Rattle.lock_objects.specs.declared.field.ObjectFault.TheVariants.{NoTable, TooManyTables, TooLong, UnknownField}
+use Rattle.lock_objects.specs.declared.field.ObjectFault.TheVariants.{Repeat}
 
 -- a lock object, as its callers see it
 pub record Object : Type 0 where
@@ -62,7 +64,8 @@ repeat_fault fields tables =
     (option_or (first_repeat (map (λ t. t.name) tables))
     (first_some (λ t. first_repeat t.keys) tables)))
 
--- Why fields and tables make no lock object: 1 to 8 tables, nothing twice, keys that are fields, and arguments of 1 to 150 bytes, tested in this order.
+-- Why fields and tables make no lock object: 1 to 8 tables, nothing twice, keys that are fields, and arguments of 1 to
+-- 150 bytes, tested in this order.
 abbrev pub object_fault : List Field → List KeyTable → Option ObjectFault
 object_fault fields tables =
     option_or (tables_fault tables)

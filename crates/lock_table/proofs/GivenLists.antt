@@ -29,7 +29,9 @@ one_more_length true e = refl
 one_more_length false e = refl
 
 -- one more given entry, whose place was looked for under its owner's name
-pub newcomers-more : (owner : Owner) (es gs : List Entry) (i : ℕ) (e : Entry) (place : Option ℕ) (added one : ℕ) → list_all (is_of owner) gs ≡ true → i < length gs → e ≡ get_or gs i e → place ≡ position (has_name (named owner (asked_of e))) es → one ≡ cond (is_some place) 0 1 → added ≡ length (newcomers es (take i gs)) → added + one ≡ length (newcomers es (take (i + 1) gs))
+pub newcomers-more : (owner : Owner) (es gs : List Entry) (i : ℕ) (e : Entry) (place : Option ℕ) (added one : ℕ) → list_all (is_of owner) gs ≡ true
+    → i < length gs → e ≡ get_or gs i e → place ≡ position (has_name (named owner (asked_of e))) es → one ≡ cond (is_some place) 0 1
+    → added ≡ length (newcomers es (take i gs)) → added + one ≡ length (newcomers es (take (i + 1) gs))
 newcomers-more owner es gs i e place added one all below read at more so_far =
     let longer : take (i + 1) gs ≡ take i gs ++ e ∷ [] = take_more gs i e below ∙ ap (λ (x : Entry). take i gs ++ x ∷ []) (sym read) in
     let known : is_some place ≡ stands es (name_of e) =
@@ -46,7 +48,8 @@ one_at_most true n i h = omega arith
 one_at_most false n i h = omega arith
 
 -- an entry that isn't barred is passed over
-pub first_bar-more : (es : List Entry) (asker : Asker) (gs : List Entry) (i : ℕ) (e : Entry) → i < length gs → e ≡ get_or gs i e → find (bars asker (asked_of e)) es ≡ None → first_bar es asker (map asked_of (drop i gs)) ≡ first_bar es asker (map asked_of (drop (i + 1) gs))
+pub first_bar-more : (es : List Entry) (asker : Asker) (gs : List Entry) (i : ℕ) (e : Entry) → i < length gs → e ≡ get_or gs i e
+    → find (bars asker (asked_of e)) es ≡ None → first_bar es asker (map asked_of (drop i gs)) ≡ first_bar es asker (map asked_of (drop (i + 1) gs))
 first_bar-more es asker gs i e below read none =
     let split : drop i gs ≡ e ∷ drop (i + 1) gs = drop_more gs i e below ∙ ap (λ (x : Entry). x ∷ drop (i + 1) gs) (sym read) in
     ap (λ (r : List Entry). first_bar es asker (map asked_of r)) split

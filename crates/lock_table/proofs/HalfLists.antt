@@ -36,7 +36,8 @@ is_some-cond false n = refl
 
 -- a half has a place where its entry stands
 pub is_some-place : (es : List Entry) (n : LockName) → is_some (position (has_name n) es) ≡ stands es n
-is_some-place es n = is_some-cond (nat_lt (position_or_len (has_name n) es) (length es)) (position_or_len (has_name n) es) ∙ sym (list_any-position (has_name n) es)
+is_some-place es n = is_some-cond (nat_lt (position_or_len (has_name n) es) (length es)) (position_or_len (has_name n) es)
+    ∙ sym (list_any-position (has_name n) es)
 
 -- the fresh names of all halves are the new names
 pub fresh_names-half_at : (es : List Entry) (ns : List LockName) → fresh_names (map (half_at es) ns) ≡ new_names es ns
@@ -50,16 +51,19 @@ fresh_names-half_at es ns = ap each_once (kept ns)
     kept [] = refl
     kept (m ∷ ms) =
         put (not (is_some (position (has_name m) es))) (half_at es m) (filter (λ h. not (is_some h.place)) (map (half_at es) ms))
-        ∙ ap (λ b. cond (not b) (m ∷ names_of (filter (λ h. not (is_some h.place)) (map (half_at es) ms))) (names_of (filter (λ h. not (is_some h.place)) (map (half_at es) ms)))) (is_some-place es m)
+        ∙ ap (λ b. cond (not b) (m ∷ names_of (filter (λ h. not (is_some h.place)) (map (half_at es) ms)))
+        (names_of (filter (λ h. not (is_some h.place)) (map (half_at es) ms)))) (is_some-place es m)
         ∙ ap (λ (r : List LockName). cond (not (stands es m)) (m ∷ r) r) (kept ms)
 
 -- the fresh names of one more half
-fresh_names-push : (hs : List Half) (h : Half) → fresh_names (hs ++ h ∷ []) ≡ fresh_names hs ++ cond (is_some h.place || list_any (same_name h.name) (fresh_names hs)) [] (h.name ∷ [])
+fresh_names-push : (hs : List Half) (h : Half) → fresh_names (hs ++ h ∷ []) ≡ fresh_names hs ++ cond
+    (is_some h.place || list_any (same_name h.name) (fresh_names hs)) [] (h.name ∷ [])
 fresh_names-push hs h =
     let q : Half → Bool = λ (k : Half). not (is_some k.place) in
     let ns = names_of (filter q hs) in
     let split : names_of (filter q (hs ++ h ∷ [])) ≡ ns ++ cond (is_some h.place) [] (h.name ∷ []) =
-    ap names_of (filter-append q hs (h ∷ [])) ∙ map-append (λ (k : Half). k.name) (filter q hs) (filter q (h ∷ [])) ∙ ap (λ (r : List LockName). ns ++ r) (last (is_some h.place)) in
+    ap names_of (filter-append q hs (h ∷ [])) ∙ map-append (λ (k : Half). k.name) (filter q hs) (filter q (h ∷ []))
+    ∙ ap (λ (r : List LockName). ns ++ r) (last (is_some h.place)) in
     ap each_once split ∙ grown (is_some h.place) ns
     ∙ ap (λ b. each_once ns ++ cond (is_some h.place || b) [] (h.name ∷ [])) (sym (each_once-any h.name ns))
   where
@@ -71,7 +75,8 @@ fresh_names-push hs h =
     nothing [] = refl
     nothing (m ∷ ms) = ap (λ (r : List LockName). m ∷ r) (nothing ms)
 
-    grown : (b : Bool) (ns : List LockName) → each_once (ns ++ cond b [] (h.name ∷ [])) ≡ each_once ns ++ cond (b || list_any (same_name h.name) ns) [] (h.name ∷ [])
+    grown : (b : Bool) (ns : List LockName) → each_once (ns ++ cond b [] (h.name ∷ [])) ≡ each_once ns ++ cond (b || list_any (same_name h.name) ns) []
+        (h.name ∷ [])
     grown true ns = ap each_once (nothing ns) ∙ sym (nothing (each_once ns))
     grown false ns = each_once-push ns h.name
 
@@ -80,7 +85,9 @@ map_cond f true x = refl
 map_cond f false x = refl
 
 -- one step of the walk that makes the new entries
-pub new_entries-more : (user : List ℕ) (names : List LockName) (hs : List Half) (i : ℕ) (h : Half) (added new : List Entry) → i < length hs → h ≡ get_or hs i h → added ≡ map (capped_entry user names) (fresh_names (take i hs)) → new ≡ added ++ cond (is_some h.place || stands added h.name) [] (capped_entry user names h.name ∷ []) → new ≡ map (capped_entry user names) (fresh_names (take (i + 1) hs))
+pub new_entries-more : (user : List ℕ) (names : List LockName) (hs : List Half) (i : ℕ) (h : Half) (added new : List Entry) → i < length hs → h ≡ get_or hs i h
+    → added ≡ map (capped_entry user names) (fresh_names (take i hs)) → new ≡ added ++ cond (is_some h.place || stands added h.name) []
+    (capped_entry user names h.name ∷ []) → new ≡ map (capped_entry user names) (fresh_names (take (i + 1) hs))
 new_entries-more user names hs i h added new below read so_far pushed =
     let f = capped_entry user names in
     let ns = fresh_names (take i hs) in
@@ -94,7 +101,8 @@ new_entries-more user names hs i h added new below read so_far pushed =
     ∙ ap (map f) (sym (fresh_names-push (take i hs) h) ∙ ap fresh_names longer)
 
 -- a count exceeds 9,999 by the halves where it does by the names
-pub is_over-half_at : (es : List Entry) (all ns : List LockName) → list_any (λ h. nat_lt 9999 (h.count + times all h.name)) (map (half_at es) ns) ≡ list_any (λ n. nat_lt 9999 (count_at es n + times all n)) ns
+pub is_over-half_at : (es : List Entry) (all ns : List LockName) → list_any (λ h. nat_lt 9999 (h.count + times all h.name)) (map (half_at es) ns) ≡ list_any
+    (λ n. nat_lt 9999 (count_at es n + times all n)) ns
 is_over-half_at es all ns = list_any-map (λ (h : Half). nat_lt 9999 (h.count + times all h.name)) (half_at es) ns
 
 heads : (x y : Half) (xs ys : List Half) → x ∷ xs ≡ y ∷ ys → x ≡ y
@@ -104,7 +112,8 @@ tails : (x y : Half) (xs ys : List Half) → x ∷ xs ≡ y ∷ ys → xs ≡ ys
 tails x y xs ys e = cc
 
 -- a half of a list of halves is the one of its name
-half_is : (es : List Entry) (hs : List Half) (i : ℕ) (h : Half) → hs ≡ map (half_at es) (names_of hs) → i < length hs → h ≡ get_or hs i h → h ≡ half_at es h.name
+half_is : (es : List Entry) (hs : List Half) (i : ℕ) (h : Half) → hs ≡ map (half_at es) (names_of hs) → i < length hs → h ≡ get_or hs i h
+    → h ≡ half_at es h.name
 half_is es [] i h e below read = absurd (omega arith)
 half_is es (x ∷ hs) zero h e below read =
     let s : h ≡ x = read in
@@ -155,7 +164,8 @@ module _ (es : List Entry) (hs : List Half) (added : List Entry) (i : ℕ) (h : 
 
   walk-one : (d : Entry) (o : Option ℕ) → h.place ≡ o → raised_at zs o d ≡ map (raised (names_of (take i hs) ++ h.name ∷ [])) es ++ added
   walk-one d None e =
-      let none : stands es h.name ≡ false = sym (is_some-place es h.name) ∙ ap is_some (sym (ap (λ (x : Half). x.place) (half_is es hs i h w.halves w.below w.read)) ∙ e) in
+      let none : stands es h.name ≡ false = sym (is_some-place es h.name)
+      ∙ ap is_some (sym (ap (λ (x : Half). x.place) (half_is es hs i h w.halves w.below w.read)) ∙ e) in
       w.so_far ∙ ap (λ (r : List Entry). r ++ added) (sym (raised-none (names_of (take i hs)) h.name es none))
   walk-one d (Some k) e =
       ap (λ (r : List Entry). set r k (one_more (get_or r k d))) w.so_far
@@ -177,15 +187,18 @@ raised-nothing (e ∷ es) =
     ap (λ x. x ∷ map (raised []) es) same ∙ ap (λ (xs : List Entry). e ∷ xs) (raised-nothing es)
 
 -- where no count exceeds 9,999, no new entry is cut off
-capped_map : (es : List Entry) (user : List ℕ) (names ns : List LockName) → is_over es names ≡ false → list_all (λ n. list_any (same_name n) names) ns ≡ true → map (capped_entry user names) ns ≡ map (new_entry user names) ns
+capped_map : (es : List Entry) (user : List ℕ) (names ns : List LockName) → is_over es names ≡ false → list_all (λ n. list_any (same_name n) names) ns ≡ true
+    → map (capped_entry user names) ns ≡ map (new_entry user names) ns
 capped_map es user names [] fine h = refl
 capped_map es user names (n ∷ ns) fine h =
     let hs = and_parts (list_any (same_name n) names) _ h in
     let most : count_at es n + times names n ≤ 9999 = not_over-named es names names n fine hs.0 in
-    let same : capped_entry user names n ≡ new_entry user names n = ap (λ k. record (new_entry user names n) { count = k }) (let s : min 9999 (times names n) ≡ times names n = omega arith in s) in
+    let same : capped_entry user names n ≡ new_entry user names n = ap (λ k. record (new_entry user names n) { count = k })
+    (let s : min 9999 (times names n) ≡ times names n = omega arith in s) in
     ap (λ x. x ∷ map (capped_entry user names) ns) same ∙ ap (λ (xs : List Entry). new_entry user names n ∷ xs) (capped_map es user names ns fine hs.1)
 
-pub capped-new : (es : List Entry) (user : List ℕ) (names : List LockName) → is_over es names ≡ false → map (capped_entry user names) (new_names es names) ≡ map (new_entry user names) (new_names es names)
+pub capped-new : (es : List Entry) (user : List ℕ) (names : List LockName) → is_over es names ≡ false
+    → map (capped_entry user names) (new_names es names) ≡ map (new_entry user names) (new_names es names)
 capped-new es user names fine = capped_map es user names (new_names es names) fine (new_names-named es names)
 
 -- What the code has at hand when it tests requests.
@@ -206,7 +219,8 @@ module _ (t : Table) (asker : Asker) (user : List ℕ) (rs : List Request) (hs :
 
   full_is : (b : Bool) (n : ℕ) → n ≡ length added → b ≡ is_full t n → is_full t (length (new_names t.entries (halves asker rs))) ≡ b
   full_is b n e f =
-      let long : length added ≡ length (new_names t.entries (halves asker rs)) = ap length adds_are ∙ length-map (new_names t.entries (halves asker rs)) (capped_entry user (halves asker rs)) in
+      let long : length added ≡ length (new_names t.entries (halves asker rs)) =
+      ap length adds_are ∙ length-map (new_names t.entries (halves asker rs)) (capped_entry user (halves asker rs)) in
       sym (f ∙ ap (is_full t) (e ∙ long))
 
   over_is : (b : Bool) → b ≡ list_any (λ h. nat_lt 9999 (h.count + times (names_of hs) h.name)) hs → is_over t.entries (halves asker rs) ≡ b
@@ -219,26 +233,31 @@ module _ (t : Table) (asker : Asker) (user : List ℕ) (rs : List Request) (hs :
   pub tested-Full : (n : ℕ) → n ≡ length added → true ≡ is_full t n → asked t asker user rs ≡ Err (fault.Full (length t.entries) t.limit)
   tested-Full n e f = asked-Full t asker user rs w.free (full_is true n e f)
 
-  pub tested-Count : (n : ℕ) → n ≡ length added → false ≡ is_full t n → true ≡ list_any (λ h. nat_lt 9999 (h.count + times (names_of hs) h.name)) hs → asked t asker user rs ≡ Err fault.Count
+  pub tested-Count : (n : ℕ) → n ≡ length added → false ≡ is_full t n → true ≡ list_any (λ h. nat_lt 9999 (h.count + times (names_of hs) h.name)) hs
+      → asked t asker user rs ≡ Err fault.Count
   tested-Count n e f o = asked-Count t asker user rs w.free (full_is false n e f) (over_is true o)
 
   pub tested-counts : false ≡ list_any (λ h. nat_lt 9999 (h.count + times (names_of hs) h.name)) hs → is_over t.entries (halves asker rs) ≡ false
   tested-counts o = over_is false o
 
-  pub tested-Ok : (n : ℕ) → n ≡ length added → false ≡ is_full t n → false ≡ list_any (λ h. nat_lt 9999 (h.count + times (names_of hs) h.name)) hs → asked t asker user rs ≡ Ok (map (raised (halves asker rs)) t.entries ++ added)
+  pub tested-Ok : (n : ℕ) → n ≡ length added → false ≡ is_full t n → false ≡ list_any (λ h. nat_lt 9999 (h.count + times (names_of hs) h.name)) hs
+      → asked t asker user rs ≡ Ok (map (raised (halves asker rs)) t.entries ++ added)
   tested-Ok n e f o =
       asked-Ok t asker user rs w.free (full_is false n e f) (over_is false o)
-      ∙ ap (λ (r : List Entry). Ok (map (raised (halves asker rs)) t.entries ++ r)) (sym (adds_are ∙ capped-new t.entries user (halves asker rs) (over_is false o)))
+      ∙ ap (λ (r : List Entry). Ok (map (raised (halves asker rs)) t.entries ++ r))
+      (sym (adds_are ∙ capped-new t.entries user (halves asker rs) (over_is false o)))
 
 -- the entry that bars is the answer
-pub bar-asked : (t : Table) (asker : Asker) (user : List ℕ) (rs : List Request) (f : AskFault) → IsBar (first_bar t.entries asker (map (λ r. r.asked) rs)) f → IsFaultOf (asked t asker user rs) f
+pub bar-asked : (t : Table) (asker : Asker) (user : List ℕ) (rs : List Request) (f : AskFault) → IsBar (first_bar t.entries asker (map (λ r. r.asked) rs)) f
+    → IsFaultOf (asked t asker user rs) f
 bar-asked t asker user rs fault.NoMemory h = tt
 bar-asked t asker user rs (fault.Foreign e) h = asked-Foreign t asker user rs e h
 bar-asked t asker user rs (fault.Full used limit) h = absurd h
 bar-asked t asker user rs fault.Count h = absurd h
 bar-asked t asker user rs fault.Lost h = absurd h
 
-pub bar-readmitted : (t : Table) (asker : Asker) (given : List Entry) (f : AskFault) → IsBar (first_bar t.entries asker (map asked_of given)) f → IsFaultOf (readmitted t asker given) f
+pub bar-readmitted : (t : Table) (asker : Asker) (given : List Entry) (f : AskFault) → IsBar (first_bar t.entries asker (map asked_of given)) f
+    → IsFaultOf (readmitted t asker given) f
 bar-readmitted t asker given fault.NoMemory h = tt
 bar-readmitted t asker given (fault.Foreign e) h = readmitted-Foreign t asker given e h
 bar-readmitted t asker given (fault.Full used limit) h = absurd h
@@ -246,7 +265,9 @@ bar-readmitted t asker given fault.Count h = absurd h
 bar-readmitted t asker given fault.Lost h = absurd h
 
 -- what was planned is done
-pub granted_is : (t : Table) (asker : Asker) (user : List ℕ) (rs : List Request) (hs : List Half) (planned added new : List Entry) → hs ≡ map (half_at t.entries) (halves asker rs) → added ≡ planned → new ≡ map (raised (names_of hs)) t.entries ++ added → asked t asker user rs ≡ Ok (map (raised (halves asker rs)) t.entries ++ planned) → asked t asker user rs ≡ Ok new
+pub granted_is : (t : Table) (asker : Asker) (user : List ℕ) (rs : List Request) (hs : List Half) (planned added new : List Entry)
+    → hs ≡ map (half_at t.entries) (halves asker rs) → added ≡ planned → new ≡ map (raised (names_of hs)) t.entries ++ added
+    → asked t asker user rs ≡ Ok (map (raised (halves asker rs)) t.entries ++ planned) → asked t asker user rs ≡ Ok new
 granted_is t asker user rs hs planned added new is same done plan =
     plan
     ∙ sym (ap (λ (r : List Entry). Ok r)

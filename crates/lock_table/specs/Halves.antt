@@ -27,7 +27,8 @@ capped_entry user names n = record (new_entry user names n) { count = min 9999 (
 -- the list with one more at the place, if there is a place
 abbrev pub raised_at : List Entry → Option ℕ → Entry → List Entry
 raised_at entries None d = entries
-raised_at entries (Some i) d = slice_set entries i (record (slice_index_or entries i d) { count = (slice_index_or entries i d).count + 1 })
+raised_at entries (Some i) d =
+    slice_set entries i (record (slice_index_or entries i d) { count = (slice_index_or entries i d).count + 1 })
 
 -- the entry that bars, or want of memory
 abbrev pub IsBar : Option Entry → AskFault → Type 0

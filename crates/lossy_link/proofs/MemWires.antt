@@ -15,7 +15,8 @@ use Rattle.lossy_link.specs.Memory.{MemWireState, may_answer, may_bring, next_fa
 
 noted-cases : (wire : MemWireState) (packet p : Packet) → Contains (noted wire packet) p → Contains wire.sent p ⊎ (p ≡ packet)
 noted-cases wire packet p =
-    cond_both (nat_lt wire.turns (length wire.plan)) (wire.sent ++ packet ∷ []) wire.sent (λ (ps : List Packet). Contains ps p → Contains wire.sent p ⊎ (p ≡ packet))
+    cond_both (nat_lt wire.turns (length wire.plan)) (wire.sent ++ packet ∷ []) wire.sent
+    (λ (ps : List Packet). Contains ps p → Contains wire.sent p ⊎ (p ≡ packet))
     (λ _ h. turned (Contains-push_cases wire.sent packet p h))
     (λ _ h. inl h)
   where
@@ -30,7 +31,8 @@ got-contained (q ∷ ps) (suc i) p h = let c = got-contained ps i p h in (suc c.
 
 numbered-contained : (ps : List Packet) (number : ℕ) (p : Packet) → numbered ps number ≡ Some p → Contains ps p
 numbered-contained ps number p =
-    cond_both (nat_eq number 0) None (slice_get ps (number - 1)) (λ (o : Option Packet). o ≡ Some p → Contains ps p) (λ _ h. absurd (none-some p h)) (λ _ h. got-contained ps (number - 1) p h)
+    cond_both (nat_eq number 0) None (slice_get ps (number - 1)) (λ (o : Option Packet). o ≡ Some p → Contains ps p) (λ _ h. absurd (none-some p h))
+    (λ _ h. got-contained ps (number - 1) p h)
 
 module _ (packet : Packet) (old : MemWireState) where
   abbrev MayCome : Packet → Type 0
@@ -39,7 +41,8 @@ module _ (packet : Packet) (old : MemWireState) where
   abbrev now_sent : List Packet
   now_sent = noted old packet
 
-  just-known : (o : Option Packet) → ((p : Packet) → o ≡ Some p → Contains (noted old packet) p) → AllByRecursion (λ p. Contains old.sent p ⊎ (p ≡ packet)) (just o)
+  just-known : (o : Option Packet) → ((p : Packet) → o ≡ Some p → Contains (noted old packet) p)
+      → AllByRecursion (λ p. Contains old.sent p ⊎ (p ≡ packet)) (just o)
   just-known None h = tt
   just-known (Some p) h = (noted-cases old packet p (h p refl), tt)
 
@@ -54,14 +57,16 @@ module _ (packet : Packet) (old : MemWireState) where
   just-answered None r = tt
   just-answered (Some p) r = inr (0, omega arith, refl)
 
-  coming-answered : (fate : Fate) (r : Place) → IfSome (answer_in fate (noted old packet) packet r) (λ a. ⊥ ⊎ Contains (answers r (coming fate (noted old packet) packet)) a)
+  coming-answered : (fate : Fate) (r : Place) → IfSome (answer_in fate (noted old packet) packet r)
+      (λ a. ⊥ ⊎ Contains (answers r (coming fate (noted old packet) packet)) a)
   coming-answered Pass r = inr (0, omega arith, refl)
   coming-answered LosePacket r = tt
   coming-answered LoseAck r = tt
   coming-answered Twice r = inr (1, omega arith, refl)
   coming-answered (Old number) r = just-answered (numbered (noted old packet) number) r
 
-  pub played-sent : (new : MemWireState) (answer : Option Ack) → new.place ≡ (played packet old).place → new.sent ≡ (played packet old).sent → answer ≡ answer_of packet old
+  pub played-sent : (new : MemWireState) (answer : Option Ack) → new.place ≡ (played packet old).place → new.sent ≡ (played packet old).sent
+      → answer ≡ answer_of packet old
       → IsSent (λ (w : MemWireState). w.place) may_bring may_answer packet answer old new
   played-sent new answer place sent heard =
       record {
@@ -70,10 +75,12 @@ module _ (packet : Packet) (old : MemWireState) where
         stands = place;
         brings = λ p b. noted-cases old packet p (subst (λ (ps : List Packet). Contains ps p) sent b);
         answering = λ a b. absurd b;
-        hears = subst (λ (o : Option Ack). IfSome o (λ a. ⊥ ⊎ Contains (answers old.place (coming (next_fate old) (noted old packet) packet)) a)) (sym heard) (coming-answered (next_fate old) old.place);
+        hears = subst (λ (o : Option Ack). IfSome o (λ a. ⊥ ⊎ Contains (answers old.place (coming (next_fate old) (noted old packet) packet)) a)) (sym heard)
+            (coming-answered (next_fate old) old.place);
       }
 
-  pub cut-sent : (mid new : MemWireState) → IsCutShort packet old mid → new.place ≡ mid.place → new.sent ≡ mid.sent → IsSent (λ (w : MemWireState). w.place) may_bring may_answer packet None old new
+  pub cut-sent : (mid new : MemWireState) → IsCutShort packet old mid → new.place ≡ mid.place → new.sent ≡ mid.sent
+      → IsSent (λ (w : MemWireState). w.place) may_bring may_answer packet None old new
   cut-sent mid new h place sent = came h.stands
     where
       kept : (p : Packet) → Contains new.sent p → Contains old.sent p ⊎ (p ≡ packet)
@@ -85,6 +92,22 @@ module _ (packet : Packet) (old : MemWireState) where
 
       came : (mid.place ≡ old.place) ⊎ (mid.place ≡ taken old.place packet) → IsSent (λ (w : MemWireState). w.place) may_bring may_answer packet None old new
       came (inl e) =
-          record { packets = []; known = All-from_recursion (λ p. Contains old.sent p ⊎ (p ≡ packet)) [] tt; stands = place ∙ e; brings = kept; answering = λ a b. absurd b; hears = tt }
+          record {
+            packets = [];
+            known = All-from_recursion (λ p. Contains old.sent p ⊎ (p ≡ packet)) [] tt;
+            stands = place ∙ e;
+            brings = kept;
+            answering =
+                λ a b. absurd b;
+            hears = tt;
+          }
       came (inr e) =
-          record { packets = packet ∷ []; known = All-from_recursion (λ p. Contains old.sent p ⊎ (p ≡ packet)) (packet ∷ []) (inr refl, tt); stands = place ∙ e; brings = kept; answering = λ a b. absurd b; hears = tt }
+          record {
+            packets = packet ∷ [];
+            known = All-from_recursion (λ p. Contains old.sent p ⊎ (p ≡ packet)) (packet ∷ []) (inr refl, tt);
+            stands =
+                place ∙ e;
+            brings = kept;
+            answering = λ a b. absurd b;
+            hears = tt;
+          }

@@ -1,5 +1,6 @@
 -- A wire in memory, each of whose turns has a fate.
-use Rattle.std.specs.Prelude.{◌≡◌, ◌⊎◌, ℕ, ◌-◌, nat_eq, nat_lt, if◌then◌else◌, List, [], ◌∷◌, ◌++◌, length, Contains, slice_get, Option, Some, None, option_map, unwrap_or}
+use Rattle.std.specs.Prelude.{◌≡◌, ◌⊎◌, ℕ, ◌-◌, nat_eq, nat_lt, if◌then◌else◌, List, [], ◌∷◌, ◌++◌, length, Contains}
+use Rattle.std.specs.Prelude.{slice_get, Option, Some, None, option_map, unwrap_or}
 use Rattle.enq_base.specs.Causes.{one_more}
 use Rattle.io_edge.specs.declared.fate.Fate.{Fate}
 use Rattle.io_edge.specs.declared.fate.Fate.TheVariants.{Pass, LosePacket, LoseAck, Twice, Old}

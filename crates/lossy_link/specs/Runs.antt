@@ -6,9 +6,10 @@ use Rattle.lossy_link.specs.Packets.{Place}
 use Rattle.lossy_link.specs.Wired.{Event, World, wired}
 use Rattle.lossy_link.specs.Wiring.{Sender}
 
--- The world has the sender's epoch and the wire's replica. What may still come was sent in this world, and what may still be
--- answered was answered in it. As long as the replica follows, each operation is acknowledged.
-pub record IsAt {W : Type 0} (place : W → Place) (may_bring : W → Packet → Type 0) (may_answer : W → Ack → Type 0) (s : Sender W) (w : World) : Type 0 where
+-- The world has the sender's epoch and the wire's replica. What may still come was sent in this world, and what may
+-- still be answered was answered in it. As long as the replica follows, each operation is acknowledged.
+pub record IsAt {W : Type 0} (place : W → Place) (may_bring : W → Packet → Type 0) (may_answer : W → Ack → Type 0)
+    (s : Sender W) (w : World) : Type 0 where
   pub same_epoch : w.epoch ≡ s.epoch
   pub stands : w.place ≡ place s.wire
   pub brings : (p : Packet) → may_bring s.wire p → Contains w.sent p
@@ -17,10 +18,13 @@ pub record IsAt {W : Type 0} (place : W → Place) (may_bring : W → Packet →
   pub shipped : s.attached ≡ true → length w.ops ≡ s.seq
 
 -- after some events more
-pub record GoesOn {W : Type 0} (place : W → Place) (may_bring : W → Packet → Type 0) (may_answer : W → Ack → Type 0) (events : List Event) (s : Sender W) : Type 0 where
+pub record GoesOn {W : Type 0} (place : W → Place) (may_bring : W → Packet → Type 0) (may_answer : W → Ack → Type 0)
+    (events : List Event) (s : Sender W) : Type 0 where
   pub more : List Event
   pub at : IsAt place may_bring may_answer s (wired (events ++ more))
 
 -- whatever events led to the sender as it was, these and some more lead to it as it is
-abbrev pub Follows : {W : Type 0} → (place : W → Place) → (may_bring : W → Packet → Type 0) → (may_answer : W → Ack → Type 0) → (old new : Sender W) → Type 0
-Follows place may_bring may_answer old new = (events : List Event) → IsAt place may_bring may_answer old (wired events) → GoesOn place may_bring may_answer events new
+abbrev pub Follows : {W : Type 0} → (place : W → Place) → (may_bring : W → Packet → Type 0)
+    → (may_answer : W → Ack → Type 0) → (old new : Sender W) → Type 0
+Follows place may_bring may_answer old new = (events : List Event) → IsAt place may_bring may_answer old (wired events)
+    → GoesOn place may_bring may_answer events new

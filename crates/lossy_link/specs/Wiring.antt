@@ -1,5 +1,6 @@
 -- What a wire does with a packet, and what a sender over it knows.
-use Rattle.std.specs.Prelude.{◌≡◌, ◌⊎◌, ℕ, ◌+◌, ◌-◌, ◌^◌, ◌≤◌, min, Bool, true, false, List, Option, Some, None, IfSome, Result, Ok, Err, All, Contains, if◌then◌else◌}
+use Rattle.std.specs.Prelude.{◌≡◌, ◌⊎◌, ℕ, ◌+◌, ◌-◌, ◌^◌, ◌≤◌, min, Bool, true, false, List, Option, Some, None, IfSome}
+use Rattle.std.specs.Prelude.{Result, Ok, Err, All, Contains, if◌then◌else◌}
 use Rattle.enq_base.specs.Causes.{Rose, one_more}
 use Rattle.lock_entry.specs.declared.entry.Entry.{Entry}
 use Rattle.replica_link.specs.declared.fault.LinkFault.{LinkFault}
@@ -8,9 +9,11 @@ use Rattle.lossy_link.specs.declared.packet.Ack.{Ack}
 use Rattle.lossy_link.specs.declared.packet.Packet.{Packet}
 use Rattle.lossy_link.specs.Packets.{Place, ack_of, answers, first_place, own_ack, taken_all}
 
--- Packets come to the replica one by one, each of them this one or one that might still come. What may come later might before, or is
--- this packet; and what may be answered later, or was heard, might be answered before, or is the replica's answer to one that came.
-pub record IsSent {W : Type 0} (place : W → Place) (may_bring : W → Packet → Type 0) (may_answer : W → Ack → Type 0) (packet : Packet) (heard : Option Ack) (old new : W) : Type 0 where
+-- Packets come to the replica one by one, each of them this one or one that might still come. What may come later might
+-- before, or is this packet; and what may be answered later, or was heard, might be answered before, or is the
+-- replica's answer to one that came.
+pub record IsSent {W : Type 0} (place : W → Place) (may_bring : W → Packet → Type 0) (may_answer : W → Ack → Type 0)
+    (packet : Packet) (heard : Option Ack) (old new : W) : Type 0 where
   pub packets : List Packet
   pub known : All (λ p. may_bring old p ⊎ (p ≡ packet)) packets
   pub stands : place new ≡ taken_all (place old) packets
@@ -65,8 +68,10 @@ pub record IsUpTo (epoch seq : ℕ) (at : Ack) : Type 0 where
   pub no_later : at.epoch ≤ epoch
   pub no_further : at.epoch ≡ epoch → at.seq ≤ seq
 
--- Nothing that may still come or be answered is of a later epoch than the sender's; and as long as the replica follows it stands where the sender knows it, and nothing goes further.
-pub record IsKnown (place : Place) (may_bring : Packet → Type 0) (may_answer : Ack → Type 0) (epoch seq : ℕ) (attached : Bool) : Type 0 where
+-- Nothing that may still come or be answered is of a later epoch than the sender's; and as long as the replica follows
+-- it stands where the sender knows it, and nothing goes further.
+pub record IsKnown (place : Place) (may_bring : Packet → Type 0) (may_answer : Ack → Type 0) (epoch seq : ℕ)
+    (attached : Bool) : Type 0 where
   pub behind : place.epoch ≤ epoch
   pub sent : (p : Packet) → may_bring p → epoch_of p ≤ epoch
   pub answered : (a : Ack) → may_answer a → a.epoch ≤ epoch
@@ -74,7 +79,8 @@ pub record IsKnown (place : Place) (may_bring : Packet → Type 0) (may_answer :
   pub brings : attached ≡ true → (p : Packet) → may_bring p → IsUpTo epoch seq (own_ack p)
   pub answers : attached ≡ true → (a : Ack) → may_answer a → IsUpTo epoch seq a
 
--- the wire, the epoch, the last operation that was acknowledged, whether the replica follows, and how many calls have failed or were refused
+-- the wire, the epoch, the last operation that was acknowledged, whether the replica follows, and how many calls have
+-- failed or were refused
 pub record Sender (W : Type 0) : Type 0 where
   pub wire : W
   pub epoch : ℕ
@@ -104,13 +110,16 @@ pub record IsCounted {W T : Type 0} (old new : Sender W) (result : Result T Link
 
 -- why a packet wasn't acknowledged: there was no number for it, and nothing was sent, or each of eight turns failed
 abbrev pub IsUnheard : {W : Type 0} → (faults : W → ℕ) → (old new : Sender W) → (no_number : Type 0) → Type 0
-IsUnheard faults old new no_number = (no_number × (new ≡ lost Failed old)) ⊎ RoseBy 8 (faults old.wire) (faults new.wire)
+IsUnheard faults old new no_number = (no_number × (new ≡ lost Failed old))
+    ⊎ RoseBy 8 (faults old.wire) (faults new.wire)
 
--- why no list was handed over: the wire failed, or the wire did well and the replica stands elsewhere than the link knows
+-- why no list was handed over: the wire failed, or the wire did well and the replica stands elsewhere than the link
+-- knows
 abbrev pub IsElsewhere : {W : Type 0} → (place : W → Place) → (faults : W → ℕ) → (old new : Sender W) → Type 0
 IsElsewhere place faults old new =
     Rose (faults old.wire) (faults new.wire)
-    ⊎ ((ack_of (place old.wire) ≡ record { epoch = old.epoch; seq = old.seq } → ⊥) × (faults new.wire ≡ faults old.wire))
+    ⊎ ((ack_of (place old.wire) ≡ record { epoch = old.epoch; seq = old.seq } → ⊥)
+    × (faults new.wire ≡ faults old.wire))
 
 -- the number of the next operation, where the replica follows
 abbrev pub next_op : {W : Type 0} → Sender W → Option ℕ

@@ -17,8 +17,8 @@ use replica_link::LinkFault;
 use std::alloc::Global;
 use std::marker::Model;
 
-/// A wire in memory, and the replica at its end. Its turns have the planned fates, one after the other, and those behind
-/// the last one pass. It keeps the packets of planned turns alone, as no other can come once more.
+/// A wire in memory, and the replica at its end. Its turns have the planned fates, one after the other, and those
+/// behind the last one pass. It keeps the packets of planned turns alone, as no other can come once more.
 #[derive(Drop)]
 pub struct MemWire {
     replica: Replica,
@@ -34,7 +34,14 @@ impl Model for MemWire {
 
     ghost Value = { MemWireState };
 
-    ghost view = { λ w. record { place = w.replica; plan = w.plan.items; turns = w.turns; sent = w.sent.items; faults = w.faults; refusals = w.refusals } };
+    ghost view = { λ w. record {
+      place = w.replica;
+      plan = w.plan.items;
+      turns = w.turns;
+      sent = w.sent.items;
+      faults = w.faults;
+      refusals = w.refusals;
+    } };
 }
 
 impl MemWire {
@@ -66,7 +73,8 @@ impl MemWire {
     /// Counts a turn, keeps its packet where its fate was planned, and tells its fate.
     fn begin_turn(&mut self, alloc: Global, packet: &Packet) -> Result<Fate, NoMemory>
         ensures fate { IfOk result (λ fate. fate ≡ memory.next_fate self.old) }
-        ensures noted { OnOk result (self.new ≡ record self.old { turns = one_more self.old.turns; sent = memory.noted self.old packet.now }) }
+        ensures noted { OnOk result
+            (self.new ≡ record self.old { turns = one_more self.old.turns; sent = memory.noted self.old packet.now }) }
         ensures wanting { OnErr result (self.new ≡ record self.old { turns = one_more self.old.turns }) }
     {
         let fate = self.fate();
@@ -86,9 +94,13 @@ impl MemWire {
         packet: &Packet,
         fate: Fate,
     ) -> Result<Option<Ack>, NoMemory>
-        ensures answer { IfOk result (λ answer. answer ≡ memory.answer_in fate self.old.sent packet.now self.old.place) }
-        ensures came { OnOk result (self.new ≡ record self.old { place = taken_all self.old.place (memory.coming fate self.old.sent packet.now) }) }
-        ensures wanting { OnErr result ((self.new ≡ self.old) ⊎ (self.new ≡ record self.old { place = taken self.old.place packet.now })) }
+        ensures answer { IfOk result
+            (λ answer. answer ≡ memory.answer_in fate self.old.sent packet.now self.old.place) }
+        ensures came { OnOk result
+            (self.new ≡ record self.old
+            { place = taken_all self.old.place (memory.coming fate self.old.sent packet.now) }) }
+        ensures wanting { OnErr result
+            ((self.new ≡ self.old) ⊎ (self.new ≡ record self.old { place = taken self.old.place packet.now })) }
     {
         play(&mut self.replica, alloc, self.sent.as_slice(), packet, fate)
     }
@@ -146,9 +158,11 @@ impl Wire for MemWire {
 
     fn turn(&mut self, alloc: Global, packet: &Packet) -> Result<Option<Ack>, LinkFault>
         ensures answer { IfOk result (λ answer. answer ≡ memory.answer_of packet.now self.old) }
-        ensures played { OnOk result (self.new ≡ memory.counted_in (memory.played packet.now self.old) self.new.faults) }
+        ensures played { OnOk result
+            (self.new ≡ memory.counted_in (memory.played packet.now self.old) self.new.faults) }
         ensures wanting { IfErr result (λ f. f ≡ fault.NoMemory) }
-        ensures sent { IsSent (λ w. w.place) memory.may_bring memory.may_answer packet.now (heard_in result) self.old self.new }
+        ensures sent { IsSent
+            (λ w. w.place) memory.may_bring memory.may_answer packet.now (heard_in result) self.old self.new }
         ensures quiet { result ≡ Ok (Some (own_ack packet.now)) → self.new.faults ≡ self.old.faults }
         ensures lost { (result ≡ Ok (Some (own_ack packet.now)) → ⊥) → Rose self.old.faults self.new.faults }
         ensures once { self.new.faults ≤ self.old.faults + 1 }

@@ -19,9 +19,9 @@ use std::marker::Model;
 
 /// A link to a replica over a wire that may lose packets and acknowledgements, repeat them, and bring them late.
 ///
-/// Each snapshot begins an epoch of its own, and each operation of it is sent once the one before is acknowledged, at most
-/// eight times. It keeps no packet. Its counts are of calls: a packet that was lost at first and then came raises the
-/// wire's count alone.
+/// Each snapshot begins an epoch of its own, and each operation of it is sent once the one before is acknowledged, at
+/// most eight times. It keeps no packet. Its counts are of calls: a packet that was lost at first and then came raises
+/// the wire's count alone.
 #[derive(Drop)]
 pub struct LossyLink<W: Wire> {
     wire: W,
@@ -38,9 +38,17 @@ impl<W: Wire> Model for LossyLink<W> {
 
     ghost Value = { Sender W };
 
-    ghost view = { λ l. record { wire = l.wire; epoch = l.epoch; seq = l.seq; attached = l.attached; faults = l.faults; refusals = l.refusals } };
+    ghost view = { λ l. record {
+      wire = l.wire;
+      epoch = l.epoch;
+      seq = l.seq;
+      attached = l.attached;
+      faults = l.faults;
+      refusals = l.refusals;
+    } };
 
-    ghost invariant = { λ l. IsTrue W.tells → IsKnown (W.place l.wire) (W.may_bring l.wire) (W.may_answer l.wire) l.epoch l.seq l.attached };
+    ghost invariant = { λ l. IsTrue W.tells
+        → IsKnown (W.place l.wire) (W.may_bring l.wire) (W.may_answer l.wire) l.epoch l.seq l.attached };
 }
 
 impl<W: Wire> LossyLink<W> {
@@ -121,7 +129,8 @@ impl<W: Wire> LossyLink<W> {
     fn send_op(&mut self, alloc: Global, seq: u64, op: &TableOp) -> Result<(), LinkFault>
         requires attached { self.old.attached ≡ true }
         requires next { seq ≡ self.old.seq + 1 }
-        ensures list { IsTrue W.tells → OnOk result ((W.place self.new.wire).list ≡ after_op (W.place self.old.wire).list op.now) }
+        ensures list { IsTrue W.tells
+            → OnOk result ((W.place self.new.wire).list ≡ after_op (W.place self.old.wire).list op.now) }
         ensures attached { OnOk result (self.new.attached ≡ true) }
         ensures seq { OnOk result (self.new.seq ≡ seq) }
         ensures epoch { self.new.epoch ≡ self.old.epoch }
@@ -173,7 +182,8 @@ impl<W: Wire> Link for LossyLink<W> {
         ensures epoch { OnOk result (self.new.epoch ≡ self.old.epoch + 1) }
         ensures detached { OnErr result (self.new.attached ≡ false) }
         ensures last { self.old.epoch ≡ 2 ^ 32 - 1 → result ≡ Err fault.Failed }
-        ensures failed { result ≡ Err fault.Failed → IsUnheard W.faults self.old self.new (self.old.epoch ≡ 2 ^ 32 - 1) }
+        ensures failed { result ≡ Err fault.Failed
+            → IsUnheard W.faults self.old self.new (self.old.epoch ≡ 2 ^ 32 - 1) }
         // The wire refused, or memory for the copy of the list was wanting, and nothing was sent.
         ensures refused { result ≡ Err fault.NoMemory
             → Rose (W.refusals self.old.wire) (W.refusals self.new.wire) ⊎ (self.new ≡ lost fault.NoMemory self.old) }
@@ -225,7 +235,8 @@ impl<W: Wire> Link for LossyLink<W> {
     fn hand_over(&mut self, alloc: Global) -> Result<Vec<Entry>, LinkFault>
         requires { IsSome (next_op self.old) }
         ensures list { IfOk result (λ list. list.items ≡ (W.place self.old.wire).list) }
-        ensures at { OnOk result (ack_of (W.place self.old.wire) ≡ record { epoch = self.old.epoch; seq = self.old.seq }) }
+        ensures at { OnOk result
+            (ack_of (W.place self.old.wire) ≡ record { epoch = self.old.epoch; seq = self.old.seq }) }
         ensures stays { W.place self.new.wire ≡ W.place self.old.wire }
         ensures next { UnlessFailed result (next_op self.new ≡ next_op self.old) }
         ensures detached { OnFailed result (self.new.attached ≡ false) }

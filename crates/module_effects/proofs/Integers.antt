@@ -25,7 +25,8 @@ text_digit : (n : ℕ) → n < 10 → is_text_byte (48 + n) ≡ true
 text_digit n h = grind (arith, nat_tests)
 
 decimal_text : (n : ℕ) → n < 2 ^ 64 → list_all is_text_byte (decimal n) ≡ true
-decimal_text = decimal_by_steps (λ n ds. list_all is_text_byte ds ≡ true) (λ n h. list_all-push [] (48 + n) refl (text_digit n h)) (λ n ds h so. list_all-push ds (48 + n % 10) so (text_digit (n % 10) (omega arith)))
+decimal_text = decimal_by_steps (λ n ds. list_all is_text_byte ds ≡ true) (λ n h. list_all-push [] (48 + n) refl (text_digit n h))
+    (λ n ds h so. list_all-push ds (48 + n % 10) so (text_digit (n % 10) (omega arith)))
 
 pub integer_bytes : (z : ℤ) → mag z < 2 ^ 63 → list_all is_text_byte (signed_decimal z) ≡ true
 integer_bytes (pos n) h = decimal_text n (omega arith)
@@ -58,7 +59,8 @@ pub not_empty : (text : List ℕ) (z : ℤ) → length text < 1 → IsTrue (is_i
 not_empty text z short fits is = absurd (omega (arith, some_byte z (mag_below z fits), ap length is))
 
 -- behind a sign stands a number from 1 to 2^63
-not_negative : (text digits : List ℕ) (z : ℤ) → text ≡ 45 ∷ digits → ((n : ℕ) → 1 ≤ n → n ≤ 2 ^ 63 → digits ≡ decimal n → ⊥) → IsTrue (is_i64 z) → text ≡ signed_decimal z → ⊥
+not_negative : (text digits : List ℕ) (z : ℤ) → text ≡ 45 ∷ digits → ((n : ℕ) → 1 ≤ n → n ≤ 2 ^ 63 → digits ≡ decimal n → ⊥) → IsTrue (is_i64 z)
+    → text ≡ signed_decimal z → ⊥
 not_negative text digits (pos zero) signed none fits is = absurd (minus_zero digits (sym signed ∙ is))
 not_negative text digits (pos (suc n)) signed none fits is =
     let below : suc n < 2 ^ 63 = mag_below (pos (suc n)) fits in
@@ -75,5 +77,6 @@ first_and_rest (b ∷ bs) digits some rest = ap (λ (t : List ℕ). b ∷ t) (sy
 pub none_negative : (r : Option ℤ) (text digits : List ℕ) → 1 ≤ length text → get_or text 0 0 ≡ 45 → digits ≡ drop 1 text
     → IfNone r ((n : ℕ) → 1 ≤ n → n ≤ 2 ^ 63 → digits ≡ decimal n → ⊥)
     → IfNone r ((z : ℤ) → IsTrue (is_i64 z) → text ≡ signed_decimal z → ⊥)
-none_negative None text digits some first rest none = λ z fits is. not_negative text digits z (first_and_rest text digits some rest ∙ ap (λ b. b ∷ digits) first) none fits is
+none_negative None text digits some first rest none = λ z fits is. not_negative text digits z
+    (first_and_rest text digits some rest ∙ ap (λ b. b ∷ digits) first) none fits is
 none_negative (Some z) text digits some first rest none = tt

@@ -33,14 +33,16 @@ pub record IsFirstAt (row : RowName) (spots : List Spot) (i : ℕ) (spot : Spot)
   pub before : (k : ℕ) → k < i → is_at row (get_or spots k spot) ≡ false
 
 -- what the row has is what its first spot has
-pub get-with_spots : (row : RowName) (spots : List Spot) (i : ℕ) (d : Spot) (tables : Tables) → IsFirstAt row spots i d → get (with_spots spots tables) row ≡ (get_or spots i d).text
+pub get-with_spots : (row : RowName) (spots : List Spot) (i : ℕ) (d : Spot) (tables : Tables) → IsFirstAt row spots i d
+    → get (with_spots spots tables) row ≡ (get_or spots i d).text
 get-with_spots row [] i d tables first = absurd (omega (arith, first.within))
 get-with_spots row (spot ∷ spots) zero d tables first =
     get-with_spot (with_spots spots tables) spot row ∙ ap (λ b. cond b spot.text (get (with_spots spots tables) row)) first.here
 get-with_spots row (spot ∷ spots) (suc i) d tables first =
     get-with_spot (with_spots spots tables) spot row
     ∙ ap (λ b. cond b spot.text (get (with_spots spots tables) row)) (first.before 0 (omega arith))
-    ∙ get-with_spots row spots i d tables (record { within = omega (arith, first.within); here = first.here; before = λ k h. first.before (suc k) (omega arith) })
+    ∙ get-with_spots row spots i d tables
+    (record { within = omega (arith, first.within); here = first.here; before = λ k h. first.before (suc k) (omega arith) })
 
 -- a new text of the row is one in its first spot
 pub with_spots-set : (row : RowName) (spots : List Spot) (i : ℕ) (d : Spot) (text : Text) (tables : Tables) → IsFirstAt row spots i d
@@ -51,9 +53,11 @@ with_spots-set row (spot ∷ spots) zero d text tables first =
     ap (λ r. with_row (with_row (with_spots spots tables) (row_at spot) spot.text) r text) same
     ∙ with_row-with_row (with_spots spots tables) (row_at spot) spot.text text
 with_spots-set row (spot ∷ spots) (suc i) d text tables first =
-    with_row_swap (with_spots spots tables) (row_at spot) row spot.text text (λ e. false≢true (sym (first.before 0 (omega arith)) ∙ (is_at-Decides row spot).1 (sym e)))
+    with_row_swap (with_spots spots tables) (row_at spot) row spot.text text
+    (λ e. false≢true (sym (first.before 0 (omega arith)) ∙ (is_at-Decides row spot).1 (sym e)))
     ∙ ap (λ (t : Tables). with_row t (row_at spot) spot.text)
-    (with_spots-set row spots i d text tables (record { within = omega (arith, first.within); here = first.here; before = λ k h. first.before (suc k) (omega arith) }))
+    (with_spots-set row spots i d text tables
+    (record { within = omega (arith, first.within); here = first.here; before = λ k h. first.before (suc k) (omega arith) }))
 
 pub with_spots_same : (spots : List Spot) (tables : Tables) → Agree spots tables → with_spots spots tables ≡ tables
 with_spots_same [] tables agree = refl
@@ -92,7 +96,8 @@ apply_next effects i n effect tables h is =
     at_drop_more (λ es. applied_from n es tables) effects i effect h
     ∙ ap (λ (e : Effect). after_one n (drop (i + 1) effects) tables (row_of e) (row_after (get tables (row_of e)) e.deed)) (sym is)
 
-same_rows : (now : List Spot) (place : ℕ) (spot : Spot) (text : Text) → spot ≡ get_or now place spot → map row_at (set now place (with_text spot text)) ≡ map row_at now
+same_rows : (now : List Spot) (place : ℕ) (spot : Spot) (text : Text) → spot ≡ get_or now place spot
+    → map row_at (set now place (with_text spot text)) ≡ map row_at now
 same_rows now place spot text here =
     map-set row_at now place (with_text spot text)
     ∙ sym (map-set row_at now place spot)
@@ -108,21 +113,27 @@ progress_more spots effects now i effect place spot text h is first here done so
       rest = λ tables.
           ap (λ (s : Spot). applied_from (i + 1 + 1) (drop (i + 1) effects) (with_spots (set now place (with_text s text)) tables)) here
           ∙ ap (applied_from (i + 1 + 1) (drop (i + 1) effects)) (sym (with_spots-set (row_of effect) now place spot text tables first))
-          ∙ ap (after_one (i + 1) (drop (i + 1) effects) (with_spots now tables) (row_of effect)) (sym (ap (λ (t : Text). row_after t effect.deed) (get-with_spots (row_of effect) now place spot tables first ∙ ap (λ (s : Spot). s.text) (sym here)) ∙ done))
+          ∙ ap (after_one (i + 1) (drop (i + 1) effects) (with_spots now tables) (row_of effect))
+          (sym (ap (λ (t : Text). row_after t effect.deed)
+          (get-with_spots (row_of effect) now place spot tables first ∙ ap (λ (s : Spot). s.text) (sym here)) ∙ done))
           ∙ sym (apply_next effects i (i + 1) effect (with_spots now tables) h is)
           ∙ so.rest tables;
     }
 
 refused_there : (spots : List Spot) (effects : List Effect) (now : List Spot) (i : ℕ) (effect : Effect) (place : ℕ) (spot : Spot) (reason : Reason)
     → i < length effects → effect ≡ get_or effects i effect → IsFirstAt (row_of effect) now place spot → spot ≡ get_or now place spot
-    → row_after spot.text effect.deed ≡ Err reason → Progress spots effects now i → (tables : Tables) → applied effects (with_spots spots tables) ≡ Err (Refused (i + 1) reason)
+    → row_after spot.text effect.deed ≡ Err reason → Progress spots effects now i → (tables : Tables)
+    → applied effects (with_spots spots tables) ≡ Err (Refused (i + 1) reason)
 refused_there spots effects now i effect place spot reason h is first here refused so tables =
     sym (so.rest tables)
     ∙ apply_next effects i (i + 1) effect (with_spots now tables) h is
-    ∙ ap (after_one (i + 1) (drop (i + 1) effects) (with_spots now tables) (row_of effect)) (ap (λ (t : Text). row_after t effect.deed) (get-with_spots (row_of effect) now place spot tables first ∙ ap (λ (s : Spot). s.text) (sym here)) ∙ refused)
+    ∙ ap (after_one (i + 1) (drop (i + 1) effects) (with_spots now tables) (row_of effect))
+    (ap (λ (t : Text). row_after t effect.deed) (get-with_spots (row_of effect) now place spot tables first ∙ ap (λ (s : Spot). s.text) (sym here))
+    ∙ refused)
 
 -- a number past 2^32 - 1 is told as want of memory
-fault_told : (b : Bool) (answer : Result Tables EffectFault) (index : ℕ) (reason : Reason) → answer ≡ Err (Refused index reason) → IsFaultOf answer (cond b (Refused index reason) fault.NoMemory)
+fault_told : (b : Bool) (answer : Result Tables EffectFault) (index : ℕ) (reason : Reason) → answer ≡ Err (Refused index reason)
+    → IsFaultOf answer (cond b (Refused index reason) fault.NoMemory)
 fault_told true answer index reason e = e
 fault_told false answer index reason e = tt
 
@@ -130,10 +141,12 @@ pub progress_refused : (spots : List Spot) (effects : List Effect) (now : List S
     → i < length effects → effect ≡ get_or effects i effect → IsFirstAt (row_of effect) now place spot → spot ≡ get_or now place spot
     → IsRowAfter (row_after spot.text effect.deed) (Err fault) → Progress spots effects now i → IsRefusedOver spots effects (fault_at (i + 1) fault)
 progress_refused spots effects now i effect place spot (deed.Refused reason) h is first here refused so tables =
-    fault_told (nat_lt (i + 1) (2 ^ 32)) (applied effects (with_spots spots tables)) (i + 1) reason (refused_there spots effects now i effect place spot reason h is first here refused so tables)
+    fault_told (nat_lt (i + 1) (2 ^ 32)) (applied effects (with_spots spots tables)) (i + 1) reason
+    (refused_there spots effects now i effect place spot reason h is first here refused so tables)
 progress_refused spots effects now i effect place spot deed.NoMemory h is first here refused so tables = tt
 
-pub progress_all : (spots : List Spot) (effects : List Effect) (now : List Spot) (i : ℕ) → length effects ≤ i → Progress spots effects now i → IsDoneOver spots effects now
+pub progress_all : (spots : List Spot) (effects : List Effect) (now : List Spot) (i : ℕ) → length effects ≤ i → Progress spots effects now i
+    → IsDoneOver spots effects now
 progress_all spots effects now i h so tables =
     sym (so.rest tables) ∙ at_drop_all (λ es. applied_from (i + 1) es (with_spots now tables)) effects i h
 

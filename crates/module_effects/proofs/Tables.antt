@@ -15,7 +15,8 @@ pub rows_total : IsTotalOrder row_cmp
 rows_total = then_total (on_total (λ s. s.0) nat_list_cmp_total) (on_total (λ s. s.1) nat_list_cmp_total)
 
 pub exact_rows : IsAntisymmetric row_cmp
-exact_rows = exact_pairs (slice_cmp nat_cmp) (slice_cmp nat_cmp) (slice_cmp-IsAntisymmetric nat_cmp-IsAntisymmetric) (slice_cmp-IsAntisymmetric nat_cmp-IsAntisymmetric)
+exact_rows = exact_pairs (slice_cmp nat_cmp) (slice_cmp nat_cmp) (slice_cmp-IsAntisymmetric nat_cmp-IsAntisymmetric)
+    (slice_cmp-IsAntisymmetric nat_cmp-IsAntisymmetric)
 
 abbrev pub same_row : RowName → RowName → Bool
 same_row a b = eq_by_cmp row_cmp a b
@@ -26,14 +27,17 @@ same_row-Decides a b =
 
 pub is_at-Decides : (row : RowName) (spot : Spot) → Decides (is_at row spot) (row ≡ row_at spot)
 is_at-Decides row spot =
-    Decides-like (is_at row spot) (λ p. ap (λ (b : List ℕ). (row.0, b)) (sym p.1) ∙ ap (λ (a : List ℕ). (a, spot.key)) (sym p.0)) (λ e. (sym (ap (λ (r : RowName). r.0) e), sym (ap (λ (r : RowName). r.1) e)))
+    Decides-like (is_at row spot) (λ p. ap (λ (b : List ℕ). (row.0, b)) (sym p.1) ∙ ap (λ (a : List ℕ). (a, spot.key)) (sym p.0))
+    (λ e. (sym (ap (λ (r : RowName). r.0) e), sym (ap (λ (r : RowName). r.1) e)))
     (Decides-and _ _ (bytes_eq-Decides spot.table row.0) (bytes_eq-Decides spot.key row.1))
 
-pub get-with_row : (tables : Tables) (row : RowName) (text : Option (List ℕ)) (q : RowName) → get (with_row tables row text) q ≡ cond (same_row q row) text (get tables q)
+pub get-with_row : (tables : Tables) (row : RowName) (text : Option (List ℕ)) (q : RowName)
+    → get (with_row tables row text) q ≡ cond (same_row q row) text (get tables q)
 get-with_row tables row None q = get-remove rows_total tables row q
 get-with_row tables row (Some text) q = get-insert rows_total tables row text q
 
-pub get-with_spot : (tables : Tables) (spot : Spot) (q : RowName) → get (with_row tables (row_at spot) spot.text) q ≡ cond (is_at q spot) spot.text (get tables q)
+pub get-with_spot : (tables : Tables) (spot : Spot) (q : RowName) → get (with_row tables (row_at spot) spot.text) q ≡ cond (is_at q spot) spot.text
+    (get tables q)
 get-with_spot tables spot q =
     get-with_row tables (row_at spot) spot.text q
     ∙ ap (λ b. cond b spot.text (get tables q)) (same_from_decides _ _ (same_row-Decides q (row_at spot)) (is_at-Decides q spot))
@@ -57,7 +61,8 @@ cond_swap true false x y z h = refl
 cond_swap false q x y z h = refl
 
 -- texts of two rows are set in either order
-pub with_row_swap : (tables : Tables) (r s : RowName) (a b : Option (List ℕ)) → (r ≡ s → ⊥) → with_row (with_row tables r a) s b ≡ with_row (with_row tables s b) r a
+pub with_row_swap : (tables : Tables) (r s : RowName) (a b : Option (List ℕ)) → (r ≡ s → ⊥)
+    → with_row (with_row tables r a) s b ≡ with_row (with_row tables s b) r a
 with_row_swap tables r s a b apart =
     same_map rows_total exact_rows _ _ (λ q.
     get-with_row (with_row tables r a) s b q

@@ -31,7 +31,8 @@ with_spots (spot ∷ spots) tables = with_row (with_spots spots tables) (row_at 
 
 -- on all tables that agree with the spots, the effects leave the spots afterwards and all other rows as they were
 abbrev pub IsDone : List Spot → List Effect → List Spot → Type 0
-IsDone spots effects after = (tables : Tables) → Agree spots tables → applied effects tables ≡ Ok (with_spots after tables)
+IsDone spots effects after = (tables : Tables) → Agree spots tables
+    → applied effects tables ≡ Ok (with_spots after tables)
 
 -- on all tables that agree with the spots, the effects are refused there
 abbrev pub IsRefused : List Spot → List Effect → EffectFault → Type 0
@@ -39,7 +40,8 @@ IsRefused spots effects fault = (tables : Tables) → Agree spots tables → IsF
 
 -- the spots laid over any tables become the spots afterwards, laid over the same tables
 abbrev pub IsDoneOver : List Spot → List Effect → List Spot → Type 0
-IsDoneOver spots effects after = (tables : Tables) → applied effects (with_spots spots tables) ≡ Ok (with_spots after tables)
+IsDoneOver spots effects after = (tables : Tables) → applied effects (with_spots spots tables) ≡ Ok
+    (with_spots after tables)
 
 -- the effects are refused there on the spots, laid over any tables
 abbrev pub IsRefusedOver : List Spot → List Effect → EffectFault → Type 0

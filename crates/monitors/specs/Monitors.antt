@@ -6,7 +6,8 @@ use Rattle.enq_base.specs.declared.condition.Condition.TheVariants as condition
 use Rattle.enq_base.specs.declared.unit.Status.{Status}
 use Rattle.enq_base.specs.declared.unit.Status.TheVariants as status
 use Rattle.lock_entry.specs.declared.entry.Entry.{Entry}
-use Rattle.monitors.specs.Shown.{counts_text, doubt_line, end_line, entry_text, range_text, replica_text, shown_line, unit_line_text}
+use Rattle.monitors.specs.Shown.{counts_text, doubt_line, end_line, entry_text, range_text, replica_text, shown_line}
+use Rattle.monitors.specs.Shown.{unit_line_text}
 use Rattle.monitors.specs.declared.views.Counts.{Counts}
 use Rattle.monitors.specs.declared.views.ServerView.{ServerView}
 use Rattle.number_ranges.specs.Draws.{RangeState}

@@ -1,5 +1,6 @@
 -- The numbers that are drawn from one interval.
-use Rattle.std.specs.Prelude.{◌≡◌, ◌≢◌, ℕ, ◌+◌, ◌≤◌, ◌<◌, Bool, false, List, if◌then◌else◌, Option, Some, None, IfSome, IfNone}
+use Rattle.std.specs.Prelude.{◌≡◌, ◌≢◌, ℕ, ◌+◌, ◌≤◌, ◌<◌, Bool, false, List, if◌then◌else◌, Option, Some, None, IfSome}
+use Rattle.std.specs.Prelude.{IfNone}
 use Rattle.std.specs.Str.{bytes_eq}
 use Rattle.number_ranges.specs.declared.interval.Interval.{Interval}
 use Rattle.number_ranges.specs.declared.interval.DrawFault.{DrawFault}

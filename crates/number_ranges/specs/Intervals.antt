@@ -1,12 +1,14 @@
 -- Intervals, their blocks and the codes of their numbers.
-use Rattle.std.specs.Prelude.{◌≡◌, ℕ, ◌+◌, ◌-◌, ◌*◌, ◌≤◌, ◌<◌, Bool, ◌&&◌, List, min, nat_eq, nat_le, nat_lt, if◌then◌else◌}
+use Rattle.std.specs.Prelude.{◌≡◌, ℕ, ◌+◌, ◌-◌, ◌*◌, ◌≤◌, ◌<◌, Bool, ◌&&◌, List, min, nat_eq, nat_le, nat_lt}
+use Rattle.std.specs.Prelude.{if◌then◌else◌}
 use Rattle.std.specs.Int.{div_ceil}
 use Rattle.std.specs.Str.{bytes_eq}
 use Rattle.number_ranges.specs.declared.interval.Interval.{Interval}
 use Rattle.number_ranges.specs.declared.interval.Code.{Code}
 use Rattle.number_ranges.specs.declared.interval.Code.TheVariants.{Blank, Critical, Last}
 
--- what is true of every interval: its numbers have at most 18 digits, and its level is one below the first or among them
+-- what is true of every interval: its numbers have at most 18 digits, and its level is one below the first or among
+-- them
 pub record IsInterval (i : Interval) : Type 0 where
   pub low : 1 ≤ i.from
   pub order : i.from ≤ i.to
@@ -32,7 +34,8 @@ pub record IsBlockLevel (i : Interval) (upto level : ℕ) : Type 0 where
 
 -- the last number, one of which at most the percentage of the interval is left, or neither
 abbrev pub code_of : Interval → ℕ → Code
-code_of i n = if nat_eq n i.to then Last else if nat_le ((i.to - n) * 100) (i.percent * (i.to - i.from + 1)) then Critical else Blank
+code_of i n = if nat_eq n i.to then Last else if nat_le ((i.to - n) * 100)
+    (i.percent * (i.to - i.from + 1)) then Critical else Blank
 
 abbrev pub with_level : ℕ → Interval → Interval
 with_level level i = record i { level = level }

@@ -23,7 +23,8 @@ impl Model for Range {
 
     ghost view = { λ r. record { interval = r.interval; holder = r.holder; drawn = r.drawn; next = r.next } };
 
-    ghost invariant = { λ r. IsRange (record { interval = r.interval; holder = r.holder; drawn = r.drawn; next = r.next }) };
+    ghost invariant = { λ r. IsRange
+        (record { interval = r.interval; holder = r.holder; drawn = r.drawn; next = r.next }) };
 }
 
 impl Range {

@@ -43,7 +43,16 @@ one_if_lt2 : (t n : ℕ) → one_if (ltb t n) < 2
 one_if_lt2 t n = let h = one_if_le (ltb t n) in omega arith
 
 saw_fits_if : (limit ticket : ℕ) (v : Hand) (b : Bool) → ltb ticket limit ≡ b → Fits limit v → times ticket v.answered < times ticket v.tickets
-    → Fits limit record { draws = v.draws; tickets = v.tickets; answered = if b then v.answered ++ ticket ∷ [] else v.answered; limit = limit; looks = v.looks + 1; raises = v.raises; right_leads = v.right_leads }
+    → Fits limit record {
+      draws = v.draws;
+      tickets = v.tickets;
+      answered = if b then v.answered ++ ticket ∷ [] else v.answered;
+      limit = limit;
+      looks =
+          v.looks + 1;
+      raises = v.raises;
+      right_leads = v.right_leads;
+    }
 saw_fits_if limit ticket v true is f open_yet = record {
   seen = le_refl limit;
   set = λ _. refl;
@@ -54,7 +63,8 @@ saw_fits_if limit ticket v true is f open_yet = record {
   where
     own_more : (t : ℕ) → times t (v.answered ++ ticket ∷ []) ≤ times t v.tickets
     own_more t = dite (ℕ_discrete t ticket)
-        (λ e. subst (λ n. times n (v.answered ++ ticket ∷ []) ≤ times n v.tickets) (sym e) (let p = times_push ticket v.answered ticket in let one = one_if_le (ticket == ticket) in omega arith))
+        (λ e. subst (λ n. times n (v.answered ++ ticket ∷ []) ≤ times n v.tickets) (sym e)
+        (let p = times_push ticket v.answered ticket in let one = one_if_le (ticket == ticket) in omega arith))
         (λ ne. let p = times_push t v.answered ticket in let zero : one_if (t == ticket) ≡ 0 = grind (arith, nat_tests) in let was = f.own t in omega arith)
 saw_fits_if limit ticket v false is f open_yet = record {
   seen = le_refl limit;
@@ -64,8 +74,10 @@ saw_fits_if limit ticket v false is f open_yet = record {
   own = f.own;
 }
 
-saw_fits : (limit found ticket : ℕ) (v : Hand) → found ≡ limit → Fits limit v → times ticket v.answered < times ticket v.tickets → Fits limit (saw ticket found v)
-saw_fits limit found ticket v here f open_yet = subst (λ n. Fits limit (saw ticket n v)) (sym here) (saw_fits_if limit ticket v (ltb ticket limit) refl f open_yet)
+saw_fits : (limit found ticket : ℕ) (v : Hand) → found ≡ limit → Fits limit v → times ticket v.answered < times ticket v.tickets
+    → Fits limit (saw ticket found v)
+saw_fits limit found ticket v here f open_yet = subst (λ n. Fits limit (saw ticket n v)) (sym here)
+    (saw_fits_if limit ticket v (ltb ticket limit) refl f open_yet)
 
 one_if_or : (a b : Bool) → one_if a + one_if b ≤ 1 → one_if (a || b) ≡ one_if a + one_if b
 one_if_or true true h = absurd (omega arith)
@@ -138,10 +150,14 @@ module _ {S : Type 0} where
         (
           refl,
           (
-            (let low = total_at (λ (u : Hand). times found u.tickets) s.views id v at in let were = k.tickets found in let past : one_if (ltb found k.next) ≡ 0 = grind (arith, nat_tests) in omega arith),
-            below_all found v.tickets (λ t some. let low = total_at (λ (u : Hand). times t u.tickets) s.views id v at in let were = k.tickets t in let lt = one_if_below t k.next (omega arith) in omega arith),
+            (let low = total_at (λ (u : Hand). times found u.tickets) s.views id v at in let were = k.tickets found in
+                let past : one_if (ltb found k.next) ≡ 0 = grind (arith, nat_tests) in omega arith),
+            below_all found v.tickets
+                (λ t some. let low = total_at (λ (u : Hand). times t u.tickets) s.views id v at in let were = k.tickets t in let lt =
+                one_if_below t k.next (omega arith) in omega arith),
           ),
-          (let own = (k.each id v at).own found in let one : one_if (found == found) ≡ 1 = grind (arith, nat_tests) in omega (arith, times_push found v.tickets found)),
+          (let own = (k.each id v at).own found in let one : one_if (found == found) ≡ 1 = grind (arith, nat_tests) in
+              omega (arith, times_push found v.tickets found)),
         ),
       )
 
@@ -153,7 +169,8 @@ module _ {S : Type 0} where
       let here : found ≡ k.limit = word_1 s k.next k.limit k.words in
       let w = saw ticket found v in
       let fits = k.each id v at in
-      let one : times ticket v.tickets ≤ sum_by (λ (u : Hand). times ticket u.tickets) s.views = total_at (λ (u : Hand). times ticket u.tickets) s.views id v at in
+      let one : times ticket v.tickets ≤ sum_by (λ (u : Hand). times ticket u.tickets) s.views =
+      total_at (λ (u : Hand). times ticket u.tickets) s.views id v at in
       let low : ticket < k.next = one_if_below ticket k.next (let all = k.tickets ticket in omega arith) in
       let all = k.draws_left in (
         w,
@@ -203,7 +220,14 @@ module _ {S : Type 0} where
               (λ j u ne there.
               let f = k.each j u there in
               let none_there : one_if u.raises ≡ 0 = total_whole (λ (x : Hand). one_if x.raises) s.views id v at only j u ne there in
-              record { seen = (let low = f.seen in omega arith); set = λ yes. absurd (let one = one_if_true u.raises yes in omega arith); led = f.led; below = f.below; own = f.own });
+              record {
+                seen = (let low = f.seen in omega arith);
+                set = λ yes. absurd (let one = one_if_true u.raises yes in omega arith);
+                led = f.led;
+                below =
+                    f.below;
+                own = f.own;
+              });
         },
         refl,
       )
@@ -226,9 +250,11 @@ module _ {S : Type 0} where
         },
         (
           refl,
-          (let low : v.draws ≤ sum_by (λ (u : Hand). u.draws) s.views = total_at (λ (u : Hand). u.draws) s.views id v at in let all = k.draws_left in omega arith),
+          (let low : v.draws ≤ sum_by (λ (u : Hand). u.draws) s.views = total_at (λ (u : Hand). u.draws) s.views id v at in let all = k.draws_left in
+              omega arith),
           (λ t. let low = total_at (λ (u : Hand). times t u.tickets) s.views id v at in let all = k.tickets t in let few = one_if_lt2 t k.next in omega arith),
-          (λ t. let own = mine.own t in let low = total_at (λ (u : Hand). times t u.tickets) s.views id v at in let all = k.tickets t in let few = one_if_lt2 t k.next in omega arith),
+          (λ t. let own = mine.own t in let low = total_at (λ (u : Hand). times t u.tickets) s.views id v at in let all = k.tickets t in let few =
+              one_if_lt2 t k.next in omega arith),
           mine.below,
           mine.led,
         ),
@@ -255,8 +281,10 @@ module _ {S : Type 0} where
             let was = k.one_raises in
             let change = total_set (λ (u : Hand). one_if u.raises) s.views id v l at in
             let more = sum_by_push (λ (u : Hand). one_if u.raises) views r in omega arith;
-        each = each_snoc (Fits k.limit) views r record { seen = mine.seen; set = λ yes. absurd (true≢false (sym yes)); led = refl; below = below_none v.limit; own = λ t. omega arith }
-            (each_set (λ _. Fits k.limit) s.views id l record { seen = mine.seen; set = mine.set; led = mine.led; below = mine.below; own = mine.own } (λ j u _ there. k.each j u there));
+        each = each_snoc (Fits k.limit) views r
+            record { seen = mine.seen; set = λ yes. absurd (true≢false (sym yes)); led = refl; below = below_none v.limit; own = λ t. omega arith }
+            (each_set (λ _. Fits k.limit) s.views id l record { seen = mine.seen; set = mine.set; led = mine.led; below = mine.below; own = mine.own }
+            (λ j u _ there. k.each j u there));
       }
 
   pub glues_allowed : (draws id : ℕ) (v : Hand) (other : ℕ) (w : Hand) → Joins {S = S} (Kept draws) id v other w (both_of v w) spent
@@ -283,20 +311,26 @@ module _ {S : Type 0} where
             let two = total_set (λ (u : Hand). one_if u.raises) views other w spent there in
             omega (arith, one_if_or v.raises w.raises (omega arith));
         each = each_set (λ _. Fits k.limit) views other spent (spent_fits k.limit)
-            (λ j u _ e. each_set (λ _. Fits k.limit) s.views id b (both_fits k.limit v w (k.each id v at) (k.each other w was_at)) (λ i y _ e'. k.each i y e') j u e);
+            (λ j u _ e. each_set (λ _. Fits k.limit) s.views id b (both_fits k.limit v w (k.each id v at) (k.each other w was_at))
+            (λ i y _ e'. k.each i y e') j u e);
       }
 
   -- the same, where the numbers were told
-  pub looks_told : (draws said ticket told slots id : ℕ) (me : Me S Hand) → told ≡ ticket → said ≡ draws → times ticket me.0.answered < times ticket me.0.tickets
+  pub looks_told : (draws said ticket told slots id : ℕ) (me : Me S Hand) → told ≡ ticket → said ≡ draws
+      → times ticket me.0.answered < times ticket me.0.tickets
       → Allows (Kept draws) slots id me 1 (λ n. n) (Looks said told (step slots 1 0 0 none) me)
   looks_told draws said ticket told slots id me t d open_yet =
-      subst (λ (x : ℕ × ℕ). Allows (Kept draws) slots id me 1 (λ n. n) (Looks x.0 x.1 (step slots 1 0 0 none) me)) (λ i. (sym d i, sym t i)) (looks_allowed draws ticket slots id me open_yet)
+      subst (λ (x : ℕ × ℕ). Allows (Kept draws) slots id me 1 (λ n. n) (Looks x.0 x.1 (step slots 1 0 0 none) me)) (λ i. (sym d i, sym t i))
+      (looks_allowed draws ticket slots id me open_yet)
 
-  pub learns_told : (draws said slots id : ℕ) (me : Me S Hand) → said ≡ draws → Allows (Kept draws) slots id me 0 (λ n. n) (Learns said (step slots 0 0 0 none) me)
-  learns_told draws said slots id me d = subst (λ (n : ℕ). Allows (Kept draws) slots id me 0 (λ n. n) (Learns n (step slots 0 0 0 none) me)) (sym d) (learns_allowed draws slots id me)
+  pub learns_told : (draws said slots id : ℕ) (me : Me S Hand) → said ≡ draws
+      → Allows (Kept draws) slots id me 0 (λ n. n) (Learns said (step slots 0 0 0 none) me)
+  learns_told draws said slots id me d = subst (λ (n : ℕ). Allows (Kept draws) slots id me 0 (λ n. n) (Learns n (step slots 0 0 0 none) me)) (sym d)
+      (learns_allowed draws slots id me)
 
 leads_limit : (v w : Hand) → leads v w ≡ true → v.raises ≡ true → max v.limit w.limit ≡ v.limit
-leads_limit v w h may = let le : leb w.limit v.limit ≡ true = sym (ap (λ (b : Bool). if b then leb w.limit v.limit else true) may) ∙ h in grind (arith, nat_tests)
+leads_limit v w h may = let le : leb w.limit v.limit ≡ true = sym (ap (λ (b : Bool). if b then leb w.limit v.limit else true) may) ∙ h in
+    grind (arith, nat_tests)
 
 both_left : (a b : Bool) → (a && b) ≡ true → a ≡ true
 both_left true b e = refl
@@ -310,5 +344,7 @@ both_right false b e = absurd (true≢false (sym e))
 pub joined_limit : (v w u : Hand) → u ≡ both_of v w → u.right_leads ≡ true → IsKnown u.limit v × IsKnown u.limit w
 joined_limit v w u is led =
     let both : (leads v w && leads w v) ≡ true = sym (ap (λ (x : Hand). x.right_leads) is) ∙ led in
-    let limit : u.limit ≡ max v.limit w.limit = ap (λ (x : Hand). x.limit) is in
-    ((λ yes. limit ∙ leads_limit v w (both_left (leads v w) (leads w v) both) yes), (λ yes. let h = leads_limit w v (both_right (leads v w) (leads w v) both) yes in omega arith))
+    let limit : u.limit ≡ max v.limit w.limit = ap (λ (x : Hand). x.limit) is in (
+      (λ yes. limit ∙ leads_limit v w (both_left (leads v w) (leads w v) both) yes),
+      (λ yes. let h = leads_limit w v (both_right (leads v w) (leads w v) both) yes in omega arith),
+    )

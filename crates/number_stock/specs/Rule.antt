@@ -1,5 +1,6 @@
 -- The rule of a stock, and what each step tells.
-use Rattle.std.specs.Prelude.{◌≡◌, ℕ, ◌+◌, ◌-◌, ◌<◌, ◌≤◌, max, Bool, true, false, ◌&&◌, ◌||◌, leb, ltb, [], ◌∷◌, ◌++◌, if◌then◌else◌, All}
+use Rattle.std.specs.Prelude.{◌≡◌, ℕ, ◌+◌, ◌-◌, ◌<◌, ◌≤◌, max, Bool, true, false, ◌&&◌, ◌||◌, leb, ltb, [], ◌∷◌, ◌++◌}
+use Rattle.std.specs.Prelude.{if◌then◌else◌, All}
 use Rattle.std.specs.List.{sum_by}
 use mathlib.Core.Option.{some}
 use lib.ListN.{get_elem?}
@@ -7,7 +8,9 @@ use Rattle.atomic_table.specs.Table.{State, Me, Step}
 use Rattle.seat_sums.specs.Sums.{times, one_if, IsDistinct}
 use Rattle.number_stock.specs.declared.hand.Hand.{Hand}
 
--- What a seat knows of the limit: it is no less than the one that this seat saw last, and the seat with the right to raise set the present one, so it led where it was joined. Each answered ticket lies below it, and is one of the seat's own, answered once
+-- What a seat knows of the limit: it is no less than the one that this seat saw last, and the seat with the right to
+-- raise set the present one, so it led where it was joined. Each answered ticket lies below it, and is one of the
+-- seat's own, answered once
 pub record Fits (limit : ℕ) (v : Hand) : Type 0 where
   pub seen : v.limit ≤ limit
   pub set : v.raises ≡ true → v.limit ≡ limit
@@ -15,7 +18,8 @@ pub record Fits (limit : ℕ) (v : Hand) : Type 0 where
   pub below : All (λ t. t < v.limit) v.answered
   pub own : (t : ℕ) → times t v.answered ≤ times t v.tickets
 
--- The tickets that the seats have drawn are those below the next one, each once. With the draws that are left they are all draws. One seat may raise the limit
+-- The tickets that the seats have drawn are those below the next one, each once. With the draws that are left they are
+-- all draws. One seat may raise the limit
 pub record Kept {S : Type 0} (draws : ℕ) (s : State S Hand) : Type 0 where
   pub next : ℕ
   pub limit : ℕ
@@ -26,35 +30,95 @@ pub record Kept {S : Type 0} (draws : ℕ) (s : State S Hand) : Type 0 where
   pub each : (seat : ℕ) (v : Hand) → get_elem? s.views seat ≡ some v → Fits limit v
 
 abbrev pub opener : ℕ → ℕ → Hand
-opener draws limit = record { draws = draws; tickets = []; answered = []; limit = limit; looks = 0; raises = true; right_leads = true }
+opener draws limit =
+    record { draws = draws; tickets = []; answered = []; limit = limit; looks = 0; raises = true; right_leads = true }
 
 abbrev pub spent : Hand
 spent = record { draws = 0; tickets = []; answered = []; limit = 0; looks = 0; raises = false; right_leads = true }
 
 -- one draw is used for the ticket
 abbrev pub drew : ℕ → Hand → Hand
-drew ticket v = record { draws = v.draws - 1; tickets = v.tickets ++ ticket ∷ []; answered = v.answered; limit = v.limit; looks = v.looks; raises = v.raises; right_leads = v.right_leads }
+drew ticket v = record {
+  draws = v.draws - 1;
+  tickets = v.tickets ++ ticket ∷ [];
+  answered = v.answered;
+  limit =
+      v.limit;
+  looks = v.looks;
+  raises = v.raises;
+  right_leads = v.right_leads;
+}
 
 -- the limit was loaded once more, and the ticket is answered if it lies below
 abbrev pub saw : ℕ → ℕ → Hand → Hand
-saw ticket limit v = record { draws = v.draws; tickets = v.tickets; answered = if ltb ticket limit then v.answered ++ ticket ∷ [] else v.answered; limit = limit; looks = v.looks + 1; raises = v.raises; right_leads = v.right_leads }
+saw ticket limit v =
+    record {
+      draws = v.draws;
+      tickets = v.tickets;
+      answered =
+          if ltb ticket limit then v.answered ++ ticket ∷ [] else v.answered;
+      limit = limit;
+      looks = v.looks + 1;
+      raises =
+          v.raises;
+      right_leads = v.right_leads;
+    }
 
 abbrev pub raised : ℕ → Hand → Hand
-raised limit v = record { draws = v.draws; tickets = v.tickets; answered = v.answered; limit = max v.limit limit; looks = v.looks; raises = v.raises; right_leads = v.right_leads }
+raised limit v = record {
+  draws = v.draws;
+  tickets = v.tickets;
+  answered = v.answered;
+  limit =
+      max v.limit limit;
+  looks = v.looks;
+  raises = v.raises;
+  right_leads = v.right_leads;
+}
 
 -- a seat that gives away this many draws, and the new seat that has them
 abbrev pub kept_of : ℕ → Hand → Hand
-kept_of draws v = record { draws = v.draws - draws; tickets = v.tickets; answered = v.answered; limit = v.limit; looks = v.looks; raises = v.raises; right_leads = v.right_leads }
+kept_of draws v =
+    record {
+      draws = v.draws - draws;
+      tickets = v.tickets;
+      answered = v.answered;
+      limit = v.limit;
+      looks =
+          v.looks;
+      raises = v.raises;
+      right_leads = v.right_leads;
+    }
 
 abbrev pub given_of : ℕ → Hand → Hand
-given_of draws v = record { draws = draws; tickets = []; answered = []; limit = v.limit; looks = 0; raises = false; right_leads = true }
+given_of draws v =
+    record {
+      draws = draws;
+      tickets = [];
+      answered = [];
+      limit = v.limit;
+      looks = 0;
+      raises = false;
+      right_leads =
+          true;
+    }
 
 -- a seat with the right to raise knows as high a limit as the other
 abbrev pub leads : Hand → Hand → Bool
 leads v w = if v.raises then leb w.limit v.limit else true
 
 abbrev pub both_of : Hand → Hand → Hand
-both_of v w = record { draws = v.draws + w.draws; tickets = v.tickets ++ w.tickets; answered = v.answered ++ w.answered; limit = max v.limit w.limit; looks = v.looks + w.looks; raises = v.raises || w.raises; right_leads = leads v w && leads w v }
+both_of v w = record {
+  draws = v.draws + w.draws;
+  tickets = v.tickets ++ w.tickets;
+  answered =
+      v.answered ++ w.answered;
+  limit = max v.limit w.limit;
+  looks = v.looks + w.looks;
+  raises =
+      v.raises || w.raises;
+  right_leads = leads v w && leads w v;
+}
 
 -- the seat never had the ticket: all that it has had lie before it
 abbrev pub IsNew : ℕ → Hand → Type 0
@@ -75,10 +139,12 @@ module _ {S : Type 0} where
 
   -- the ticket of this seat is answered if it lies below the limit that was found
   abbrev pub Looks : ℕ → ℕ → Step S → Me S Hand → ℕ → Me S Hand → Type 0
-  Looks draws ticket st m found w = (w ≡ (saw ticket found m.0, m.1)) × (m.0.limit ≤ found) × IsKnown found m.0 × (ticket < draws)
+  Looks draws ticket st m found w = (w ≡ (saw ticket found m.0, m.1)) × (m.0.limit ≤ found) × IsKnown found m.0
+      × (ticket < draws)
 
   abbrev pub Raises : Step S → Me S Hand → ℕ → Me S Hand → Type 0
   Raises st m found w = w ≡ (raised st.first m.0, m.1)
 
   abbrev pub Learns : ℕ → Step S → Me S Hand → ℕ → Me S Hand → Type 0
-  Learns draws st m found w = (w ≡ m) × (w.0.draws ≤ draws) × IsDistinct w.0.tickets × IsDistinct w.0.answered × All (λ t. t < w.0.limit) w.0.answered × (w.0.right_leads ≡ true)
+  Learns draws st m found w = (w ≡ m) × (w.0.draws ≤ draws) × IsDistinct w.0.tickets × IsDistinct w.0.answered
+      × All (λ t. t < w.0.limit) w.0.answered × (w.0.right_leads ≡ true)

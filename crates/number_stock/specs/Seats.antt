@@ -24,10 +24,12 @@ number_of d = d.number
 abbrev pub ticket_of : Dry → ℕ
 ticket_of d = d.ticket
 
--- One look at the limit for a ticket of the seat. A seat with the right to raise finds the limit that it knows. Below the limit the reply is the ticket's number, and else that the stock is dry
+-- One look at the limit for a ticket of the seat. A seat with the right to raise finds the limit that it knows. Below
+-- the limit the reply is the ticket's number, and else that the stock is dry
 pub record IsLook (base ticket : ℕ) (before after : Hand) (reply : Result Drawn Dry) : Type 0 where
   pub limit : ℕ
   pub knows : after ≡ saw ticket limit before
   pub risen : before.limit ≤ limit
   pub known : IsKnown limit before
-  pub replies : MatchResult reply (λ d. (number_of d ≡ base + ticket) × (ticket < limit)) (λ e. (ticket_of e ≡ ticket) × (limit ≤ ticket))
+  pub replies : MatchResult reply (λ d. (number_of d ≡ base + ticket) × (ticket < limit))
+      (λ e. (ticket_of e ≡ ticket) × (limit ≤ ticket))

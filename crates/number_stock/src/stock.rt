@@ -101,8 +101,8 @@ impl Stock {
             .fetch_max::<Raises>(&mut seat.seat, LIMIT, limit);
     }
 
-    /// Draws the next ticket, which comes behind all that the seat has had. It is answered with its number if it lies below the limit that is loaded in this call;
-    /// otherwise it is dry, and the seat keeps it. Takes no memory.
+    /// Draws the next ticket, which comes behind all that the seat has had. It is answered with its number if it lies
+    /// below the limit that is loaded in this call; otherwise it is dry, and the seat keeps it. Takes no memory.
     pub fn draw(&self, seat: &mut StockSeat) -> Result<Drawn, Dry>
         requires own { IsSeatOf self.now seat.old }
         requires left { 0 < (hand seat.old).draws }

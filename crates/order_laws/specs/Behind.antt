@@ -1,5 +1,6 @@
 -- What a history tells of the lock server and of the orders of workers.
-use Rattle.std.specs.Prelude.{◌≡◌, ℕ, ◌<◌, Bool, true, false, ◌&&◌, ◌||◌, if◌then◌else◌, nat_eq, List, ◌++◌, fold, Option, Some, None}
+use Rattle.std.specs.Prelude.{◌≡◌, ℕ, ◌<◌, Bool, true, false, ◌&&◌, ◌||◌, if◌then◌else◌, nat_eq, List, ◌++◌, fold}
+use Rattle.std.specs.Prelude.{Option, Some, None}
 use Rattle.std.specs.List.{list_any}
 use Rattle.enq_base.specs.declared.condition.Condition.{Condition}
 use Rattle.enq_base.specs.declared.condition.Condition.TheVariants as condition
@@ -42,11 +43,13 @@ up_after calls = fold up_behind true calls
 
 -- in each state on the way the server is up
 abbrev pub StaysUp : State → List Made → Type 0
-StaysUp first made = (earlier later : List Made) → made ≡ earlier ++ later → (state_after first earlier).condition ≡ condition.Up
+StaysUp first made = (earlier later : List Made) → made ≡ earlier ++ later
+    → (state_after first earlier).condition ≡ condition.Up
 
 -- ---- orders
 
--- A worker's order behind a call of its own. A take that gives a unit begins it, and a post or a drop that isn't refused ends it.
+-- A worker's order behind a call of its own. A take that gives a unit begins it, and a post or a drop that isn't
+-- refused ends it.
 abbrev pub own_order : WorkerCall → Reply → Option UnitKey → Option UnitKey
 own_order (Takes part) (reply.Unit unit) before = Some unit
 own_order (Takes part) r before = before

@@ -7,7 +7,8 @@ use Rattle.enq_base.specs.declared.refusal.Refusal.TheVariants as refusal
 use Rattle.hall_model.specs.declared.command.Reply.{Reply}
 use Rattle.hall_model.specs.declared.command.Reply.TheVariants as reply
 use Rattle.hall_model.specs.declared.command.PastEntry.{PastEntry}
-use Rattle.hall_model.specs.Calls.{Call, OfSession, OfWorker, OfAdmin, Commits, Drops, Resubmits, Restarts, Takes, call_of}
+use Rattle.hall_model.specs.Calls.{Call, OfSession, OfWorker, OfAdmin, Commits, Drops, Resubmits, Restarts, Takes}
+use Rattle.hall_model.specs.Calls.{call_of}
 use Rattle.hall_model.specs.Orders.{first_unclaimed, is_claimed, order_for, order_of, waits_for}
 use Rattle.hall_model.specs.Recall.{Made, calls_of, state_after}
 use Rattle.hall_model.specs.State.{State}
@@ -36,8 +37,8 @@ pub record FindsNone (s t : State) (worker part : ℕ) : Type 0 where
   pub none : first_unclaimed s.orders (waiting_for part s.stored) ≡ None
   pub same : t ≡ s
 
--- With this call and its answer a unit may wait for its V1 part that no worker has an order for: one was recorded or is tried again, an
--- order was dropped, or a restart ended all orders.
+-- With this call and its answer a unit may wait for its V1 part that no worker has an order for: one was recorded or is
+-- tried again, an order was dropped, or a restart ended all orders.
 abbrev pub offers : Call → Reply → Bool
 offers (OfSession session (Commits parts stock)) (reply.Unit unit) = true
 offers (OfWorker worker Drops) (reply.Unit unit) = true
@@ -57,7 +58,8 @@ may_refuse_take refusal.Idle = true
 may_refuse_take refusal.LogFull = true
 may_refuse_take r = false
 
--- and why a post of a unit that waits for the part: the history or the store is full, memory is wanting, or a device failed
+-- and why a post of a unit that waits for the part: the history or the store is full, memory is wanting, or a device
+-- failed
 abbrev pub may_refuse_post : Refusal → Bool
 may_refuse_post refusal.LogFull = true
 may_refuse_post (refusal.StoreFull limit) = true
@@ -84,22 +86,26 @@ goes_beside worker call = not (is_by worker (call_of call.command)) && is_up cal
 abbrev pub GoBeside : ℕ → List PastEntry → Type 0
 GoBeside worker calls = list_all (goes_beside worker) calls ≡ true
 
--- Where a take gives a unit while the server is up, the worker has an order for it, and it waits for that part, until the worker calls
--- again or the server is up no more.
+-- Where a take gives a unit while the server is up, the worker has an order for it, and it waits for that part, until
+-- the worker calls again or the server is up no more.
 abbrev pub OrdersStand : State → List Made → Type 0
 OrdersStand first made =
     (earlier between later : List Made) (m : Made) (worker part : ℕ) (unit : UnitKey)
     → made ≡ earlier ++ m ∷ (between ++ later) → worker < 256 → up_after (calls_of earlier) ≡ true
-    → call_of m.call.command ≡ OfWorker worker (Takes part) → m.call.reply ≡ reply.Unit unit → GoBeside worker (calls_of between)
-    → order_for part (state_after first (earlier ++ m ∷ between)).stored (state_after first (earlier ++ m ∷ between)).orders worker ≡ Some unit
+    → call_of m.call.command ≡ OfWorker worker (Takes part) → m.call.reply ≡ reply.Unit unit
+    → GoBeside worker (calls_of between)
+    → order_for part (state_after first (earlier ++ m ∷ between)).stored
+    (state_after first (earlier ++ m ∷ between)).orders worker ≡ Some unit
 
 -- ---- behind a history
 
--- Behind the earlier calls there is no V1 order to take, and the later ones offer no unit for one; behind all of them there is no V2
--- order to take, and no worker has an order.
+-- Behind the earlier calls there is no V1 order to take, and the later ones offer no unit for one; behind all of them
+-- there is no V2 order to take, and no worker has an order.
 pub record AllRestBehind (first : State) (earlier later : List Made) : Type 0 where
-  pub first_none : first_unclaimed (state_after first earlier).orders (waiting_for 1 (state_after first earlier).stored) ≡ None
+  pub first_none : first_unclaimed (state_after first earlier).orders
+      (waiting_for 1 (state_after first earlier).stored) ≡ None
   pub offered : NoneOffers (calls_of later)
   pub second_none :
-      first_unclaimed (state_after first (earlier ++ later)).orders (waiting_for 2 (state_after first (earlier ++ later)).stored) ≡ None
+      first_unclaimed (state_after first (earlier ++ later)).orders
+      (waiting_for 2 (state_after first (earlier ++ later)).stored) ≡ None
   pub free : (worker : ℕ) → worker < 256 → order_after worker (calls_of (earlier ++ later)) ≡ None

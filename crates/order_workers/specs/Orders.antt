@@ -71,23 +71,29 @@ abbrev pub other : Part → Part
 other V1 = V2
 other V2 = V1
 
--- A worker that begins with V1 orders has made these calls, and takes orders of the last part next: each order that it took was
--- done with the server up behind it, and it turned to the other part where there was no order of one.
+-- A worker that begins with V1 orders has made these calls, and takes orders of the last part next: each order that it
+-- took was done with the server up behind it, and it turned to the other part where there was no order of one.
 pub data Goes (w : ℕ) : List Made → Part → Type 0 where
   Begins : Goes w [] V1
-  Does : (calls : List Made) (part : Part) (take post : Made) → Goes w calls part → IsTaken w part take → IsPosted w part post → post.is_up ≡ true
+  Does : (calls : List Made) (part : Part) (take post : Made) → Goes w calls part → IsTaken w part take
+      → IsPosted w part post → post.is_up ≡ true
       → Goes w (calls ++ take ∷ post ∷ []) part
-  Turns : (calls : List Made) (part : Part) (take : Made) → Goes w calls part → IsIdle w part take → Goes w (calls ++ take ∷ []) (other part)
+  Turns : (calls : List Made) (part : Part) (take : Made) → Goes w calls part → IsIdle w part take
+      → Goes w (calls ++ take ∷ []) (other part)
 
--- The calls with which a worker ends that doesn't rest: a take that gives no order, but for one without a unit where the server is up;
--- an order that is refused, and then dropped; one that is done, behind which the server isn't up.
+-- The calls with which a worker ends that doesn't rest: a take that gives no order, but for one without a unit where
+-- the server is up; an order that is refused, and then dropped; one that is done, behind which the server isn't up.
 pub data Ends (w : ℕ) (part : Part) : List Made → Type 0 where
-  Untaken : (take : Made) → take.command ≡ take_of part w → is_order take.reply ≡ false → (IsIdle w part take → ⊥) → Ends w part (take ∷ [])
-  Drops : (take post drop : Made) → IsTaken w part take → post.command ≡ post_of part w → is_refused post.reply ≡ true → drop.command ≡ command.DropOrder w
+  Untaken : (take : Made) → take.command ≡ take_of part w → is_order take.reply ≡ false → (IsIdle w part take → ⊥)
+      → Ends w part (take ∷ [])
+  Drops : (take post drop : Made) → IsTaken w part take → post.command ≡ post_of part w → is_refused post.reply ≡ true
+      → drop.command ≡ command.DropOrder w
       → Ends w part (take ∷ post ∷ drop ∷ [])
-  LastDone : (take post : Made) → IsTaken w part take → IsPosted w part post → post.is_up ≡ false → Ends w part (take ∷ post ∷ [])
+  LastDone : (take post : Made) → IsTaken w part take → IsPosted w part post → post.is_up ≡ false
+      → Ends w part (take ∷ post ∷ [])
 
--- a worker that found no order of both parts and rests: with its last call it turned back to V1, since there was no order of V2
+-- a worker that found no order of both parts and rests: with its last call it turned back to V1, since there was no
+-- order of V2
 pub record Rests (w : ℕ) (calls : List Made) : Type 0 where
   pub goes : Goes w calls V1
   pub before : List Made
@@ -114,7 +120,8 @@ module _ {K : Type 0} (leads : K → Made → K → Type 0) where
 
   -- what came of one order
   abbrev pub DidOrder : ℕ → Part → K → K → Order → Type 0
-  DidOrder w part k l Done = (take : Made) × (post : Made) × Leads k (take ∷ post ∷ []) l × IsTaken w part take × IsPosted w part post × (post.is_up ≡ true)
+  DidOrder w part k l Done = (take : Made) × (post : Made) × Leads k (take ∷ post ∷ []) l × IsTaken w part take
+      × IsPosted w part post × (post.is_up ≡ true)
   DidOrder w part k l Idle = (take : Made) × Leads k (take ∷ []) l × IsIdle w part take
   DidOrder w part k l Refused = (last : List Made) × Leads k last l × Ends w part last
 
@@ -122,7 +129,8 @@ module _ {K : Type 0} (leads : K → Made → K → Type 0) where
   abbrev pub DidTaken : ℕ → Part → K → K → Order → Type 0
   DidTaken w part k l Done = (post : Made) × Leads k (post ∷ []) l × IsPosted w part post × (post.is_up ≡ true)
   DidTaken w part k l Idle = ⊥
-  DidTaken w part k l Refused = (last : List Made) × Leads k last l × ((take : Made) → IsTaken w part take → Ends w part (take ∷ last))
+  DidTaken w part k l Refused = (last : List Made) × Leads k last l
+      × ((take : Made) → IsTaken w part take → Ends w part (take ∷ last))
 
   -- all the calls of a worker, which then rests or not
   abbrev pub DidWork : ℕ → Bool → K → K → Type 0

@@ -8,6 +8,9 @@ use std::sync::Wait;
 use std::sync::atomic::{AtomicU64, Ordering};
 use std::thread;
 
+// The longest rest of a worker without orders, in times that it yields the processor.
+const LONGEST_REST: u32 = 128;
+
 /// The parts of a unit.
 #[derive(Clone, Copy, Debug, PartialEq, Eq)]
 pub enum Part {
@@ -97,6 +100,27 @@ fn do_taken<K: OrderDesk>(desk: &mut K, worker: u8, part: Part) -> Order
     }
 }
 
+/// How often a worker without orders yields the processor before it looks again: twice as often with each look in a row
+/// that found none. A worker that takes turn after turn for nothing keeps those waiting who have work.
+#[derive(Drop)]
+struct Rest {
+    yields: u32,
+}
+
+impl Rest {
+    fn new() -> Rest {
+        Rest { yields: 1 }
+    }
+
+    /// Rests, and longer the next time.
+    fn rest(&mut self) {
+        for _ in 0..self.yields {
+            thread::yield_now();
+        }
+        self.yields = self.yields.saturating_mul(2).min(LONGEST_REST);
+    }
+}
+
 /// Does V1 orders until there is none, then V2 orders until there is none, and so on until no actor runs any more that
 /// could make another: `running` counts those. The server has to be up when it begins. It says whether it ends so, and
 /// not by a refusal or by a server that isn't up.
@@ -111,9 +135,10 @@ pub fn do_orders<R: Wait, K: OrderDesk>(
 {
     let mut part = Part::V1;
     let mut is_last = running.load(Ordering::SeqCst) == 0;
+    let mut idle = Rest::new();
     for _ in rt.forever() {
         match do_order(desk, worker, part) {
-            Order::Done => {}
+            Order::Done => idle = Rest::new(),
             Order::Refused => return false,
             Order::Idle => match part {
                 Part::V1 => part = Part::V2,
@@ -123,7 +148,7 @@ pub fn do_orders<R: Wait, K: OrderDesk>(
                     }
                     is_last = running.load(Ordering::SeqCst) == 0;
                     part = Part::V1;
-                    thread::yield_now();
+                    idle.rest();
                 }
             },
         }

@@ -40,41 +40,53 @@ started_lawful ledger h known = elim known [
 ]
 
 -- intervals behind a batch that makes a ledger
-behind : (rows : Rows) (ledger after : Ledger) (batch : List Change) (intervals : List StoredInterval) → AreOwn batch → changed batch (rows_of ledger) ≡ rows_of after → own rows ≡ rows_of ledger → own (changed (batch ++ interval_rows intervals) rows) ≡ rows_of (with_intervals intervals after)
+behind : (rows : Rows) (ledger after : Ledger) (batch : List Change) (intervals : List StoredInterval) → AreOwn batch
+    → changed batch (rows_of ledger) ≡ rows_of after → own rows ≡ rows_of ledger
+    → own (changed (batch ++ interval_rows intervals) rows) ≡ rows_of (with_intervals intervals after)
 behind rows ledger after batch intervals all_own made exact =
     own_changed (batch ++ interval_rows intervals) rows (own_append batch (interval_rows intervals) all_own (levels_own intervals))
     ∙ ap (changed (batch ++ interval_rows intervals)) exact ∙ changed_append batch (interval_rows intervals) (rows_of ledger)
     ∙ ap (changed (interval_rows intervals)) made ∙ levels_written intervals after
 
-unit_stands : (rows : Rows) (ledger : Ledger) (unit : UnitOfWork) (intervals : List StoredInterval) → HasMarksLeft ledger → IsNewUnit ledger unit → MayStore ledger intervals unit.numbers → IsSpelt unit → StandFor rows ledger
+unit_stands : (rows : Rows) (ledger : Ledger) (unit : UnitOfWork) (intervals : List StoredInterval) → HasMarksLeft ledger → IsNewUnit ledger unit
+    → MayStore ledger intervals unit.numbers → IsSpelt unit → StandFor rows ledger
     → StandFor (changed (unit_batch ledger unit ++ interval_rows intervals) rows) (with_intervals intervals (with_unit ledger unit))
 unit_stands rows ledger unit intervals few new may spelt h =
     let started : 1 ≤ ledger.start = omega (arith, new.first, new.last) in
     let none = none_of _ unit.key ledger.marks new.fresh in
     record {
-      exact = behind rows ledger (with_unit ledger unit) (unit_batch ledger unit) intervals (unit_own unit ledger.start (length ledger.marks + 1) (next_mark ledger unit.key Rec)) (unit_written ledger unit started none) h.exact;
+      exact = behind rows ledger (with_unit ledger unit) (unit_batch ledger unit) intervals
+          (unit_own unit ledger.start (length ledger.marks + 1) (next_mark ledger unit.key Rec)) (unit_written ledger unit started none) h.exact;
       lawful = inr (unit_lawful ledger unit intervals (started_lawful ledger started h.lawful) few new may spelt);
     }
 
-pub pushed_two : {X : Type 0} (old mid new : List X) (x y first second : X) → mid ≡ old ++ x ∷ [] → new ≡ mid ++ y ∷ [] → x ≡ first → y ≡ second → new ≡ old ++ first ∷ second ∷ []
+pub pushed_two : {X : Type 0} (old mid new : List X) (x y first second : X) → mid ≡ old ++ x ∷ [] → new ≡ mid ++ y ∷ [] → x ≡ first → y ≡ second
+    → new ≡ old ++ first ∷ second ∷ []
 pushed_two old mid new x y first second a b is_first is_second =
     b ∙ ap (λ m. m ++ y ∷ []) a ∙ append_assoc old (x ∷ []) (y ∷ []) ∙ ap (λ z. old ++ z ∷ y ∷ []) is_first ∙ ap (λ z. old ++ first ∷ z ∷ []) is_second
 
 abbrev pub unit_rows_at : ℕ → ℕ → UnitOfWork → List StoredInterval → List Change
-unit_rows_at start n unit intervals = (unit_rows unit ++ mark_row (record { seq = n + 1; unit = unit.key; kind = Rec }) ∷ meta_row start (n + 1) ∷ []) ++ interval_rows intervals
+unit_rows_at start n unit intervals = (unit_rows unit ++ mark_row (record { seq = n + 1; unit = unit.key; kind = Rec }) ∷ meta_row start (n + 1) ∷ [])
+    ++ interval_rows intervals
 
-pub unit_makes : (held : Option Rows) (ledger : Ledger) (unit : UnitOfWork) (intervals copies : List StoredInterval) (batch : List Change) (start n : ℕ) → HasMarksLeft ledger → IsNewUnit ledger unit → MayStore ledger intervals unit.numbers → IsSpelt unit
-    → start ≡ ledger.start → n ≡ length ledger.marks → copies ≡ intervals → batch ≡ unit_rows_at start n unit intervals → IfSome held (λ rows. StandFor rows ledger) → IfSome held (λ rows. StandFor (changed batch rows) (with_intervals copies (with_unit ledger unit)))
+pub unit_makes : (held : Option Rows) (ledger : Ledger) (unit : UnitOfWork) (intervals copies : List StoredInterval) (batch : List Change) (start n : ℕ)
+    → HasMarksLeft ledger → IsNewUnit ledger unit → MayStore ledger intervals unit.numbers → IsSpelt unit
+    → start ≡ ledger.start → n ≡ length ledger.marks → copies ≡ intervals → batch ≡ unit_rows_at start n unit intervals
+    → IfSome held (λ rows. StandFor rows ledger) → IfSome held (λ rows. StandFor (changed batch rows) (with_intervals copies (with_unit ledger unit)))
 unit_makes None ledger unit intervals copies batch start n few new may spelt s m all is h = tt
 unit_makes (Some rows) ledger unit intervals copies batch start n few new may spelt s m all is h =
     subst (λ ls. StandFor (changed batch rows) (with_intervals ls (with_unit ledger unit))) (sym all)
-    (subst (λ b. StandFor (changed b rows) (with_intervals intervals (with_unit ledger unit))) (sym (is ∙ ap (λ k. unit_rows_at k n unit intervals) s ∙ ap (λ k. unit_rows_at ledger.start k unit intervals) m)) (unit_stands rows ledger unit intervals few new may spelt h))
+    (subst (λ b. StandFor (changed b rows) (with_intervals intervals (with_unit ledger unit)))
+    (sym (is ∙ ap (λ k. unit_rows_at k n unit intervals) s ∙ ap (λ k. unit_rows_at ledger.start k unit intervals) m))
+    (unit_stands rows ledger unit intervals few new may spelt h))
 
-pub unit_is_batch : (ledger : Ledger) (unit : UnitOfWork) (intervals : List StoredInterval) (batch : List Change) (start n : ℕ) → IsNewUnit ledger unit → HasDistinctIntervals intervals → batch ≡ unit_rows_at start n unit intervals → IsBatch batch
+pub unit_is_batch : (ledger : Ledger) (unit : UnitOfWork) (intervals : List StoredInterval) (batch : List Change) (start n : ℕ) → IsNewUnit ledger unit
+    → HasDistinctIntervals intervals → batch ≡ unit_rows_at start n unit intervals → IsBatch batch
 unit_is_batch ledger unit intervals batch start n new apart is =
     let m : Mark = record { seq = n + 1; unit = unit.key; kind = Rec } in
     let close = mark_row m ∷ meta_row start (n + 1) ∷ [] in
-    subst IsBatch (sym is) (levels_behind (unit_rows unit ++ close) intervals (unit_own unit start (n + 1) m) (unit_changes unit new.few_entries new.few start (n + 1) m).distinct
+    subst IsBatch (sym is)
+    (levels_behind (unit_rows unit ++ close) intervals (unit_own unit start (n + 1) m) (unit_changes unit new.few_entries new.few start (n + 1) m).distinct
     (tables_append is_book_table (unit_rows unit) close (unit_in is_book_table refl refl refl refl unit) (refl, (refl, tt))) apart)
 
 -- ---- numbers alone, and intervals alone
@@ -82,22 +94,29 @@ unit_is_batch ledger unit intervals batch start n new apart is =
 close_own : (start : ℕ) (m : Mark) → AreOwn (mark_row m ∷ meta_row start m.seq ∷ [])
 close_own start m = (refl, (refl, tt))
 
-pub draw_is_batch : (start : ℕ) (m : Mark) (intervals : List StoredInterval) (batch : List Change) → HasDistinctIntervals intervals → batch ≡ draw_changes start m intervals → IsBatch batch
+pub draw_is_batch : (start : ℕ) (m : Mark) (intervals : List StoredInterval) (batch : List Change) → HasDistinctIntervals intervals
+    → batch ≡ draw_changes start m intervals → IsBatch batch
 draw_is_batch start m intervals batch apart is =
-    subst IsBatch (sym is) (levels_behind (mark_row m ∷ meta_row start m.seq ∷ []) intervals (close_own start m) (closing_distinct start m.seq m) (refl, (refl, tt)) apart)
+    subst IsBatch (sym is)
+    (levels_behind (mark_row m ∷ meta_row start m.seq ∷ []) intervals (close_own start m) (closing_distinct start m.seq m) (refl, (refl, tt)) apart)
 
-draw_stands : (rows : Rows) (ledger : Ledger) (key : UnitKey) (numbers : List Number) (intervals : List StoredInterval) → HasMarksLeft ledger → IsDrawing ledger key numbers → MayStore ledger intervals numbers → IsUnitKey key → All IsNumber numbers → StandFor rows ledger
-    → StandFor (changed (draw_changes ledger.start (next_mark ledger key (Num numbers)) intervals) rows) (with_intervals intervals (with_mark ledger key (Num numbers)))
+draw_stands : (rows : Rows) (ledger : Ledger) (key : UnitKey) (numbers : List Number) (intervals : List StoredInterval) → HasMarksLeft ledger
+    → IsDrawing ledger key numbers → MayStore ledger intervals numbers → IsUnitKey key → All IsNumber numbers → StandFor rows ledger
+    → StandFor (changed (draw_changes ledger.start (next_mark ledger key (Num numbers)) intervals) rows)
+    (with_intervals intervals (with_mark ledger key (Num numbers)))
 draw_stands rows ledger key numbers intervals few draws may spelt each h =
     let m = next_mark ledger key (Num numbers) in
     let started : 1 ≤ ledger.start = omega (arith, draws.first, draws.last) in
     record {
-      exact = behind rows ledger (with_mark ledger key (Num numbers)) (mark_row m ∷ meta_row ledger.start m.seq ∷ []) intervals (close_own ledger.start m) (mark_written ledger key (Num numbers) [] started tt refl) h.exact;
+      exact = behind rows ledger (with_mark ledger key (Num numbers)) (mark_row m ∷ meta_row ledger.start m.seq ∷ []) intervals (close_own ledger.start m)
+          (mark_written ledger key (Num numbers) [] started tt refl) h.exact;
       lawful = inr (draw_lawful ledger key numbers intervals (started_lawful ledger started h.lawful) few draws may spelt each);
     }
 
-pub draw_makes : (held : Option Rows) (ledger : Ledger) (key : UnitKey) (numbers copy : List Number) (intervals copies : List StoredInterval) (batch : List Change) (start : ℕ) (m : Mark) → HasMarksLeft ledger → IsDrawing ledger key numbers → MayStore ledger intervals numbers
-    → IsUnitKey m.unit → HasFields m.kind → start ≡ ledger.start → m ≡ next_mark ledger key (Num numbers) → copy ≡ numbers → copies ≡ intervals → batch ≡ draw_changes start m intervals → IfSome held (λ rows. StandFor rows ledger)
+pub draw_makes : (held : Option Rows) (ledger : Ledger) (key : UnitKey) (numbers copy : List Number) (intervals copies : List StoredInterval)
+    (batch : List Change) (start : ℕ) (m : Mark) → HasMarksLeft ledger → IsDrawing ledger key numbers → MayStore ledger intervals numbers
+    → IsUnitKey m.unit → HasFields m.kind → start ≡ ledger.start → m ≡ next_mark ledger key (Num numbers) → copy ≡ numbers → copies ≡ intervals
+    → batch ≡ draw_changes start m intervals → IfSome held (λ rows. StandFor rows ledger)
     → IfSome held (λ rows. StandFor (changed batch rows) (with_intervals copies (with_mark ledger key (Num copy))))
 draw_makes None ledger key numbers copy intervals copies batch start m few draws may unit fields s is same all made h = tt
 draw_makes (Some rows) ledger key numbers copy intervals copies batch start m few draws may unit fields s is same all made h =
@@ -105,21 +124,26 @@ draw_makes (Some rows) ledger key numbers copy intervals copies batch start m fe
     let each = subst (λ (x : Mark). HasFields x.kind) is fields in
     subst (λ ns. StandFor (changed batch rows) (with_intervals copies (with_mark ledger key (Num ns)))) (sym same)
     (subst (λ ls. StandFor (changed batch rows) (with_intervals ls (with_mark ledger key (Num numbers)))) (sym all)
-    (subst (λ b. StandFor (changed b rows) (with_intervals intervals (with_mark ledger key (Num numbers)))) (sym (made ∙ ap (λ n. draw_changes n m intervals) s ∙ ap (λ x. draw_changes ledger.start x intervals) is)) (draw_stands rows ledger key numbers intervals few draws may spelt each.each h)))
+    (subst (λ b. StandFor (changed b rows) (with_intervals intervals (with_mark ledger key (Num numbers))))
+    (sym (made ∙ ap (λ n. draw_changes n m intervals) s ∙ ap (λ x. draw_changes ledger.start x intervals) is))
+    (draw_stands rows ledger key numbers intervals few draws may spelt each.each h)))
 
 pub level_is_batch : (intervals : List StoredInterval) (batch : List Change) → HasDistinctIntervals intervals → batch ≡ interval_rows intervals → IsBatch batch
 level_is_batch intervals batch apart is = subst IsBatch (sym is) (levels_behind [] intervals tt none_distinct tt apart)
 
-level_stands : (rows : Rows) (ledger : Ledger) (intervals : List StoredInterval) → 1 ≤ ledger.start → MayStore ledger intervals [] → StandFor rows ledger → StandFor (changed (interval_rows intervals) rows) (with_intervals intervals ledger)
+level_stands : (rows : Rows) (ledger : Ledger) (intervals : List StoredInterval) → 1 ≤ ledger.start → MayStore ledger intervals [] → StandFor rows ledger
+    → StandFor (changed (interval_rows intervals) rows) (with_intervals intervals ledger)
 level_stands rows ledger intervals started may h = record {
   exact = behind rows ledger ledger [] intervals tt refl h.exact;
   lawful = inr (level_lawful ledger intervals (started_lawful ledger started h.lawful) may);
 }
 
-pub level_makes : (held : Option Rows) (ledger : Ledger) (interval : StoredInterval) (batch : List Change) → 1 ≤ ledger.start → MayStore ledger (interval ∷ []) [] → batch ≡ interval_rows (interval ∷ []) → IfSome held (λ rows. StandFor rows ledger)
+pub level_makes : (held : Option Rows) (ledger : Ledger) (interval : StoredInterval) (batch : List Change) → 1 ≤ ledger.start
+    → MayStore ledger (interval ∷ []) [] → batch ≡ interval_rows (interval ∷ []) → IfSome held (λ rows. StandFor rows ledger)
     → IfSome held (λ rows. StandFor (changed batch rows) (with_intervals (interval ∷ []) ledger))
 level_makes None ledger interval batch started may is h = tt
-level_makes (Some rows) ledger interval batch started may is h = subst (λ b. StandFor (changed b rows) (with_intervals (interval ∷ []) ledger)) (sym is) (level_stands rows ledger (interval ∷ []) started may h)
+level_makes (Some rows) ledger interval batch started may is h = subst (λ b. StandFor (changed b rows) (with_intervals (interval ∷ []) ledger)) (sym is)
+    (level_stands rows ledger (interval ∷ []) started may h)
 
 business_and_closing : AreApart is_business_table is_closing_table
 business_and_closing n a b = let h : is_closing_table 6 ≡ true = at_number is_closing_table 6 n a b in cc
@@ -128,18 +152,21 @@ business_and_closing n a b = let h : is_closing_table 6 ≡ true = at_number is_
 
 recorded_lawful : (ledger : Ledger) (key : UnitKey) (kind : MarkKind) → MayGet ledger key kind → (ledger ≡ no_ledger) ⊎ IsLawful ledger → IsLawful ledger
 recorded_lawful ledger key kind may known = elim known [
-  | inl none ↦ let nothing : IsSome (status_of (no_ledger).units (no_ledger).marks key) = subst (λ (l : Ledger). IsSome (status_of l.units l.marks key)) none may.recorded in cc
+  | inl none ↦ let nothing : IsSome (status_of (no_ledger).units (no_ledger).marks key) =
+      subst (λ (l : Ledger). IsSome (status_of l.units l.marks key)) none may.recorded in cc
   | inr law ↦ law
 ]
 
 note_own : (start : ℕ) (spots : List Spot) (m : Mark) → AreOwn (note_changes start spots m)
 note_own start spots m = own_append (row_changes spots) (mark_row m ∷ meta_row start m.seq ∷ []) (rows_own spots) (refl, (refl, tt))
 
-pub note_is_batch : (start : ℕ) (spots : List Spot) (m : Mark) (batch : List Change) → HasDistinctRows spots → batch ≡ note_changes start spots m → IsBatch batch
+pub note_is_batch : (start : ℕ) (spots : List Spot) (m : Mark) (batch : List Change) → HasDistinctRows spots → batch ≡ note_changes start spots m
+    → IsBatch batch
 note_is_batch start spots m batch distinct is = subst IsBatch (sym is) (record {
   keys = own_keys (note_changes start spots m) (note_own start spots m);
   distinct = distinct_append (row_changes spots) (mark_row m ∷ meta_row start m.seq ∷ []) (rows_distinct spots distinct) (closing_distinct start m.seq m)
-      (tables_apart is_business_table is_closing_table business_and_closing (row_changes spots) (mark_row m ∷ meta_row start m.seq ∷ []) (rows_in spots) (refl, (refl, tt)));
+      (tables_apart is_business_table is_closing_table business_and_closing (row_changes spots) (mark_row m ∷ meta_row start m.seq ∷ []) (rows_in spots)
+      (refl, (refl, tt)));
 })
 
 is_kind : (kind : MarkKind) → draws_alone kind ≡ false → HasFields kind → IsKind kind
@@ -153,7 +180,8 @@ is_kind (Bad2 i r) h is = is
 is_kind Again2 h is = tt
 is_kind Gone h is = tt
 
-note_stands : (rows : Rows) (ledger : Ledger) (key : UnitKey) (kind : MarkKind) (spots : List Spot) → HasMarksLeft ledger → MayGet ledger key kind → HasFields kind → HasDistinctRows spots → IsNote ledger (next_mark ledger key kind) spots → StandFor rows ledger
+note_stands : (rows : Rows) (ledger : Ledger) (key : UnitKey) (kind : MarkKind) (spots : List Spot) → HasMarksLeft ledger → MayGet ledger key kind
+    → HasFields kind → HasDistinctRows spots → IsNote ledger (next_mark ledger key kind) spots → StandFor rows ledger
     → StandFor (changed (note_changes ledger.start spots (next_mark ledger key kind)) rows) (with_mark ledger key kind)
 note_stands rows ledger key kind spots few may fields distinct note h =
     let m = next_mark ledger key kind in
@@ -161,12 +189,18 @@ note_stands rows ledger key kind spots few may fields distinct note h =
     let tables = tables_of ledger.units ledger.marks in
     record {
       exact = own_changed (note_changes ledger.start spots m) rows (note_own ledger.start spots m) ∙ ap (changed (note_changes ledger.start spots m)) h.exact
-          ∙ mark_written ledger key kind (row_changes spots) law.started (rows_in spots) (rows_are ledger.levels spots tables distinct ∙ ap (map_rows ledger.levels) (sym note.leaves));
+          ∙ mark_written ledger key kind (row_changes spots) law.started (rows_in spots)
+          (rows_are ledger.levels spots tables distinct ∙ ap (map_rows ledger.levels) (sym note.leaves));
       lawful = inr (note_lawful ledger key kind law few may (is_kind kind (may_not_draw ledger key kind may) fields) note.right);
     }
 
-pub note_makes : (held : Option Rows) (ledger : Ledger) (key : UnitKey) (kind : MarkKind) (spots : List Spot) (batch : List Change) (start : ℕ) (m : Mark) → HasMarksLeft ledger → MayGet ledger key kind → HasFields kind → HasDistinctRows spots
-    → start ≡ ledger.start → m ≡ next_mark ledger key kind → batch ≡ note_changes start spots m → IfSome held (λ _. IsNote ledger (next_mark ledger key kind) spots) → IfSome held (λ rows. StandFor rows ledger) → IfSome held (λ rows. StandFor (changed batch rows) (with_mark ledger key kind))
+pub note_makes : (held : Option Rows) (ledger : Ledger) (key : UnitKey) (kind : MarkKind) (spots : List Spot) (batch : List Change) (start : ℕ) (m : Mark)
+    → HasMarksLeft ledger → MayGet ledger key kind → HasFields kind → HasDistinctRows spots
+    → start ≡ ledger.start → m ≡ next_mark ledger key kind → batch ≡ note_changes start spots m
+    → IfSome held (λ _. IsNote ledger (next_mark ledger key kind) spots) → IfSome held (λ rows. StandFor rows ledger)
+    → IfSome held (λ rows. StandFor (changed batch rows) (with_mark ledger key kind))
 note_makes None ledger key kind spots batch start m few may fields distinct s is made note h = tt
 note_makes (Some rows) ledger key kind spots batch start m few may fields distinct s is made note h =
-    subst (λ b. StandFor (changed b rows) (with_mark ledger key kind)) (sym (made ∙ ap (λ n. note_changes n spots m) s ∙ ap (note_changes ledger.start spots) is)) (note_stands rows ledger key kind spots few may fields distinct note h)
+    subst (λ b. StandFor (changed b rows) (with_mark ledger key kind))
+    (sym (made ∙ ap (λ n. note_changes n spots m) s ∙ ap (note_changes ledger.start spots) is))
+    (note_stands rows ledger key kind spots few may fields distinct note h)

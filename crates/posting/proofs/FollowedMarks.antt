@@ -60,7 +60,8 @@ alone_is Again2 h other = cc
 alone_is Gone h other = cc
 
 -- numbers alone give no status, tell nothing and record nothing
-draws_only : (kind : MarkKind) → draws_alone kind ≡ true → (b : Bool) (s : Option Status) (e : Option (ℕ × Reason)) → (given b kind s ≡ s) × ((told kind e ≡ e) × (is_rec kind ≡ false))
+draws_only : (kind : MarkKind) → draws_alone kind ≡ true → (b : Bool) (s : Option Status) (e : Option (ℕ × Reason)) → (given b kind s ≡ s)
+    × ((told kind e ≡ e) × (is_rec kind ≡ false))
 draws_only (Num numbers) h b s e = (refl, (refl, refl))
 draws_only Rec h b s e = cc
 draws_only V1 h b s e = cc
@@ -94,18 +95,23 @@ pub still_none : (o : Option Standing) → ((s : Standing) → o ≡ Some s → 
 still_none None h = refl
 still_none (Some s) h = absurd (h s refl)
 
-pub got_at : (units : List UnitOfWork) (place : ℕ) (unit : UnitOfWork) → place < length units → unit ≡ get_or units place unit → slice_get units place ≡ Some unit
+pub got_at : (units : List UnitOfWork) (place : ℕ) (unit : UnitOfWork) → place < length units → unit ≡ get_or units place unit
+    → slice_get units place ≡ Some unit
 got_at units place unit h is = within_get units place unit h is
 
 pub few_recorded : (marks : List Mark) → length (recorded marks) ≤ length marks
 few_recorded [] = omega arith
-few_recorded (m ∷ marks) = elim (is_rec m.kind) as (λ b. length (map (λ (y : Mark). y.unit) (cond b (m ∷ filter (λ (y : Mark). is_rec y.kind) marks) (filter (λ (y : Mark). is_rec y.kind) marks))) ≤ suc (length marks)) [
-  | true ↦ omega (arith, few_recorded marks)
-  | false ↦ omega (arith, few_recorded marks)
-]
+few_recorded (m ∷ marks) =
+    elim (is_rec m.kind)
+    as (λ b. length (map (λ (y : Mark). y.unit) (cond b (m ∷ filter (λ (y : Mark). is_rec y.kind) marks) (filter (λ (y : Mark). is_rec y.kind) marks))) ≤ suc
+    (length marks)) [
+      | true ↦ omega (arith, few_recorded marks)
+      | false ↦ omega (arith, few_recorded marks)
+    ]
 
 -- a mark more can be counted where marks are left
-pub turns_left : (followed : Followed) (units : List UnitOfWork) (before : List Mark) → IsFollowed followed units before → length before < 1048576 → HasTurnsLeft followed
+pub turns_left : (followed : Followed) (units : List UnitOfWork) (before : List Mark) → IsFollowed followed units before → length before < 1048576
+    → HasTurnsLeft followed
 turns_left followed units before so_far few =
     let v1_queue = ap length so_far.v1_queue ∙ one_each Open units before in
     let v2_queue = ap length so_far.v2_queue ∙ one_each Posted units before in
@@ -129,7 +135,8 @@ module _ (units : List UnitOfWork) (before : List Mark) (old new : Followed) (m 
       ∙ sym (turns_first status units before m (ap draws_alone kind) none)
 
   pub follow_rec : MayBeNext units before m → is_rec m.kind ≡ true
-      → Sets old.standings new.standings m.unit (open_at old.units old.marks) → new.v1_queue.turns ≡ old.v1_queue.turns ++ Some m.unit ∷ [] → new.v2_queue.turns ≡ old.v2_queue.turns ++ None ∷ [] → new.units ≡ old.units + 1 → new.marks ≡ old.marks + 1
+      → Sets old.standings new.standings m.unit (open_at old.units old.marks) → new.v1_queue.turns ≡ old.v1_queue.turns ++ Some m.unit ∷ []
+      → new.v2_queue.turns ≡ old.v2_queue.turns ++ None ∷ [] → new.units ≡ old.units + 1 → new.marks ≡ old.marks + 1
       → IsFollowed new units (before ++ m ∷ [])
   follow_rec next is sets v1_queue v2_queue more_units more_marks =
       let kind = rec_is m.kind is in
@@ -139,24 +146,31 @@ module _ (units : List UnitOfWork) (before : List Mark) (old new : Followed) (m 
       record {
         status = λ key.
             ap (option_map status_in) (sets key)
-            ∙ elim (same_unit m.unit key) as (λ b. option_map status_in (if b then Some first else standing_at old.standings key) ≡ (if b then given (has_no_v2 units key) m.kind (status_of units before key) else status_of units before key)) [
+            ∙ elim (same_unit m.unit key)
+            as (λ b. option_map status_in (if b then Some first else standing_at old.standings key)
+            ≡ (if b then given (has_no_v2 units key) m.kind (status_of units before key) else status_of units before key)) [
               | true ↦ sym (ap (λ k. given (has_no_v2 units key) k (status_of units before key)) kind)
               | false ↦ so_far.status key
             ]
             ∙ sym (status_push (has_no_v2 units key) key None before m);
         error = λ key.
             ap (option_and_then error_in) (sets key)
-            ∙ elim (same_unit m.unit key) as (λ b. option_and_then error_in (if b then Some first else standing_at old.standings key) ≡ (if b then told m.kind (error_of before key) else error_of before key)) [
+            ∙ elim (same_unit m.unit key)
+            as (λ b. option_and_then error_in (if b then Some first else standing_at old.standings key)
+            ≡ (if b then told m.kind (error_of before key) else error_of before key)) [
               | true ↦ sym (ap (λ k. told k (error_of before key)) kind)
               | false ↦ so_far.error key
             ]
             ∙ sym (error_push key None before m);
         unit = λ key. subst (λ o. IfSome o (λ (s : Standing). slice_get units s.place ≡ unit_at units key)) (sym (sets key))
-            (elim (same_unit m.unit key) as (λ b. same_unit m.unit key ≡ b → IfSome (if b then Some first else standing_at old.standings key) (λ (s : Standing). slice_get units s.place ≡ unit_at units key)) [
+            (elim (same_unit m.unit key)
+            as (λ b. same_unit m.unit key ≡ b → IfSome (if b then Some first else standing_at old.standings key)
+            (λ (s : Standing). slice_get units s.place ≡ unit_at units key)) [
               | true ↦ λ e. ap (slice_get units) so_far.count_units ∙ next.there is ∙ ap (unit_at units) (one_unit m.unit key e)
               | false ↦ λ e. so_far.unit key
             ] refl);
-        placed = noted_placed units old.standings new.standings m.unit old.units old.marks Open None (omega (arith, next.within is, so_far.count_units)) so_far.placed sets;
+        placed = noted_placed units old.standings new.standings m.unit old.units old.marks Open None
+            (omega (arith, next.within is, so_far.count_units)) so_far.placed sets;
         turn = turns_kept before old.standings new.standings m first (ap draws_alone kind) so_far.count_marks so_far.turn sets;
         v1_queue = v1_queue ∙ rec_turns Open old.v1_queue.turns none is so_far.v1_queue;
         v2_queue = v2_queue ∙ rec_turns Posted old.v2_queue.turns none is so_far.v2_queue;
@@ -164,46 +178,61 @@ module _ (units : List UnitOfWork) (before : List Mark) (old new : Followed) (m 
         count_marks = one_counted more_marks;
       }
 
-  pub follow_some : (s : Standing) (unit : UnitOfWork) (after : Status) (error : Option (ℕ × Reason)) (opened posted : Bool) → is_rec m.kind ≡ false → draws_alone m.kind ≡ false → standing_at old.standings m.unit ≡ Some s
-      → slice_get units s.place ≡ Some unit → Gave unit m.kind s.status after → error ≡ told m.kind s.error → opened ≡ same_status Open after → posted ≡ same_status Posted after
-      → Sets old.standings new.standings m.unit (stands_at s.place old.marks after error) → new.v1_queue.turns ≡ slice_set old.v1_queue.turns s.turn None ++ (if opened then Some m.unit else None) ∷ []
-      → new.v2_queue.turns ≡ slice_set old.v2_queue.turns s.turn None ++ (if posted then Some m.unit else None) ∷ [] → new.units ≡ old.units → new.marks ≡ old.marks + 1
+  pub follow_some : (s : Standing) (unit : UnitOfWork) (after : Status) (error : Option (ℕ × Reason)) (opened posted : Bool) → is_rec m.kind ≡ false
+      → draws_alone m.kind ≡ false → standing_at old.standings m.unit ≡ Some s
+      → slice_get units s.place ≡ Some unit → Gave unit m.kind s.status after → error ≡ told m.kind s.error → opened ≡ same_status Open after
+      → posted ≡ same_status Posted after
+      → Sets old.standings new.standings m.unit (stands_at s.place old.marks after error)
+      → new.v1_queue.turns ≡ slice_set old.v1_queue.turns s.turn None ++ (if opened then Some m.unit else None) ∷ []
+      → new.v2_queue.turns ≡ slice_set old.v2_queue.turns s.turn None ++ (if posted then Some m.unit else None) ∷ [] → new.units ≡ old.units
+      → new.marks ≡ old.marks + 1
       → IsFollowed new units (before ++ m ∷ [])
   follow_some s unit after error opened posted other alone stands at gave tells is_open is_posted sets v1_queue v2_queue same_units more_marks =
-      let known : slice_get units s.place ≡ unit_at units m.unit = subst (λ o. IfSome o (λ (t : Standing). slice_get units t.place ≡ unit_at units m.unit)) stands (so_far.unit m.unit) in
+      let known : slice_get units s.place ≡ unit_at units m.unit = subst
+      (λ o. IfSome o (λ (t : Standing). slice_get units t.place ≡ unit_at units m.unit)) stands (so_far.unit m.unit) in
       let there : unit_at units m.unit ≡ Some unit = sym known ∙ at in
       let turn = turn_known before old.standings m.unit s so_far.turn stands in
       record {
-        status = noted_status units before old.standings new.standings unit m.unit m.kind s.place old.marks m.seq s.status after error there so_far.status (sym (ap (option_map status_in) stands) ∙ so_far.status m.unit) gave sets;
+        status = noted_status units before old.standings new.standings unit m.unit m.kind s.place old.marks m.seq s.status after error there so_far.status
+            (sym (ap (option_map status_in) stands) ∙ so_far.status m.unit) gave sets;
         error = noted_error before old.standings new.standings m.unit m.kind old.marks m.seq s after error stands so_far.error tells sets;
         unit = λ key. subst (λ o. IfSome o (λ (t : Standing). slice_get units t.place ≡ unit_at units key)) (sym (sets key))
-            (elim (same_unit m.unit key) as (λ b. same_unit m.unit key ≡ b → IfSome (if b then Some (stands_at s.place old.marks after error) else standing_at old.standings key) (λ (t : Standing). slice_get units t.place ≡ unit_at units key)) [
+            (elim (same_unit m.unit key)
+            as (λ b. same_unit m.unit key ≡ b → IfSome (if b then Some (stands_at s.place old.marks after error) else standing_at old.standings key)
+            (λ (t : Standing). slice_get units t.place ≡ unit_at units key)) [
               | true ↦ λ e. known ∙ ap (unit_at units) (one_unit m.unit key e)
               | false ↦ λ e. so_far.unit key
             ] refl);
-        placed = noted_placed units old.standings new.standings m.unit s.place old.marks after error (in_range units old.standings m.unit s so_far.placed stands) so_far.placed sets;
+        placed = noted_placed units old.standings new.standings m.unit s.place old.marks after error
+            (in_range units old.standings m.unit s so_far.placed stands) so_far.placed sets;
         turn = turns_kept before old.standings new.standings m (stands_at s.place old.marks after error) alone so_far.count_marks so_far.turn sets;
-        v1_queue = v1_queue ∙ ap (λ b. slice_set old.v1_queue.turns s.turn None ++ (if b then Some m.unit else None) ∷ []) is_open ∙ noted_turns Open units before old.v1_queue.turns unit m s.status after s.turn there alone gave turn so_far.v1_queue;
-        v2_queue = v2_queue ∙ ap (λ b. slice_set old.v2_queue.turns s.turn None ++ (if b then Some m.unit else None) ∷ []) is_posted ∙ noted_turns Posted units before old.v2_queue.turns unit m s.status after s.turn there alone gave turn so_far.v2_queue;
+        v1_queue = v1_queue ∙ ap (λ b. slice_set old.v1_queue.turns s.turn None ++ (if b then Some m.unit else None) ∷ []) is_open
+            ∙ noted_turns Open units before old.v1_queue.turns unit m s.status after s.turn there alone gave turn so_far.v1_queue;
+        v2_queue = v2_queue ∙ ap (λ b. slice_set old.v2_queue.turns s.turn None ++ (if b then Some m.unit else None) ∷ []) is_posted
+            ∙ noted_turns Posted units before old.v2_queue.turns unit m s.status after s.turn there alone gave turn so_far.v2_queue;
         count_units = same_units ∙ so_far.count_units ∙ sym (no_more before m other);
         count_marks = one_counted more_marks;
       }
 
   -- a mark of a unit that stands nowhere records it, or is one of numbers alone
-  pub follow_none : MayBeNext units before m → is_rec m.kind ≡ false → draws_alone m.kind ≡ false → standing_at old.standings m.unit ≡ None → IsFollowed new units (before ++ m ∷ [])
+  pub follow_none : MayBeNext units before m → is_rec m.kind ≡ false → draws_alone m.kind ≡ false → standing_at old.standings m.unit ≡ None
+      → IsFollowed new units (before ++ m ∷ [])
   follow_none next other decides stands =
       let none : status_of units before m.unit ≡ None = sym (so_far.status m.unit) ∙ ap (option_map status_in) stands in
       let alone = alone_is m.kind (subst (λ s. may_follow s m.kind ≡ true) none next.legal) other in
       absurd (false≢true (sym decides ∙ alone))
 
-  pub follow_draw : draws_alone m.kind ≡ true → ((key : UnitKey) → standing_at new.standings key ≡ standing_at old.standings key) → new.v1_queue.turns ≡ old.v1_queue.turns ++ None ∷ [] → new.v2_queue.turns ≡ old.v2_queue.turns ++ None ∷ []
+  pub follow_draw : draws_alone m.kind ≡ true → ((key : UnitKey) → standing_at new.standings key ≡ standing_at old.standings key)
+      → new.v1_queue.turns ≡ old.v1_queue.turns ++ None ∷ [] → new.v2_queue.turns ≡ old.v2_queue.turns ++ None ∷ []
       → new.units ≡ old.units → new.marks ≡ old.marks + 1 → IsFollowed new units (before ++ m ∷ [])
   follow_draw alone same v1_queue v2_queue same_units more_marks =
       let only = draws_only m.kind alone in
       record {
         status = λ key.
             ap (option_map status_in) (same key) ∙ so_far.status key
-            ∙ elim (same_unit m.unit key) as (λ b. status_of units before key ≡ (if b then given (has_no_v2 units key) m.kind (status_of units before key) else status_of units before key)) [
+            ∙ elim (same_unit m.unit key)
+            as (λ b. status_of units before
+            key ≡ (if b then given (has_no_v2 units key) m.kind (status_of units before key) else status_of units before key)) [
               | true ↦ sym (only (has_no_v2 units key) (status_of units before key) None).0
               | false ↦ refl
             ]
@@ -230,12 +259,15 @@ legal_at : (units : List UnitOfWork) (before marks : List Mark) (i : ℕ) (m : M
     → may_follow (status_of units (before ++ take i marks) m.unit) m.kind ≡ true
 legal_at units before [] i m legal h is = absurd (omega arith)
 legal_at units before (x ∷ marks) zero m legal h is =
-    subst (λ ms. may_follow (status_of units ms m.unit) m.kind ≡ true) (sym (append-nil before)) (subst (λ (y : Mark). may_follow (status_of units before y.unit) y.kind ≡ true) (sym is) legal.0)
+    subst (λ ms. may_follow (status_of units ms m.unit) m.kind ≡ true) (sym (append-nil before))
+    (subst (λ (y : Mark). may_follow (status_of units before y.unit) y.kind ≡ true) (sym is) legal.0)
 legal_at units before (x ∷ marks) (suc i) m legal h is =
-    subst (λ ms. may_follow (status_of units ms m.unit) m.kind ≡ true) (append_assoc before (x ∷ []) (take i marks)) (legal_at units (before ++ x ∷ []) marks i m legal.1 (omega arith) is)
+    subst (λ ms. may_follow (status_of units ms m.unit) m.kind ≡ true) (append_assoc before (x ∷ []) (take i marks))
+    (legal_at units (before ++ x ∷ []) marks i m legal.1 (omega arith) is)
 
 -- the unit of a key stands where the keys before it are others
-at_split : (units : List UnitOfWork) (keys rest : List UnitKey) (key : UnitKey) → map (λ (u : UnitOfWork). u.key) units ≡ keys ++ key ∷ rest → AllByRecursion (λ k. same_unit k key ≡ false) keys
+at_split : (units : List UnitOfWork) (keys rest : List UnitKey) (key : UnitKey) → map (λ (u : UnitOfWork). u.key) units ≡ keys ++ key ∷ rest
+    → AllByRecursion (λ k. same_unit k key ≡ false) keys
     → (slice_get units (length keys) ≡ unit_at units key) × (length keys < length units)
 at_split [] [] rest key same others = cc
 at_split [] (k ∷ keys) rest key same others = cc
@@ -249,15 +281,19 @@ at_split (u ∷ units) (k ∷ keys) rest key same others =
     (further.0 ∙ sym (ap (λ b. cond b (Some u) (unit_at units key)) (subst (λ x. same_unit x key ≡ false) (sym is) others.0)), omega (arith, further.1))
 
 recorded_first : (m : Mark) (marks : List Mark) → is_rec m.kind ≡ true → recorded (m ∷ marks) ≡ m.unit ∷ recorded marks
-recorded_first m marks is = ap (λ b. map (λ (y : Mark). y.unit) (cond b (m ∷ filter (λ (y : Mark). is_rec y.kind) marks) (filter (λ (y : Mark). is_rec y.kind) marks))) is
+recorded_first m marks is =
+    ap (λ b. map (λ (y : Mark). y.unit) (cond b (m ∷ filter (λ (y : Mark). is_rec y.kind) marks) (filter (λ (y : Mark). is_rec y.kind) marks))) is
 
-pub may_be_next : (units : List UnitOfWork) (marks : List Mark) (i : ℕ) (m : Mark) → IsLegal units marks → map (λ (u : UnitOfWork). u.key) units ≡ recorded marks → i < length marks → m ≡ get_or marks i m
+pub may_be_next : (units : List UnitOfWork) (marks : List Mark) (i : ℕ) (m : Mark) → IsLegal units marks
+    → map (λ (u : UnitOfWork). u.key) units ≡ recorded marks → i < length marks → m ≡ get_or marks i m
     → MayBeNext units (take i marks) m
 may_be_next units marks i m legal same h is =
     let follows = legal_at units [] marks i m legal h is in
-    let found : is_rec m.kind ≡ true → (slice_get units (length (recorded (take i marks))) ≡ unit_at units m.unit) × (length (recorded (take i marks)) < length units) = λ rec.
+    let found : is_rec m.kind ≡ true → (slice_get units (length (recorded (take i marks))) ≡ unit_at units m.unit)
+    × (length (recorded (take i marks)) < length units) = λ rec.
     let kind = rec_is m.kind rec in
-    let none : status_of units (take i marks) m.unit ≡ None = rec_follows _ (subst (λ k. may_follow (status_of units (take i marks) m.unit) k ≡ true) kind follows) in
+    let none : status_of units (take i marks) m.unit ≡ None = rec_follows _
+    (subst (λ k. may_follow (status_of units (take i marks) m.unit) k ≡ true) kind follows) in
     let split : recorded marks ≡ recorded (take i marks) ++ m.unit ∷ recorded (drop (suc i) marks) =
     ap recorded (sym (take-append-drop i marks) ∙ ap (λ xs. take i marks ++ xs) (drop-cons marks i m h ∙ ap (λ x. x ∷ drop (suc i) marks) (sym is)))
     ∙ recorded_on (take i marks) (m ∷ drop (suc i) marks)
@@ -270,13 +306,18 @@ may_be_next units marks i m legal same h is =
       within = λ rec. (found rec).1;
     }
 
-unit_found : {S : Type 0} (standings : Standings S) (units : List UnitOfWork) (marks : List Mark) (key : UnitKey) (o : Option Standing) → standing_at standings key ≡ o → map (λ (u : UnitOfWork). u.key) units ≡ recorded marks
-    → option_map status_in o ≡ status_of units marks key → IfSome o (λ (s : Standing). slice_get units s.place ≡ unit_at units key) → option_and_then (λ (s : Standing). slice_get units s.place) o ≡ unit_at units key
+unit_found : {S : Type 0} (standings : Standings S) (units : List UnitOfWork) (marks : List Mark) (key : UnitKey) (o : Option Standing)
+    → standing_at standings key ≡ o → map (λ (u : UnitOfWork). u.key) units ≡ recorded marks
+    → option_map status_in o ≡ status_of units marks key → IfSome o (λ (s : Standing). slice_get units s.place ≡ unit_at units key)
+    → option_and_then (λ (s : Standing). slice_get units s.place) o ≡ unit_at units key
 unit_found standings units marks key (Some s) is same status there = there
 unit_found standings units marks key None is same status there =
-    sym (none_among key units (subst (λ ks. AllByRecursion (λ k. same_unit k key ≡ false) ks) (sym same) (none_recorded key marks (none_of (has_no_v2 units key) key marks (sym status)))))
+    sym (none_among key units
+    (subst (λ ks. AllByRecursion (λ k. same_unit k key ≡ false) ks) (sym same)
+    (none_recorded key marks (none_of (has_no_v2 units key) key marks (sym status)))))
 
-pub all_followed : (followed : Followed) (units : List UnitOfWork) (marks : List Mark) (i : ℕ) → length marks ≤ i → map (λ (u : UnitOfWork). u.key) units ≡ recorded marks
+pub all_followed : (followed : Followed) (units : List UnitOfWork) (marks : List Mark) (i : ℕ) → length marks ≤ i
+    → map (λ (u : UnitOfWork). u.key) units ≡ recorded marks
     → IsFollowed followed units (take i marks) → AreFollowed followed units marks
 all_followed followed units marks i h same so_far =
     let all : IsFollowed followed units marks = subst (λ ms. IsFollowed followed units ms) (take_all i marks h) so_far in
@@ -294,8 +335,10 @@ all_followed followed units marks i h same so_far =
 
 -- ---- the register
 
-pub restored_register : {S : Type 0} (start : ℕ) (units : List UnitOfWork) (marks : List Mark) (standings : Standings S) (v1_queue v2_queue : List (Option UnitKey)) (numbers : ℕ) → (1 ≤ length marks → 1 ≤ start) → length marks < 1048577
-    → AreStandings standings units marks → v1_queue ≡ turns_of Open units marks → v2_queue ≡ turns_of Posted units marks → numbers ≡ length (numbers_of units marks) → numbers ≤ 64 * length marks → All IsSmall units
+pub restored_register : {S : Type 0} (start : ℕ) (units : List UnitOfWork) (marks : List Mark) (standings : Standings S)
+    (v1_queue v2_queue : List (Option UnitKey)) (numbers : ℕ) → (1 ≤ length marks → 1 ≤ start) → length marks < 1048577
+    → AreStandings standings units marks → v1_queue ≡ turns_of Open units marks → v2_queue ≡ turns_of Posted units marks
+    → numbers ≡ length (numbers_of units marks) → numbers ≤ 64 * length marks → All IsSmall units
     → IsRegister start units marks standings v1_queue v2_queue numbers
 restored_register start units marks standings v1_queue v2_queue numbers begun few known waits waits_again counted few_numbers small = record {
   begun = begun;

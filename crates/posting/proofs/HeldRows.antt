@@ -48,13 +48,16 @@ get_past : (cs : List Change) (rows : Rows) (k : List ℕ) → InTables is_book_
 get_past [] rows k h = refl
 get_past (c ∷ cs) rows k h =
     get_past cs (changed_once c rows) k h.1 ∙ get_once c rows (6, k)
-    ∙ ap (λ b. cond b (value_in c) (get rows (6, k))) (not_same (6, k) (spot_of c) (λ e. books_and_business (spot_of c).0 h.0 (ap (λ (p : Place). is_business_table p.0) (sym e))))
+    ∙ ap (λ b. cond b (value_in c) (get rows (6, k)))
+    (not_same (6, k) (spot_of c) (λ e. books_and_business (spot_of c).0 h.0 (ap (λ (p : Place). is_business_table p.0) (sym e))))
 
-value_here : (rows : Rows) (ledger : Ledger) (name : RowName) → StandFor rows ledger → value_at rows 6 (row_name name) ≡ get (tables_of ledger.units ledger.marks) name
+value_here : (rows : Rows) (ledger : Ledger) (name : RowName) → StandFor rows ledger
+    → value_at rows 6 (row_name name) ≡ get (tables_of ledger.units ledger.marks) name
 value_here rows ledger name h =
     let q : Place = (6, row_name name) in
     sym (get_own rows q) ∙ ap (λ (r : Rows). get r q) h.exact
-    ∙ get_past (book_rows ledger) (map_rows ledger.levels (tables_of ledger.units ledger.marks)) (row_name name) (books_in is_book_table refl refl refl refl refl refl ledger)
+    ∙ get_past (book_rows ledger) (map_rows ledger.levels (tables_of ledger.units ledger.marks)) (row_name name)
+    (books_in is_book_table refl refl refl refl refl refl ledger)
     ∙ get_business ledger.levels (tables_of ledger.units ledger.marks) name
 
 -- ---- all texts of the tables are texts
@@ -91,7 +94,8 @@ OnOkText (Ok text) = IfSome text IsText
 OnOkText (Err reason) = Unit {0}
 
 sum_text : (z : ℤ) → OnOkText (sum_row z)
-sum_text z = elim (is_i64 z) as (λ b. is_i64 z ≡ b → OnOkText (if b then Ok (Some (signed_decimal z)) else Err Overflow)) [ true ↦ λ e. number_text z e | false ↦ λ e. tt ] refl
+sum_text z = elim (is_i64 z) as (λ b. is_i64 z ≡ b → OnOkText (if b then Ok (Some (signed_decimal z)) else Err Overflow))
+    [ true ↦ λ e. number_text z e | false ↦ λ e. tt ] refl
 
 added_text : (m : Option ℤ) (n : ℤ) → OnOkText (added_row m n)
 added_text None n = tt
@@ -109,17 +113,22 @@ abbrev OnOkTables : Result Tables EffectFault → Type 0
 OnOkTables (Ok tables) = AreTexts tables
 OnOkTables (Err fault) = Unit {0}
 
-applied_texts : (index : ℕ) (effects : List Effect) (tables : Tables) → AllByRecursion IsEffect effects → AreTexts tables → OnOkTables (applied_from index effects tables)
+applied_texts : (index : ℕ) (effects : List Effect) (tables : Tables) → AllByRecursion IsEffect effects → AreTexts tables
+    → OnOkTables (applied_from index effects tables)
 applied_texts index [] tables are all = all
 applied_texts index (effect ∷ effects) tables are all =
-    elim (row_after (get tables (row_of effect)) effect.deed) as (λ r. OnOkText r → OnOkTables (elim r [ Ok row ↦ applied_from (index + 1) effects (with_row tables (row_of effect) row) | Err reason ↦ Err (fault.Refused index reason) ])) [
+    elim (row_after (get tables (row_of effect)) effect.deed)
+    as (λ r. OnOkText r
+    → OnOkTables (elim r
+    [ Ok row ↦ applied_from (index + 1) effects (with_row tables (row_of effect) row) | Err reason ↦ Err (fault.Refused index reason) ])) [
       | Ok row ↦ λ is. applied_texts (index + 1) effects (with_row tables (row_of effect) row) are.1 (one_text tables (row_of effect) row all is)
       | Err reason ↦ λ is. tt
     ] (deed_text (get tables (row_of effect)) effect.deed are.0.deed)
 
 posted_texts : (effects : List Effect) (tables : Tables) → AllByRecursion IsEffect effects → AreTexts tables → AreTexts (posted effects tables)
 posted_texts effects tables are all =
-    elim (applied effects tables) as (λ r. OnOkTables r → AreTexts (tables_or tables r)) [ Ok after ↦ λ h. h | Err e ↦ λ h. all ] (applied_texts 1 effects tables are all)
+    elim (applied effects tables) as (λ r. OnOkTables r → AreTexts (tables_or tables r)) [ Ok after ↦ λ h. h | Err e ↦ λ h. all ]
+    (applied_texts 1 effects tables are all)
 
 abbrev AreSpelt : UnitOfWork → Type 0
 AreSpelt unit = AllByRecursion IsEffect unit.parts.v1 × AllByRecursion IsEffect unit.parts.v2
@@ -127,14 +136,17 @@ AreSpelt unit = AllByRecursion IsEffect unit.parts.v1 × AllByRecursion IsEffect
 first_part : (units : List UnitOfWork) (key : UnitKey) → AllByRecursion AreSpelt units → AllByRecursion IsEffect (v1_of units key)
 first_part [] key all = tt
 first_part (u ∷ units) key all =
-    elim (same_unit u.key key) as (λ b. AllByRecursion IsEffect (option_map_or (λ (x : UnitOfWork). x.parts.v1) (cond b (Some u) (unit_at units key)) [])) [ true ↦ all.0.0 | false ↦ first_part units key all.1 ]
+    elim (same_unit u.key key) as (λ b. AllByRecursion IsEffect (option_map_or (λ (x : UnitOfWork). x.parts.v1) (cond b (Some u) (unit_at units key)) []))
+    [ true ↦ all.0.0 | false ↦ first_part units key all.1 ]
 
 second_part : (units : List UnitOfWork) (key : UnitKey) → AllByRecursion AreSpelt units → AllByRecursion IsEffect (v2_of units key)
 second_part [] key all = tt
 second_part (u ∷ units) key all =
-    elim (same_unit u.key key) as (λ b. AllByRecursion IsEffect (option_map_or (λ (x : UnitOfWork). x.parts.v2) (cond b (Some u) (unit_at units key)) [])) [ true ↦ all.0.1 | false ↦ second_part units key all.1 ]
+    elim (same_unit u.key key) as (λ b. AllByRecursion IsEffect (option_map_or (λ (x : UnitOfWork). x.parts.v2) (cond b (Some u) (unit_at units key)) []))
+    [ true ↦ all.0.1 | false ↦ second_part units key all.1 ]
 
-part_spelt : (units : List UnitOfWork) (seq : ℕ) (key : UnitKey) (kind : MarkKind) → AllByRecursion AreSpelt units → AllByRecursion IsEffect (part_of units (record { seq = seq; unit = key; kind = kind }))
+part_spelt : (units : List UnitOfWork) (seq : ℕ) (key : UnitKey) (kind : MarkKind) → AllByRecursion AreSpelt units
+    → AllByRecursion IsEffect (part_of units (record { seq = seq; unit = key; kind = kind }))
 part_spelt units seq key V1 all = first_part units key all
 part_spelt units seq key V2 all = second_part units key all
 part_spelt units seq key (Num numbers) all = tt
@@ -145,9 +157,11 @@ part_spelt units seq key (Bad2 i r) all = tt
 part_spelt units seq key Again2 all = tt
 part_spelt units seq key Gone all = tt
 
-tables_texts : (units : List UnitOfWork) (tables : Tables) (marks : List Mark) → AllByRecursion AreSpelt units → AreTexts tables → AreTexts (tables_after units tables marks)
+tables_texts : (units : List UnitOfWork) (tables : Tables) (marks : List Mark) → AllByRecursion AreSpelt units → AreTexts tables
+    → AreTexts (tables_after units tables marks)
 tables_texts units tables [] all h = h
-tables_texts units tables (m ∷ marks) all h = tables_texts units (posted (part_of units m) tables) marks all (posted_texts (part_of units m) tables (part_spelt units m.seq m.unit m.kind all) h)
+tables_texts units tables (m ∷ marks) all h = tables_texts units (posted (part_of units m) tables) marks all
+    (posted_texts (part_of units m) tables (part_spelt units m.seq m.unit m.kind all) h)
 
 units_spelt : (units : List UnitOfWork) → AllByRecursion IsUnit units → AllByRecursion AreSpelt units
 units_spelt [] h = tt
@@ -168,11 +182,13 @@ pub holds : (rows : Rows) (ledger : Ledger) → StandFor rows ledger → HoldsTa
 holds rows ledger h name = ap text_in (value_here rows ledger name h) ∙ still_text _ (ledger_texts ledger h.lawful name)
 
 -- what is read is what the tables have
-read_is : (held : Option Rows) (ledger : Ledger) (name : RowName) (text : Option (List ℕ)) → IfSome held (λ rows. StandFor rows ledger) → IfSome held (λ rows. text ≡ text_at rows name) → IfSome held (λ _. text ≡ get (tables_of ledger.units ledger.marks) name)
+read_is : (held : Option Rows) (ledger : Ledger) (name : RowName) (text : Option (List ℕ)) → IfSome held (λ rows. StandFor rows ledger)
+    → IfSome held (λ rows. text ≡ text_at rows name) → IfSome held (λ _. text ≡ get (tables_of ledger.units ledger.marks) name)
 read_is None ledger name text h is = tt
 read_is (Some rows) ledger name text h is = is ∙ holds rows ledger h name
 
-pub all_read : {E : Type 0} (r : Result (Option (List ℕ)) E) (held : Option Rows) (ledger : Ledger) (name : RowName) → IfSome held (λ rows. StandFor rows ledger) → IfOk r (λ text. IfSome held (λ rows. text ≡ text_at rows name))
+pub all_read : {E : Type 0} (r : Result (Option (List ℕ)) E) (held : Option Rows) (ledger : Ledger) (name : RowName)
+    → IfSome held (λ rows. StandFor rows ledger) → IfOk r (λ text. IfSome held (λ rows. text ≡ text_at rows name))
     → IfOk r (λ text. IfSome held (λ _. text ≡ get (tables_of ledger.units ledger.marks) name))
 all_read (Ok text) held ledger name h is = read_is held ledger name text h is
 all_read (Err e) held ledger name h is = tt

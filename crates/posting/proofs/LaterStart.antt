@@ -15,7 +15,8 @@ use Rattle.update_records.proofs.Books.{meta_is, parts_of}
 use Rattle.update_records.proofs.Own.{own_changed}
 use Rattle.posting.proofs.UsableBooks.{first_makes}
 
-raised_rows : (ledger : Ledger) (start : ℕ) → 1 ≤ ledger.start → 1 ≤ start → changed (meta_row start (length ledger.marks) ∷ []) (rows_of ledger) ≡ rows_of (with_start ledger start)
+raised_rows : (ledger : Ledger) (start : ℕ) → 1 ≤ ledger.start → 1 ≤ start
+    → changed (meta_row start (length ledger.marks) ∷ []) (rows_of ledger) ≡ rows_of (with_start ledger start)
 raised_rows ledger start begun h =
     let n = length ledger.marks in
     let base = map_rows ledger.levels (tables_of ledger.units ledger.marks) in
@@ -55,21 +56,24 @@ raised_lawful ledger start later small law = record {
 
 raised_stands : (rows : Rows) (ledger : Ledger) (start : ℕ) → start ≡ ledger.start + 1 → start < 2 ^ 32 → StandFor rows ledger
     → StandFor (changed (meta_row start (length ledger.marks) ∷ []) rows) (with_start ledger start)
-raised_stands rows ledger start is small stands = elim stands.lawful as (λ _. StandFor (changed (meta_row start (length ledger.marks) ∷ []) rows) (with_start ledger start)) [
-  | inl none ↦
-      let one : start ≡ 1 = is ∙ ap (λ (l : Ledger). l.start + 1) none in
-      let here = first_makes (Some rows) (meta_row 1 0 ∷ []) ledger none refl stands in
-      subst (λ k. StandFor (changed (meta_row k (length ledger.marks) ∷ []) rows) (with_start ledger k)) (sym one)
-      (subst (λ n. StandFor (changed (meta_row 1 n ∷ []) rows) (with_start ledger 1)) (sym (ap (λ (l : Ledger). length l.marks) none)) here)
-  | inr law ↦ record {
-    exact = own_changed (meta_row start (length ledger.marks) ∷ []) rows (refl, tt) ∙ ap (changed (meta_row start (length ledger.marks) ∷ [])) stands.exact
-        ∙ raised_rows ledger start law.started (omega (arith, is));
-    lawful = inr (raised_lawful ledger start (omega (arith, is)) small law);
-  }
-]
+raised_stands rows ledger start is small stands =
+    elim stands.lawful as (λ _. StandFor (changed (meta_row start (length ledger.marks) ∷ []) rows) (with_start ledger start)) [
+      | inl none ↦
+          let one : start ≡ 1 = is ∙ ap (λ (l : Ledger). l.start + 1) none in
+          let here = first_makes (Some rows) (meta_row 1 0 ∷ []) ledger none refl stands in
+          subst (λ k. StandFor (changed (meta_row k (length ledger.marks) ∷ []) rows) (with_start ledger k)) (sym one)
+          (subst (λ n. StandFor (changed (meta_row 1 n ∷ []) rows) (with_start ledger 1)) (sym (ap (λ (l : Ledger). length l.marks) none)) here)
+      | inr law ↦ record {
+        exact = own_changed (meta_row start (length ledger.marks) ∷ []) rows (refl, tt) ∙ ap (changed (meta_row start (length ledger.marks) ∷ [])) stands.exact
+            ∙ raised_rows ledger start law.started (omega (arith, is));
+        lawful = inr (raised_lawful ledger start (omega (arith, is)) small law);
+      }
+    ]
 
 -- the batch of a later start makes its rows
-pub start_makes : (held : Option Rows) (batch : List Change) (ledger : Ledger) (start : ℕ) → start ≡ ledger.start + 1 → start < 2 ^ 32 → batch ≡ meta_row start (length ledger.marks) ∷ []
+pub start_makes : (held : Option Rows) (batch : List Change) (ledger : Ledger) (start : ℕ) → start ≡ ledger.start + 1 → start < 2 ^ 32
+    → batch ≡ meta_row start (length ledger.marks) ∷ []
     → IfSome held (λ rows. StandFor rows ledger) → IfSome held (λ rows. StandFor (changed batch rows) (with_start ledger start))
 start_makes None batch ledger start is small made h = tt
-start_makes (Some rows) batch ledger start is small made h = subst (λ b. StandFor (changed b rows) (with_start ledger start)) (sym made) (raised_stands rows ledger start is small h)
+start_makes (Some rows) batch ledger start is small made h = subst (λ b. StandFor (changed b rows) (with_start ledger start)) (sym made)
+    (raised_stands rows ledger start is small h)

@@ -24,7 +24,8 @@ use Rattle.posting.specs.Numbers.{AreNumbersRight, committed}
 -- ---- numbers one after the other
 
 differ : (n k : ℕ) → n < k → nat_eq n k ≡ false
-differ n k less = elim (nat_eq n k) as (λ b. nat_eq n k ≡ b → b ≡ false) [ true ↦ λ e. let same = eqb-true n k e in absurd (omega (arith, same, less)) | false ↦ λ e. refl ] refl
+differ n k less = elim (nat_eq n k) as (λ b. nat_eq n k ≡ b → b ≡ false)
+    [ true ↦ λ e. let same = eqb-true n k e in absurd (omega (arith, same, less)) | false ↦ λ e. refl ] refl
 
 all_past : (n a len : ℕ) → n < a → AllByRecursion (λ k. nat_eq n k ≡ false) (range_with_len a len)
 all_past n a zero less = tt
@@ -45,14 +46,16 @@ drawn_once : (buffered : Bool) (level : Level) (numbers : List ℕ) → AreDrawn
 drawn_once false level numbers drawn = subst (IsDistinct nat_eq) (sym drawn) (range_once level.from (level.level + 1 - level.from))
 drawn_once true level numbers drawn = drawn.0
 
-drawn_inside : (buffered : Bool) (level : Level) (numbers : List ℕ) → level.from ≤ level.level + 1 → AreDrawn buffered level numbers → All (λ n. (level.from ≤ n) × (n ≤ level.level)) numbers
+drawn_inside : (buffered : Bool) (level : Level) (numbers : List ℕ) → level.from ≤ level.level + 1 → AreDrawn buffered level numbers
+    → All (λ n. (level.from ≤ n) × (n ≤ level.level)) numbers
 drawn_inside false level numbers begun drawn =
     subst (All (λ n. (level.from ≤ n) × (n ≤ level.level))) (sym drawn)
     (All-from_recursion (λ n. (level.from ≤ n) × (n ≤ level.level)) (range_with_len level.from (level.level + 1 - level.from))
     (range_inside level.from level.level level.from (level.level + 1 - level.from) (omega arith) (omega (arith, begun))))
 drawn_inside true level numbers begun drawn = drawn.1
 
-drawn_run : (level : Level) (numbers : List ℕ) (buffered : Bool) → level.buffered ≡ buffered → AreDrawn level.buffered level numbers → buffered ≡ false → numbers ≡ range_with_len level.from (level.level + 1 - level.from)
+drawn_run : (level : Level) (numbers : List ℕ) (buffered : Bool) → level.buffered ≡ buffered → AreDrawn level.buffered level numbers → buffered ≡ false
+    → numbers ≡ range_with_len level.from (level.level + 1 - level.from)
 drawn_run level numbers false is drawn h = subst (λ b. AreDrawn b level numbers) is drawn
 drawn_run level numbers true is drawn h = cc
 
@@ -70,15 +73,18 @@ from_name name num h =
 none_some : (levels : Levels) (name : RowName) → get levels name ≡ None → IsSome (get levels name) → ⊥
 none_some levels name none some = cc
 
-none_drawn : (levels : Levels) (name : RowName) (numbers : List Number) → get levels name ≡ None → AllByRecursion (λ num. IsSome (get levels (interval_of num))) numbers → numbers_from name numbers ≡ []
+none_drawn : (levels : Levels) (name : RowName) (numbers : List Number) → get levels name ≡ None
+    → AllByRecursion (λ num. IsSome (get levels (interval_of num))) numbers → numbers_from name numbers ≡ []
 none_drawn levels name [] none all = refl
 none_drawn levels name (num ∷ numbers) none all =
-    elim (is_from name num) as (λ b. is_from name num ≡ b → map (λ (n : Number). n.number) (cond b (num ∷ filter (is_from name) numbers) (filter (is_from name) numbers)) ≡ []) [
+    elim (is_from name num)
+    as (λ b. is_from name num ≡ b → map (λ (n : Number). n.number) (cond b (num ∷ filter (is_from name) numbers) (filter (is_from name) numbers)) ≡ []) [
       | true ↦ λ e. absurd (none_some levels name none (subst (λ n. IsSome (get levels n)) (from_name name num e) all.0))
       | false ↦ λ e. none_drawn levels name numbers none all.1
     ] refl
 
-once_by : (levels : Levels) (name : RowName) (numbers : List Number) (found : Option Level) → get levels name ≡ found → IfSome found (IsRightLevel name numbers) → AllByRecursion (λ num. IsSome (get levels (interval_of num))) numbers
+once_by : (levels : Levels) (name : RowName) (numbers : List Number) (found : Option Level) → get levels name ≡ found → IfSome found (IsRightLevel name numbers)
+    → AllByRecursion (λ num. IsSome (get levels (interval_of num))) numbers
     → IsDistinct nat_eq (numbers_from name numbers)
 unfolding IsDistinct
 once_by levels name numbers None is right all = subst (IsDistinct nat_eq) (sym (none_drawn levels name numbers is all)) tt
@@ -89,14 +95,16 @@ run_by : (name : RowName) (numbers : List Number) (found : Option Level) → IfS
 run_by name numbers None right = tt
 run_by name numbers (Some level) right = λ h. drawn_run level (numbers_from name numbers) level.buffered refl right.drawn h
 
-inside_by : (name : RowName) (numbers : List Number) (found : Option Level) → IfSome found (IsRightLevel name numbers) → IfSome found (λ level. All (λ n. (level.from ≤ n) × (n ≤ level.level)) (numbers_from name numbers))
+inside_by : (name : RowName) (numbers : List Number) (found : Option Level) → IfSome found (IsRightLevel name numbers)
+    → IfSome found (λ level. All (λ n. (level.from ≤ n) × (n ≤ level.level)) (numbers_from name numbers))
 inside_by name numbers None right = tt
 inside_by name numbers (Some level) right = drawn_inside level.buffered level (numbers_from name numbers) right.begun right.drawn
 
 -- levels that agree with the numbers say all of this
 agreeing : (ledger : Ledger) → LevelsAgree ledger.levels (committed ledger) → AreNumbersRight ledger
 agreeing ledger agree = record {
-  once = λ name. once_by ledger.levels name (committed ledger) (get ledger.levels name) refl (agree.right name) (recursion_from_All (λ num. IsSome (get ledger.levels (interval_of num))) (committed ledger) agree.stored);
+  once = λ name. once_by ledger.levels name (committed ledger) (get ledger.levels name) refl (agree.right name)
+      (recursion_from_All (λ num. IsSome (get ledger.levels (interval_of num))) (committed ledger) agree.stored);
   consecutive = λ name. run_by name (committed ledger) (get ledger.levels name) (agree.right name);
   within = λ name. inside_by name (committed ledger) (get ledger.levels name) (agree.right name);
   stored = agree.stored;
@@ -120,14 +128,17 @@ raised_numbers false ledger right = right
 raised_numbers true ledger right = record { once = right.once; consecutive = right.consecutive; within = right.within; stored = right.stored }
 
 -- a batch that makes the rows of a ledger leaves its numbers right
-pub written_numbers : (old new : Option Rows) (batch : List Change) (made after : Ledger) → new ≡ held_after batch old → IfSome old (λ rows. StandFor (changed batch rows) made) → after ≡ made → IfSome new (λ _. AreNumbersRight after)
+pub written_numbers : (old new : Option Rows) (batch : List Change) (made after : Ledger) → new ≡ held_after batch old
+    → IfSome old (λ rows. StandFor (changed batch rows) made) → after ≡ made → IfSome new (λ _. AreNumbersRight after)
 written_numbers None new batch made after is makes same = subst (λ held. IfSome held (λ _. AreNumbersRight after)) (sym is) tt
 written_numbers (Some rows) new batch made after is makes same =
     subst (λ held. IfSome held (λ _. AreNumbersRight after)) (sym is) (subst AreNumbersRight (sym same) (sound_numbers made makes.lawful))
 
 -- what was ready of the books as they are seen is ready of their parts
-pub made_of_parts : {K : Type 0} (held : K → Option Rows) (keeper now : K) (ledger seen : Ledger) (batch given : List Change) (step wanted : Step) → keeper ≡ now → ledger ≡ seen → batch ≡ given → step ≡ wanted
-    → IfSome (held now) (λ rows. StandFor (changed given rows) (after_step seen wanted)) → IfSome (held keeper) (λ rows. StandFor (changed batch rows) (after_step ledger step))
+pub made_of_parts : {K : Type 0} (held : K → Option Rows) (keeper now : K) (ledger seen : Ledger) (batch given : List Change) (step wanted : Step)
+    → keeper ≡ now → ledger ≡ seen → batch ≡ given → step ≡ wanted
+    → IfSome (held now) (λ rows. StandFor (changed given rows) (after_step seen wanted))
+    → IfSome (held keeper) (λ rows. StandFor (changed batch rows) (after_step ledger step))
 made_of_parts held keeper now ledger seen batch given step wanted k l b s makes =
     subst (λ k. IfSome (held k) (λ rows. StandFor (changed batch rows) (after_step ledger step))) (sym k)
     (subst (λ l. IfSome (held now) (λ rows. StandFor (changed batch rows) (after_step l step))) (sym l)

@@ -29,10 +29,12 @@ past c (d ∷ ds) rows apart =
 one_name : (a b : RowName) (s t : Option (List ℕ)) → spot_of (row_left a s) ≡ spot_of (row_left b t) → a ≡ b
 one_name a b s t e = sym (unname_name a) ∙ ap (λ (p : Place). unname p.1) (sym (left_spot a s) ∙ e ∙ left_spot b t) ∙ unname_name b
 
-others_apart : (s : Spot) (ss : List Spot) → AllByRecursion (λ name. same_row (row_at s) name ≡ false) (map row_at ss) → IsApart (spot_of (row_change s)) (row_changes ss)
+others_apart : (s : Spot) (ss : List Spot) → AllByRecursion (λ name. same_row (row_at s) name ≡ false) (map row_at ss)
+    → IsApart (spot_of (row_change s)) (row_changes ss)
 others_apart s [] h = tt
 others_apart s (t ∷ ss) h = (
-  not_same (spot_of (row_change s)) (spot_of (row_change t)) (λ e. false≢true (sym h.0 ∙ (same_row-Decides (row_at s) (row_at t)).1 (one_name (row_at s) (row_at t) s.text t.text e))),
+  not_same (spot_of (row_change s)) (spot_of (row_change t))
+      (λ e. false≢true (sym h.0 ∙ (same_row-Decides (row_at s) (row_at t)).1 (one_name (row_at s) (row_at t) s.text t.text e))),
   others_apart s ss h.1,
 )
 
@@ -40,7 +42,8 @@ apart_first : (s : Spot) (ss : List Spot) → HasDistinctRows (s ∷ ss) → IsA
 apart_first s ss h = others_apart s ss (IsDistinct-head same_row (row_at s) (map row_at ss) h)
 
 -- the changes make of the rows what the spots make of the tables
-pub rows_are : (levels : Levels) (ss : List Spot) (tables : Tables) → HasDistinctRows ss → changed (row_changes ss) (map_rows levels tables) ≡ map_rows levels (with_spots ss tables)
+pub rows_are : (levels : Levels) (ss : List Spot) (tables : Tables) → HasDistinctRows ss
+    → changed (row_changes ss) (map_rows levels tables) ≡ map_rows levels (with_spots ss tables)
 rows_are levels [] tables h = refl
 rows_are levels (s ∷ ss) tables h =
     past (row_change s) (row_changes ss) (map_rows levels tables) (apart_first s ss h)
@@ -50,7 +53,8 @@ rows_are levels (s ∷ ss) tables h =
 pub rows_distinct : (ss : List Spot) → HasDistinctRows ss → AreDistinct (row_changes ss)
 rows_distinct [] h = none_distinct
 rows_distinct (s ∷ ss) h =
-    IsDistinct-cons is_same_spot (spot_of (row_change s)) (spots (row_changes ss)) (apart_first s ss h) (rows_distinct ss (IsDistinct-tail same_row (row_at s) (map row_at ss) h))
+    IsDistinct-cons is_same_spot (spot_of (row_change s)) (spots (row_changes ss)) (apart_first s ss h)
+    (rows_distinct ss (IsDistinct-tail same_row (row_at s) (map row_at ss) h))
 
 pub rows_in : (ss : List Spot) → InTables is_business_table (row_changes ss)
 rows_in [] = tt

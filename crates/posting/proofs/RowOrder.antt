@@ -23,7 +23,8 @@ use Rattle.ledger_steps.specs.Intervals.{AreInOrder, in_row_order, interval_of_e
 use Rattle.ledger_steps.proofs.RowNames.{Bytes, exact_bytes, first_called, key-Decides}
 
 -- how the code compares two names
-pub keys_compared : (a b : RowName) → ordering_then (ordering_then (nat_cmp (length a.0) (length b.0)) (slice_cmp nat_cmp a.0 b.0)) (slice_cmp nat_cmp a.1 b.1) ≡ key_cmp a b
+pub keys_compared : (a b : RowName) → ordering_then (ordering_then (nat_cmp (length a.0) (length b.0)) (slice_cmp nat_cmp a.0 b.0))
+    (slice_cmp nat_cmp a.1 b.1) ≡ key_cmp a b
 keys_compared a b = name_cmp a.0 b.0 a.1 b.1
 
 -- ---- names and their keys
@@ -34,7 +35,8 @@ is_key k = bytes_eq k (row_name (unname k))
 
 spelt-Decides : (k : Bytes) (r : RowName) → Decides (is_key k && same_row (unname k) r) (k ≡ row_name r)
 spelt-Decides k r =
-    Decides-like (is_key k && same_row (unname k) r) (λ p. p.0 ∙ ap row_name p.1) (λ e. let is : unname k ≡ r = ap unname e ∙ unname_name r in (e ∙ ap row_name (sym is), is))
+    Decides-like (is_key k && same_row (unname k) r) (λ p. p.0 ∙ ap row_name p.1)
+    (λ e. let is : unname k ≡ r = ap unname e ∙ unname_name r in (e ∙ ap row_name (sym is), is))
     (Decides-and _ _ (bytes_eq-Decides k (row_name (unname k))) (same_row-Decides (unname k) r))
 
 spelt : (k : Bytes) (r : RowName) → eq_by_cmp (slice_cmp nat_cmp) k (row_name r) ≡ (is_key k && same_row (unname k) r)
@@ -57,7 +59,8 @@ nothing_behind true g = refl
 nothing_behind false g = refl
 
 -- what stands behind the key of a row
-behind_key : (k : Bytes) (es : List (RowName × Level)) → find (slice_cmp nat_cmp) k (map keyed (map interval_of_entry es)) ≡ at_key k (find row_cmp (unname k) es)
+behind_key : (k : Bytes) (es : List (RowName × Level)) → find (slice_cmp nat_cmp) k (map keyed (map interval_of_entry es)) ≡ at_key k
+    (find row_cmp (unname k) es)
 behind_key k [] = nothing_behind (is_key k) (λ (l : Level). interval_of_entry (unname k, l))
 behind_key k (e ∷ es) =
     ap (λ b. cond b (Some (interval_of_entry e)) (find (slice_cmp nat_cmp) k (map keyed (map interval_of_entry es)))) (spelt k e.0)
@@ -75,7 +78,9 @@ same_values (j ∷ items) = ap (λ is. j ∷ is) (same_values items)
 -- intervals that are kept in order are those of their map in order
 pub in_order : (items : List StoredInterval) → AreInOrder items → in_row_order (levels_of items) ≡ items
 in_order items h =
-    ap (λ m. values m) (same_map nat_list_cmp_total exact_bytes (from_entries {R = slice_cmp nat_cmp} (map keyed (map interval_of_entry (entries (levels_of items))))) (from_sorted (map keyed items)) (λ k.
+    ap (λ m. values m)
+    (same_map nat_list_cmp_total exact_bytes (from_entries {R = slice_cmp nat_cmp} (map keyed (map interval_of_entry (entries (levels_of items)))))
+    (from_sorted (map keyed items)) (λ k.
     get-from_entries nat_list_cmp_total (map keyed (map interval_of_entry (entries (levels_of items)))) k
     ∙ behind_key k (entries (levels_of items))
     ∙ ap (at_key k) (sym (get-entries (levels_of items) (unname k)) ∙ get-from_entries rows_total (map entry_of items) (unname k))
@@ -109,7 +114,8 @@ greater_of Equal h = cc
 greater_of Greater h = refl
 
 -- a key that is below all is below each
-below_at : (k : Bytes) (items : List StoredInterval) (i : ℕ) (d : StoredInterval) → T (below_all (slice_cmp nat_cmp) k (map keyed items)) → i < length items → slice_cmp nat_cmp k (row_name (named (get_or items i d))) ≡ Less
+below_at : (k : Bytes) (items : List StoredInterval) (i : ℕ) (d : StoredInterval) → T (below_all (slice_cmp nat_cmp) k (map keyed items)) → i < length items
+    → slice_cmp nat_cmp k (row_name (named (get_or items i d))) ≡ Less
 below_at k [] i d h within = absurd (omega arith)
 below_at k (j ∷ items) zero d h within = less_of (slice_cmp nat_cmp k (row_name (named j))) (first_below _ _ h)
 below_at k (j ∷ items) (suc i) d h within = below_at k items i d (rest_below _ _ h) (omega arith)

@@ -39,7 +39,8 @@ first_stands rows h = record {
 }
 
 -- the batch of the first start makes its rows
-pub first_makes : (held : Option Rows) (batch : List Change) (ledger : Ledger) → ledger ≡ no_ledger → batch ≡ meta_row 1 0 ∷ [] → IfSome held (λ rows. StandFor rows ledger) → IfSome held (λ rows. StandFor (changed batch rows) (with_start ledger 1))
+pub first_makes : (held : Option Rows) (batch : List Change) (ledger : Ledger) → ledger ≡ no_ledger → batch ≡ meta_row 1 0 ∷ []
+    → IfSome held (λ rows. StandFor rows ledger) → IfSome held (λ rows. StandFor (changed batch rows) (with_start ledger 1))
 first_makes None batch ledger is made h = tt
 first_makes (Some rows) batch ledger is made h =
     subst (λ b. StandFor (changed b rows) (with_start ledger 1)) (sym made)
@@ -50,7 +51,8 @@ unfolding IsDistinct
 one_batch start n batch is = subst IsBatch (sym is) (record { keys = (omega arith, tt); distinct = (tt, tt) })
 
 -- while nothing is committed, what may be left is as before
-pub raised_left : (held : Option Rows) (before may_leave : Rows → Type 0) (after : Ledger) → IfSome held (λ rows. IsOnly rows before) → IfSome held (λ rows. (left : Rows) → may_leave left → (left ≡ rows) ⊎ StandFor left after)
+pub raised_left : (held : Option Rows) (before may_leave : Rows → Type 0) (after : Ledger) → IfSome held (λ rows. IsOnly rows before)
+    → IfSome held (λ rows. (left : Rows) → may_leave left → (left ≡ rows) ⊎ StandFor left after)
     → IfSome held (λ rows. (left : Rows) → may_leave left → before left ⊎ StandFor left after)
 raised_left None before may_leave after only h = tt
 raised_left (Some rows) before may_leave after only h = λ left may. elim (h left may) [
@@ -59,8 +61,10 @@ raised_left (Some rows) before may_leave after only h = λ left may. elim (h lef
 ]
 
 -- what an opening leaves
-pub raised_from : (held other : Option Rows) (before may_leave : Rows → Type 0) (after now : Ledger) → other ≡ held → after ≡ now → IfSome held (λ rows. IsOnly rows before)
-    → IfSome other (λ rows. (left : Rows) → may_leave left → (left ≡ rows) ⊎ StandFor left after) → IfSome held (λ rows. (left : Rows) → may_leave left → before left ⊎ StandFor left now)
+pub raised_from : (held other : Option Rows) (before may_leave : Rows → Type 0) (after now : Ledger) → other ≡ held → after ≡ now
+    → IfSome held (λ rows. IsOnly rows before)
+    → IfSome other (λ rows. (left : Rows) → may_leave left → (left ≡ rows) ⊎ StandFor left after)
+    → IfSome held (λ rows. (left : Rows) → may_leave left → before left ⊎ StandFor left now)
 raised_from held other before may_leave after now same is only h =
     raised_left held before may_leave now only
     (subst (λ o. IfSome o (λ rows. (left : Rows) → may_leave left → (left ≡ rows) ⊎ StandFor left now)) same

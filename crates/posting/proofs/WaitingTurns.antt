@@ -41,7 +41,9 @@ alone_gives status b Gone h = cc
 pub turns_waiting : (status : Status) (units : List UnitOfWork) (marks : List Mark) → waiting_in (turns_of status units marks) ≡ units_with status units marks
 turns_waiting status units [] = refl
 turns_waiting status units (m ∷ marks) =
-    elim (gives status units m && not (list_any (decides m.unit) marks)) as (λ b. waiting_in ((if b then Some m.unit else None) ∷ turns_of status units marks) ≡ (if b then m.unit ∷ units_with status units marks else units_with status units marks)) [
+    elim (gives status units m && not (list_any (decides m.unit) marks))
+    as (λ b. waiting_in ((if b then Some m.unit else None) ∷ turns_of status units marks)
+    ≡ (if b then m.unit ∷ units_with status units marks else units_with status units marks)) [
       | true ↦ ap (λ r. m.unit ∷ r) (turns_waiting status units marks)
       | false ↦ turns_waiting status units marks
     ]
@@ -52,12 +54,15 @@ one_each status units [] = refl
 one_each status units (m ∷ marks) = ap suc (one_each status units marks)
 
 -- the last turn of a unit, with one mark more
-pub last_push : (key : UnitKey) (marks : List Mark) (m : Mark) → last_turn key (marks ++ m ∷ []) ≡ (if decides key m then Some (length marks) else last_turn key marks)
+pub last_push : (key : UnitKey) (marks : List Mark) (m : Mark) → last_turn key
+    (marks ++ m ∷ []) ≡ (if decides key m then Some (length marks) else last_turn key marks)
 last_push key [] m = refl
 last_push key (x ∷ marks) m =
     let first : Option ℕ = if decides key x then Some 0 else None in
     ap (λ o. option_or (option_map suc o) first) (last_push key marks m)
-    ∙ elim (decides key m) as (λ b. option_or (option_map suc (if b then Some (length marks) else last_turn key marks)) first ≡ (if b then Some (suc (length marks)) else option_or (option_map suc (last_turn key marks)) first)) [
+    ∙ elim (decides key m)
+    as (λ b. option_or (option_map suc (if b then Some (length marks) else last_turn key marks))
+    first ≡ (if b then Some (suc (length marks)) else option_or (option_map suc (last_turn key marks)) first)) [
       | true ↦ refl
       | false ↦ refl
     ]
@@ -98,7 +103,8 @@ either_way u v = elim (same_unit v u) as (λ b. same_unit v u ≡ b → same_uni
 ] refl
 
 -- the first turn and the others, where a mark of the same unit or of another comes last
-first_cleared : (a later same alone : Bool) (last : Option ℕ) (key : UnitKey) (turns new : List (Option UnitKey)) → (same ≡ true → later ≡ is_some last) → (alone ≡ true → a ≡ false)
+first_cleared : (a later same alone : Bool) (last : Option ℕ) (key : UnitKey) (turns new : List (Option UnitKey)) → (same ≡ true → later ≡ is_some last)
+    → (alone ≡ true → a ≡ false)
     → ((if a && not (later || same) then Some key else None) ∷ (cleared turns last ++ new))
     ≡ cleared ((if a && not later then Some key else None) ∷ turns) (option_or (option_map suc last) (if same && not alone then Some 0 else None)) ++ new
 first_cleared false later same alone (Some i) key turns new one none = refl
@@ -135,7 +141,8 @@ turns_push status units (x ∷ marks) m h =
     ∙ ap (λ b. (if a && not (later || b) then Some x.unit else None) ∷ turns_of status units (marks ++ m ∷ [])) here
     ∙ ap (λ ts. (if a && not (later || same) then Some x.unit else None) ∷ ts) (turns_push status units marks m h)
     ∙ first_cleared a later same (draws_alone x.kind) last x.unit turns new one (alone_gives status (has_no_v2 units x.unit) x.kind)
-    ∙ ap (λ b. cleared ((if a && not later then Some x.unit else None) ∷ turns) (option_or (option_map suc last) (if b && not (draws_alone x.kind) then Some 0 else None)) ++ new) (either_way m.unit x.unit)
+    ∙ ap (λ b. cleared ((if a && not later then Some x.unit else None) ∷ turns)
+    (option_or (option_map suc last) (if b && not (draws_alone x.kind) then Some 0 else None)) ++ new) (either_way m.unit x.unit)
 
 -- the first mark that decides of its unit takes no other turn away
 pub turns_first : (status : Status) (units : List UnitOfWork) (marks : List Mark) (m : Mark) → draws_alone m.kind ≡ false → NoneOf m.unit marks
@@ -148,7 +155,8 @@ never_decides true d h = ap not h
 never_decides false d h = refl
 
 -- numbers alone leave each turn as it was
-pub turns_drawn : (status : Status) (units : List UnitOfWork) (marks : List Mark) (m : Mark) → draws_alone m.kind ≡ true → turns_of status units (marks ++ m ∷ []) ≡ turns_of status units marks ++ None ∷ []
+pub turns_drawn : (status : Status) (units : List UnitOfWork) (marks : List Mark) (m : Mark) → draws_alone m.kind ≡ true
+    → turns_of status units (marks ++ m ∷ []) ≡ turns_of status units marks ++ None ∷ []
 turns_drawn status units [] m h = ap (λ b. (if b && true then Some m.unit else None) ∷ []) (alone_gives status (has_no_v2 units m.unit) m.kind h)
 turns_drawn status units (x ∷ marks) m h =
     let later = list_any (decides x.unit) marks in
@@ -158,13 +166,15 @@ turns_drawn status units (x ∷ marks) m h =
 
 -- and each unit its last turn
 pub last_drawn : (key : UnitKey) (marks : List Mark) (m : Mark) → draws_alone m.kind ≡ true → last_turn key (marks ++ m ∷ []) ≡ last_turn key marks
-last_drawn key marks m h = last_push key marks m ∙ ap (λ b. if b then Some (length marks) else last_turn key marks) (never_decides (same_unit m.unit key) (draws_alone m.kind) h)
+last_drawn key marks m h = last_push key marks m ∙ ap (λ b. if b then Some (length marks) else last_turn key marks)
+    (never_decides (same_unit m.unit key) (draws_alone m.kind) h)
 
 alone_of : (b : Bool) → not b ≡ false → b ≡ true
 alone_of true h = refl
 alone_of false h = cc
 
-gives_grows : (status : Status) (units : List UnitOfWork) (u : UnitOfWork) (m : Mark) → decides u.key m ≡ false → gives status (units ++ u ∷ []) m ≡ gives status units m
+gives_grows : (status : Status) (units : List UnitOfWork) (u : UnitOfWork) (m : Mark) → decides u.key m ≡ false
+    → gives status (units ++ u ∷ []) m ≡ gives status units m
 gives_grows status units u m none =
     elim (same_unit m.unit u.key) as (λ b. same_unit m.unit u.key ≡ b → gives status (units ++ u ∷ []) m ≡ gives status units m) [
       | true ↦ λ is.
@@ -174,8 +184,10 @@ gives_grows status units u m none =
     ] refl
 
 -- a unit of which no mark decides changes no turn
-pub turns_grow : (status : Status) (units : List UnitOfWork) (u : UnitOfWork) (marks : List Mark) → NoneOf u.key marks → turns_of status (units ++ u ∷ []) marks ≡ turns_of status units marks
+pub turns_grow : (status : Status) (units : List UnitOfWork) (u : UnitOfWork) (marks : List Mark) → NoneOf u.key marks
+    → turns_of status (units ++ u ∷ []) marks ≡ turns_of status units marks
 turns_grow status units u [] none = refl
 turns_grow status units u (m ∷ marks) none =
-    ap (λ b. (if b && not (list_any (decides m.unit) marks) then Some m.unit else None) ∷ turns_of status (units ++ u ∷ []) marks) (gives_grows status units u m none.0)
+    ap (λ b. (if b && not (list_any (decides m.unit) marks) then Some m.unit else None) ∷ turns_of status (units ++ u ∷ []) marks)
+    (gives_grows status units u m none.0)
     ∙ ap (λ ts. (if gives status units m && not (list_any (decides m.unit) marks) then Some m.unit else None) ∷ ts) (turns_grow status units u marks none.1)

@@ -26,8 +26,10 @@ next : (i : ℕ) → suc i ≡ i + 1
 next i = omega arith
 
 -- one unit more
-pub open_more : (ledger : Ledger) (i : ℕ) (unit : UnitKey) (locks : UnitLocks) (before now : List UnitLocks) → at_place (i + 1) (waiting_for 1 ledger) ≡ Some unit → locks ≡ locks_of ledger unit
-    → before ≡ map (locks_of ledger) (take i (waiting_for 1 ledger)) → now ≡ before ++ locks ∷ [] → now ≡ map (locks_of ledger) (take (i + 1) (waiting_for 1 ledger))
+pub open_more : (ledger : Ledger) (i : ℕ) (unit : UnitKey) (locks : UnitLocks) (before now : List UnitLocks)
+    → at_place (i + 1) (waiting_for 1 ledger) ≡ Some unit → locks ≡ locks_of ledger unit
+    → before ≡ map (locks_of ledger) (take i (waiting_for 1 ledger)) → now ≡ before ++ locks ∷ []
+    → now ≡ map (locks_of ledger) (take (i + 1) (waiting_for 1 ledger))
 open_more ledger i unit locks before now at is so_far pushed =
     let units = waiting_for 1 ledger in
     pushed ∙ ap (λ l. before ++ l ∷ []) is ∙ ap (λ b. b ++ locks_of ledger unit ∷ []) so_far

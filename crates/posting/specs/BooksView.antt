@@ -22,7 +22,8 @@ pub record IsUsable {K : Type 0} (held : K → Option Rows) (is_open : K → Typ
   pub stands : IfSome (held shelf.keeper) (λ rows. StandFor rows shelf.ledger)
 
 -- ledger, rows and faults are as before, and nothing new may be left
-pub record IsUnmoved {K : Type 0} (held : K → Option Rows) (may_leave : K → Rows → Type 0) (faults : K → ℕ) (old new : BooksView K) : Type 0 where
+pub record IsUnmoved {K : Type 0} (held : K → Option Rows) (may_leave : K → Rows → Type 0) (faults : K → ℕ)
+    (old new : BooksView K) : Type 0 where
   pub ledger : new.ledger ≡ old.ledger
   pub rows : held new.keeper ≡ held old.keeper
   pub crash : IsWithin (may_leave new.keeper) (may_leave old.keeper)
@@ -37,12 +38,14 @@ MayTake ledger (Draw key numbers levels) = HasMarksLeft ledger × IsDrawing ledg
 MayTake ledger (Level interval) = Unit {0}
 
 -- the plan can be written: there is room for it, and it makes the rows of the ledger after its step
-pub record IsReady {K : Type 0} (held : K → Option Rows) (has_room : K → List Change → Type 0) (shelf : BooksView K) (plan : Plan) : Type 0 where
+pub record IsReady {K : Type 0} (held : K → Option Rows) (has_room : K → List Change → Type 0) (shelf : BooksView K)
+    (plan : Plan) : Type 0 where
   pub kept : has_room shelf.keeper plan.batch
   pub space : 1 ≤ shelf.room
   pub spare : length (intervals_in plan.step) ≤ shelf.spare
   pub step : MayTake shelf.ledger plan.step
-  pub makes : IfSome (held shelf.keeper) (λ rows. StandFor (changed plan.batch rows) (after_step shelf.ledger plan.step))
+  pub makes : IfSome (held shelf.keeper)
+      (λ rows. StandFor (changed plan.batch rows) (after_step shelf.ledger plan.step))
 
 -- these rows may be left: they stand for the ledger before a step or after it
 abbrev pub StandForEither : Rows → Ledger → Step → Type 0

@@ -22,7 +22,8 @@ HasStood before ledger = (rows : Rows) × before rows × StandFor rows ledger
 abbrev pub IsOpeningFault : Bool → Rows → BooksFault → Type 0
 IsOpeningFault raise rows StoreFault = Unit {0}
 IsOpeningFault raise rows (BadStore table row) = IsBadPlace rows table row
-IsOpeningFault raise rows NoStart = IsTrue raise × (ledger : Ledger) × StandFor rows ledger × (ledger.start ≡ 4294967295)
+IsOpeningFault raise rows NoStart = IsTrue raise × (ledger : Ledger) × StandFor rows ledger
+    × (ledger.start ≡ 4294967295)
 IsOpeningFault raise rows NoMemory = Unit {0}
 
 -- the same of rows that aren't told
@@ -34,4 +35,5 @@ MayBeOpeningFault raise NoMemory = Unit {0}
 
 -- rows that may have been left before, or those of the next start of a good store, where one was asked for
 abbrev pub MayBeLeftBy : (Rows → Type 0) → Bool → Rows → Type 0
-MayBeLeftBy before raise left = before left ⊎ (IsTrue raise × (ledger : Ledger) × HasStood before ledger × StandFor left (raised true ledger))
+MayBeLeftBy before raise left =
+    before left ⊎ (IsTrue raise × (ledger : Ledger) × HasStood before ledger × StandFor left (raised true ledger))

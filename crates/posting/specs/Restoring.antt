@@ -17,11 +17,15 @@ use Rattle.posting.specs.declared.restoring.Followed.{Followed}
 
 -- standings and turns are those that the marks so far give, and so many units and marks came with them
 pub record IsFollowed (followed : Followed) (units : List UnitOfWork) (before : List Mark) : Type 0 where
-  pub status : (key : UnitKey) → option_map (λ (s : Standing). s.status) (standing_at followed.standings key) ≡ status_of units before key
-  pub error : (key : UnitKey) → option_and_then (λ (s : Standing). s.error) (standing_at followed.standings key) ≡ error_of before key
-  pub unit : (key : UnitKey) → IfSome (standing_at followed.standings key) (λ (s : Standing). slice_get units s.place ≡ unit_at units key)
+  pub status : (key : UnitKey) → option_map (λ (s : Standing). s.status)
+      (standing_at followed.standings key) ≡ status_of units before key
+  pub error : (key : UnitKey) → option_and_then (λ (s : Standing). s.error)
+      (standing_at followed.standings key) ≡ error_of before key
+  pub unit : (key : UnitKey) → IfSome (standing_at followed.standings key)
+      (λ (s : Standing). slice_get units s.place ≡ unit_at units key)
   pub placed : (key : UnitKey) → IfSome (standing_at followed.standings key) (λ (s : Standing). s.place < length units)
-  pub turn : (key : UnitKey) → option_map (λ (s : Standing). s.turn) (standing_at followed.standings key) ≡ last_turn key before
+  pub turn : (key : UnitKey) → option_map (λ (s : Standing). s.turn)
+      (standing_at followed.standings key) ≡ last_turn key before
   pub v1_queue : followed.v1_queue.turns ≡ turns_of Open units before
   pub v2_queue : followed.v2_queue.turns ≡ turns_of Posted units before
   pub count_units : followed.units ≡ length (recorded before)
@@ -47,10 +51,14 @@ pub record MayBeNext (units : List UnitOfWork) (before : List Mark) (m : Mark) :
   pub within : is_rec m.kind ≡ true → length (recorded before) < length units
 
 -- the standings that all marks give
-pub record AreStandings {S : Type 0} (standings : Standings S) (units : List UnitOfWork) (marks : List Mark) : Type 0 where
-  pub status : (key : UnitKey) → option_map (λ (s : Standing). s.status) (standing_at standings key) ≡ status_of units marks key
-  pub error : (key : UnitKey) → option_and_then (λ (s : Standing). s.error) (standing_at standings key) ≡ error_of marks key
-  pub unit : (key : UnitKey) → option_and_then (λ (s : Standing). slice_get units s.place) (standing_at standings key) ≡ unit_at units key
+pub record AreStandings {S : Type 0} (standings : Standings S) (units : List UnitOfWork)
+    (marks : List Mark) : Type 0 where
+  pub status : (key : UnitKey) → option_map (λ (s : Standing). s.status)
+      (standing_at standings key) ≡ status_of units marks key
+  pub error : (key : UnitKey) → option_and_then (λ (s : Standing). s.error)
+      (standing_at standings key) ≡ error_of marks key
+  pub unit : (key : UnitKey) → option_and_then (λ (s : Standing). slice_get units s.place)
+      (standing_at standings key) ≡ unit_at units key
   pub placed : (key : UnitKey) → IfSome (standing_at standings key) (λ (s : Standing). s.place < length units)
   pub turn : (key : UnitKey) → option_map (λ (s : Standing). s.turn) (standing_at standings key) ≡ last_turn key marks
 

@@ -1,5 +1,6 @@
 -- What is said of a change in doubt: the commit of it failed, and the store may have it or not.
-use Rattle.std.specs.Prelude.{ℕ, ◌≡◌, ◌≢◌, ◌+◌, Bool, true, false, List, [], ◌∷◌, ◌++◌, length, Option, Some, None, IfSome}
+use Rattle.std.specs.Prelude.{ℕ, ◌≡◌, ◌≢◌, ◌+◌, Bool, true, false, List, [], ◌∷◌, ◌++◌, length, Option, Some, None}
+use Rattle.std.specs.Prelude.{IfSome}
 use Rattle.keeper_api.specs.Rows.{Rows}
 use Rattle.update_records.specs.Ledger.{Ledger, StandFor}
 use Rattle.update_records.specs.declared.records.Mark.{Mark}

@@ -28,12 +28,16 @@ pub record IsSmall (unit : UnitOfWork) : Type 0 where
   pub few_entries : length unit.entries < 2 ^ 32
 
 -- what is kept beside the units and the marks agrees with them
-pub record IsRegister {S : Type 0} (start : ℕ) (units : List UnitOfWork) (marks : List Mark) (standings : Standings S) (v1_queue v2_queue : List (Option UnitKey)) (numbers : ℕ) : Type 0 where
+pub record IsRegister {S : Type 0} (start : ℕ) (units : List UnitOfWork) (marks : List Mark) (standings : Standings S)
+    (v1_queue v2_queue : List (Option UnitKey)) (numbers : ℕ) : Type 0 where
   pub begun : 1 ≤ length marks → 1 ≤ start
   pub few : length marks ≤ 1048576
-  pub status : (key : UnitKey) → option_map (λ (s : Standing). s.status) (standing_at standings key) ≡ status_of units marks key
-  pub error : (key : UnitKey) → option_and_then (λ (s : Standing). s.error) (standing_at standings key) ≡ error_of marks key
-  pub unit : (key : UnitKey) → option_and_then (λ (s : Standing). slice_get units s.place) (standing_at standings key) ≡ unit_at units key
+  pub status : (key : UnitKey) → option_map (λ (s : Standing). s.status)
+      (standing_at standings key) ≡ status_of units marks key
+  pub error : (key : UnitKey) → option_and_then (λ (s : Standing). s.error)
+      (standing_at standings key) ≡ error_of marks key
+  pub unit : (key : UnitKey) → option_and_then (λ (s : Standing). slice_get units s.place)
+      (standing_at standings key) ≡ unit_at units key
   pub placed : (key : UnitKey) → IfSome (standing_at standings key) (λ (s : Standing). s.place < length units)
   pub turn : (key : UnitKey) → option_map (λ (s : Standing). s.turn) (standing_at standings key) ≡ last_turn key marks
   pub waits : v1_queue ≡ turns_of Open units marks

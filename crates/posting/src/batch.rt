@@ -47,7 +47,8 @@ fn push_mark(
     mark: &Mark,
 ) -> Result<(), NoMemory>
     requires { MayMark mark.now.kind }
-    ensures rows { OnOk result (batch.new.items ≡ batch.old.items ++ mark_row mark.now ∷ meta_row start mark.now.seq ∷ []) }
+    ensures rows { OnOk result
+        (batch.new.items ≡ batch.old.items ++ mark_row mark.now ∷ meta_row start mark.now.seq ∷ []) }
     ensures key { OnOk result (IsUnitKey mark.now.unit) }
     ensures fields { OnOk result (HasFields mark.now.kind) }
 {

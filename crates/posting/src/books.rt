@@ -61,7 +61,8 @@ impl<K: Keeper> Model for Books<K> {
 
     ghost coded = { Prim.hlevel (codes, levels_code, K.code) };
 
-    ghost view = { λ b. record { ledger = b.register.ledger; keeper = b.keeper; room = b.register.room; spare = b.register.spare } };
+    ghost view = { λ b. record
+        { ledger = b.register.ledger; keeper = b.keeper; room = b.register.room; spare = b.register.spare } };
 }
 
 impl<K: Keeper> Books<K> {
@@ -71,7 +72,8 @@ impl<K: Keeper> Books<K> {
     /// Each row is read once; the time is linear in the rows but for sorting.
     pub fn open(alloc: Global, keeper: K, raise: bool) -> Result<Books<K>, (BooksFault, K)>
         ensures usable { IfOk result (λ books. IsUsable K.held K.is_open books) }
-        ensures ledger { IfOk result (λ books. IfSome (K.held books.keeper) (λ _. IsRaised (HasStood (K.may_leave keeper)) raise books.ledger)) }
+        ensures ledger { IfOk result
+            (λ books. IfSome (K.held books.keeper) (λ _. IsRaised (HasStood (K.may_leave keeper)) raise books.ledger)) }
         // Also where the keeper doesn't tell its rows.
         ensures sound { IfOk result (λ books. IsRaised IsSound raise books.ledger) }
         ensures numbers { IfOk result (λ books. AreNumbersRight books.ledger) }
@@ -107,11 +109,13 @@ impl<K: Keeper> Books<K> {
         }
     }
 
-    /// Reads the store anew, and raises no start number. The ledger changes only on `Ok`; on an error it is what it was,
-    /// and only `reopen` and `into_keeper` are allowed then.
+    /// Reads the store anew, and raises no start number. The ledger changes only on `Ok`; on an error it is what it
+    /// was, and only `reopen` and `into_keeper` are allowed then.
     pub fn reopen(&mut self, alloc: Global) -> Result<(), BooksFault>
         ensures usable { OnOk result (IsUsable K.held K.is_open self.new) }
-        ensures ledger { OnOk result (IfSome (K.held self.new.keeper) (λ _. IsRaised (HasStood (K.may_leave self.old.keeper)) false self.new.ledger)) }
+        ensures ledger { OnOk result
+            (IfSome (K.held self.new.keeper)
+            (λ _. IsRaised (HasStood (K.may_leave self.old.keeper)) false self.new.ledger)) }
         // Also where the keeper doesn't tell its rows.
         ensures sound { OnOk result (IsRaised IsSound false self.new.ledger) }
         ensures numbers { OnOk result (AreNumbersRight self.new.ledger) }
@@ -119,11 +123,14 @@ impl<K: Keeper> Books<K> {
         ensures told { is_some (K.held self.new.keeper) ≡ is_some (K.held self.old.keeper) }
         ensures left { IsWithin (K.may_leave self.new.keeper) (K.may_leave self.old.keeper) }
         ensures counts { OnOk result (K.faults self.new.keeper ≡ K.faults self.old.keeper) }
-        ensures fault { IfErr result (λ fault. IfSome (K.held self.new.keeper) (λ rows. IsOpeningFault false rows fault)) }
+        ensures fault { IfErr result
+            (λ fault. IfSome (K.held self.new.keeper) (λ rows. IsOpeningFault false rows fault)) }
         ensures untold_fault { IfErr result (MayBeOpeningFault false) }
         // The rows of a store that isn't good are some that a crash might have left.
-        ensures found { IfErr result (λ fault. OnBad fault (IfSome (K.held self.new.keeper) (K.may_leave self.old.keeper))) }
-        ensures cause { IfErr result (λ fault. CountsFault fault (K.faults self.old.keeper) (K.faults self.new.keeper)) }
+        ensures found { IfErr result
+            (λ fault. OnBad fault (IfSome (K.held self.new.keeper) (K.may_leave self.old.keeper))) }
+        ensures cause { IfErr result
+            (λ fault. CountsFault fault (K.faults self.old.keeper) (K.faults self.new.keeper)) }
     {
         let stored = open_ledger(alloc, &mut self.keeper)?;
         let Ok(register) = restored(alloc, stored) else {
@@ -133,16 +140,19 @@ impl<K: Keeper> Books<K> {
         Ok(())
     }
 
-    /// Reads the store anew after a commit that failed, and tells what it has: the ledger as it was, or the one with the
-    /// change that was to be made. A change that makes no difference it hasn't. A store that has neither is `Other`. The
-    /// ledger of the books stays what it was; behind this call only `reread`, `reopen`, `adopt` and `into_keeper` are allowed.
+    /// Reads the store anew after a commit that failed, and tells what it has: the ledger as it was, or the one with
+    /// the change that was to be made. A change that makes no difference it hasn't. A store that has neither is
+    /// `Other`. The ledger of the books stays what it was; behind this call only `reread`, `reopen`, `adopt` and
+    /// `into_keeper` are allowed.
     ///
     /// The time is linear in the rows, but for sorting.
     pub fn reread(&mut self, alloc: Global, change: Option<&Step>) -> Result<Reread, SettleFault>
         // Calls are allowed once the books have what was found.
         ensures usable { IfOk result (λ found. IsUsable K.held K.is_open (record self.new { ledger = found.ledger })) }
-        ensures found { IfOk result (λ found. IsSettled self.old.ledger (option_copied change.entry) found.taken found.ledger) }
-        ensures stood { IfOk result (λ found. IfSome (K.held self.new.keeper) (λ _. HasStood (K.may_leave self.old.keeper) found.ledger)) }
+        ensures found { IfOk result
+            (λ found. IsSettled self.old.ledger (option_copied change.entry) found.taken found.ledger) }
+        ensures stood { IfOk result
+            (λ found. IfSome (K.held self.new.keeper) (λ _. HasStood (K.may_leave self.old.keeper) found.ledger)) }
         // Also where the keeper doesn't tell its rows.
         ensures sound { IfOk result (λ found. IsSound found.ledger) }
         ensures numbers { IfOk result (λ found. AreNumbersRight found.ledger) }
@@ -150,13 +160,16 @@ impl<K: Keeper> Books<K> {
         ensures told { is_some (K.held self.new.keeper) ≡ is_some (K.held self.old.keeper) }
         ensures left { IsWithin (K.may_leave self.new.keeper) (K.may_leave self.old.keeper) }
         ensures counts { OnOk result (K.faults self.new.keeper ≡ K.faults self.old.keeper) }
-        ensures fault { IfErr result (λ fault. OnBooks fault (λ why. IfSome (K.held self.new.keeper) (λ rows. IsOpeningFault false rows why))) }
+        ensures fault { IfErr result
+            (λ fault. OnBooks fault (λ why. IfSome (K.held self.new.keeper) (λ rows. IsOpeningFault false rows why))) }
         ensures untold_fault { IfErr result (λ fault. OnBooks fault (MayBeOpeningFault false)) }
         ensures other { IfErr result (λ fault. OnOther fault (IfSome (K.held self.new.keeper)
             (λ rows. StandForOther rows self.old.ledger (option_copied change.entry)))) }
         // The rows of a store that isn't good, or that has neither ledger, are some that a crash might have left.
-        ensures found_rows { IfErr result (λ fault. OnFound fault (IfSome (K.held self.new.keeper) (K.may_leave self.old.keeper))) }
-        ensures cause { IfErr result (λ fault. CountsSettling fault (K.faults self.old.keeper) (K.faults self.new.keeper)) }
+        ensures found_rows { IfErr result
+            (λ fault. OnFound fault (IfSome (K.held self.new.keeper) (K.may_leave self.old.keeper))) }
+        ensures cause { IfErr result
+            (λ fault. CountsSettling fault (K.faults self.old.keeper) (K.faults self.new.keeper)) }
     {
         let stored = match open_ledger(alloc, &mut self.keeper) {
             Ok(stored) => stored,
@@ -378,7 +391,10 @@ impl<K: Keeper> Books<K> {
         requires waits { IsOpenUnit self.old.ledger unit.now }
         ensures ready { IfOk result (λ r. IsReady K.held K.has_room self.new r.0) }
         ensures step { IfOk result (λ r. r.0.step ≡ Note unit.now (post_kind r.1)) }
-        ensures outcome { IfOk result (λ r. IfSome (K.held self.old.keeper) (λ _. IsOutcome (applied (v1_of self.old.ledger.units unit.now) (tables_of self.old.ledger.units self.old.ledger.marks)) r.1)) }
+        ensures outcome { IfOk result
+            (λ r. IfSome (K.held self.old.keeper)
+            (λ _. IsOutcome (applied (v1_of self.old.ledger.units unit.now)
+            (tables_of self.old.ledger.units self.old.ledger.marks)) r.1)) }
         // Also where the keeper doesn't tell its rows.
         ensures possible { IfOk result (λ r. MayCome (v1_of self.old.ledger.units unit.now) r.1) }
         ensures usable { UnlessFailed result (IsUsable K.held K.is_open self.new) }
@@ -402,7 +418,10 @@ impl<K: Keeper> Books<K> {
         requires waits { IsPostedUnit self.old.ledger unit.now }
         ensures ready { IfOk result (λ r. IsReady K.held K.has_room self.new r.0) }
         ensures step { IfOk result (λ r. r.0.step ≡ Note unit.now (post2_kind r.1)) }
-        ensures outcome { IfOk result (λ r. IfSome (K.held self.old.keeper) (λ _. IsOutcome (applied (v2_of self.old.ledger.units unit.now) (tables_of self.old.ledger.units self.old.ledger.marks)) r.1)) }
+        ensures outcome { IfOk result
+            (λ r. IfSome (K.held self.old.keeper)
+            (λ _. IsOutcome (applied (v2_of self.old.ledger.units unit.now)
+            (tables_of self.old.ledger.units self.old.ledger.marks)) r.1)) }
         // Also where the keeper doesn't tell its rows.
         ensures possible { IfOk result (λ r. MayCome (v2_of self.old.ledger.units unit.now) r.1) }
         ensures usable { UnlessFailed result (IsUsable K.held K.is_open self.new) }
@@ -476,7 +495,10 @@ impl<K: Keeper> Books<K> {
         requires waits { WaitsFor part self.old.ledger unit.now }
         ensures ready { IfOk result (λ r. IsReady K.held K.has_room self.new r.0) }
         ensures step { IfOk result (λ r. r.0.step ≡ Note unit.now (kind_for part r.1)) }
-        ensures outcome { IfOk result (λ r. IfSome (K.held self.old.keeper) (λ _. IsOutcome (applied (effects_of part self.old.ledger.units unit.now) (tables_of self.old.ledger.units self.old.ledger.marks)) r.1)) }
+        ensures outcome { IfOk result
+            (λ r. IfSome (K.held self.old.keeper)
+            (λ _. IsOutcome (applied (effects_of part self.old.ledger.units unit.now)
+            (tables_of self.old.ledger.units self.old.ledger.marks)) r.1)) }
         ensures possible { IfOk result (λ r. MayCome (effects_of part self.old.ledger.units unit.now) r.1) }
         ensures usable { UnlessFailed result (IsUsable K.held K.is_open self.new) }
         ensures unmoved { UnlessFailed result (IsUnmoved K.held K.may_leave K.faults self.old self.new) }
@@ -503,7 +525,8 @@ impl<K: Keeper> Books<K> {
         requires marks { HasMarksLeft self.old.ledger }
         requires follows { MayGet self.old.ledger unit.now kind }
         requires distinct { HasDistinctRows spots.now }
-        requires note { IfSome (K.held self.old.keeper) (λ _. IsNote self.old.ledger (next_mark self.old.ledger unit.now kind) spots.now) }
+        requires note { IfSome (K.held self.old.keeper)
+            (λ _. IsNote self.old.ledger (next_mark self.old.ledger unit.now kind) spots.now) }
         ensures ready { IfOk result (λ prepared. IsReady K.held K.has_room self.new prepared) }
         ensures step { IfOk result (λ prepared. prepared.step ≡ Note unit.now kind) }
         ensures usable { IsUsable K.held K.is_open self.new }
@@ -524,7 +547,8 @@ impl<K: Keeper> Books<K> {
         requires usable { IsUsable K.held K.is_open self.old }
         requires batch { IsBatch batch.items }
         requires step { MayTake self.old.ledger step }
-        requires makes { IfSome (K.held self.old.keeper) (λ rows. StandFor (changed batch.items rows) (after_step self.old.ledger step)) }
+        requires makes { IfSome (K.held self.old.keeper)
+            (λ rows. StandFor (changed batch.items rows) (after_step self.old.ledger step)) }
         ensures ready { IfOk result (λ prepared. IsReady K.held K.has_room self.new prepared) }
         ensures step { IfOk result (λ prepared. prepared.step ≡ step) }
         ensures usable { IsUsable K.held K.is_open self.new }
@@ -549,8 +573,10 @@ impl<K: Keeper> Books<K> {
         ensures counts { OnOk result (K.faults self.new.keeper ≡ K.faults self.old.keeper) }
         ensures fault { IfErr result (IsRaiseFault self.old.ledger) }
         ensures rows { IfErr result (λ fault. OnRefused fault (K.held self.new.keeper ≡ K.held self.old.keeper)) }
-        ensures unchanged { IfErr result (λ fault. OnRefused fault (IsWithin (K.may_leave self.new.keeper) (K.may_leave self.old.keeper))) }
-        ensures cause { IfErr result (λ fault. CountsFault fault (K.faults self.old.keeper) (K.faults self.new.keeper)) }
+        ensures unchanged { IfErr result
+            (λ fault. OnRefused fault (IsWithin (K.may_leave self.new.keeper) (K.may_leave self.old.keeper))) }
+        ensures cause { IfErr result
+            (λ fault. CountsFault fault (K.faults self.old.keeper) (K.faults self.new.keeper)) }
     {
         let start = self.start();
         if start == u32::MAX {

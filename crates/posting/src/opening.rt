@@ -45,7 +45,9 @@ fn opening_fault(fault: ReadingFault) -> BooksFault
 /// Opens a keeper, and reads the ledger of its rows.
 pub fn open_ledger<K: Keeper>(alloc: Global, keeper: &mut K) -> Result<StoredLedger, BooksFault>
     ensures opened { OnOk result (K.is_open keeper.new) }
-    ensures stands { IfOk result (λ stored. IfSome (K.held keeper.new) (λ rows. K.may_leave keeper.old rows × StandFor rows (ledger_of stored))) }
+    ensures stands { IfOk result
+        (λ stored. IfSome (K.held keeper.new)
+        (λ rows. K.may_leave keeper.old rows × StandFor rows (ledger_of stored))) }
     ensures sound { IfOk result (λ stored. IsSound (ledger_of stored)) }
     ensures counts { OnOk result (K.faults keeper.new ≡ K.faults keeper.old) }
     ensures told { is_some (K.held keeper.new) ≡ is_some (K.held keeper.old) }

@@ -31,8 +31,8 @@ use std::marker::Model;
 use turn_list::Turns;
 use update_records::{Mark, MarkKind, StoredInterval, Unit, UnitId, id_of};
 
-/// The place of a unit in the order of recording, the turn of the last mark that gave it a status, the status, and where
-/// that mark tells of one the refusal: the effect's number from 1 on, and the reason.
+/// The place of a unit in the order of recording, the turn of the last mark that gave it a status, the status, and
+/// where that mark tells of one the refusal: the effect's number from 1 on, and the reason.
 #[derive(Clone, Copy, Debug, PartialEq, Eq)]
 pub struct Standing {
     pub place: usize,
@@ -76,7 +76,8 @@ impl Model for Register {
       spare = r.intervals.spare;
     } };
 
-    ghost invariant = { λ r. IsRegister r.start r.units.items r.marks.items r.standings r.v1_queue.turns r.v2_queue.turns r.numbers };
+    ghost invariant = { λ r. IsRegister r.start r.units.items r.marks.items r.standings r.v1_queue.turns
+        r.v2_queue.turns r.numbers };
 }
 
 impl Register {
@@ -110,7 +111,9 @@ impl Register {
         requires recorded { map (λ (unit : UnitOfWork). unit.key) units.items ≡ recorded marks.items }
         requires small { All IsSmall units.items }
         requires kinds { All (λ (m : Mark). IsKind m.kind) marks.items }
-        ensures { IfOk result (λ register. register.ledger ≡ record { start = start; units = units.items; marks = marks.items; levels = levels_of intervals.items }) }
+        ensures { IfOk result
+            (λ register. register.ledger ≡ record
+            { start = start; units = units.items; marks = marks.items; levels = levels_of intervals.items }) }
     {
         let followed = follow_all(alloc, units.as_slice(), marks.as_slice())?;
         let Followed {
@@ -346,14 +349,17 @@ pub fn standing_of(standings: &HashMap<UnitId, Standing>, key: &UnitKey) -> Opti
 
 pub fn set_standing(standings: &mut HashMap<UnitId, Standing>, key: &UnitKey, standing: Standing)
     requires { 1 ≤ spare standings.old }
-    ensures { (other : UnitKey) → standing_at standings.new other ≡ (if same_unit key.now other then Some standing else standing_at standings.old other) }
+    ensures { (other : UnitKey)
+        → standing_at standings.new
+        other ≡ (if same_unit key.now other then Some standing else standing_at standings.old other) }
 {
     let _ = standings.insert(id_of(key), standing);
 }
 
 fn push_mark(marks: &mut Vec<Mark>, unit: UnitKey, kind: MarkKind)
     requires { vec_len marks.old < vec_capacity marks.old }
-    ensures { marks.new.items ≡ marks.old.items ++ record { seq = length marks.old.items + 1; unit = unit; kind = kind } ∷ [] }
+    ensures { marks.new.items ≡ marks.old.items ++ record
+        { seq = length marks.old.items + 1; unit = unit; kind = kind } ∷ [] }
 {
     let seq = marks.len() as u64 + 1;
     marks.push_reserved(Mark { seq, unit, kind });

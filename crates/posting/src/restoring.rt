@@ -49,7 +49,8 @@ impl Followed {
 
     /// Takes the memory for one mark more.
     fn make_room(&mut self) -> Result<(), NoMemory>
-        ensures same { (units : List UnitOfWork) (before : List Mark) → IsFollowed self.old units before → IsFollowed self.new units before }
+        ensures same { (units : List UnitOfWork) (before : List Mark) → IsFollowed self.old units before
+            → IsFollowed self.new units before }
         ensures room { OnOk result (HasRoom self.new) }
     {
         self.standings.reserve(1)?;
@@ -62,7 +63,8 @@ impl Followed {
     fn record(&mut self, mark: &Mark)
         requires room { HasRoom self.old }
         requires few { HasTurnsLeft self.old }
-        ensures { (units : List UnitOfWork) (before : List Mark) → IsFollowed self.old units before → MayBeNext units before mark.now → is_rec mark.now.kind ≡ true
+        ensures { (units : List UnitOfWork) (before : List Mark) → IsFollowed self.old units before
+            → MayBeNext units before mark.now → is_rec mark.now.kind ≡ true
             → IsFollowed self.new units (before ++ mark.now ∷ []) }
     {
         let standing = Standing {
@@ -82,7 +84,8 @@ impl Followed {
     fn draw(&mut self)
         requires room { HasRoom self.old }
         requires few { HasTurnsLeft self.old }
-        ensures { (units : List UnitOfWork) (before : List Mark) (m : Mark) → IsFollowed self.old units before → draws_alone m.kind ≡ true
+        ensures { (units : List UnitOfWork) (before : List Mark) (m : Mark) → IsFollowed self.old units before
+            → draws_alone m.kind ≡ true
             → IsFollowed self.new units (before ++ m ∷ []) }
     {
         self.marks += 1;
@@ -94,8 +97,10 @@ impl Followed {
     fn note(&mut self, units: &[Unit], mark: &Mark)
         requires room { HasRoom self.old }
         requires few { HasTurnsLeft self.old }
-        requires placed { (key : UnitKey) → IfSome (standing_at self.old.standings key) (λ s. s.place < length units.now) }
-        ensures { (before : List Mark) → IsFollowed self.old units.now before → MayBeNext units.now before mark.now → is_rec mark.now.kind ≡ false → draws_alone mark.now.kind ≡ false
+        requires placed { (key : UnitKey)
+            → IfSome (standing_at self.old.standings key) (λ s. s.place < length units.now) }
+        ensures { (before : List Mark) → IsFollowed self.old units.now before → MayBeNext units.now before mark.now
+            → is_rec mark.now.kind ≡ false → draws_alone mark.now.kind ≡ false
             → IsFollowed self.new units.now (before ++ mark.now ∷ []) }
     {
         let Some(before) = standing_of(&self.standings, &mark.unit) else {
@@ -123,8 +128,10 @@ impl Followed {
     fn follow(&mut self, units: &[Unit], mark: &Mark)
         requires room { HasRoom self.old }
         requires few { HasTurnsLeft self.old }
-        requires placed { (key : UnitKey) → IfSome (standing_at self.old.standings key) (λ s. s.place < length units.now) }
-        ensures { (before : List Mark) → IsFollowed self.old units.now before → MayBeNext units.now before mark.now → IsFollowed self.new units.now (before ++ mark.now ∷ []) }
+        requires placed { (key : UnitKey)
+            → IfSome (standing_at self.old.standings key) (λ s. s.place < length units.now) }
+        ensures { (before : List Mark) → IsFollowed self.old units.now before → MayBeNext units.now before mark.now
+            → IsFollowed self.new units.now (before ++ mark.now ∷ []) }
     {
         match &mark.kind {
             MarkKind::Rec => self.record(mark),
@@ -155,7 +162,8 @@ fn drawn_by(units: &[Unit], standings: &HashMap<UnitId, Standing>, mark: &Mark) 
     requires placed { (key : UnitKey) → IfSome (standing_at standings.now key) (λ s. s.place < length units.now) }
     requires small { All IsSmall units.now }
     requires kind { IsKind mark.now.kind }
-    ensures drawn { (marks : List Mark) → AreStandings standings.now units.now marks → result ≡ length (numbers_in units.now mark.now) }
+    ensures drawn { (marks : List Mark) → AreStandings standings.now units.now marks
+        → result ≡ length (numbers_in units.now mark.now) }
     ensures few { result ≤ 64 }
 {
     match &mark.kind {

@@ -77,8 +77,10 @@ pub fn settled(
     change: Option<&Step>,
     new: &Register,
 ) -> Result<bool, SettleFault>
-    ensures settled { IfOk result (λ taken. IsSettled old.now.ledger (option_copied change.entry) taken new.now.ledger) }
-    ensures other { IfErr result (λ fault. OnOther fault (IsOther old.now.ledger (option_copied change.entry) new.now.ledger)) }
+    ensures settled { IfOk result
+        (λ taken. IsSettled old.now.ledger (option_copied change.entry) taken new.now.ledger) }
+    ensures other { IfErr result
+        (λ fault. OnOther fault (IsOther old.now.ledger (option_copied change.entry) new.now.ledger)) }
     ensures fault { IfErr result (λ fault. OnBooks fault (λ why. why ≡ BooksFault.NoMemory)) }
 {
     if is_ledger(old, new) {

@@ -86,7 +86,8 @@ fn read_once<K: Keeper>(
     ensures kept { OnOk result ((row : RowName) → list_any (is_at row) spots.old.items ≡ true
         → list_any (is_at row) spots.new.items ≡ true) }
     ensures distinct { OnOk result (HasDistinctRows spots.old.items → HasDistinctRows spots.new.items) }
-    ensures read { OnOk result (IfSome (K.held keeper.old) (λ rows. AreRead rows spots.old.items → AreRead rows spots.new.items)) }
+    ensures read { OnOk result
+        (IfSome (K.held keeper.old) (λ rows. AreRead rows spots.old.items → AreRead rows spots.new.items)) }
     ensures stays { UnlessFailed result (Stays K.held K.is_open K.has_room keeper.old keeper.new) }
     ensures told { is_some (K.held keeper.new) ≡ is_some (K.held keeper.old) }
     ensures crash { IsWithin (K.may_leave keeper.new) (K.may_leave keeper.old) }

@@ -14,7 +14,8 @@ use Rattle.draw_laws.proofs.IntervalNames.{named_is}
 -- ---- places
 
 -- the interval before the last ones is noted
-pub places_more : (is : List Interval) (left : ℕ) (i : Interval) (object nr : List ℕ) (old : Option ℕ) → 0 < left → left ≤ length is → i ≡ get_or is (left - 1) i
+pub places_more : (is : List Interval) (left : ℕ) (i : Interval) (object nr : List ℕ) (old : Option ℕ) → 0 < left → left ≤ length is
+    → i ≡ get_or is (left - 1) i
     → old ≡ position_from (is_named object nr) left (drop left is)
     → (if is_named object nr i then Some (left - 1) else old) ≡ position_from (is_named object nr) (left - 1) (drop (left - 1) is)
 places_more is left i object nr old some within at before =
@@ -38,13 +39,16 @@ found_from object nr (r ∷ ranges) first read same =
     let behind : (k : ℕ) → read (first + 1 + k) ≡ slice_get ranges k = λ k.
     let next : first + 1 + k ≡ first + suc k = omega arith in
     ap read next ∙ same (suc k) in
-    elim (is_named object nr r.interval) as (λ b. at_place_of read (cond b (Some first) (position_from (is_named object nr) (first + 1) (intervals_of ranges))) ≡ cond b (Some r) (range_at ranges object nr)) [
+    elim (is_named object nr r.interval)
+    as (λ b. at_place_of read (cond b (Some first) (position_from (is_named object nr) (first + 1) (intervals_of ranges))) ≡ cond b (Some r)
+    (range_at ranges object nr)) [
       | true ↦ ap read here ∙ same 0
       | false ↦ found_from object nr ranges (first + 1) read behind
     ]
 
 -- what stands at the place of a name is the range of this name
-pub found_at : (object nr : List ℕ) (ranges : List NumberRange) → at_place_of (slice_get ranges) (position_from (is_named object nr) 0 (intervals_of ranges)) ≡ range_at ranges object nr
+pub found_at : (object nr : List ℕ) (ranges : List NumberRange) → at_place_of (slice_get ranges)
+    (position_from (is_named object nr) 0 (intervals_of ranges)) ≡ range_at ranges object nr
 found_at object nr ranges = found_from object nr ranges 0 (slice_get ranges) (λ k. let same : 0 + k ≡ k = omega arith in ap (slice_get ranges) same)
 
 -- ---- rows of intervals
@@ -70,7 +74,8 @@ pub fits_found : (row : StoredInterval) (ranges : List NumberRange) → AreApart
     → fits (intervals_of ranges) row ≡ option_map_or (λ (r : NumberRange). is_row_of row r.interval) (range_at ranges row.object row.nr) false
 fits_found row [] apart = refl
 fits_found row (r ∷ ranges) apart =
-    by_name (is_named row.object row.nr r.interval) (nat_eq row.from r.interval.from) (beq row.buffered (is_buffered r.interval) && nat_le row.level r.interval.to)
+    by_name (is_named row.object row.nr r.interval) (nat_eq row.from r.interval.from)
+    (beq row.buffered (is_buffered r.interval) && nat_le row.level r.interval.to)
     (fits (intervals_of ranges) row) r (range_at ranges row.object row.nr) (λ e.
     let name = named_is row.object row.nr r.interval e in
     none_fits row (intervals_of ranges) (subst (λ n. list_any (is_named n.0 n.1) (intervals_of ranges) ≡ false) name apart.0))

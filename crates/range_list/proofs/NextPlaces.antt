@@ -18,9 +18,11 @@ or_parts true b h = cc
 or_parts false b h = (refl, h)
 
 -- where no interval has the name, none at a place has it
-none_at : (object nr : List ℕ) (ranges : List NumberRange) (k : ℕ) (r : NumberRange) → list_any (is_named object nr) (intervals_of ranges) ≡ false → slice_get ranges k ≡ Some r → is_named object nr r.interval ≡ false
+none_at : (object nr : List ℕ) (ranges : List NumberRange) (k : ℕ) (r : NumberRange) → list_any (is_named object nr) (intervals_of ranges) ≡ false
+    → slice_get ranges k ≡ Some r → is_named object nr r.interval ≡ false
 none_at object nr [] k r none at = cc
-none_at object nr (x ∷ ranges) zero r none at = let same : x ≡ r = cc in subst (λ (y : NumberRange). is_named object nr y.interval ≡ false) same (or_parts _ _ none).0
+none_at object nr (x ∷ ranges) zero r none at = let same : x ≡ r = cc in
+    subst (λ (y : NumberRange). is_named object nr y.interval ≡ false) same (or_parts _ _ none).0
 none_at object nr (x ∷ ranges) (suc k) r none at = none_at object nr ranges k r (or_parts (is_named object nr x.interval) _ none).1 at
 
 -- the interval of a name stands at one place
@@ -28,7 +30,8 @@ abbrev IsOnlyAt : Option ℕ → ℕ → Type 0
 IsOnlyAt None k = ⊥
 IsOnlyAt (Some place) k = place ≡ k
 
-only_from : (object nr : List ℕ) (ranges : List NumberRange) (first k : ℕ) (r : NumberRange) → AreApart (intervals_of ranges) → slice_get ranges k ≡ Some r → is_named object nr r.interval ≡ true
+only_from : (object nr : List ℕ) (ranges : List NumberRange) (first k : ℕ) (r : NumberRange) → AreApart (intervals_of ranges) → slice_get ranges k ≡ Some r
+    → is_named object nr r.interval ≡ true
     → IsOnlyAt (position_from (is_named object nr) first (intervals_of ranges)) (first + k)
 only_from object nr [] first k r apart at named = cc
 only_from object nr (x ∷ ranges) first zero r apart at named =
@@ -37,12 +40,16 @@ only_from object nr (x ∷ ranges) first zero r apart at named =
     subst (λ b. IsOnlyAt (cond b (Some first) (position_from (is_named object nr) (first + 1) (intervals_of ranges))) (first + 0)) (sym here) (omega arith)
 only_from object nr (x ∷ ranges) first (suc k) r apart at named =
     let next : first + 1 + k ≡ first + suc k = omega arith in
-    elim (is_named object nr x.interval) as (λ b. is_named object nr x.interval ≡ b → IsOnlyAt (cond b (Some first) (position_from (is_named object nr) (first + 1) (intervals_of ranges))) (first + suc k)) [
+    elim (is_named object nr x.interval)
+    as (λ b. is_named object nr x.interval ≡ b → IsOnlyAt (cond b (Some first) (position_from (is_named object nr) (first + 1) (intervals_of ranges)))
+    (first + suc k)) [
       | true ↦ λ e.
           let name = named_is object nr x.interval e in
-          let none : list_any (is_named object nr) (intervals_of ranges) ≡ false = subst (λ n. list_any (is_named n.0 n.1) (intervals_of ranges) ≡ false) name apart.0 in
+          let none : list_any (is_named object nr) (intervals_of ranges) ≡ false =
+          subst (λ n. list_any (is_named n.0 n.1) (intervals_of ranges) ≡ false) name apart.0 in
           absurd (not_both (is_named object nr r.interval) named (none_at object nr ranges k r none at))
-      | false ↦ λ e. subst (IsOnlyAt (position_from (is_named object nr) (first + 1) (intervals_of ranges))) next (only_from object nr ranges (first + 1) k r apart.1 at named)
+      | false ↦ λ e. subst (IsOnlyAt (position_from (is_named object nr) (first + 1) (intervals_of ranges))) next
+          (only_from object nr ranges (first + 1) k r apart.1 at named)
     ] refl
   where
     not_both : (b : Bool) → b ≡ true → b ≡ false → ⊥
@@ -50,17 +57,21 @@ only_from object nr (x ∷ ranges) first (suc k) r apart at named =
     not_both false e f = cc
 
 -- no other place has the name
-pub not_named : (object nr : List ℕ) (ranges : List NumberRange) (found : Option ℕ) (k : ℕ) (r : NumberRange) → AreApart (intervals_of ranges) → position_from (is_named object nr) 0 (intervals_of ranges) ≡ found
+pub not_named : (object nr : List ℕ) (ranges : List NumberRange) (found : Option ℕ) (k : ℕ) (r : NumberRange) → AreApart (intervals_of ranges)
+    → position_from (is_named object nr) 0 (intervals_of ranges) ≡ found
     → (IsOnlyAt found k → ⊥) → slice_get ranges k ≡ Some r → is_named object nr r.interval ≡ false
 not_named object nr ranges found k r apart is other at =
     let here : 0 + k ≡ k = omega arith in
     elim (is_named object nr r.interval) as (λ b. is_named object nr r.interval ≡ b → b ≡ false) [
-      | true ↦ λ e. absurd (other (subst (λ o. IsOnlyAt o k) is (subst (IsOnlyAt (position_from (is_named object nr) 0 (intervals_of ranges))) here (only_from object nr ranges 0 k r apart at e))))
+      | true ↦ λ e. absurd
+          (other (subst (λ o. IsOnlyAt o k) is
+          (subst (IsOnlyAt (position_from (is_named object nr) 0 (intervals_of ranges))) here (only_from object nr ranges 0 k r apart at e))))
       | false ↦ λ e. refl
     ] refl
 
 -- one number more that isn't of an interval
-pub none_more : (i : Interval) (numbers : List Num) (k : ℕ) (num : Num) → k < length numbers → num ≡ get_or numbers k num → drawn_of i (take k numbers) ≡ 0 → is_named num.object num.nr i ≡ false → drawn_of i (take (k + 1) numbers) ≡ 0
+pub none_more : (i : Interval) (numbers : List Num) (k : ℕ) (num : Num) → k < length numbers → num ≡ get_or numbers k num → drawn_of i (take k numbers) ≡ 0
+    → is_named num.object num.nr i ≡ false → drawn_of i (take (k + 1) numbers) ≡ 0
 none_more i numbers k num within at none apart =
     let whole : take (k + 1) numbers ≡ take k numbers ++ num ∷ [] = take_more numbers k num within ∙ ap (λ x. take k numbers ++ x ∷ []) (sym at) in
     let test = λ (n : Num). is_named n.object n.nr i in
@@ -73,7 +84,8 @@ none_more i numbers k num within at none apart =
 pub named_found : (ranges : List NumberRange) (object nr : List ℕ) (r : NumberRange) → range_at ranges object nr ≡ Some r → is_named object nr r.interval ≡ true
 named_found [] object nr r h = cc
 named_found (x ∷ ranges) object nr r h =
-    elim (is_named object nr x.interval) as (λ b. is_named object nr x.interval ≡ b → cond b (Some x) (range_at ranges object nr) ≡ Some r → is_named object nr r.interval ≡ true) [
+    elim (is_named object nr x.interval)
+    as (λ b. is_named object nr x.interval ≡ b → cond b (Some x) (range_at ranges object nr) ≡ Some r → is_named object nr r.interval ≡ true) [
       | true ↦ λ e is. let same : x ≡ r = cc in subst (λ (y : NumberRange). is_named object nr y.interval ≡ true) same e
       | false ↦ λ e is. named_found ranges object nr r is
     ] refl h

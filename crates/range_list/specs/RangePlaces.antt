@@ -16,7 +16,8 @@ same_range a b = bytes_eq a.object b.object && bytes_eq a.nr b.nr
 -- the map has the place of the first interval of each name; these intervals stand from this place on
 abbrev pub ArePlacesFrom : {S : Type 0} → ℕ → HashMap RangeId ℕ S → List Interval → Type 0
 ArePlacesFrom first places intervals =
-    (object nr : List ℕ) → get same_range places (range_id object nr) ≡ position_from (is_named object nr) first intervals
+    (object nr : List ℕ) → get same_range places (range_id object nr) ≡ position_from
+    (is_named object nr) first intervals
 
 abbrev pub ArePlaces : {S : Type 0} → HashMap RangeId ℕ S → List Interval → Type 0
 ArePlaces places intervals = ArePlacesFrom 0 places intervals

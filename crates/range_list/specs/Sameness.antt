@@ -6,7 +6,8 @@ use Rattle.range_list.specs.declared.range_id.RangeId.{RangeId}
 
 pub ranges_equiv : IsEquivalence same_range
 ranges_equiv =
-    and_equiv (on_equiv (λ (a : RangeId). a.object) nat_list_eq_equiv) (on_equiv (λ (a : RangeId). a.nr) nat_list_eq_equiv)
+    and_equiv (on_equiv (λ (a : RangeId). a.object) nat_list_eq_equiv)
+    (on_equiv (λ (a : RangeId). a.nr) nat_list_eq_equiv)
 
 pub ranges_partial : IsPartialEquivalence same_range
 ranges_partial = partial_equiv_from_equiv ranges_equiv

@@ -83,7 +83,8 @@ pub fn hand_out(
 fn hand_out_at(ranges: &mut [NumberRange], place: usize)
     requires within { place < length ranges.old }
     requires room { IfSome (slice_get ranges.old place) (λ r. r.next + 1 < 2 ^ 64) }
-    ensures { (r : NumberRange) → slice_get ranges.old place ≡ Some r → ranges.new ≡ slice_set ranges.old place (record r { next = r.next + 1 }) }
+    ensures { (r : NumberRange) → slice_get ranges.old place ≡ Some r
+        → ranges.new ≡ slice_set ranges.old place (record r { next = r.next + 1 }) }
 {
     let range = &mut ranges[place];
     range.next += 1;
@@ -115,14 +116,15 @@ fn pass(ranges: &mut [NumberRange], places: &HashMap<RangeId, usize>, num: &Num)
 fn pass_at(ranges: &mut [NumberRange], place: usize, number: u64)
     requires within { place < length ranges.old }
     requires room { number + 1 < 2 ^ 64 }
-    ensures { (r : NumberRange) → slice_get ranges.old place ≡ Some r → ranges.new ≡ slice_set ranges.old place (record r { next = max r.next (number + 1) }) }
+    ensures { (r : NumberRange) → slice_get ranges.old place ≡ Some r
+        → ranges.new ≡ slice_set ranges.old place (record r { next = max r.next (number + 1) }) }
 {
     let range = &mut ranges[place];
     range.next = range.next.max(number + 1);
 }
 
-/// The first place, from this one on, of a range that one of these numbers is of. Where there is none it is the one behind
-/// all ranges.
+/// The first place, from this one on, of a range that one of these numbers is of. Where there is none it is the one
+/// behind all ranges.
 pub fn next_place(
     ranges: &[NumberRange],
     places: &HashMap<RangeId, usize>,

@@ -38,7 +38,8 @@ impl Model for Ranges {
 
     ghost view = { λ r. r.list.items };
 
-    ghost invariant = { λ r. AreIntervals (intervals_of r.list.items) × ArePlaces r.places (intervals_of r.list.items) };
+    ghost invariant = { λ r. AreIntervals (intervals_of r.list.items)
+        × ArePlaces r.places (intervals_of r.list.items) };
 }
 
 impl Ranges {
@@ -94,8 +95,8 @@ impl Ranges {
         pass_all(self.list.as_mut_slice(), &self.places, numbers);
     }
 
-    /// The first place, from this one on, of an interval that one of these numbers is of. Where there is none it is the one
-    /// behind all intervals.
+    /// The first place, from this one on, of an interval that one of these numbers is of. Where there is none it is the
+    /// one behind all intervals.
     pub fn next_place(&self, numbers: &[Num], from: usize) -> usize
         requires { from ≤ length self.now }
         ensures low { from ≤ result }

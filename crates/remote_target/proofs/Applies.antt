@@ -30,13 +30,15 @@ set_alike t a b row other same h =
 abbrev pub one_applied : RowName → Tables → Result (Option (List ℕ)) Reason → Result Tables EffectFault
 one_applied name t res = elim res [ Ok row ↦ Ok (with_row t name row) | Err reason ↦ Err (effect_fault.Refused 1 reason) ]
 
-done_row : (t : Tables) (name : RowName) (spot : Spot) (res : Result (Option (List ℕ)) Reason) → row_at spot ≡ name → one_applied name t res ≡ Ok (with_row t (row_at spot) spot.text) → res ≡ Ok spot.text
+done_row : (t : Tables) (name : RowName) (spot : Spot) (res : Result (Option (List ℕ)) Reason) → row_at spot ≡ name
+    → one_applied name t res ≡ Ok (with_row t (row_at spot) spot.text) → res ≡ Ok spot.text
 done_row t name spot (Ok row) same h =
     let alike : with_row t name row ≡ with_row t (row_at spot) spot.text = cc in
     ap Ok (set_alike t name (row_at spot) row spot.text same alike)
 done_row t name spot (Err reason) same h = cc
 
-refused_row : (t : Tables) (name : RowName) (res : Result (Option (List ℕ)) Reason) (index : ℕ) (reason : Reason) → one_applied name t res ≡ Err (effect_fault.Refused index reason) → res ≡ Err reason
+refused_row : (t : Tables) (name : RowName) (res : Result (Option (List ℕ)) Reason) (index : ℕ) (reason : Reason)
+    → one_applied name t res ≡ Err (effect_fault.Refused index reason) → res ≡ Err reason
 refused_row t name (Ok row) index reason h = cc
 refused_row t name (Err other) index reason h = let same : other ≡ reason = cc in ap Err same
 
@@ -44,7 +46,8 @@ abbrev pub own_spot : Effect → Option (List ℕ) → Spot
 own_spot e text = record { table = e.table; key = e.key; text = text }
 
 agrees : (e : Effect) (text : Option (List ℕ)) (t : Tables) → get t (row_of e) ≡ text → Agree (own_spot e text ∷ []) t
-agrees e text t h = All-cons (λ (spot : Spot). get t (row_at spot) ≡ spot.text) (own_spot e text) [] h (All-nil (λ (spot : Spot). get t (row_at spot) ≡ spot.text))
+agrees e text t h = All-cons (λ (spot : Spot). get t (row_at spot) ≡ spot.text) (own_spot e text) [] h
+    (All-nil (λ (spot : Spot). get t (row_at spot) ≡ spot.text))
 
 made_of : (e : Effect) (t : Tables) (spot : Spot) → row_at spot ≡ row_of e → row_after (get t (row_of e)) e.deed ≡ Ok spot.text → Makes e t Done (Some spot)
 made_of e t spot same is = record {
@@ -53,12 +56,14 @@ made_of e t spot same is = record {
 }
 
 -- the one row that is left
-pub done_makes : (e : Effect) (text : Option (List ℕ)) (after : List Spot) (made : Option Spot) → IsDone (own_spot e text ∷ []) (e ∷ []) after → map row_at after ≡ row_of e ∷ []
+pub done_makes : (e : Effect) (text : Option (List ℕ)) (after : List Spot) (made : Option Spot) → IsDone (own_spot e text ∷ []) (e ∷ []) after
+    → map row_at after ≡ row_of e ∷ []
     → ((spot : Spot) → after ≡ spot ∷ [] → made ≡ Some spot) → (t : Tables) → get t (row_of e) ≡ text → Makes e t Done made
 done_makes e text [] made isdone names last t h = cc
 done_makes e text (spot ∷ []) made isdone names last t h =
     let same : row_at spot ≡ row_of e = cc in
-    subst (Makes e t Done) (sym (last spot refl)) (made_of e t spot same (done_row t (row_of e) spot (row_after (get t (row_of e)) e.deed) same (isdone t (agrees e text t h))))
+    subst (Makes e t Done) (sym (last spot refl))
+    (made_of e t spot same (done_row t (row_of e) spot (row_after (get t (row_of e)) e.deed) same (isdone t (agrees e text t h))))
 done_makes e text (spot ∷ other ∷ more) made isdone names last t h = cc
 
 refused_of : (e : Effect) (t : Tables) (reason : Reason) → row_after (get t (row_of e)) e.deed ≡ Err reason → Makes e t (Refused reason) None
@@ -67,13 +72,15 @@ refused_of e t reason is = record {
   writes = sym (ap (row_if (row_of e)) is);
 }
 
-pub refused_makes : (e : Effect) (text : Option (List ℕ)) (index : ℕ) (reason : Reason) → IsRefused (own_spot e text ∷ []) (e ∷ []) (effect_fault.Refused index reason)
+pub refused_makes : (e : Effect) (text : Option (List ℕ)) (index : ℕ) (reason : Reason)
+    → IsRefused (own_spot e text ∷ []) (e ∷ []) (effect_fault.Refused index reason)
     → (t : Tables) → get t (row_of e) ≡ text → Makes e t (Refused reason) None
 refused_makes e text index reason refused t h =
     refused_of e t reason (refused_row t (row_of e) (row_after (get t (row_of e)) e.deed) index reason (refused t (agrees e text t h)))
 
 -- where the effect's row was read, the text comes to what was made of it
-pub text_comes : (held : Option Rows) (text : List ℕ) (e : Effect) (row : Option (List ℕ)) (outcome : CallOutcome) (made : Option Spot) → effect_of text ≡ Some e
+pub text_comes : (held : Option Rows) (text : List ℕ) (e : Effect) (row : Option (List ℕ)) (outcome : CallOutcome) (made : Option Spot)
+    → effect_of text ≡ Some e
     → IfSome held (λ rows. row ≡ value_at rows 1 (row_key (row_of e))) → ((t : Tables) → get t (row_of e) ≡ row → Makes e t outcome made)
     → IfSome held (λ rows. (r : Ran) → StandFor rows r → Comes text r.tables outcome made)
 text_comes None text e row outcome made is read makes = tt

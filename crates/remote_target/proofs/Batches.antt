@@ -28,7 +28,8 @@ alone place x h = record { keys = (key_long x.tid h, (omega arith, tt)); distinc
 beside : (place : ℕ) (x : Execution) (name : RowName) (text : Option (List ℕ)) → IsTrue (is_key x.tid) → IsBatch (written_at place x (row_left name text ∷ []))
 unfolding IsDistinct
 beside place x name None h = record { keys = (key_long x.tid h, (omega arith, (omega arith, tt))); distinct = ((refl, (refl, tt)), ((refl, tt), (tt, tt))) }
-beside place x name (Some text) h = record { keys = (key_long x.tid h, (omega arith, (omega arith, tt))); distinct = ((refl, (refl, tt)), ((refl, tt), (tt, tt))) }
+beside place x name (Some text) h =
+    record { keys = (key_long x.tid h, (omega arith, (omega arith, tt))); distinct = ((refl, (refl, tt)), ((refl, tt), (tt, tt))) }
 
 pub call_is_batch : (place : ℕ) (x : Execution) (row : Option Spot) → IsTrue (is_key x.tid) → IsBatch (written_at place x (spot_changes row))
 call_is_batch place x None h = alone place x h
@@ -46,6 +47,7 @@ row_is_batch None = record { keys = tt; distinct = tt }
 row_is_batch (Some spot) = left_alone (row_at spot) spot.text
 
 -- what is made of a batch is one too
-pub made_batch : (result : Result (Vec Change) NoMemory) (batch : List Change) → IsBatch batch → IfOk result (λ made. made.items ≡ batch) → IfOk result (λ made. IsBatch made.items)
+pub made_batch : (result : Result (Vec Change) NoMemory) (batch : List Change) → IsBatch batch → IfOk result (λ made. made.items ≡ batch)
+    → IfOk result (λ made. IsBatch made.items)
 made_batch (Ok made) batch is h = subst IsBatch (sym h) is
 made_batch (Err e) batch is h = tt

@@ -18,7 +18,8 @@ shown : (held : Option Rows) (rows : Rows) (r : Ran) → held ≡ Some rows → 
 shown held rows r is h = subst (λ x. Show x r) is h
 
 -- what is read of a known call
-pub known_as : (held : Option Rows) (tid : List ℕ) (found : Option CallOutcome) (r : Ran) → 1 ≤ length tid → IfSome held (λ rows. IsOutcomeIn (value_at rows 0 tid) found) → Show held r → executed_as tid r.executed ≡ found
+pub known_as : (held : Option Rows) (tid : List ℕ) (found : Option CallOutcome) (r : Ran) → 1 ≤ length tid
+    → IfSome held (λ rows. IsOutcomeIn (value_at rows 0 tid) found) → Show held r → executed_as tid r.executed ≡ found
 known_as None tid found r long read h = absurd h
 known_as (Some rows) tid found r long read h = known_is rows r tid found long h read
 
@@ -28,7 +29,8 @@ module _ {K : Type 0} (held : K → Option Rows) (before : K) (count : ℕ) (cal
 
   -- ---- a known call
 
-  module _ (after : K) (o : CallOutcome) (same : held after ≡ held before) (known : (r : Ran) → Show (held before) r → executed_as call.tid r.executed ≡ Some o) where
+  module _ (after : K) (o : CallOutcome) (same : held after ≡ held before)
+      (known : (r : Ran) → Show (held before) r → executed_as call.tid r.executed ≡ Some o) where
     stays : (r : Ran) → HasRun held here r → ran call r ≡ r
     stays r run = ap (λ k. ran_if k call r) (known r run.rows)
 
@@ -53,7 +55,8 @@ module _ {K : Type 0} (held : K → Option Rows) (before : K) (count : ℕ) (cal
 
   -- ---- a new call
 
-  module _ (looked after : K) (place : ℕ) (same : held looked ≡ held before) (at : place ≡ count + 1) (fresh : (r : Ran) → Show (held before) r → executed_as call.tid r.executed ≡ None) where
+  module _ (looked after : K) (place : ℕ) (same : held looked ≡ held before) (at : place ≡ count + 1)
+      (fresh : (r : Ran) → Show (held before) r → executed_as call.tid r.executed ≡ None) where
     at_end : (r : Ran) → HasRun held here r → place ≡ length r.executed + 1
     at_end r run = at ∙ ap (λ n. n + 1) run.count
 
@@ -63,18 +66,26 @@ module _ {K : Type 0} (held : K → Option Rows) (before : K) (count : ℕ) (cal
     ran_is : (r : Ran) → HasRun held here r → ran call r ≡ ran_if None call r
     ran_is r run = ap (λ k. ran_if k call r) (fresh r run.rows)
 
-    module _ (may_leave : K → Rows → Type 0) (either : IfSome (held looked) (λ rows. (r : Ran) → StandFor rows r → (left : Rows) → may_leave after left → IsBeforeOrAfter rows (with_call_at place call r rows) left)) where
-      left_if : (h : Option Rows) → held before ≡ h → IfSome h (λ rows. (r : Ran) → HasRun held here r → (left : Rows) → may_leave after left → IsBeforeOrAfter rows (changed (changes_of call r) rows) left)
+    module _ (may_leave : K → Rows → Type 0)
+        (either : IfSome (held looked)
+        (λ rows. (r : Ran) → StandFor rows r → (left : Rows) → may_leave after left → IsBeforeOrAfter rows (with_call_at place call r rows) left)) where
+      left_if : (h : Option Rows) → held before ≡ h
+          → IfSome h (λ rows. (r : Ran) → HasRun held here r → (left : Rows) → may_leave after left
+          → IsBeforeOrAfter rows (changed (changes_of call r) rows) left)
       left_if None is = tt
       left_if (Some rows) is =
-          let told = subst (λ x. IfSome x (λ rows. (r : Ran) → StandFor rows r → (left : Rows) → may_leave after left → IsBeforeOrAfter rows (with_call_at place call r rows) left)) (same ∙ is) either in
+          let told = subst (λ x. IfSome x
+          (λ rows. (r : Ran) → StandFor rows r → (left : Rows) → may_leave after left → IsBeforeOrAfter rows (with_call_at place call r rows) left))
+          (same ∙ is) either in
           λ r run left h. subst (λ cs. IsBeforeOrAfter rows (changed cs rows) left) (changes_are r run) (told r (shown (held before) rows r is run.rows) left h)
 
-      pub new_left : IfSome (held before) (λ rows. (r : Ran) → HasRun held here r → (left : Rows) → may_leave after left → IsBeforeOrAfter rows (changed (changes_of call r) rows) left)
+      pub new_left : IfSome (held before)
+          (λ rows. (r : Ran) → HasRun held here r → (left : Rows) → may_leave after left → IsBeforeOrAfter rows (changed (changes_of call r) rows) left)
       new_left = left_if (held before) refl
 
     module _ (o : CallOutcome) (made : IfSome (held looked) (λ rows. (r : Ran) → StandFor rows r → IsDoneAt place call r rows o (held after))) where
-      done_if : (h : Option Rows) → held before ≡ h → (r : Ran) → HasRun held here r → (rows : Rows) × (held before ≡ Some rows) × IsDoneAt place call r rows o (held after)
+      done_if : (h : Option Rows) → held before ≡ h → (r : Ran) → HasRun held here r → (rows : Rows) × (held before ≡ Some rows)
+          × IsDoneAt place call r rows o (held after)
       done_if None is r run = absurd (subst (λ x. Show x r) is run.rows)
       done_if (Some rows) is r run =
           let told = subst (λ x. IfSome x (λ rows. (r : Ran) → StandFor rows r → IsDoneAt place call r rows o (held after))) (same ∙ is) made in
@@ -94,11 +105,13 @@ module _ {K : Type 0} (held : K → Option Rows) (before : K) (count : ℕ) (cal
 
       pub new_done : (r : Ran) → HasRun held here r → HasRun held (record { keeper = after; count = place }) (ran call r)
       new_done r run = record {
-        rows = subst (λ x. Show x (ran call r)) (sym (now_held r run)) (stands_after (done_at r run).0 r call (shown (held before) (done_at r run).0 r (done_at r run).1 run.rows));
+        rows = subst (λ x. Show x (ran call r)) (sym (now_held r run))
+            (stands_after (done_at r run).0 r call (shown (held before) (done_at r run).0 r (done_at r run).1 run.rows));
         count = at_end r run ∙ sym (length_push r.executed (execution call r)) ∙ sym (ap (λ (s : Ran). length s.executed) (ran_is r run));
       }
 
-      new_rows_if : (h : Option Rows) → held before ≡ h → IfSome h (λ rows. (r : Ran) → HasRun held here r → held after ≡ Some (changed (changes_of call r) rows))
+      new_rows_if : (h : Option Rows) → held before ≡ h
+          → IfSome h (λ rows. (r : Ran) → HasRun held here r → held after ≡ Some (changed (changes_of call r) rows))
       new_rows_if None is = tt
       new_rows_if (Some rows) is = λ r run.
           let found = done_at r run in

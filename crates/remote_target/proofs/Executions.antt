@@ -18,7 +18,8 @@ is_same a b h = (bytes_decides a b).1 h
 
 -- ---- the outcome of an identifier
 
-pushed_in : (b : Bool) (tid : List ℕ) (o : CallOutcome) (rest more : Option CallOutcome) (p : CallOutcome) → (rest ≡ Some o → more ≡ Some o) → cond b (Some p) rest ≡ Some o → cond b (Some p) more ≡ Some o
+pushed_in : (b : Bool) (tid : List ℕ) (o : CallOutcome) (rest more : Option CallOutcome) (p : CallOutcome) → (rest ≡ Some o → more ≡ Some o)
+    → cond b (Some p) rest ≡ Some o → cond b (Some p) more ≡ Some o
 pushed_in true tid o rest more p go h = h
 pushed_in false tid o rest more p go h = go h
 
@@ -56,7 +57,8 @@ found_in true tid o y ys same rest h =
 found_in false tid o y ys same rest h = let r = rest h in (r.0, contains_there y ys _ r.1)
 
 -- what has an outcome was executed
-pub as_contained : (tid : List ℕ) (o : CallOutcome) (xs : List Execution) → executed_as tid xs ≡ Some o → (text : List ℕ) × Contains xs (record { tid = tid; text = text; outcome = o })
+pub as_contained : (tid : List ℕ) (o : CallOutcome) (xs : List Execution) → executed_as tid xs ≡ Some o → (text : List ℕ)
+    × Contains xs (record { tid = tid; text = text; outcome = o })
 as_contained tid o [] h = cc
 as_contained tid o (y ∷ ys) h = found_in (bytes_eq y.tid tid) tid o y ys (same_bytes y.tid tid) (as_contained tid o ys) h
 
@@ -66,7 +68,8 @@ counted_once : (b : Bool) (n : ℕ) → n ≤ 1 → (b ≡ true → n ≡ 0) →
 counted_once true n low none = let is = none refl in omega (arith, is)
 counted_once false n low none = omega (arith, low)
 
-pub once_more : (x : Execution) (xs : List Execution) → executed_as x.tid xs ≡ None → ((tid : List ℕ) → count_by (is_of tid) xs ≤ 1) → (tid : List ℕ) → count_by (is_of tid) (xs ++ x ∷ []) ≤ 1
+pub once_more : (x : Execution) (xs : List Execution) → executed_as x.tid xs ≡ None → ((tid : List ℕ) → count_by (is_of tid) xs ≤ 1) → (tid : List ℕ)
+    → count_by (is_of tid) (xs ++ x ∷ []) ≤ 1
 once_more x xs fresh once tid =
     subst (λ n. n ≤ 1) (sym (sum_by_push (λ (y : Execution). cond (is_of tid y) 1 0) xs x))
     (counted_once (bytes_eq x.tid tid) (count_by (is_of tid) xs) (once tid)
@@ -76,6 +79,7 @@ pub tables_more : (t : Tables) (xs : List Execution) (x : Execution) → tables_
 tables_more t [] x = refl
 tables_more t (y ∷ ys) x = tables_more (tables_with y.text t) ys x
 
-pub right_more : (t : Tables) (xs : List Execution) (x : Execution) → AreRight t xs → x.outcome ≡ outcome_of x.text (tables_after t xs) → AreRight t (xs ++ x ∷ [])
+pub right_more : (t : Tables) (xs : List Execution) (x : Execution) → AreRight t xs → x.outcome ≡ outcome_of x.text (tables_after t xs)
+    → AreRight t (xs ++ x ∷ [])
 right_more t [] x all is = (is, tt)
 right_more t (y ∷ ys) x all is = (all.0, right_more (tables_with y.text t) ys x all.1 is)

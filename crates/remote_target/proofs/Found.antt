@@ -49,16 +49,19 @@ is_hit table key spot long h =
       subst (λ s. bytes_eq s.1 key ≡ true) same (is_same key key refl),
     )
 
-hits : (table : ℕ) (key : List ℕ) (spot : Spot) → (nat_eq spot.0 table && is_below [] spot.1) ≡ true → bytes_eq spot.1 key ≡ true → eq_by_cmp spot_cmp (table, key) spot ≡ true
+hits : (table : ℕ) (key : List ℕ) (spot : Spot) → (nat_eq spot.0 table && is_below [] spot.1) ≡ true → bytes_eq spot.1 key ≡ true
+    → eq_by_cmp spot_cmp (table, key) spot ≡ true
 hits table key spot behind same =
     let at : spot.0 ≡ table = eqb-true _ _ (first_true _ _ behind) in
     let is : spot.1 ≡ key = same_bytes spot.1 key same in
     (same_spot-Decides (table, key) spot).1 (λ k. (sym at k, sym is k))
 
-found_in_entries : (table : ℕ) (key : List ℕ) (es : List (Spot × List ℕ)) → is_below [] key ≡ true → map_of.find spot_cmp (table, key) es ≡ found key (map row_of (filter (is_behind table []) es))
+found_in_entries : (table : ℕ) (key : List ℕ) (es : List (Spot × List ℕ)) → is_below [] key ≡ true
+    → map_of.find spot_cmp (table, key) es ≡ found key (map row_of (filter (is_behind table []) es))
 found_in_entries table key [] long = refl
 found_in_entries table key (e ∷ es) long =
-    one_found (eq_by_cmp spot_cmp (table, key) e.0) (is_behind table [] e) (bytes_eq e.0.1 key) key e (filter (is_behind table []) es) (map_of.find spot_cmp (table, key) es) refl
+    one_found (eq_by_cmp spot_cmp (table, key) e.0) (is_behind table [] e) (bytes_eq e.0.1 key) key e (filter (is_behind table []) es)
+    (map_of.find spot_cmp (table, key) es) refl
     (is_hit table key e.0 long) (hits table key e.0) (found_in_entries table key es long)
 
 has_bytes : (key : List ℕ) → 1 ≤ length key → is_below [] key ≡ true
@@ -76,12 +79,14 @@ pub not_found : (low : List ℕ) (rows : List Row) → RiseFrom low rows → fou
 not_found low [] rise = refl
 not_found low (row ∷ rows) rise =
     let other : bytes_eq row.key low ≡ false =
-    off (bytes_eq row.key low) (λ same. not_both (is_below low low) (subst (λ k. is_below low k ≡ true) (same_bytes row.key low same) rise.0) (not_below_itself low)) in
+    off (bytes_eq row.key low)
+    (λ same. not_both (is_below low low) (subst (λ k. is_below low k ≡ true) (same_bytes row.key low same) rise.0) (not_below_itself low)) in
     ap (λ b. cond b (Some row.value) (found low rows)) other ∙ not_found low rows (lower low row.key rows rise.0 rise.1)
 
 -- ---- found by a test
 
-one_value : (b : Bool) (row : Row) (rest : Option Row) (more : Option (List ℕ)) → value_if rest ≡ more → value_if (cond b (Some row) rest) ≡ cond b (Some row.value) more
+one_value : (b : Bool) (row : Row) (rest : Option Row) (more : Option (List ℕ)) → value_if rest ≡ more
+    → value_if (cond b (Some row) rest) ≡ cond b (Some row.value) more
 one_value true row rest more is = refl
 one_value false row rest more is = is
 

@@ -12,3 +12,5 @@ mod Placed
 mod Parts
 mod Texts
 mod Standing
+mod Newest
+mod Lines

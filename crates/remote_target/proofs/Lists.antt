@@ -27,7 +27,8 @@ module _ {X Y : Type 0} where
   pub contains_map : (f : X → Y) (xs : List X) (x : X) → Contains xs x → Contains (map f xs) (f x)
   contains_map f [] x h = absurd (contains_none x h)
   contains_map f (y ∷ xs) x h =
-      ⊎_elim (λ e. subst (λ z. Contains (map f (y ∷ xs)) (f z)) e (contains_here (f y) (map f xs))) (λ at. contains_there (f y) (map f xs) (f x) (contains_map f xs x at)) (contains_cases y xs x h)
+      ⊎_elim (λ e. subst (λ z. Contains (map f (y ∷ xs)) (f z)) e (contains_here (f y) (map f xs)))
+      (λ at. contains_there (f y) (map f xs) (f x) (contains_map f xs x at)) (contains_cases y xs x h)
 
   pub of_map : (f : X → Y) (xs : List X) (z : Y) → Contains (map f xs) z → (x : X) × Contains xs x × (f x ≡ z)
   of_map f [] z h = absurd (contains_none z h)

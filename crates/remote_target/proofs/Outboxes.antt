@@ -30,22 +30,26 @@ collected_there (y ∷ ys) e tid h same =
 pub stands_more : (outbox : List Entry) (e : Entry) (tid text : List ℕ) → Stands outbox tid text → Stands (outbox ++ e ∷ []) tid text
 stands_more outbox e tid text h = (h.0, Contains-append_left outbox (e ∷ []) _ h.1)
 
-pub stands_cases : (outbox : List Entry) (e : Entry) (tid text : List ℕ) → Stands (outbox ++ e ∷ []) tid text → Stands outbox tid text ⊎ ((e.tid ≡ tid) × (e.text ≡ text))
+pub stands_cases : (outbox : List Entry) (e : Entry) (tid text : List ℕ) → Stands (outbox ++ e ∷ []) tid text → Stands outbox tid text
+    ⊎ ((e.tid ≡ tid) × (e.text ≡ text))
 stands_cases outbox e tid text h =
-    ⊎_elim (λ old. inl (h.0, old)) (λ is. inr (ap (λ (z : Entry). z.tid) is, ap (λ (z : Entry). z.text) is)) (Contains-push_cases outbox e (entry tid text h.0) h.1)
+    ⊎_elim (λ old. inl (h.0, old)) (λ is. inr (ap (λ (z : Entry). z.tid) is, ap (λ (z : Entry). z.text) is))
+    (Contains-push_cases outbox e (entry tid text h.0) h.1)
 
 apart : (outbox : List Entry) (tid other text : List ℕ) → is_collected tid outbox ≡ false → Stands outbox other text → tid ≡ other → ⊥
 apart outbox tid other text fresh h same = true≢false (sym (collected_there outbox (entry other text h.0) tid h.1 (sym same)) ∙ fresh)
 
 pub one_text_more : (outbox : List Entry) (e : Entry) → is_collected e.tid outbox ≡ false → HasOneText outbox → HasOneText (outbox ++ e ∷ [])
 one_text_more outbox e fresh one tid text other a b =
-    ⊎_elim (λ old. ⊎_elim (λ older. one tid text other old older) (λ is. absurd (apart outbox e.tid tid text fresh old is.0)) (stands_cases outbox e tid other b))
+    ⊎_elim (λ old. ⊎_elim (λ older. one tid text other old older) (λ is. absurd (apart outbox e.tid tid text fresh old is.0))
+    (stands_cases outbox e tid other b))
     (λ is. ⊎_elim (λ older. absurd (apart outbox e.tid tid other fresh older is.0)) (λ too. sym is.1 ∙ too.1) (stands_cases outbox e tid other b))
     (stands_cases outbox e tid text a)
 
 -- ---- an answer
 
-stands_if : (b : Bool) (outbox : List Entry) (tid text : List ℕ) (a : CallOutcome) (o : Option CallOutcome) → Contains outbox (cond b (entry tid text (Some a)) (entry tid text o)) → Stands outbox tid text
+stands_if : (b : Bool) (outbox : List Entry) (tid text : List ℕ) (a : CallOutcome) (o : Option CallOutcome)
+    → Contains outbox (cond b (entry tid text (Some a)) (entry tid text o)) → Stands outbox tid text
 stands_if true outbox tid text a o h = (Some a, h)
 stands_if false outbox tid text a o h = (o, h)
 
@@ -72,7 +76,8 @@ first_of : (a b : Bool) → (a && b) ≡ true → a ≡ true
 first_of true b h = refl
 first_of false b h = cc
 
-outcome_if : (b : Bool) (outbox : List Entry) (g : CallAnswer) (e : Entry) (tid text : List ℕ) (o : CallOutcome) → (b ≡ true → e.tid ≡ g.tid) → Contains outbox e
+outcome_if : (b : Bool) (outbox : List Entry) (g : CallAnswer) (e : Entry) (tid text : List ℕ) (o : CallOutcome) → (b ≡ true → e.tid ≡ g.tid)
+    → Contains outbox e
     → cond b (entry e.tid e.text (Some g.outcome)) e ≡ entry tid text (Some o) → Contains outbox (entry tid text (Some o)) ⊎ ((g.tid ≡ tid) × (g.outcome ≡ o))
 outcome_if true outbox g e tid text o same h is =
     let first = ap (λ (z : Entry). z.tid) is in

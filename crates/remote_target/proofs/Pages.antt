@@ -62,10 +62,12 @@ one_behind true true false k e xs ys test has same =
 one_behind true false true k e xs ys test has same = let odd : false ≡ true = has refl in cc
 one_behind true false false k e xs ys test has same = same
 
-behind_is_above : (table : ℕ) (k : List ℕ) (es : Entries) → map row_of (filter (is_behind table k) es) ≡ filter (above k) (map row_of (filter (is_behind table []) es))
+behind_is_above : (table : ℕ) (k : List ℕ) (es : Entries) → map row_of (filter (is_behind table k) es) ≡ filter (above k)
+    (map row_of (filter (is_behind table []) es))
 behind_is_above table k [] = refl
 behind_is_above table k (e ∷ es) =
-    one_behind (nat_eq e.0.0 table) (is_below [] e.0.1) (is_below k e.0.1) k e (filter (is_behind table k) es) (filter (is_behind table []) es) refl (has_bytes_above k e.0.1) (behind_is_above table k es)
+    one_behind (nat_eq e.0.0 table) (is_below [] e.0.1) (is_below k e.0.1) k e (filter (is_behind table k) es) (filter (is_behind table []) es) refl
+    (has_bytes_above k e.0.1) (behind_is_above table k es)
 
 -- ---- keys that rise
 
@@ -87,7 +89,8 @@ all_above low (row ∷ rows) rise =
 last_not_below : (low : List ℕ) (xs ys : List Row) → RiseFrom low (xs ++ ys) → is_below (last_key low xs) low ≡ false
 last_not_below low [] ys rise = not_below_itself low
 last_not_below low (x ∷ xs) ys rise =
-    off (is_below (last_key x.key xs) low) (λ h. not_both (is_below (last_key x.key xs) x.key) (below_trans (last_key x.key xs) low x.key h rise.0) (last_not_below x.key xs ys rise.1))
+    off (is_below (last_key x.key xs) low)
+    (λ h. not_both (is_below (last_key x.key xs) x.key) (below_trans (last_key x.key xs) low x.key h rise.0) (last_not_below x.key xs ys rise.1))
 
 -- of rising keys, those above the last of a front are the rest
 rest_above : (low : List ℕ) (xs ys : List Row) → RiseFrom low (xs ++ ys) → filter (above (last_key low xs)) (xs ++ ys) ≡ ys
@@ -121,25 +124,34 @@ key_below table low spot same below =
 abbrev behind : ℕ → List ℕ → Entries → List Row
 behind table after es = map row_of (filter (is_behind table after) es)
 
-rises_above : (table : ℕ) (after low : List ℕ) (es : Entries) → below_all spot_cmp (table, low) es ≡ true → is_sorted spot_cmp es ≡ true → RiseFrom low (behind table after es)
+rises_above : (table : ℕ) (after low : List ℕ) (es : Entries) → below_all spot_cmp (table, low) es ≡ true → is_sorted spot_cmp es ≡ true
+    → RiseFrom low (behind table after es)
 rises_above table after low [] below sorted = tt
 rises_above table after low (e ∷ es) below sorted =
-    elim (is_behind table after e) as (λ b. is_behind table after e ≡ b → RiseFrom low (map row_of (cond b (e ∷ filter (is_behind table after) es) (filter (is_behind table after) es)))) [
+    elim (is_behind table after e)
+    as (λ b. is_behind table after e ≡ b → RiseFrom low (map row_of (cond b (e ∷ filter (is_behind table after) es) (filter (is_behind table after) es)))) [
       | true ↦ λ h.
           let same : e.0.0 ≡ table = eqb-true _ _ (first_true _ _ h) in
-          let spot : e.0 ≡ (table, e.0.1) = λ i. (same i, e.0.1) in
-          (key_below table low e.0 same (first_true _ _ below), rises_above table after e.0.1 es (subst (λ s. below_all spot_cmp s es ≡ true) spot (first_true _ _ sorted)) (second_true _ _ sorted))
+          let spot : e.0 ≡ (table, e.0.1) = λ i. (same i, e.0.1) in (
+            key_below table low e.0 same (first_true _ _ below),
+            rises_above table after e.0.1 es
+                (subst (λ s. below_all spot_cmp s es ≡ true) spot (first_true _ _ sorted)) (second_true _ _ sorted),
+          )
       | false ↦ λ h. rises_above table after low es (second_true _ _ below) (second_true _ _ sorted)
     ] refl
 
 rises : (table : ℕ) (after : List ℕ) (es : Entries) → is_sorted spot_cmp es ≡ true → RiseFrom after (behind table after es)
 rises table after [] sorted = tt
 rises table after (e ∷ es) sorted =
-    elim (is_behind table after e) as (λ b. is_behind table after e ≡ b → RiseFrom after (map row_of (cond b (e ∷ filter (is_behind table after) es) (filter (is_behind table after) es)))) [
+    elim (is_behind table after e)
+    as (λ b. is_behind table after e ≡ b → RiseFrom after (map row_of (cond b (e ∷ filter (is_behind table after) es) (filter (is_behind table after) es)))) [
       | true ↦ λ h.
           let same : e.0.0 ≡ table = eqb-true _ _ (first_true _ _ h) in
-          let spot : e.0 ≡ (table, e.0.1) = λ i. (same i, e.0.1) in
-          (second_true _ _ h, rises_above table after e.0.1 es (subst (λ s. below_all spot_cmp s es ≡ true) spot (first_true _ _ sorted)) (second_true _ _ sorted))
+          let spot : e.0 ≡ (table, e.0.1) = λ i. (same i, e.0.1) in (
+            second_true _ _ h,
+            rises_above table after e.0.1 es (subst (λ s. below_all spot_cmp s es ≡ true) spot (first_true _ _ sorted))
+                (second_true _ _ sorted),
+          )
       | false ↦ λ h. rises table after es (second_true _ _ sorted)
     ] refl
 
@@ -165,7 +177,8 @@ pub no_front : (held : Option Rows) (table : ℕ) → IfSome held (λ rows. IsFr
 no_front None table = tt
 no_front (Some rows) table = record { rest = rows_in rows table; whole = refl }
 
-longer : (rows : Rows) (table n : ℕ) (xs page new : List Row) → new ≡ xs ++ page → IsFront xs (rows_in rows table) → page ≡ page_of rows table (last_key [] xs) n → IsFront new (rows_in rows table)
+longer : (rows : Rows) (table n : ℕ) (xs page new : List Row) → new ≡ xs ++ page → IsFront xs (rows_in rows table)
+    → page ≡ page_of rows table (last_key [] xs) n → IsFront new (rows_in rows table)
 longer rows table n xs page new grown front paged = record {
   rest = drop n front.rest;
   whole =
@@ -181,23 +194,29 @@ short_is_all zero rest h = absurd (omega arith)
 short_is_all (suc n) [] h = refl
 short_is_all (suc n) (row ∷ rest) h = ap (row ∷◌) (short_is_all n rest (omega arith))
 
-ended : (rows : Rows) (table n : ℕ) (xs page new : List Row) → new ≡ xs ++ page → length page < n → IsFront xs (rows_in rows table) → page ≡ page_of rows table (last_key [] xs) n → new ≡ rows_in rows table
+ended : (rows : Rows) (table n : ℕ) (xs page new : List Row) → new ≡ xs ++ page → length page < n → IsFront xs (rows_in rows table)
+    → page ≡ page_of rows table (last_key [] xs) n → new ≡ rows_in rows table
 ended rows table n xs page new grown short front paged =
     let next : page ≡ take n front.rest = paged ∙ page_is_next rows table n xs front.rest front.whole in
     let last : take n front.rest ≡ front.rest = short_is_all n front.rest (subst (λ p. length p < n) next short) in
     grown ∙ ap (xs ++◌) (next ∙ last) ∙ sym front.whole
 
 pub more_rows : (held now : Option Rows) (table n : ℕ) (after : List ℕ) (xs page new : List Row) → now ≡ held → after ≡ last_key [] xs → new ≡ xs ++ page
-    → IfSome held (λ rows. IsFront xs (rows_in rows table)) → IfSome now (λ rows. page ≡ page_of rows table after n) → IfSome held (λ rows. IsFront new (rows_in rows table))
+    → IfSome held (λ rows. IsFront xs (rows_in rows table)) → IfSome now (λ rows. page ≡ page_of rows table after n)
+    → IfSome held (λ rows. IsFront new (rows_in rows table))
 more_rows None now table n after xs page new same at grown front paged = tt
 more_rows (Some rows) now table n after xs page new same at grown front paged =
-    longer rows table n xs page new grown front (subst (λ k. page ≡ page_of rows table k n) at (subst (λ held. IfSome held (λ rows. page ≡ page_of rows table after n)) same paged))
+    longer rows table n xs page new grown front
+    (subst (λ k. page ≡ page_of rows table k n) at (subst (λ held. IfSome held (λ rows. page ≡ page_of rows table after n)) same paged))
 
-pub all_rows : (held now : Option Rows) (table n : ℕ) (after : List ℕ) (xs page new : List Row) → now ≡ held → after ≡ last_key [] xs → new ≡ xs ++ page → length page < n
-    → IfSome held (λ rows. IsFront xs (rows_in rows table)) → IfSome now (λ rows. page ≡ page_of rows table after n) → IfSome held (λ rows. new ≡ rows_in rows table)
+pub all_rows : (held now : Option Rows) (table n : ℕ) (after : List ℕ) (xs page new : List Row) → now ≡ held → after ≡ last_key [] xs → new ≡ xs ++ page
+    → length page < n
+    → IfSome held (λ rows. IsFront xs (rows_in rows table)) → IfSome now (λ rows. page ≡ page_of rows table after n)
+    → IfSome held (λ rows. new ≡ rows_in rows table)
 all_rows None now table n after xs page new same at grown short front paged = tt
 all_rows (Some rows) now table n after xs page new same at grown short front paged =
-    ended rows table n xs page new grown short front (subst (λ k. page ≡ page_of rows table k n) at (subst (λ held. IfSome held (λ rows. page ≡ page_of rows table after n)) same paged))
+    ended rows table n xs page new grown short front
+    (subst (λ k. page ≡ page_of rows table k n) at (subst (λ held. IfSome held (λ rows. page ≡ page_of rows table after n)) same paged))
 
 -- ---- the last key
 

@@ -9,9 +9,9 @@ use Rattle.enq_base.specs.declared.unit.Reason.TheVariants.{Duplicate, Missing, 
 use Rattle.keeper_api.specs.declared.rows.Row.{Row}
 use Rattle.remote_target.specs.declared.call.CallOutcome.{CallOutcome}
 use Rattle.remote_target.specs.declared.call.CallOutcome.TheVariants.{Done, BadText, Refused}
+use Rattle.remote_target.specs.Executed.{call_in, outcome_or_done}
 use Rattle.remote_target.specs.Reading.{IsSpelled, is_call, place_in}
 use Rattle.remote_target.specs.Rows.{call_value, outcome_bytes, outcome_coded, outcome_codes, outcome_in, plain_outcome, reason_byte, reason_coded}
-use Rattle.remote_target.specs.Runs.{Execution}
 use Rattle.remote_target.proofs.Pages.{first_true, second_true}
 
 -- ---- two bytes of an outcome
@@ -40,11 +40,13 @@ plain_is a b o none h =
     (picked (AreCodes a b) (nat_eq a 2) BadText o None (λ is. (eqb-true a 2 is, none)) (no_value o))
     h
 
-refused_is : (a b : ℕ) (o : CallOutcome) (r : Option Reason) → a ≡ 3 → ((s : Reason) → r ≡ Some s → b ≡ reason_byte s) → option_map Refused r ≡ Some o → AreCodes a b o
+refused_is : (a b : ℕ) (o : CallOutcome) (r : Option Reason) → a ≡ 3 → ((s : Reason) → r ≡ Some s → b ≡ reason_byte s) → option_map Refused r ≡ Some o
+    → AreCodes a b o
 refused_is a b o None three is h = absurd cc
 refused_is a b o (Some s) three is h = let same : Refused s ≡ o = cc in subst (AreCodes a b) same (three, is s refl)
 
-coded_is : (three none : Bool) (a b : ℕ) (o : CallOutcome) → (three ≡ true → a ≡ 3) → (none ≡ true → b ≡ 0) → cond three (option_map Refused (reason_coded b)) (cond none (plain_outcome a) None) ≡ Some o → AreCodes a b o
+coded_is : (three none : Bool) (a b : ℕ) (o : CallOutcome) → (three ≡ true → a ≡ 3) → (none ≡ true → b ≡ 0)
+    → cond three (option_map Refused (reason_coded b)) (cond none (plain_outcome a) None) ≡ Some o → AreCodes a b o
 coded_is true none a b o is_three is_none h = refused_is a b o (reason_coded b) (is_three refl) (reason_is b) h
 coded_is false true a b o is_three is_none h = plain_is a b o (is_none refl) h
 coded_is false false a b o is_three is_none h = absurd cc
@@ -71,20 +73,14 @@ behind_place (a ∷ b ∷ c ∷ d ∷ e ∷ f ∷ g ∷ i ∷ number ∷ reason 
 
 -- ---- the call that a row spells
 
-abbrev outcome_or_done : Option CallOutcome → CallOutcome
-outcome_or_done None = Done
-outcome_or_done (Some o) = o
-
-abbrev pub call_in : Row → Execution
-call_in row = record { tid = row.key; text = drop 10 row.value; outcome = outcome_or_done (outcome_in row.value) }
-
 found_outcome : (o : Option CallOutcome) → is_some o ≡ true → o ≡ Some (outcome_or_done o)
 found_outcome None h = absurd cc
 found_outcome (Some o) h = refl
 
 pub row_is_call : (row : Row) → is_call row ≡ true → IsSpelled row → call_value (place_in row) (call_in row) ≡ row.value
 row_is_call row good spelled =
-    let has = first_true (is_some (outcome_in row.value)) (is_text (drop 10 row.value)) (second_true (is_key row.key) (is_some (outcome_in row.value) && is_text (drop 10 row.value)) good) in
+    let has = first_true (is_some (outcome_in row.value)) (is_text (drop 10 row.value))
+    (second_true (is_key row.key) (is_some (outcome_in row.value) && is_text (drop 10 row.value)) good) in
     let o = outcome_or_done (outcome_in row.value) in
     ap (λ front. front ++ outcome_bytes o (drop 10 row.value)) spelled
     ∙ ap (take 8 row.value ++◌) (sym (behind_place row.value o (found_outcome (outcome_in row.value) has)))

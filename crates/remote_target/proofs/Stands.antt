@@ -62,7 +62,7 @@ no_match : (b : Bool) (p : CallOutcome) (rest : Option CallOutcome) → cond b (
 no_match true p rest h = cc
 no_match false p rest h = (refl, h)
 
-swapped : {A : Type 0} (b c : Bool) (x y z : A) → (b ≡ true → c ≡ true → ⊥) → cond b x (cond c y z) ≡ cond c y (cond b x z)
+pub swapped : {A : Type 0} (b c : Bool) (x y z : A) → (b ≡ true → c ≡ true → ⊥) → cond b x (cond c y z) ≡ cond c y (cond b x z)
 swapped true true x y z apart = absurd (apart refl refl)
 swapped true false x y z apart = refl
 swapped false c x y z apart = refl
@@ -91,10 +91,11 @@ told place text (Refused Missing) = refl
 told place text (Refused NotNumber) = refl
 told place text (Refused Overflow) = refl
 
-told_outcome : (place : ℕ) (x : Execution) → outcome_in (call_value place x) ≡ Some x.outcome
+pub told_outcome : (place : ℕ) (x : Execution) → outcome_in (call_value place x) ≡ Some x.outcome
 told_outcome place x = told place x.text x.outcome
 
-found_in : (b : Bool) (p : ℕ) (tid : List ℕ) (x : Execution) (xs : List Execution) (o : Option CallOutcome) → (IsOutcomeIn (value_from (p + 1) tid xs) o → executed_as tid xs ≡ o)
+found_in : (b : Bool) (p : ℕ) (tid : List ℕ) (x : Execution) (xs : List Execution) (o : Option CallOutcome)
+    → (IsOutcomeIn (value_from (p + 1) tid xs) o → executed_as tid xs ≡ o)
     → IsOutcomeIn (cond b (Some (call_value p x)) (value_from (p + 1) tid xs)) o → cond b (Some x.outcome) (executed_as tid xs) ≡ o
 found_in true p tid x xs o more h = sym (told_outcome p x) ∙ h.0
 found_in false p tid x xs o more h = more h
@@ -104,17 +105,20 @@ outcome_found p tid [] o h = sym h
 outcome_found p tid (x ∷ xs) o h = found_in (bytes_eq x.tid tid) p tid x xs o (outcome_found (p + 1) tid xs o) h
 
 -- what is read under an identifier is its outcome
-pub known_is : (rows : Rows) (r : Ran) (tid : List ℕ) (o : Option CallOutcome) → 1 ≤ length tid → StandFor rows r → IsOutcomeIn (value_at rows 0 tid) o → executed_as tid r.executed ≡ o
+pub known_is : (rows : Rows) (r : Ran) (tid : List ℕ) (o : Option CallOutcome) → 1 ≤ length tid → StandFor rows r → IsOutcomeIn (value_at rows 0 tid) o
+    → executed_as tid r.executed ≡ o
 known_is rows r tid o long stands h = outcome_found 1 tid r.executed o (subst (λ v. IsOutcomeIn v o) (stands.calls tid long) h)
 
 -- ---- the changes of a text
 
-left_got : (name : RowName) (row : Option (List ℕ)) (rows : Rows) (q : Spot) → get (changed_once (row_left name row) rows) q ≡ cond (eq_by_cmp spot_cmp q (1, row_key name)) row (get rows q)
+left_got : (name : RowName) (row : Option (List ℕ)) (rows : Rows) (q : Spot)
+    → get (changed_once (row_left name row) rows) q ≡ cond (eq_by_cmp spot_cmp q (1, row_key name)) row (get rows q)
 left_got name None rows q = get_once (row_left name None) rows q
 left_got name (Some text) rows q = get_once (row_left name (Some text)) rows q
 
 -- tables other than the business rows stay
-elsewhere_if : (name : RowName) (res : Result (Option (List ℕ)) Reason) (rows : Rows) (q : Spot) → eq_by_cmp spot_cmp q (1, row_key name) ≡ false → get (changed (row_if name res) rows) q ≡ get rows q
+elsewhere_if : (name : RowName) (res : Result (Option (List ℕ)) Reason) (rows : Rows) (q : Spot) → eq_by_cmp spot_cmp q (1, row_key name) ≡ false
+    → get (changed (row_if name res) rows) q ≡ get rows q
 elsewhere_if name (Ok row) rows q off = left_got name row rows q ∙ ap (λ b. cond b row (get rows q)) off
 elsewhere_if name (Err reason) rows q off = refl
 
@@ -146,12 +150,25 @@ abbrev noted : ℕ → Execution → Rows → Rows
 noted place x rows = changed_once (change.Put 2 count_key (big_bytes 8 place)) (changed_once (change.Put 0 x.tid (call_value place x)) rows)
 
 noted_got : (place : ℕ) (x : Execution) (rows : Rows) (q : Spot)
-    → get (noted place x rows) q ≡ cond (eq_by_cmp spot_cmp q (2, count_key)) (Some (big_bytes 8 place)) (cond (eq_by_cmp spot_cmp q (0, x.tid)) (Some (call_value place x)) (get rows q))
+    → get (noted place x rows) q ≡ cond (eq_by_cmp spot_cmp q (2, count_key)) (Some (big_bytes 8 place))
+    (cond (eq_by_cmp spot_cmp q (0, x.tid)) (Some (call_value place x)) (get rows q))
 noted_got place x rows q =
     get_once (change.Put 2 count_key (big_bytes 8 place)) (changed_once (change.Put 0 x.tid (call_value place x)) rows) q
     ∙ ap (cond (eq_by_cmp spot_cmp q (2, count_key)) (Some (big_bytes 8 place))) (get_once (change.Put 0 x.tid (call_value place x)) rows q)
 
-pub stands_new : (rows : Rows) (r : Ran) (call : Call) → executed_as call.tid r.executed ≡ None → StandFor rows r → StandFor (changed (changes_at (length r.executed + 1) call r) rows) (ran_if None call r)
+-- what stands under an identifier then
+pub call_at_key : (rows : Rows) (r : Ran) (call : Call) (key : List ℕ)
+    → value_at (changed (changes_at (length r.executed + 1) call r) rows) 0 key ≡ cond (bytes_eq call.tid key)
+    (Some (call_value (length r.executed + 1) (execution call r))) (value_at rows 0 key)
+call_at_key rows r call key =
+    let x = execution call r in
+    let place = length r.executed + 1 in
+    calls_stay (effect_of call.text) r.tables (noted place x rows) key
+    ∙ noted_got place x rows (0, key)
+    ∙ ap (λ b. cond b (Some (call_value place x)) (value_at rows 0 key)) (in_table 0 key call.tid)
+
+pub stands_new : (rows : Rows) (r : Ran) (call : Call) → executed_as call.tid r.executed ≡ None → StandFor rows r
+    → StandFor (changed (changes_at (length r.executed + 1) call r) rows) (ran_if None call r)
 stands_new rows r call fresh h =
     let x = execution call r in
     let place = length r.executed + 1 in
@@ -161,17 +178,17 @@ stands_new rows r call fresh h =
     let long : place ≡ length (r.executed ++ x ∷ []) = sym (length_push r.executed x ∙ omega arith) in
     record {
       calls = λ tid has_bytes.
-          calls_stay e r.tables mid tid
-          ∙ noted_got place x rows (0, tid)
-          ∙ ap (λ b. cond b (Some (call_value place x)) (value_at rows 0 tid)) (in_table 0 tid call.tid)
+          call_at_key rows r call tid
           ∙ ap (cond (bytes_eq call.tid tid) (Some (call_value place x))) (h.calls tid has_bytes)
           ∙ ap (λ n. cond (bytes_eq call.tid tid) (Some (call_value n x)) (value_from 1 tid r.executed)) (sym same_place)
           ∙ sym (value_push 1 tid r.executed x fresh);
       texts = texts_with e r.tables mid (λ name. noted_got place x rows (1, row_key name) ∙ h.texts name);
-      count = subst (λ v. IsCount v (length (r.executed ++ x ∷ []))) (sym (count_stays e r.tables mid count_key ∙ noted_got place x rows (2, count_key))) (ap (big_bytes 8) long);
+      count = subst (λ v. IsCount v (length (r.executed ++ x ∷ []))) (sym (count_stays e r.tables mid count_key ∙ noted_got place x rows (2, count_key)))
+          (ap (big_bytes 8) long);
     }
 
-stands_if : (known : Option CallOutcome) (rows : Rows) (r : Ran) (call : Call) → executed_as call.tid r.executed ≡ known → StandFor rows r → StandFor (changed (changes_if known call r) rows) (ran_if known call r)
+stands_if : (known : Option CallOutcome) (rows : Rows) (r : Ran) (call : Call) → executed_as call.tid r.executed ≡ known → StandFor rows r
+    → StandFor (changed (changes_if known call r) rows) (ran_if known call r)
 stands_if None rows r call is h = stands_new rows r call is h
 stands_if (Some o) rows r call is h = h
 

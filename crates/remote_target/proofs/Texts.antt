@@ -60,7 +60,8 @@ pub tables_of : List Row → Tables
 tables_of [] = empty
 tables_of (row ∷ rows) = with_row (tables_of rows) (name_in row.key) (Some row.value)
 
-pub texts_are : (rows : List Row) → position (λ row. not (is_text_row row)) rows ≡ None → (name : RowName) → found (row_key name) rows ≡ get (tables_of rows) name
+pub texts_are : (rows : List Row) → position (λ row. not (is_text_row row)) rows ≡ None → (name : RowName)
+    → found (row_key name) rows ≡ get (tables_of rows) name
 unfolding tables_of
 texts_are [] good name = sym (get-empty row_cmp name)
 texts_are (row ∷ rows) good name =

@@ -38,7 +38,8 @@ at_first = record {
 no_outcome : (e : Entry) (tid text : List ℕ) (o : CallOutcome) → e.outcome ≡ None → e ≡ entry tid text (Some o) → ⊥
 no_outcome e tid text o none is = let same = ap (λ (z : Entry). z.outcome) is in cc
 
-more_collected : (w : World) (call : Call) → is_collected call.tid w.outbox ≡ false → Holds w → Holds (record w { outbox = w.outbox ++ entry call.tid call.text None ∷ [] })
+more_collected : (w : World) (call : Call) → is_collected call.tid w.outbox ≡ false → Holds w
+    → Holds (record w { outbox = w.outbox ++ entry call.tid call.text None ∷ [] })
 more_collected w call fresh h =
     let e = entry call.tid call.text None in
     record {
@@ -47,7 +48,8 @@ more_collected w call fresh h =
       made = λ x at. stands_more w.outbox e x.tid x.text (h.made x at);
       given = h.given;
       texts = one_text_more w.outbox e fresh h.texts;
-      settled = λ tid text o at. ⊎_elim (λ old. h.settled tid text o old) (λ is. absurd (no_outcome e tid text o refl is)) (Contains-push_cases w.outbox e (entry tid text (Some o)) at);
+      settled = λ tid text o at. ⊎_elim (λ old. h.settled tid text o old) (λ is. absurd (no_outcome e tid text o refl is))
+          (Contains-push_cases w.outbox e (entry tid text (Some o)) at);
       tables = h.tables;
       right = h.right;
     }
@@ -65,7 +67,8 @@ more_sent : (w : World) (e : Entry) → Contains w.outbox e → Holds w → Hold
 more_sent w e at h =
     record {
       once = h.once;
-      sent = λ c there. ⊎_elim (λ old. h.sent c old) (λ is. subst (λ (z : Call). Stands w.outbox z.tid z.text) is (e.outcome, at)) (Contains-push_cases w.sent (record { tid = e.tid; text = e.text }) c there);
+      sent = λ c there. ⊎_elim (λ old. h.sent c old) (λ is. subst (λ (z : Call). Stands w.outbox z.tid z.text) is (e.outcome, at))
+          (Contains-push_cases w.sent (record { tid = e.tid; text = e.text }) c there);
       made = h.made;
       given = h.given;
       texts = h.texts;
@@ -84,13 +87,15 @@ keeps_sent w (Some e) at h = if_open (is_none e.outcome) w _ h (more_sent w e (a
 
 -- ---- executing
 
-more_executed : (w : World) (call : Call) → executed_as call.tid w.target.executed ≡ None → Stands w.outbox call.tid call.text → Holds w → Holds (record w { target = ran_if None call w.target })
+more_executed : (w : World) (call : Call) → executed_as call.tid w.target.executed ≡ None → Stands w.outbox call.tid call.text → Holds w
+    → Holds (record w { target = ran_if None call w.target })
 more_executed w call fresh stands h =
     let x = execution call w.target in
     record {
       once = once_more x w.target.executed fresh h.once;
       sent = h.sent;
-      made = λ y at. ⊎_elim (λ old. h.made y old) (λ is. subst (λ (z : Execution). Stands w.outbox z.tid z.text) is stands) (Contains-push_cases w.target.executed x y at);
+      made = λ y at. ⊎_elim (λ old. h.made y old) (λ is. subst (λ (z : Execution). Stands w.outbox z.tid z.text) is stands)
+          (Contains-push_cases w.target.executed x y at);
       given = λ g at. as_more g.tid g.outcome w.target.executed (x ∷ []) (h.given g at);
       texts = h.texts;
       settled = λ tid text o at. as_more tid o w.target.executed (x ∷ []) (h.settled tid text o at);
@@ -98,7 +103,8 @@ more_executed w call fresh stands h =
       right = right_more empty w.target.executed x h.right (ap (outcome_of call.text) h.tables);
     }
 
-keeps_executed_if : (w : World) (call : Call) (known : Option CallOutcome) → executed_as call.tid w.target.executed ≡ known → Stands w.outbox call.tid call.text → Holds w → Holds (record w { target = ran_if known call w.target })
+keeps_executed_if : (w : World) (call : Call) (known : Option CallOutcome) → executed_as call.tid w.target.executed ≡ known → Stands w.outbox call.tid call.text
+    → Holds w → Holds (record w { target = ran_if known call w.target })
 keeps_executed_if w call None is stands h = more_executed w call is stands h
 keeps_executed_if w call (Some o) is stands h = h
 
@@ -112,7 +118,8 @@ more_given w tid o is h =
       once = h.once;
       sent = h.sent;
       made = h.made;
-      given = λ a at. ⊎_elim (λ old. h.given a old) (λ same. subst (λ (z : CallAnswer). executed_as z.tid w.target.executed ≡ Some z.outcome) same is) (Contains-push_cases w.given g a at);
+      given = λ a at. ⊎_elim (λ old. h.given a old) (λ same. subst (λ (z : CallAnswer). executed_as z.tid w.target.executed ≡ Some z.outcome) same is)
+          (Contains-push_cases w.given g a at);
       texts = h.texts;
       settled = h.settled;
       tables = h.tables;

@@ -22,7 +22,8 @@ text_if bytes = if is_text bytes then Some bytes else None
 
 -- the effect on a row, where its table and its key are such
 abbrev pub effect_on : List ℕ → List ℕ → Deed → Option Effect
-effect_on table key deed = if is_name table && is_key key then Some (record { table = table; key = key; deed = deed }) else None
+effect_on table key deed = if is_name table && is_key key then Some
+    (record { table = table; key = key; deed = deed }) else None
 
 -- what is done to a row with the bytes behind its key
 abbrev pub deed_with : List ℕ → List ℕ → Option Deed
@@ -39,9 +40,11 @@ keyed_effect verb table rest = do
   effect_on table (parts.0) deed
 
 abbrev pub verb_effect : List ℕ → List ℕ → List ℕ → Option Effect
-verb_effect verb table rest = if bytes_eq verb (codes "DEL") then effect_on table rest Del else keyed_effect verb table rest
+verb_effect verb table rest = if bytes_eq verb (codes "DEL") then effect_on table rest Del else keyed_effect verb table
+    rest
 
--- the effect that a call's text spells: `PUT table key text`, `INS table key text`, `DEL table key` or `ADD table key number`
+-- the effect that a call's text spells: `PUT table key text`, `INS table key text`, `DEL table key` or `ADD table key
+-- number`
 unfoldable pub effect_of : List ℕ → Option Effect
 effect_of text = do
   verb ← cut 32 text

@@ -5,4 +5,5 @@ pub mod Rows
 pub mod Targets
 pub mod TableRows
 pub mod Reading
+pub mod Executed
 pub mod Carrying

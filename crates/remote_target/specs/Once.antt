@@ -1,5 +1,6 @@
 -- A sending system with its outbox, a network, and a target; what may happen, and what holds whatever happens.
-use Rattle.std.specs.Prelude.{◌≡◌, ℕ, ◌≤◌, Bool, ◌&&◌, is_none, List, [], ◌∷◌, ◌++◌, map, count_by, if◌then◌else◌, Option, Some, None, Contains, slice_get}
+use Rattle.std.specs.Prelude.{◌≡◌, ℕ, ◌≤◌, Bool, ◌&&◌, is_none, List, [], ◌∷◌, ◌++◌, map, count_by, if◌then◌else◌}
+use Rattle.std.specs.Prelude.{Option, Some, None, Contains, slice_get}
 use Rattle.std.specs.List.{list_any}
 use Rattle.std.specs.Str.{bytes_eq}
 use Rattle.std.specs.FinMap.{empty}
@@ -17,8 +18,8 @@ pub record Entry : Type 0 where
   pub text : List ℕ
   pub outcome : Option CallOutcome
 
--- the outbox; all calls that were ever sent and all answers that were ever given, any of which may arrive at any time and
--- again; and the target. In each list the earliest stand first
+-- the outbox; all calls that were ever sent and all answers that were ever given, any of which may arrive at any time
+-- and again; and the target. In each list the earliest stand first
 pub record World : Type 0 where
   pub outbox : List Entry
   pub sent : List Call
@@ -36,8 +37,9 @@ pub data Commit : Type 0 where
   StopBefore : Commit
   StopAfter : Commit
 
--- A call of the sending system is copied into its outbox, the n-th call of the outbox is sent if it is open, the n-th call
--- that was sent comes to the target, the n-th answer that was given comes to the outbox. A loss is what never comes.
+-- A call of the sending system is copied into its outbox, the n-th call of the outbox is sent if it is open, the n-th
+-- call that was sent comes to the target, the n-th answer that was given comes to the outbox. A loss is what never
+-- comes.
 pub data Event : Type 0 where
   Collect : (how : Commit) → (call : Call) → Event
   Send : (n : ℕ) → Event
@@ -55,7 +57,8 @@ collected call w =
 
 abbrev pub sent_if_open : World → Option Entry → World
 sent_if_open w None = w
-sent_if_open w (Some e) = if is_none e.outcome then record w { sent = w.sent ++ record { tid = e.tid; text = e.text } ∷ [] } else w
+sent_if_open w (Some e) = if is_none e.outcome then record w
+    { sent = w.sent ++ record { tid = e.tid; text = e.text } ∷ [] } else w
 
 -- a call comes to the target
 abbrev pub executed : Call → World → World
@@ -78,7 +81,8 @@ delivered StopAfter w (Some call) = executed call w
 
 -- an open call of the answer's identifier has its outcome
 abbrev pub settled : CallAnswer → Entry → Entry
-settled answer e = if bytes_eq e.tid answer.tid && is_none e.outcome then record { tid = e.tid; text = e.text; outcome = Some answer.outcome } else e
+settled answer e = if bytes_eq e.tid answer.tid && is_none
+    e.outcome then record { tid = e.tid; text = e.text; outcome = Some answer.outcome } else e
 
 abbrev pub stored : World → Option CallAnswer → World
 stored w None = w
@@ -121,7 +125,8 @@ is_of tid x = bytes_eq x.tid tid
 
 -- the call stands in the outbox, with or without an outcome
 abbrev pub Stands : List Entry → List ℕ → List ℕ → Type 0
-Stands outbox tid text = (outcome : Option CallOutcome) × Contains outbox (record { tid = tid; text = text; outcome = outcome })
+Stands outbox tid text = (outcome : Option CallOutcome)
+    × Contains outbox (record { tid = tid; text = text; outcome = outcome })
 
 pub record AreOnce (w : World) : Type 0 where
   -- no identifier is executed twice
@@ -129,7 +134,8 @@ pub record AreOnce (w : World) : Type 0 where
   -- each executed call stands in the outbox with that text
   pub collected : (x : Execution) → Contains w.target.executed x → Stands w.outbox x.tid x.text
   -- each call with an outcome in the outbox is executed with that outcome
-  pub settled : (tid text : List ℕ) (outcome : CallOutcome) → Contains w.outbox (record { tid = tid; text = text; outcome = Some outcome })
+  pub settled : (tid text : List ℕ) (outcome : CallOutcome)
+      → Contains w.outbox (record { tid = tid; text = text; outcome = Some outcome })
       → Contains w.target.executed (record { tid = tid; text = text; outcome = outcome })
   -- the target's rows are what the executed calls make of none, and each outcome is right
   pub tables : w.target.tables ≡ tables_after empty w.target.executed

@@ -1,5 +1,6 @@
 -- Which rows are those of a target, and the first that is none.
-use Rattle.std.specs.Prelude.{ℕ, ◌≡◌, ◌+◌, Bool, false, not, ◌&&◌, nat_eq, nat_le, List, [], ◌∷◌, ◌++◌, length, take, drop, position, is_some, if◌then◌else◌, Option, Some, None, IfSome}
+use Rattle.std.specs.Prelude.{ℕ, ◌≡◌, ◌+◌, Bool, false, not, ◌&&◌, nat_eq, nat_le, List, [], ◌∷◌, ◌++◌, length, take}
+use Rattle.std.specs.Prelude.{drop, position, is_some, if◌then◌else◌, Option, Some, None, IfSome}
 use Rattle.std.specs.List.{AllByRecursion, list_any, find}
 use Rattle.std.specs.HashSet.{HashSet, contains}
 use Rattle.std.specs.Str.{bytes_eq}
@@ -50,13 +51,15 @@ has_place place rows = list_any (λ row. nat_eq (place_in row) place) rows
 
 -- a call whose place no row before it has
 abbrev pub is_call_behind : Option ℕ → List Row → Row → Bool
-is_call_behind stored before row = (is_call row && is_within stored (place_in row)) && not (has_place (place_in row) before)
+is_call_behind stored before row = (is_call row && is_within stored (place_in row))
+    && not (has_place (place_in row) before)
 
 -- the first row that isn't such a call, counted from 1
 abbrev pub first_bad_call : Option ℕ → List Row → List Row → Option ℕ
 first_bad_call stored before [] = None
 first_bad_call stored before (row ∷ rows) =
-    if is_call_behind stored before row then first_bad_call stored (before ++ row ∷ []) rows else Some (length before + 1)
+    if is_call_behind stored before row then first_bad_call stored (before ++ row ∷ []) rows else Some
+    (length before + 1)
 
 -- ---- table 1
 

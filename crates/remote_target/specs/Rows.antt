@@ -1,5 +1,6 @@
 -- The rows of a target, and those that a call writes.
-use Rattle.std.specs.Prelude.{ℕ, ◌≡◌, ◌≤◌, ◌+◌, nat_eq, List, [], ◌∷◌, ◌++◌, length, if◌then◌else◌, Option, Some, None, option_map, IsSome, Result, Ok, Err, slice_get}
+use Rattle.std.specs.Prelude.{ℕ, ◌≡◌, ◌≤◌, ◌+◌, nat_eq, List, [], ◌∷◌, ◌++◌, length, if◌then◌else◌, Option, Some, None}
+use Rattle.std.specs.Prelude.{option_map, IsSome, Result, Ok, Err, slice_get}
 use Rattle.std.specs.Str.{bytes_eq}
 use Rattle.std.specs.FinMap.{get}
 use Rattle.byteorder.specs.Endian.{big_bytes}
@@ -45,7 +46,8 @@ plain_outcome b = if nat_eq b 1 then Some Done else if nat_eq b 2 then Some BadT
 
 -- the outcome of these two bytes
 abbrev pub outcome_coded : ℕ → ℕ → Option CallOutcome
-outcome_coded number reason = if nat_eq number 3 then option_map Refused (reason_coded reason) else if nat_eq reason 0 then plain_outcome number else None
+outcome_coded number reason = if nat_eq number 3 then option_map Refused
+    (reason_coded reason) else if nat_eq reason 0 then plain_outcome number else None
 
 -- ---- table 0: a call under its identifier
 

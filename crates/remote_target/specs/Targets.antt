@@ -10,7 +10,8 @@ use Rattle.remote_target.specs.declared.call.CallOutcome.{CallOutcome}
 use Rattle.remote_target.specs.Calls.{effect_of, outcome_of}
 use Rattle.keeper_api.specs.Batch.{changed}
 use Rattle.remote_target.specs.Rows.{StandFor, changes_at, rows_by, spot_changes}
-use Rattle.remote_target.specs.Runs.{Call, Ran}
+use Rattle.remote_target.specs.Executed.{executed_in}
+use Rattle.remote_target.specs.Runs.{Call, Execution, Ran}
 use Rattle.remote_target.specs.declared.fault.TargetFault.{TargetFault}
 use Rattle.remote_target.specs.declared.fault.TargetFault.TheVariants.{StoreFault, BadRow, Full, NoMemory}
 
@@ -29,17 +30,18 @@ pub record HasRun {K : Type 0} (held : K → Option Rows) (t : TargetView K) (r 
   pub rows : Show (held t.keeper) r
   pub count : t.count ≡ length r.executed
 
--- there are calls that the target executed, as its rows tell
-pub record HasSomeRun {K : Type 0} (held : K → Option Rows) (t : TargetView K) : Type 0 where
-  pub calls : Ran
-  pub run : HasRun held t calls
+-- the target executed just these calls, which left some business rows
+pub record HasExecuted {K : Type 0} (held : K → Option Rows) (t : TargetView K)
+    (executed : List Execution) : Type 0 where
+  pub tables : Tables
+  pub run : HasRun held t (record { executed = executed; tables = tables })
 
--- The rows stand for so many calls that a target executed. Whatever calls they stand for, up to the most that a target
+-- The rows stand for the calls that they spell, so many. Whatever calls they stand for, up to the most that a target
 -- executes, there are as many.
 pub record HasCalls (rows : Rows) (n : ℕ) : Type 0 where
-  pub calls : Ran
-  pub stand : StandFor rows calls
-  pub number : n ≡ length calls.executed
+  pub tables : Tables
+  pub stand : StandFor rows (record { executed = executed_in rows; tables = tables })
+  pub number : n ≡ length (executed_in rows)
   pub same : (r : Ran) → StandFor rows r → length r.executed ≤ 9223372036854775807 → n ≡ length r.executed
 
 abbrev pub target_fault : KeepFault → TargetFault
@@ -112,7 +114,8 @@ abbrev pub with_call_at : ℕ → Call → Ran → Rows → Rows
 with_call_at place call r held = changed (changes_at place call r) held
 
 -- a call was executed at this place, with the outcome of its text, and its changes were made
-pub record IsDoneAt (place : ℕ) (call : Call) (r : Ran) (before : Rows) (outcome : CallOutcome) (after : Option Rows) : Type 0 where
+pub record IsDoneAt (place : ℕ) (call : Call) (r : Ran) (before : Rows) (outcome : CallOutcome)
+    (after : Option Rows) : Type 0 where
   pub comes : outcome ≡ outcome_of call.text r.tables
   pub made : after ≡ Some (with_call_at place call r before)
 

@@ -12,7 +12,7 @@ ghost use Rattle.remote_target.specs.TableRows.{rows_in};
 ghost use Rattle.remote_target.specs.Targets.{HasCalls, HasTargetCause, UnlessStoreFault};
 
 use crate::fault::TargetFault;
-use crate::rows::{CALLS, COUNT, COUNT_KEY, TEXTS, outcome_in};
+use crate::rows::{CALLS, COUNT, COUNT_KEY, LIMIT, TEXTS, outcome_in};
 use crate::table_rows::read_table;
 use byteorder::{BigEndian, ByteOrder};
 use enq_base::{Key, NoMemory, read_name};
@@ -188,11 +188,12 @@ fn first_bad_count(stored: Option<u64>, calls: usize, rows: &[Row]) -> Option<us
         .position(|row| !(is_counting(row) && is_number(stored, calls)))
 }
 
-/// How many calls the rows have, or their first bad row.
+/// How many calls the rows have, or their first bad row. More than a target executes count as want of memory.
 fn check(alloc: Global, calls: &[Row], texts: &[Row], counts: &[Row]) -> Result<u64, TargetFault>
     ensures good { IfOk result (λ n. (bad_place calls.now texts.now counts.now ≡ None) × (n ≡ length calls.now)) }
     ensures bad { IfErr result
         (λ fault. OnBadRow fault (λ table row. bad_place calls.now texts.now counts.now ≡ Some (table, row))) }
+    ensures few { IfOk result (λ n. n ≤ 9223372036854775807) }
     ensures spelled { OnOk result (AreSpelled calls.now counts.now) }
     ensures fault { IfErr result IsCheckFault }
 {
@@ -212,7 +213,11 @@ fn check(alloc: Global, calls: &[Row], texts: &[Row], counts: &[Row]) -> Result<
             row: i as u64 + 1,
         });
     }
-    Ok(calls.len() as u64)
+    let number = calls.len() as u64;
+    if number > LIMIT {
+        return Err(TargetFault::NoMemory);
+    }
+    Ok(number)
 }
 
 /// Opens a keeper and reads its rows: how many calls they have, or the first bad one.
@@ -221,6 +226,7 @@ pub fn open_rows<K: Keeper>(alloc: Global, keeper: &mut K) -> Result<u64, Target
     ensures good { IfOk result
         (λ n. IfSome (K.held keeper.new) (λ rows. (bad_place_in rows ≡ None) × (n ≡ length (rows_in rows 0)))) }
     ensures calls { IfOk result (λ n. IfSome (K.held keeper.new) (λ rows. HasCalls rows n)) }
+    ensures few { IfOk result (λ n. n ≤ 9223372036854775807) }
     ensures found { OnOk result (IfSome (K.held keeper.new) (K.may_leave keeper.old)) }
     ensures bad { IfErr result
         (λ fault. OnBadRow fault
@@ -240,6 +246,7 @@ fn read_rows<K: Keeper>(alloc: Global, keeper: &mut K) -> Result<u64, TargetFaul
     ensures good { IfOk result
         (λ n. IfSome (K.held keeper.old) (λ rows. (bad_place_in rows ≡ None) × (n ≡ length (rows_in rows 0)))) }
     ensures calls { IfOk result (λ n. IfSome (K.held keeper.old) (λ rows. HasCalls rows n)) }
+    ensures few { IfOk result (λ n. n ≤ 9223372036854775807) }
     ensures bad { IfErr result
         (λ fault. OnBadRow fault
         (λ table row. IfSome (K.held keeper.old) (λ rows. bad_place_in rows ≡ Some (table, row)))) }

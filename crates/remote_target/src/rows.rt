@@ -20,6 +20,8 @@ pub const TEXTS: u8 = 1;
 pub const COUNT: u8 = 2;
 /// The key of that row.
 pub const COUNT_KEY: u8 = b'S';
+/// The most calls that a target executes.
+pub const LIMIT: u64 = 9_223_372_036_854_775_807;
 
 fn reason_byte(reason: Reason) -> u8
     ensures { result ≡ rows.reason_byte reason }
@@ -33,7 +35,7 @@ fn reason_byte(reason: Reason) -> u8
 }
 
 /// The two bytes of an outcome.
-fn outcome_codes(outcome: CallOutcome) -> (u8, u8)
+pub fn outcome_codes(outcome: CallOutcome) -> (u8, u8)
     ensures { result ≡ rows.outcome_codes outcome }
 {
     match outcome {
@@ -56,7 +58,7 @@ fn reason_coded(byte: u8) -> Option<Reason>
 }
 
 /// The outcome that two bytes stand for.
-fn outcome_coded(number: u8, reason: u8) -> Option<CallOutcome>
+pub fn outcome_coded(number: u8, reason: u8) -> Option<CallOutcome>
     ensures { result ≡ rows.outcome_coded number reason }
 {
     if number == 3 {

@@ -3,24 +3,23 @@ ghost use Rattle.std.specs.FinMap.{get};
 ghost use Rattle.keeper_api.specs.Batch.{changed};
 ghost use Rattle.keeper_api.specs.Keeping.{IsBeforeOrAfter, IsWithin};
 ghost use Rattle.keeper_api.specs.Rows.{Rows};
+ghost use Rattle.remote_target.specs.Executed.{executed_in};
 ghost use Rattle.remote_target.specs.Reading.{MayOpen, OnBadRow, bad_place_in};
 ghost use Rattle.remote_target.specs.Rows.{changes_of};
 ghost use Rattle.remote_target.specs.TableRows.{rows_in};
 ghost use Rattle.remote_target.specs.Runs.{Ran, executed_as, ran};
-ghost use Rattle.remote_target.specs.Targets.{HasRun, HasSomeRun, HasTargetCause, IsFull, IsTargetCause, MayRead};
+ghost use Rattle.remote_target.specs.Targets.{HasExecuted, HasRun, HasTargetCause, IsFull, IsTargetCause, MayRead};
 ghost use Rattle.remote_target.specs.Targets.{MayRefuse, OnRefused, Show, UnlessStoreFault};
 
 use crate::call::CallOutcome;
 use crate::execute::{execute_new, known_outcome, read_text};
 use crate::fault::TargetFault;
 use crate::reading::open_rows;
+use crate::rows::LIMIT;
 use enq_base::{Key, Name, Text};
 use keeper_api::Keeper;
 use std::alloc::Global;
 use std::marker::Model;
-
-// The most calls that a target executes.
-const LIMIT: u64 = 9_223_372_036_854_775_807;
 
 /// A second system: it executes remote calls, each once, and keeps their outcomes and its business rows in a store.
 #[derive(Drop)]
@@ -30,6 +29,7 @@ pub struct Target<K: Keeper> {
 }
 
 impl<K: Keeper> Model for Target<K> {
+    ghost use Rattle.std.specs.Prelude.{◌≤◌};
     ghost use Rattle.remote_target.specs.Targets.{TargetView};
 
     ghost Value = { TargetView K };
@@ -39,18 +39,28 @@ impl<K: Keeper> Model for Target<K> {
     ghost coded = { Prim.hlevel (codes, K.code) };
 
     ghost view = { λ t. record { keeper = t.keeper; count = t.count } };
+
+    ghost invariant = { λ t. t.count ≤ 9223372036854775807 };
 }
 
 impl<K: Keeper> Target<K> {
+    /// It executed no more calls than it may.
+    pub(crate) fn has_few(&self)
+        ensures { self.now.count ≤ 9223372036854775807 }
+    {
+        let _ = &self.count;
+    }
+
     /// Opens a target over a keeper. `BadRow` comes exactly at the first row, by table and in the order of keys, that
     /// is none of a target's.
     pub fn open(alloc: Global, keeper: K) -> Result<Target<K>, (TargetFault, K)>
         ensures opened { IfOk result (λ target. K.is_open target.keeper) }
         ensures good { IfOk result (λ target. IfSome (K.held target.keeper)
             (λ rows. (bad_place_in rows ≡ None) × (target.count ≡ length (rows_in rows 0)))) }
-        // Where the keeper tells its rows they stand for calls that were executed, so that the clauses of `execute`
-        // speak of them.
-        ensures stands { IfOk result (λ target. IfSome (K.held target.keeper) (λ rows. HasSomeRun K.held target)) }
+        // Where the keeper tells its rows the target has executed the calls that they spell, so that the clauses of
+        // `execute` speak of these.
+        ensures stands { IfOk result (λ target. IfSome (K.held target.keeper)
+            (λ rows. HasExecuted K.held target (executed_in rows))) }
         // Whatever calls they stand for, up to the most that a target executes, are those that it goes on from.
         ensures goes_on { IfOk result
             (λ target. (r : Ran) → Show (K.held target.keeper) r → length r.executed ≤ 9223372036854775807
@@ -78,8 +88,9 @@ impl<K: Keeper> Target<K> {
         ensures opened { OnOk result (K.is_open self.new.keeper) }
         ensures good { OnOk result (IfSome (K.held self.new.keeper)
             (λ rows. (bad_place_in rows ≡ None) × (self.new.count ≡ length (rows_in rows 0)))) }
-        // As for `open`: they stand for calls that were executed, and it goes on from these.
-        ensures stands { OnOk result (IfSome (K.held self.new.keeper) (λ rows. HasSomeRun K.held self.new)) }
+        // As for `open`: the calls that the rows spell were executed, and it goes on from these.
+        ensures stands { OnOk result (IfSome (K.held self.new.keeper)
+            (λ rows. HasExecuted K.held self.new (executed_in rows))) }
         ensures goes_on { OnOk result
             ((r : Ran) → Show (K.held self.new.keeper) r → length r.executed ≤ 9223372036854775807
             → HasRun K.held self.new r) }

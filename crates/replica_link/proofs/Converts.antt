@@ -26,7 +26,8 @@ and_false true = refl
 and_false false = refl
 
 -- the turns of further arguments
-turns_more : (t : List Entry) (asker : Asker) (done rest : List Asked) → replica (turned t (turns asker done)) (flat_map (turn_ops asker) rest) ≡ turned t (turns asker (done ++ rest))
+turns_more : (t : List Entry) (asker : Asker) (done rest : List Asked) → replica (turned t (turns asker done)) (flat_map (turn_ops asker) rest) ≡ turned t
+    (turns asker (done ++ rest))
 turns_more t asker done [] = ap (λ ks. turned t (turns asker ks)) (sym (append-nil done))
 turns_more t asker done (a ∷ rest) =
     ap (λ (s : List Entry). replica s (flat_map (turn_ops asker) rest)) (turned-push t asker done a)
@@ -64,7 +65,9 @@ module _ (asker : Asker) (asked : List Asked) (t : List Entry) where
       let k : turned_by x.mode t x ≡ Some y = rw turning at h in
       let inside : in_pair asker x.owner ≡ true = first (in_pair asker x.owner) _ turning in
       let also : in_pair asker y.owner ≡ true = ap (in_pair asker) (sym (turned_by-owner x.mode t x y k)) ∙ inside in
-      absurd (false≢true (sym (ap (λ b. not b && (same_mode y.mode O && list_any (places_meet (record { table = y.table; pattern = y.pattern; mode = y.mode })) asked)) also) ∙ gives))
+      absurd (false≢true
+      (sym (ap (λ b. not b && (same_mode y.mode O && list_any (places_meet (record { table = y.table; pattern = y.pattern; mode = y.mode })) asked)) also)
+      ∙ gives))
     where
       first : (a b : Bool) → (a && b) ≡ true → a ≡ true
       first true b h = refl
@@ -74,13 +77,17 @@ module _ (asker : Asker) (asked : List Asked) (t : List Entry) where
   turned_names from [] all = tt
   turned_names from (x ∷ xs) all = step (turned_entry (turns asker asked) t x) refl (turned_names from xs all.1)
     where
-      step : (o : Option Entry) → turned_entry (turns asker asked) t x ≡ o → AreNamed way from (filter_map (turned_entry (turns asker asked) t) xs) → AreNamed way from (cons_option o (filter_map (turned_entry (turns asker asked) t) xs))
+      step : (o : Option Entry) → turned_entry (turns asker asked) t x ≡ o → AreNamed way from (filter_map (turned_entry (turns asker asked) t) xs)
+          → AreNamed way from (cons_option o (filter_map (turned_entry (turns asker asked) t) xs))
       step None h rest = rest
       step (Some y) h rest =
           (λ gives. let same = stays (turns asker asked x) x y refl h gives in ap (named_in (filter way from)) (sym same) ∙ all.0 (ap way same ∙ gives), rest)
 
   way-IsNameTest : IsNameTest way
-  way-IsNameTest = record { same = λ a b e. ap (λ (n : LockName). not (in_pair asker n.owner) && (same_mode n.asked.mode O && list_any (places_meet n.asked) asked)) e }
+  way-IsNameTest = record {
+    same =
+        λ a b e. ap (λ (n : LockName). not (in_pair asker n.owner) && (same_mode n.asked.mode O && list_any (places_meet n.asked) asked)) e;
+  }
 
   pub converted_ops-conversion : replica t (converted_ops asker asked (conversion t asker asked).removed) ≡ (conversion t asker asked).entries
   converted_ops-conversion =

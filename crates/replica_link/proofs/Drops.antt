@@ -98,7 +98,8 @@ same_bool false true f g = g refl
 same_bool false false f g = refl
 
 -- the drops of those that pass leave the others
-pub drops_leave : (p : Entry → Bool) → IsNameTest p → (from t : List Entry) → AreNamed p from t → replica t (map drop_of (filter p from)) ≡ filter (λ e. not (p e)) t
+pub drops_leave : (p : Entry → Bool) → IsNameTest p → (from t : List Entry) → AreNamed p from t
+    → replica t (map drop_of (filter p from)) ≡ filter (λ e. not (p e)) t
 drops_leave p is from t named =
     drops_each (filter p from) t
     ∙ filter_agree _ _ t (all_weaker _ _ (λ e so. ap not (same_bool (named_in (filter p from) e) (p e) (named_passes p is from e) so)) t named)

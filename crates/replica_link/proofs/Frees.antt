@@ -31,7 +31,8 @@ instead_none e (x ∷ t) h =
 abbrev one_less : Entry → Entry
 one_less e = record e { count = e.count - 1 }
 
-freed_drop : (n : LockName) (t : List Entry) (e : Entry) → AreDistinct t → find (has_name n) t ≡ Some e → nat_le e.count 1 ≡ true → without t (name_of e) ≡ freed t n
+freed_drop : (n : LockName) (t : List Entry) (e : Entry) → AreDistinct t → find (has_name n) t ≡ Some e → nat_le e.count 1 ≡ true
+    → without t (name_of e) ≡ freed t n
 freed_drop n [] e distinct found low = absurd (none-some e found)
 freed_drop n (x ∷ t) e distinct found low =
     elim (cases_Bool (has_name n x)) [
@@ -40,14 +41,16 @@ freed_drop n (x ∷ t) e distinct found low =
           ap (λ (y : Entry). without (x ∷ t) (name_of y)) (sym is)
           ∙ ap (λ b. cond (not b) (x ∷ without t (name_of x)) (without t (name_of x))) (same_name-refl (name_of x))
           ∙ without_none (name_of x) t distinct.0
-          ∙ sym (ap (λ b. cond b (lowered x ++ t) (x ∷ freed t n)) named ∙ ap (λ b. cond b [] (one_less x ∷ []) ++ t) (ap (λ (y : Entry). nat_le y.count 1) is ∙ low))
+          ∙ sym (ap (λ b. cond b (lowered x ++ t) (x ∷ freed t n)) named
+          ∙ ap (λ b. cond b [] (one_less x ∷ []) ++ t) (ap (λ (y : Entry). nat_le y.count 1) is ∙ low))
       | inr other ↦
           ap (λ b. cond (not b) (x ∷ without t (name_of e)) (without t (name_of e))) (ap (λ m. has_name m x) (sym (found_named n (x ∷ t) e found)) ∙ other)
           ∙ ap (λ (r : List Entry). x ∷ r) (freed_drop n t e distinct.1 (found_later n x e t other found) low)
           ∙ sym (ap (λ b. cond b (lowered x ++ t) (x ∷ freed t n)) other)
     ]
 
-freed_put : (n : LockName) (t : List Entry) (e : Entry) → AreDistinct t → find (has_name n) t ≡ Some e → nat_le e.count 1 ≡ false → map (instead_of (one_less e)) t ≡ freed t n
+freed_put : (n : LockName) (t : List Entry) (e : Entry) → AreDistinct t → find (has_name n) t ≡ Some e → nat_le e.count 1 ≡ false
+    → map (instead_of (one_less e)) t ≡ freed t n
 freed_put n [] e distinct found more = absurd (none-some e found)
 freed_put n (x ∷ t) e distinct found more =
     elim (cases_Bool (has_name n x)) [
@@ -56,7 +59,8 @@ freed_put n (x ∷ t) e distinct found more =
           ap (λ (y : Entry). map (instead_of (one_less y)) (x ∷ t)) (sym is)
           ∙ ap (λ b. cond b (one_less x) x ∷ map (instead_of (one_less x)) t) (same_name-refl (name_of x))
           ∙ ap (λ (r : List Entry). one_less x ∷ r) (instead_none (one_less x) t distinct.0)
-          ∙ sym (ap (λ b. cond b (lowered x ++ t) (x ∷ freed t n)) named ∙ ap (λ b. cond b [] (one_less x ∷ []) ++ t) (ap (λ (y : Entry). nat_le y.count 1) is ∙ more))
+          ∙ sym (ap (λ b. cond b (lowered x ++ t) (x ∷ freed t n)) named
+          ∙ ap (λ b. cond b [] (one_less x ∷ []) ++ t) (ap (λ (y : Entry). nat_le y.count 1) is ∙ more))
       | inr other ↦
           ap (λ b. cond b (one_less e) x ∷ map (instead_of (one_less e)) t) (ap (λ m. has_name m x) (sym (found_named n (x ∷ t) e found)) ∙ other)
           ∙ ap (λ (r : List Entry). x ∷ r) (freed_put n t e distinct.1 (found_later n x e t other found) more)

@@ -69,11 +69,16 @@ other_places : (n : LockName) (ns : List LockName) (list table : List Entry) →
 other_places n ns [] table none places = tt
 other_places n ns (x ∷ list) [] none places = places
 other_places n ns (x ∷ list) (y ∷ table) none places =
-    let hs = or_parts (has_name n x) (stands list n) none in
-    (places.0, elim places.1 [ inl is ↦ inl is | inr named ↦ inr (drop_name (name_of y) n ns (not_named n x y hs.0 places.0) named) ], other_places n ns list table hs.1 places.2)
+    let hs = or_parts (has_name n x) (stands list n) none in (
+      places.0,
+      elim places.1 [ inl is ↦ inl is | inr named ↦ inr (drop_name (name_of y) n ns (not_named n x y hs.0 places.0) named) ],
+      other_places n ns list
+          table hs.1 places.2,
+    )
 
 -- behind the entry of this name nothing has it
-places_rest : (n : LockName) (ns : List LockName) (e : Entry) (list table : List Entry) → n ≡ name_of e → stands table (name_of e) ≡ false → Precedes (n ∷ ns) list table → Precedes ns (map (instead_of e) list) table
+places_rest : (n : LockName) (ns : List LockName) (e : Entry) (list table : List Entry) → n ≡ name_of e → stands table (name_of e) ≡ false
+    → Precedes (n ∷ ns) list table → Precedes ns (map (instead_of e) list) table
 places_rest n ns e [] table is none places = tt
 places_rest n ns e (x ∷ list) [] is none places = places
 places_rest n ns e (x ∷ list) (y ∷ table) is none places =
@@ -84,7 +89,8 @@ places_rest n ns e (x ∷ list) (y ∷ table) is none places =
     (places.0, elim places.1 [ inl same ↦ inl same | inr named ↦ inr (drop_name (name_of y) n ns other named) ], places_rest n ns e list table is hs.1 places.2)
 
 -- the list with the table's entry of this name in its place
-places_put : (n : LockName) (ns : List LockName) (e : Entry) (list table : List Entry) → n ≡ name_of e → AreDistinct table → find (has_name n) table ≡ Some e → Precedes (n ∷ ns) list table → Precedes ns (map (instead_of e) list) table
+places_put : (n : LockName) (ns : List LockName) (e : Entry) (list table : List Entry) → n ≡ name_of e → AreDistinct table → find (has_name n) table ≡ Some e
+    → Precedes (n ∷ ns) list table → Precedes ns (map (instead_of e) list) table
 places_put n ns e [] table is distinct found places = tt
 places_put n ns e (x ∷ list) [] is distinct found places = places
 places_put n ns e (x ∷ list) (y ∷ table) is distinct found places =
@@ -127,7 +133,8 @@ stands_too n ns (x ∷ list) (y ∷ table) places stood =
     ]
 
 -- the first entry behind the list's is found by its name
-find_behind : (n : LockName) (ns : List LockName) (list table rest : List Entry) (y : Entry) → Precedes ns list table → stands list n ≡ false → drop (length list) table ≡ y ∷ rest → name_of y ≡ n → find (has_name n) table ≡ Some y
+find_behind : (n : LockName) (ns : List LockName) (list table rest : List Entry) (y : Entry) → Precedes ns list table → stands list n ≡ false
+    → drop (length list) table ≡ y ∷ rest → name_of y ≡ n → find (has_name n) table ≡ Some y
 find_behind n ns [] table rest y places none behind is = ap (find (has_name n)) behind ∙ ap (λ m. find (has_name m) (y ∷ rest)) (sym is) ∙ found_first y rest
 find_behind n ns (x ∷ list) [] rest y places none behind is = absurd places
 find_behind n ns (x ∷ list) (z ∷ table) rest y places none behind is =
@@ -135,7 +142,8 @@ find_behind n ns (x ∷ list) (z ∷ table) rest y places none behind is =
     ap (λ b. cond b (Some z) (find (has_name n) table)) (ap (same_name n) (sym places.0) ∙ hs.0)
     ∙ find_behind n ns list table rest y places.2 hs.1 behind is
 
-places_push : (ns : List LockName) (list table rest : List Entry) (y : Entry) → Precedes ns list table → drop (length list) table ≡ y ∷ rest → Precedes ns (list ++ y ∷ []) table
+places_push : (ns : List LockName) (list table rest : List Entry) (y : Entry) → Precedes ns list table → drop (length list) table ≡ y ∷ rest
+    → Precedes ns (list ++ y ∷ []) table
 places_push ns [] table rest y places behind = subst (Precedes ns (y ∷ [])) (sym behind) (refl, inl refl, tt)
 places_push ns (x ∷ list) [] rest y places behind = places
 places_push ns (x ∷ list) (z ∷ table) rest y places behind = (places.0, places.1, places_push ns list table rest y places.2 behind)
@@ -158,7 +166,8 @@ granted_ops-grant (n ∷ ns) list table g =
           (elim (find (has_name n) table) as (λ o. find (has_name n) table ≡ o → replica list (one_put o ++ granted_ops table ns) ≡ table) [
             | None ↦ λ none. absurd (false≢true (sym (find-None (has_name n) table none) ∙ stands_too n (n ∷ ns) list table g.places stood))
             | Some e ↦ λ found.
-                ap (λ b. replica (cond b (map (instead_of e) list) (list ++ e ∷ [])) (granted_ops table ns)) (ap (stands list) (sym (found_named n table e found)) ∙ stood)
+                ap (λ b. replica (cond b (map (instead_of e) list) (list ++ e ∷ [])) (granted_ops table ns))
+                (ap (stands list) (sym (found_named n table e found)) ∙ stood)
                 ∙ granted_ops-grant ns (map (instead_of e) list) table (record {
                   places = places_put n ns e list table (found_named n table e found) g.distinct found g.places;
                   news =
@@ -172,7 +181,9 @@ granted_ops-grant (n ∷ ns) list table g =
       | inr new ↦
           let none : stands list n ≡ false = sym (is_in-stands n list) ∙ new in
           let news = g.news ∙ ap (λ b. cond b (newcomers (map name_of list) ns) (n ∷ newcomers (map name_of list ++ n ∷ []) ns)) new in
-          (elim (drop (length list) table) as (λ d. drop (length list) table ≡ d → map name_of d ≡ n ∷ newcomers (map name_of list ++ n ∷ []) ns → replica list (granted_ops table (n ∷ ns)) ≡ table) [
+          (elim (drop (length list) table)
+          as (λ d. drop (length list) table ≡ d → map name_of d ≡ n ∷ newcomers (map name_of list ++ n ∷ []) ns
+          → replica list (granted_ops table (n ∷ ns)) ≡ table) [
             | [] ↦ λ behind names. absurd (cc)
             | y ∷ rest ↦ λ behind names.
                 let is : name_of y ≡ n = cc in
@@ -211,7 +222,8 @@ new_entry-names : (user : List ℕ) (names ns : List LockName) → map name_of (
 new_entry-names user names [] = refl
 new_entry-names user names (n ∷ ns) = ap (λ (r : List LockName). n ∷ r) (new_entry-names user names ns)
 
-pub granted_ops-granted : (list : List Entry) (user : List ℕ) (names : List LockName) → has_distinct_names list ≡ true → replica list (granted_ops (granted list user names) names) ≡ granted list user names
+pub granted_ops-granted : (list : List Entry) (user : List ℕ) (names : List LockName) → has_distinct_names list ≡ true
+    → replica list (granted_ops (granted list user names) names) ≡ granted list user names
 granted_ops-granted list user names distinct =
     granted_ops-grant names list (granted list user names) (record {
       places = raised_places names list (map (new_entry user names) (new_names list names));
@@ -250,7 +262,8 @@ other_owner owner x (e ∷ es) other all =
     one false h own = refl
     one true h own = absurd (false≢true (sym other ∙ ap (λ (n : LockName). same_owner n.owner owner) (same_name-same (name_of x) (name_of e) h) ∙ own))
 
-others_differ : (owner : Owner) (t es : List Entry) → list_all (is_of owner) es ≡ true → list_all (λ x. list_all (names_differ x) es) (freed_owner t owner) ≡ true
+others_differ : (owner : Owner) (t es : List Entry) → list_all (is_of owner) es ≡ true
+    → list_all (λ x. list_all (names_differ x) es) (freed_owner t owner) ≡ true
 others_differ owner [] es all = refl
 others_differ owner (x ∷ t) es all =
     elim (cases_Bool (is_of owner x)) [
@@ -266,4 +279,5 @@ readmitted_ops-readmitted t asker given distinct only =
     ∙ ap (λ (r : List Entry). replica r (map Put given)) (owner_ops-freed_owner t asker.update)
     ∙ puts_last given others
     (distinct_from (others ++ given)
-    (all_pairs-append names_differ others given (all_pairs-filter names_differ (λ e. not (is_of asker.update e)) t distinct) only.names (others_differ asker.update t given only.owners)))
+    (all_pairs-append names_differ others given (all_pairs-filter names_differ (λ e. not (is_of asker.update e)) t distinct) only.names
+    (others_differ asker.update t given only.owners)))

@@ -91,7 +91,8 @@ newcomers-filter known (n ∷ ns) =
           (newcomers-filter (known ++ n ∷ []) ns
           ∙ ap each_once
           (filter_agree (λ m. not (is_in m (known ++ n ∷ []))) (λ m. new m && others m) ns
-          (everywhere _ (λ m. ap not (is_in-push m n known) ∙ ap (λ b. not (is_in m known || b)) (same_name-sym m n) ∙ neither (is_in m known) (same_name n m)) ns)
+          (everywhere _ (λ m. ap not (is_in-push m n known) ∙ ap (λ b. not (is_in m known || b)) (same_name-sym m n) ∙ neither (is_in m known) (same_name n m))
+          ns)
           ∙ sym (filter_filter others new ns))
           ∙ each_once-filter others (filter new ns))
           ∙ sym (ap (λ b. each_once (cond (not b) (n ∷ filter new ns) (filter new ns))) strange)
@@ -126,7 +127,8 @@ all_kept {X} p q k (x ∷ xs) = kept (p x) refl (all_kept p q k xs)
     kept true h rest = and_from _ _ (k x h) rest
     kept false h rest = rest
 
-all_named : (user : List ℕ) (names : List LockName) (n : LockName) (ns : List LockName) → list_all (λ e. differ n (name_of e)) (map (new_entry user names) ns) ≡ list_all (differ n) ns
+all_named : (user : List ℕ) (names : List LockName) (n : LockName) (ns : List LockName)
+    → list_all (λ e. differ n (name_of e)) (map (new_entry user names) ns) ≡ list_all (differ n) ns
 all_named user names n [] = refl
 all_named user names n (m ∷ ns) = ap (λ b. differ n m && b) (all_named user names n ns)
 
@@ -145,19 +147,24 @@ own_stands : (t : List Entry) → AllByRecursion (λ e. (m : LockName) → same_
 own_stands [] = tt
 own_stands (x ∷ t) = (λ m h. or_left _ _ h, all_weaker _ _ (λ e so m h. or_right (same_name m (name_of x)) (stands t m) (so m h)) t (own_stands t))
 
-new_differs : (t : List Entry) (user : List ℕ) (names : List LockName) (n : LockName) → ((m : LockName) → same_name m n ≡ true → stands t m ≡ true) → list_all (λ e. differ n (name_of e)) (map (new_entry user names) (new_names t names)) ≡ true
+new_differs : (t : List Entry) (user : List ℕ) (names : List LockName) (n : LockName) → ((m : LockName) → same_name m n ≡ true → stands t m ≡ true)
+    → list_all (λ e. differ n (name_of e)) (map (new_entry user names) (new_names t names)) ≡ true
 new_differs t user names n so =
     all_named user names n (new_names t names)
     ∙ list_all-each_once (differ n) (filter (λ m. not (stands t m)) names)
-    (all_kept (λ m. not (stands t m)) (differ n) (λ m h. not_from_false (same_name n m) (false_from_ne_true (same_name n m) (λ same. absurd (false≢true (sym (ap not (so m (same_name-sym m n ∙ same))) ∙ h))))) names)
+    (all_kept (λ m. not (stands t m)) (differ n)
+    (λ m h. not_from_false (same_name n m)
+    (false_from_ne_true (same_name n m) (λ same. absurd (false≢true (sym (ap not (so m (same_name-sym m n ∙ same))) ∙ h))))) names)
 
-all_new_differ : (t xs : List Entry) (user : List ℕ) (names : List LockName) → AllByRecursion (λ e. (m : LockName) → same_name m (name_of e) ≡ true → stands t m ≡ true) xs
+all_new_differ : (t xs : List Entry) (user : List ℕ) (names : List LockName)
+    → AllByRecursion (λ e. (m : LockName) → same_name m (name_of e) ≡ true → stands t m ≡ true) xs
     → list_all (λ x. list_all (names_differ x) (map (new_entry user names) (new_names t names))) (map (raised names) xs) ≡ true
 all_new_differ t [] user names all = refl
 all_new_differ t (x ∷ xs) user names all = and_from _ _ (new_differs t user names (name_of x) all.0) (all_new_differ t xs user names all.1)
 
 -- a grant keeps the names distinct
-pub granted-distinct : (t : List Entry) (user : List ℕ) (names : List LockName) → all_pairs names_differ t ≡ true → all_pairs names_differ (granted t user names) ≡ true
+pub granted-distinct : (t : List Entry) (user : List ℕ) (names : List LockName) → all_pairs names_differ t ≡ true
+    → all_pairs names_differ (granted t user names) ≡ true
 granted-distinct t user names h =
     all_pairs-append names_differ (map (raised names) t) (map (new_entry user names) (new_names t names))
     (all_pairs-map names_differ (raised names) (λ a b. refl) t h)

@@ -15,7 +15,8 @@ OnFailed (Ok x) P = Unit {0}
 OnFailed (Err Failed) P = P
 OnFailed (Err NoMemory) P = Unit {0}
 
--- The count of the answer's fault rose. Either count may rise too where a call that found faults went on to another answer.
+-- The count of the answer's fault rose. Either count may rise too where a call that found faults went on to another
+-- answer.
 abbrev pub CountsTell : {T : Type 0} → Result T LinkFault → (faults faults' refusals refusals' : ℕ) → Type 0
 CountsTell (Ok x) faults faults' refusals refusals' = Unit {0}
 CountsTell (Err Failed) faults faults' refusals refusals' = Rose faults faults'
@@ -28,7 +29,8 @@ pub record HasCauses {L T : Type 0} (faults refusals : L → ℕ) (old new : L) 
   pub told : CountsTell result (faults old) (faults new) (refusals old) (refusals new)
 
 -- what the link gives, and what is allowed, is as before
-pub record Stays {L : Type 0} (gives : L → List Entry) (applied : L → Option (List Entry)) (next : L → Option ℕ) (old new : L) : Type 0 where
+pub record Stays {L : Type 0} (gives : L → List Entry) (applied : L → Option (List Entry)) (next : L → Option ℕ)
+    (old new : L) : Type 0 where
   pub given : gives new ≡ gives old
   pub told : applied new ≡ applied old
   pub allowed : next new ≡ next old

@@ -8,7 +8,8 @@ use Rattle.replica_link.specs.declared.fault.LinkFault.{LinkFault}
 use Rattle.replica_link.specs.declared.fault.LinkFault.TheVariants.{Failed, NoMemory}
 use Rattle.replica_link.specs.declared.operation.TableOp.{TableOp}
 
--- the replica's list, the number of the next operation, the calls that fail, the calls made, and how many of them failed or were refused
+-- the replica's list, the number of the next operation, the calls that fail, the calls made, and how many of them
+-- failed or were refused
 pub record MemLinkState : Type 0 where
   pub list : List Entry
   pub next : Option ℕ

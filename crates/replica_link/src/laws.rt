@@ -24,18 +24,21 @@ pub fn one_operation_frees_one(_list: &[Entry], _name: &LockName)
 /// The puts of all entries that a granted call names, as they stand after it, bring the replica to the table.
 pub fn puts_grant(_list: &[Entry], _user: &Name, _names: &[LockName])
     requires { IsTrue (has_distinct_names _list.now) }
-    ensures { let table = granted _list.now _user.now _names.now in replica _list.now (granted_ops table _names.now) ≡ table }
+    ensures { let table = granted _list.now _user.now _names.now in replica _list.now
+        (granted_ops table _names.now) ≡ table }
 {}
 
 /// The drops of what the unit still had and the puts of what it gets again bring the replica to the table.
 pub fn puts_readmit(_list: &[Entry], _asker: &Asker, _given: &[Entry])
     requires distinct { IsTrue (has_distinct_names _list.now) }
     requires given { ReadmitsOnly _asker.now _given.now }
-    ensures { replica _list.now (readmitted_ops _list.now _asker.now.update _given.now) ≡ freed_owner _list.now _asker.now.update ++ _given.now }
+    ensures { replica _list.now (readmitted_ops _list.now _asker.now.update _given.now) ≡ freed_owner _list.now
+        _asker.now.update ++ _given.now }
 {}
 
 /// The turns of each argument, for both owners, and the drops of what gave way do to the replica what a conversion
 /// does to the table.
 pub fn turns_convert(_list: &[Entry], _asker: &Asker, _asked: &[Asked])
-    ensures { let after = conversion _list.now _asker.now _asked.now in replica _list.now (converted_ops _asker.now _asked.now after.removed) ≡ after.entries }
+    ensures { let after = conversion _list.now _asker.now _asked.now in replica _list.now
+        (converted_ops _asker.now _asked.now after.removed) ≡ after.entries }
 {}

@@ -40,7 +40,8 @@ pub trait Link {
     /// Sends an operation. The last of all numbers is not for use: it fails.
     fn ship(&mut self, alloc: Global, seq: u64, op: &TableOp) -> Result<(), LinkFault>
         requires { next self.old ≡ Some seq }
-        ensures applied { OnOk result (applied self.new ≡ option_map (λ list. after_op list op.now) (applied self.old)) }
+        ensures applied { OnOk result
+            (applied self.new ≡ option_map (λ list. after_op list op.now) (applied self.old)) }
         ensures next { OnOk result (next self.new ≡ Some (seq + 1)) }
         ensures detached { OnErr result (next self.new ≡ None) }
         ensures last { seq ≡ 2 ^ 64 - 1 → result ≡ Err Failed }

@@ -28,7 +28,14 @@ impl Model for MemLink {
 
     ghost Value = { MemLinkState };
 
-    ghost view = { λ l. record { list = l.list.items; next = l.next; fails = l.fails.items; calls = l.calls; faults = l.faults; refusals = l.refusals } };
+    ghost view = { λ l. record {
+      list = l.list.items;
+      next = l.next;
+      fails = l.fails.items;
+      calls = l.calls;
+      faults = l.faults;
+      refusals = l.refusals;
+    } };
 }
 
 impl MemLink {

@@ -12,8 +12,8 @@ use Rattle.order_workers.specs.Orders.{Made as MadeByWorker}
 use Rattle.caller_laws.specs.Callers.{entries_by}
 use Rattle.caller_laws.specs.Doing.{WorkerDid}
 
--- Calls from a first state in order, in which nothing went wrong: memory was wanting in none, no device failed, the lock server wasn't
--- ended, and the store had room.
+-- Calls from a first state in order, in which nothing went wrong: memory was wanting in none, no device failed, the
+-- lock server wasn't ended, and the store had room.
 pub record WentWell (first : State) (made : List Made) : Type 0 where
   pub fresh : IsFresh first
   pub none : first.past ≡ []

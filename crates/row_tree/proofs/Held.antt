@@ -26,7 +26,8 @@ find_with : (q s : Spot) (v : Option (List ℕ)) (es : List Entry) → eq_by_cmp
 find_with q s None es h = refl
 find_with q s (Some v) es h = ap (λ b. cond b (Some v) (find spot_cmp q es)) h
 
-find_there : (q s : Spot) (v : Option (List ℕ)) (es : List Entry) → eq_by_cmp spot_cmp q s ≡ true → find spot_cmp q es ≡ None → find spot_cmp q (with_value s v es) ≡ v
+find_there : (q s : Spot) (v : Option (List ℕ)) (es : List Entry) → eq_by_cmp spot_cmp q s ≡ true → find spot_cmp q es ≡ None
+    → find spot_cmp q (with_value s v es) ≡ v
 find_there q s None es h none = none
 find_there q s (Some v) es h none = ap (λ b. cond b (Some v) (find spot_cmp q es)) h
 
@@ -38,12 +39,15 @@ find_held : (ps : List Place) → AreInOrder ps → (q : Spot) → find spot_cmp
 unfolding IsStrictlySortedBy
 find_held [] h q = refl
 find_held (p ∷ ps) h q =
-    elim (eq_by_cmp spot_cmp q (spot p.0)) as (λ b. eq_by_cmp spot_cmp q (spot p.0) ≡ b → find spot_cmp q (with_value (spot p.0) p.1 (held ps)) ≡ value_in (cond b (Some p.1) (place_at ps q))) [
-      | true ↦ λ e. find_there q (spot p.0) p.1 (held ps) e (subst (λ s. find spot_cmp s (held ps) ≡ None) (sym (same_spot q (spot p.0) e)) (none_behind p.0 ps h.0))
+    elim (eq_by_cmp spot_cmp q (spot p.0))
+    as (λ b. eq_by_cmp spot_cmp q (spot p.0) ≡ b → find spot_cmp q (with_value (spot p.0) p.1 (held ps)) ≡ value_in (cond b (Some p.1) (place_at ps q))) [
+      | true ↦ λ e. find_there q (spot p.0) p.1 (held ps) e
+          (subst (λ s. find spot_cmp s (held ps) ≡ None) (sym (same_spot q (spot p.0) e)) (none_behind p.0 ps h.0))
       | false ↦ λ e. find_with q (spot p.0) p.1 (held ps) e ∙ find_held ps h.1 q
     ] refl
 
-below_with : (q s : Spot) (v : Option (List ℕ)) (es : List Entry) → spot_cmp q s ≡ Less → IsTrue (below_all spot_cmp q es) → IsTrue (below_all spot_cmp q (with_value s v es))
+below_with : (q s : Spot) (v : Option (List ℕ)) (es : List Entry) → spot_cmp q s ≡ Less → IsTrue (below_all spot_cmp q es)
+    → IsTrue (below_all spot_cmp q (with_value s v es))
 below_with q s None es less rest = rest
 below_with q s (Some v) es less rest = ap (λ r. is_lt r && below_all spot_cmp q es) less ∙ rest
 
@@ -51,7 +55,8 @@ below_held : (k : RowKey) (ps : List Place) → AllByRecursion (λ y. key_cmp k 
 below_held k [] h = refl
 below_held k (p ∷ ps) h = below_with (spot k) (spot p.0) p.1 (held ps) h.0 (below_held k ps h.1)
 
-sorted_with : (s : Spot) (v : Option (List ℕ)) (es : List Entry) → IsTrue (below_all spot_cmp s es) → IsTrue (is_sorted spot_cmp es) → IsTrue (is_sorted spot_cmp (with_value s v es))
+sorted_with : (s : Spot) (v : Option (List ℕ)) (es : List Entry) → IsTrue (below_all spot_cmp s es) → IsTrue (is_sorted spot_cmp es)
+    → IsTrue (is_sorted spot_cmp (with_value s v es))
 sorted_with s None es below sorted = sorted
 sorted_with s (Some v) es below sorted = ap (λ b. b && is_sorted spot_cmp es) below ∙ sorted
 
@@ -68,7 +73,8 @@ abbrev pub SetsPlace : List Place → List Place → RowKey → Option (Option (
 SetsPlace old new key w = (q : Spot) → place_at new q ≡ cond (eq_by_cmp spot_cmp (spot key) q) w (place_at old q)
 
 module _ (old new : List Place) (ordered_old : AreInOrder old) (ordered : AreInOrder new) (key : RowKey) where
-  same_values : (w : Option (Option (List ℕ))) → SetsPlace old new key w → value_in w ≡ None → value_in (place_at old (spot key)) ≡ None → (q : Spot) → value_in (place_at new q) ≡ value_in (place_at old q)
+  same_values : (w : Option (Option (List ℕ))) → SetsPlace old new key w → value_in w ≡ None → value_in (place_at old (spot key)) ≡ None → (q : Spot)
+      → value_in (place_at new q) ≡ value_in (place_at old q)
   same_values w sets now before q =
       ap value_in (sets q)
       ∙ elim (eq_by_cmp spot_cmp (spot key) q) as (λ b. eq_by_cmp spot_cmp (spot key) q ≡ b → value_in (cond b w (place_at old q)) ≡ value_in (place_at old q)) [
@@ -77,14 +83,18 @@ module _ (old new : List Place) (ordered_old : AreInOrder old) (ordered : AreInO
       ] refl
 
   -- a place without a row comes or goes
-  pub same_rows : (w : Option (Option (List ℕ))) → SetsPlace old new key w → value_in w ≡ None → value_in (place_at old (spot key)) ≡ None → rows_of new ≡ rows_of old
-  same_rows w sets now before = same_map spots_total exact_spots _ _ (λ q. get_rows new ordered q ∙ same_values w sets now before q ∙ sym (get_rows old ordered_old q))
+  pub same_rows : (w : Option (Option (List ℕ))) → SetsPlace old new key w → value_in w ≡ None → value_in (place_at old (spot key)) ≡ None
+      → rows_of new ≡ rows_of old
+  same_rows w sets now before =
+      same_map spots_total exact_spots _ _ (λ q. get_rows new ordered q ∙ same_values w sets now before q ∙ sym (get_rows old ordered_old q))
 
-  get_set : (w : Option (Option (List ℕ))) → SetsPlace old new key w → (q : Spot) → get (rows_of new) q ≡ cond (eq_by_cmp spot_cmp q (spot key)) (value_in w) (get (rows_of old) q)
+  get_set : (w : Option (Option (List ℕ))) → SetsPlace old new key w → (q : Spot)
+      → get (rows_of new) q ≡ cond (eq_by_cmp spot_cmp q (spot key)) (value_in w) (get (rows_of old) q)
   get_set w sets q =
       get_rows new ordered q
       ∙ ap value_in (sets q)
-      ∙ elim (eq_by_cmp spot_cmp (spot key) q) as (λ b. value_in (cond b w (place_at old q)) ≡ cond b (value_in w) (value_in (place_at old q))) [ true ↦ refl | false ↦ refl ]
+      ∙ elim (eq_by_cmp spot_cmp (spot key) q) as (λ b. value_in (cond b w (place_at old q)) ≡ cond b (value_in w) (value_in (place_at old q)))
+      [ true ↦ refl | false ↦ refl ]
       ∙ ap (λ b. cond b (value_in w) (value_in (place_at old q))) ((eq_by_cmp_equiv spots_total).symm (spot key) q)
       ∙ ap (cond (eq_by_cmp spot_cmp q (spot key)) (value_in w)) (sym (get_rows old ordered_old q))
 
@@ -96,14 +106,17 @@ module _ (old new : List Place) (ordered_old : AreInOrder old) (ordered : AreInO
 
 -- a place that comes is there, and the others stay
 pub place_there : (old new : List Place) (key : RowKey) (v : Option (List ℕ)) → SetsPlace old new key (Some v) → IsTrue (is_some (place_at new (spot key)))
-place_there old new key v sets = ap is_some (sets (spot key)) ∙ ap (λ r. is_some (cond (is_eq r) (Some v) (place_at old (spot key)))) (tied_itself spots_total (spot key))
+place_there old new key v sets = ap is_some (sets (spot key)) ∙ ap (λ r. is_some (cond (is_eq r) (Some v) (place_at old (spot key))))
+    (tied_itself spots_total (spot key))
 
-pub place_stays : (old new : List Place) (key : RowKey) (v : Option (List ℕ)) → SetsPlace old new key (Some v) → (at : Spot) → IsTrue (is_some (place_at old at)) → IsTrue (is_some (place_at new at))
+pub place_stays : (old new : List Place) (key : RowKey) (v : Option (List ℕ)) → SetsPlace old new key (Some v) → (at : Spot)
+    → IsTrue (is_some (place_at old at)) → IsTrue (is_some (place_at new at))
 place_stays old new key v sets at there =
     ap is_some (sets at)
     ∙ elim (eq_by_cmp spot_cmp (spot key) at) as (λ b. IsTrue (is_some (cond b (Some v) (place_at old at)))) [ true ↦ refl | false ↦ there ]
 
-pub other_stays : (old new : List Place) (key : RowKey) → SetsPlace old new key None → (at : Spot) → (at ≡ spot key → ⊥) → IsTrue (is_some (place_at old at)) → IsTrue (is_some (place_at new at))
+pub other_stays : (old new : List Place) (key : RowKey) → SetsPlace old new key None → (at : Spot) → (at ≡ spot key → ⊥) → IsTrue (is_some (place_at old at))
+    → IsTrue (is_some (place_at new at))
 other_stays old new key sets at apart there =
     ap is_some (sets at)
     ∙ elim (eq_by_cmp spot_cmp (spot key) at) as (λ b. eq_by_cmp spot_cmp (spot key) at ≡ b → IsTrue (is_some (cond b None (place_at old at)))) [

@@ -30,7 +30,8 @@ placed_push ps [] step h there = (there, tt)
 placed_push ps (s ∷ steps) step h there = (h.0, placed_push ps steps step h.1 there)
 
 -- one step more waits
-pub placed_more : (old new : List Place) (steps more : List Step) (step : Step) → more ≡ steps ++ step ∷ [] → Stay old new → HasPlace new step → ArePlaced old steps → ArePlaced new more
+pub placed_more : (old new : List Place) (steps more : List Step) (step : Step) → more ≡ steps ++ step ∷ [] → Stay old new → HasPlace new step
+    → ArePlaced old steps → ArePlaced new more
 placed_more old new steps more step is stay there h = subst (ArePlaced new) (sym is) (placed_push new steps step (placed_still old new stay steps h) there)
 
 pub none_placed : (ps : List Place) (steps : List Step) → steps ≡ [] → ArePlaced ps steps
@@ -55,20 +56,24 @@ apart_of batch steps is distinct = subst (IsDistinct is_same_spot) (ap (map spot
 not_same : (a b : Spot) → is_same_spot a b ≡ false → b ≡ a → ⊥
 not_same a b apart same = let tied = ap (λ s. is_same_spot a s) same ∙ ap is_eq (tied_itself spots_total a) in let h : true ≡ false = sym tied ∙ apart in cc
 
-module _ (old new : List Place) (key : RowKey) (others : (at : Spot) → (at ≡ spot key → ⊥) → IsTrue (is_some (place_at old at)) → IsTrue (is_some (place_at new at))) where
-  rest_placed : (steps : List Step) → AllByRecursion (λ s. is_same_spot (spot key) s ≡ false) (map (λ (step : Step). spot step.key) steps) → ArePlaced old steps → ArePlaced new steps
+module _ (old new : List Place) (key : RowKey)
+    (others : (at : Spot) → (at ≡ spot key → ⊥) → IsTrue (is_some (place_at old at)) → IsTrue (is_some (place_at new at))) where
+  rest_placed : (steps : List Step) → AllByRecursion (λ s. is_same_spot (spot key) s ≡ false) (map (λ (step : Step). spot step.key) steps) → ArePlaced old steps
+      → ArePlaced new steps
   rest_placed [] apart h = tt
   rest_placed (step ∷ steps) apart h = (others (spot step.key) (not_same (spot key) (spot step.key) apart.0) h.0, rest_placed steps apart.1 h.1)
 
 -- what waits behind a step that was made
-pub after_step : (old new : List Place) (steps rest : List Step) (step : Step) → steps ≡ step ∷ rest → ((at : Spot) → (at ≡ spot step.key → ⊥) → IsTrue (is_some (place_at old at)) → IsTrue (is_some (place_at new at)))
+pub after_step : (old new : List Place) (steps rest : List Step) (step : Step) → steps ≡ step ∷ rest
+    → ((at : Spot) → (at ≡ spot step.key → ⊥) → IsTrue (is_some (place_at old at)) → IsTrue (is_some (place_at new at)))
     → ArePlaced old steps → AreApart steps → ArePlaced new rest × AreApart rest
 unfolding IsDistinct
 after_step old new steps rest step is others placed apart =
     let told = subst AreApart is apart in
     (rest_placed old new step.key others rest told.0 (subst (ArePlaced old) is placed).1, told.1)
 
-pub made_more : (steps rest : List Step) (step : Step) (rows now last : Rows) → steps ≡ step ∷ rest → now ≡ changed_once (change_of step) rows → changed (map change_of steps) rows ≡ last → changed (map change_of rest) now ≡ last
+pub made_more : (steps rest : List Step) (step : Step) (rows now last : Rows) → steps ≡ step ∷ rest → now ≡ changed_once (change_of step) rows
+    → changed (map change_of steps) rows ≡ last → changed (map change_of rest) now ≡ last
 made_more steps rest step rows now last is made h = ap (changed (map change_of rest)) made ∙ ap (λ s. changed (map change_of s) rows) (sym is) ∙ h
 
 abbrev shown : List Place → List Step → RowsView

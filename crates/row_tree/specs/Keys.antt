@@ -1,6 +1,7 @@
 -- The order of the keys of a tree.
 use Rattle.std.specs.Prelude.{Bool}
-use Rattle.std.specs.Cmp.{IsEquivalence, IsPartialEquivalence, IsPartialOrder, IsTotalOrder, eq_by_cmp_equiv, on_total, partial_equiv_from_equiv, partial_order_from_total}
+use Rattle.std.specs.Cmp.{IsEquivalence, IsPartialEquivalence, IsPartialOrder, IsTotalOrder, eq_by_cmp_equiv, on_total}
+use Rattle.std.specs.Cmp.{partial_equiv_from_equiv, partial_order_from_total}
 use Rattle.std.specs.Ordering.{as_partial_cmp, eq_by_cmp}
 use Rattle.std.specs.declared.cmp.Ordering.{Ordering}
 use Rattle.keeper_api.specs.Rows.{Spot, spot_cmp}

@@ -1,5 +1,5 @@
-//! Rows in numbered tables, kept in a tree in memory, and a batch that waits for its turn. A batch costs what its changes
-//! cost, however many rows there are.
+//! Rows in numbered tables, kept in a tree in memory, and a batch that waits for its turn. A batch costs what its
+//! changes cost, however many rows there are.
 #![tactic(auto)]
 
 mod batches;

@@ -36,7 +36,8 @@ impl Model for RowTree {
       made = changed (map change_of a.waiting.items) (rows_of a.places.entries);
     } };
 
-    ghost invariant = { λ a. AreInOrder a.places.entries × ArePlaced a.places.entries a.waiting.items × AreApart a.waiting.items };
+    ghost invariant = { λ a. AreInOrder a.places.entries × ArePlaced a.places.entries a.waiting.items
+        × AreApart a.waiting.items };
 }
 
 impl RowTree {
@@ -68,8 +69,8 @@ impl RowTree {
         page_behind(alloc, &self.places, table, after, n)
     }
 
-    /// Lets a batch wait, in place of the one before, and takes the memory that it needs. Without it no batch with changes
-    /// waits.
+    /// Lets a batch wait, in place of the one before, and takes the memory that it needs. Without it no batch with
+    /// changes waits.
     pub fn room(&mut self, alloc: Global, batch: &[Change]) -> Result<(), NoMemory>
         requires { IsBatch batch.now }
         ensures rows { self.new.rows ≡ self.old.rows }

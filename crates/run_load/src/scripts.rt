@@ -26,17 +26,22 @@ const LOGONS: &str = "S1 LOGON U1\nS2 LOGON U2\nS3 LOGON U3\nS4 LOGON U4\n";
 /// The script in which four sessions record as many order entries each by turns, and then the counts are asked for.
 pub fn script_of(alloc: Global, order: &Order) -> Result<Vec<u8>, NoMemory> {
     let mut text = String::new(alloc);
+    put_script(&mut text, order)?;
+    Ok(text.into_bytes())
+}
+
+fn put_script(text: &mut String, order: &Order) -> Result<(), NoMemory> {
     text.push_str(LOGONS)?;
     for _ in 0..order.entries {
         for session in 1..=SESSIONS {
-            put_entry(&mut text, session)?;
+            put_entry(text, session)?;
             if let Way::Replay = order.way {
-                put_work(&mut text, session)?;
+                put_work(text, session)?;
             }
         }
     }
     text.push_str("? AUDIT\n")?;
-    Ok(text.into_bytes())
+    Ok(())
 }
 
 /// A number, the lock on the order of that number, its head and two items, a count, and the COMMIT.

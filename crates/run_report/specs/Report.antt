@@ -61,7 +61,8 @@ abbrev pub report_text : List NumberedLine → State → List Said → List ℕ
 report_text lines s said = past_text 0 s.past ++ said_text said ++ shows_text lines s
 
 -- a text was written; or the sink failed behind some of its first bytes
-pub record HasPut {E : Type 0} (old new : Option (List ℕ)) (before now : ℕ) (text : List ℕ) (result : Result Unit E) : Type 0 where
+pub record HasPut {E : Type 0} (old new : Option (List ℕ)) (before now : ℕ) (text : List ℕ)
+    (result : Result Unit E) : Type 0 where
   pub ok : OnOk result (Appends old new text)
   pub err : OnErr result (AppendsFirst old new text)
   pub cause : HasCause before now result
@@ -71,23 +72,29 @@ abbrev pub ShowsAll : Option (List ℕ) → Option (List ℕ) → ℕ → ℕ �
 ShowsAll old new before now lines s (Ok u) = Appends old new (shows_text lines s) × (now ≡ before)
 ShowsAll old new before now lines s (Err SinkFault) = AppendsFirst old new (shows_text lines s) × Rose before now
 ShowsAll old new before now lines s (Err NoMemory) =
-    (earlier : List NumberedLine) × (later : List NumberedLine) × (lines ≡ earlier ++ later) × Appends old new (shows_text earlier s) × (now ≡ before)
+    (earlier : List NumberedLine) × (later : List NumberedLine) × (lines ≡ earlier ++ later)
+    × Appends old new (shows_text earlier s) × (now ≡ before)
 ShowsAll old new before now lines s (Err why) = ⊥
 
-pub record HasShown (old new : Option (List ℕ)) (before now : ℕ) (lines : List NumberedLine) (s : State) (result : Result Unit Why) : Type 0 where
+pub record HasShown (old new : Option (List ℕ)) (before now : ℕ) (lines : List NumberedLine) (s : State)
+    (result : Result Unit Why) : Type 0 where
   pub shown : ShowsAll old new before now lines s result
   pub later : before ≤ now
 
 -- one line of the script, which shows something or nothing
-pub record HasShownLine (old new : Option (List ℕ)) (before now : ℕ) (l : NumberedLine) (s : State) (result : Result Unit Why) : Type 0 where
+pub record HasShownLine (old new : Option (List ℕ)) (before now : ℕ) (l : NumberedLine) (s : State)
+    (result : Result Unit Why) : Type 0 where
   pub shown : IsShown old new before now (shown_text l.number (line_kind l.line) s) result
   pub later : before ≤ now
 
--- The report was written; or the sink failed behind some of its first bytes; or there was no memory for what a monitor shows, and
--- what was written begins the report, with the whole history and all answers.
-abbrev pub HasWritten : Option (List ℕ) → Option (List ℕ) → ℕ → ℕ → List NumberedLine → State → List Said → Result Unit Why → Type 0
+-- The report was written; or the sink failed behind some of its first bytes; or there was no memory for what a monitor
+-- shows, and what was written begins the report, with the whole history and all answers.
+abbrev pub HasWritten : Option (List ℕ) → Option (List ℕ) → ℕ → ℕ → List NumberedLine → State → List Said
+    → Result Unit Why → Type 0
 HasWritten old new faults now lines s said (Ok u) = Appends old new (report_text lines s said) × (now ≡ faults)
-HasWritten old new faults now lines s said (Err SinkFault) = AppendsFirst old new (report_text lines s said) × Rose faults now
+HasWritten old new faults now lines s said (Err SinkFault) =
+    AppendsFirst old new (report_text lines s said) × Rose faults now
 HasWritten old new faults now lines s said (Err NoMemory) =
-    (earlier : List NumberedLine) × (later : List NumberedLine) × (lines ≡ earlier ++ later) × Appends old new (report_text earlier s said) × (now ≡ faults)
+    (earlier : List NumberedLine) × (later : List NumberedLine) × (lines ≡ earlier ++ later)
+    × Appends old new (report_text earlier s said) × (now ≡ faults)
 HasWritten old new faults now lines s said (Err why) = ⊥

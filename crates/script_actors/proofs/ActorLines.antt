@@ -38,7 +38,8 @@ no_stock (OfSession session (Commits parts stock)) h = no_stock_unseen stock h
 no_stock _ h = tt
 
 -- a line's call has no numbers of a stock
-pub call_without_stock : (objects : List Object) (l : NumberedLine) (sides : List Private) (c : Command) → own_meaning objects sides l ≡ Calls c → HasNoStock (call_of c)
+pub call_without_stock : (objects : List Object) (l : NumberedLine) (sides : List Private) (c : Command) → own_meaning objects sides l ≡ Calls c
+    → HasNoStock (call_of c)
 call_without_stock objects l sides c is = no_stock (call_of c) (command_may (world objects unseen sides) l.line c unseen is)
 
 -- whatever a line is prepared as, there is the room that it wants
@@ -49,7 +50,8 @@ room_any (line.Read s table key variable) made other sides h = h
 room_any _ made other sides h = tt
 
 -- a session that keeps no side may enter
-pub may_follow : (l : ScriptLine) (r : Reply) (made : Prepared) (sides : SidesView) → HasRoomFor l (Ok made) sides → keeps_side l sides.items ≡ false → MayEnter l r sides
+pub may_follow : (l : ScriptLine) (r : Reply) (made : Prepared) (sides : SidesView) → HasRoomFor l (Ok made) sides → keeps_side l sides.items ≡ false
+    → MayEnter l r sides
 may_follow (line.Logon s user) reply.Done made sides room free = (room, free)
 may_follow (line.Num s object nr variable) (reply.Number number code) made sides room free = room
 may_follow (line.Read s table key variable) (reply.Row (Some text)) made sides room free = room
@@ -70,7 +72,8 @@ module _ (objects : List Object) (l : NumberedLine) (sides : List Private) (call
       (r, (λ i. deeds (follows i) (made i) (with_answer said l.number r) (is_stop r)) ∙ sym (ap (acts (deeds sides calls said false) l r) is))
 
   -- one that comes to a call
-  pub does_call : (c : Command) (r : Reply) → own_meaning objects sides l ≡ Calls c → sides_now ≡ followed l.line r sides → calls_now ≡ with_asked calls l.number c r
+  pub does_call : (c : Command) (r : Reply) → own_meaning objects sides l ≡ Calls c → sides_now ≡ followed l.line r sides
+      → calls_now ≡ with_asked calls l.number c r
       → DoneAs objects l sides calls sides_now calls_now (called_as r)
   does_call c (reply.Refused refusal.NoMemory) is follows made = answered c (reply.Refused refusal.NoMemory) is follows made
   does_call c (reply.Refused refusal.LogFull) is follows made = answered c (reply.Refused refusal.LogFull) is follows made
@@ -80,18 +83,23 @@ module _ (objects : List Object) (l : NumberedLine) (sides : List Private) (call
   -- one that changes the private side alone
   pub does_change : own_meaning objects sides l ≡ Changes sides_now → calls_now ≡ calls
       → (said : List Said) → DoesLine objects l (deeds sides calls said false) (deeds sides_now calls_now (said ++ saying l.number reply.Done ∷ []) false)
-  does_change is same said =
-      (reply.Done, (λ i. deeds sides_now (same i) (said ++ saying l.number reply.Done ∷ []) false) ∙ sym (ap (acts (deeds sides calls said false) l reply.Done) is))
+  does_change is same said = (
+    reply.Done,
+    (λ i. deeds sides_now (same i) (said ++ saying l.number reply.Done ∷ []) false)
+        ∙ sym (ap (acts (deeds sides calls said false) l reply.Done) is),
+  )
 
   declines : (x : Refusal) → own_meaning objects sides l ≡ Declines x → sides_now ≡ sides → calls_now ≡ calls
-      → (said : List Said) → DoesLine objects l (deeds sides calls said false) (deeds sides_now calls_now (said ++ saying l.number (reply.Refused x) ∷ []) false)
+      → (said : List Said) → DoesLine objects l (deeds sides calls said false)
+      (deeds sides_now calls_now (said ++ saying l.number (reply.Refused x) ∷ []) false)
   declines x is kept same said = (
     reply.Done,
     (λ i. deeds (kept i) (same i) (said ++ saying l.number (reply.Refused x) ∷ []) false) ∙ sym (ap (acts (deeds sides calls said false) l reply.Done) is),
   )
 
   -- one that is refused before any call
-  pub does_refused : (grows : Bool) (x : Refusal) → IsPrepared (own_meaning objects sides l) grows sides sides_now (Err x) → calls_now ≡ calls → DoneAs objects l sides calls sides_now calls_now (refused_as x)
+  pub does_refused : (grows : Bool) (x : Refusal) → IsPrepared (own_meaning objects sides l) grows sides sides_now (Err x) → calls_now ≡ calls
+      → DoneAs objects l sides calls sides_now calls_now (refused_as x)
   does_refused grows refusal.NoMemory h same = same
   does_refused grows x h same = (same, declines x h.0 h.1 same)
 
@@ -104,14 +112,17 @@ replied w line.Snro h = cc
 replied w line.Audit h = cc
 replied w _ h = refl
 
-pub takes_own : (objects : List Object) (w : Who) (l : NumberedLine) (old new : Deeds) → is_done_by w l.line ≡ true → DoesLine objects l old new → TakesLine objects w l old new
+pub takes_own : (objects : List Object) (w : Who) (l : NumberedLine) (old new : Deeds) → is_done_by w l.line ≡ true → DoesLine objects l old new
+    → TakesLine objects w l old new
 takes_own objects w l old new own does = subst (λ b. MatchBool b (DoesLine objects l old new) (new ≡ old)) (sym own) does
 
 pub takes_other : (objects : List Object) (w : Who) (l : NumberedLine) (old : Deeds) → is_done_by w l.line ≡ false → TakesLine objects w l old old
 takes_other objects w l old other = subst (λ b. MatchBool b (DoesLine objects l old old) (old ≡ old)) (sym other) refl
 
-pub takes_answered : (objects : List Object) (w : Who) (l : NumberedLine) (old : Deeds) (sides : List Private) (calls : DeskView) (r : Reply) (said : List Said) → is_done_by w l.line ≡ true
-    → DoesLine objects l old (deeds sides calls (old.said ++ saying l.number r ∷ []) false) → said ≡ old.said ++ saying l.number r ∷ [] → TakesLine objects w l old (deeds sides calls said false)
+pub takes_answered : (objects : List Object) (w : Who) (l : NumberedLine) (old : Deeds) (sides : List Private) (calls : DeskView) (r : Reply) (said : List Said)
+    → is_done_by w l.line ≡ true
+    → DoesLine objects l old (deeds sides calls (old.said ++ saying l.number r ∷ []) false) → said ≡ old.said ++ saying l.number r ∷ []
+    → TakesLine objects w l old (deeds sides calls said false)
 takes_answered objects w l old sides calls r said own does says =
     takes_own objects w l old (deeds sides calls said false) own (subst (λ xs. DoesLine objects l old (deeds sides calls xs false)) (sym says) does)
 
@@ -127,7 +138,8 @@ pub record GoesOn (objects : List Object) (all rest : List NumberedLine) (start 
   pub begun : (d : Deeds) → DoesFirst objects rest now d → DoesFirst objects all start d
 
 module _ (objects : List Object) (all : List NumberedLine) where
-  pub goes_first : (sides : List Private) (calls : DeskView) (said : List Said) → sides ≡ [] → said ≡ [] → GoesOn objects all all (no_deeds calls) (deeds sides calls said false)
+  pub goes_first : (sides : List Private) (calls : DeskView) (said : List Said) → sides ≡ [] → said ≡ []
+      → GoesOn objects all all (no_deeds calls) (deeds sides calls said false)
   goes_first sides calls said none quiet = record {
     done = λ d h. subst (λ x. DoesLines objects all x d) (λ i. deeds (none i) calls (quiet i) false) h;
     begun = λ d h. subst (λ x. DoesFirst objects all x d) (λ i. deeds (none i) calls (quiet i) false) h;
@@ -145,12 +157,14 @@ module _ (objects : List Object) (all : List NumberedLine) where
   }
 
   -- a line of the script more
-  pub goes_on : (w : Who) (l : NumberedLine) (later : List NumberedLine) (start old new : Deeds) → GoesOn objects all (lines_of_actor w (l ∷ later)) start old → TakesLine objects w l old new
+  pub goes_on : (w : Who) (l : NumberedLine) (later : List NumberedLine) (start old new : Deeds) → GoesOn objects all (lines_of_actor w (l ∷ later)) start old
+      → TakesLine objects w l old new
       → GoesOn objects all (lines_of_actor w later) start new
   goes_on w l later start old new g h = goes_if (is_done_by w l.line) l (lines_of_actor w later) start old new g h
 
   -- an actor that was stopped does no more
-  stays : (lines : List NumberedLine) (sides : List Private) (calls : DeskView) (said : List Said) → DoesLines objects lines (deeds sides calls said true) (deeds sides calls said true)
+  stays : (lines : List NumberedLine) (sides : List Private) (calls : DeskView) (said : List Said)
+      → DoesLines objects lines (deeds sides calls said true) (deeds sides calls said true)
   stays [] sides calls said = refl
   stays (l ∷ lines) sides calls said = (reply.Done, stays lines sides calls said)
 

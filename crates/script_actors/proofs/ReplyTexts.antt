@@ -43,5 +43,6 @@ pub behind_nothing : (text given : List ℕ) → length text ≡ 0 → text ≡ 
 behind_nothing [] given none space = absurd (cc)
 behind_nothing (b ∷ text) given none space = absurd (cc)
 
-pub copied : {E : Type 0} (r : Result (List ℕ) E) (bytes text : List ℕ) → IfOk r (λ (copy : List ℕ). copy ≡ bytes) → bytes ≡ text → IfOk r (λ (copy : List ℕ). copy ≡ text)
+pub copied : {E : Type 0} (r : Result (List ℕ) E) (bytes text : List ℕ) → IfOk r (λ (copy : List ℕ). copy ≡ bytes) → bytes ≡ text
+    → IfOk r (λ (copy : List ℕ). copy ≡ text)
 copied r bytes text h same = subst (λ (xs : List ℕ). IfOk r (λ (copy : List ℕ). copy ≡ xs)) same h

@@ -1,6 +1,7 @@
 -- What one actor makes of its lines: a session, or the administrator.
 use Rattle.std.specs.List.{filter}
-use Rattle.std.specs.Prelude.{◌≡◌, ℕ, Bool, true, false, List, [], ◌∷◌, ◌++◌, if◌then◌else◌, Option, Some, is_some, MatchBool}
+use Rattle.std.specs.Prelude.{◌≡◌, ℕ, Bool, true, false, List, [], ◌∷◌, ◌++◌, if◌then◌else◌, Option, Some, is_some}
+use Rattle.std.specs.Prelude.{MatchBool}
 use Rattle.enq_base.specs.declared.refusal.Refusal.{Refusal}
 use Rattle.enq_base.specs.declared.refusal.Refusal.TheVariants as refusal
 use Rattle.hall_model.specs.Calls.{Call, OfSession, SessionCall, Commits}
@@ -93,8 +94,8 @@ followed l r sides = if keeps_side l sides then sides else settled l r sides
 
 -- ---- what is done
 
--- What an actor has so far: its private sides, its calls with their answers at the desk, what its other lines were answered, and whether a call
--- stopped it.
+-- What an actor has so far: its private sides, its calls with their answers at the desk, what its other lines were
+-- answered, and whether a call stopped it.
 pub record Deeds : Type 0 where
   pub sides : List Private
   pub desk : DeskView
@@ -116,7 +117,8 @@ abbrev pub with_answer : List Said → ℕ → Reply → List Said
 with_answer said n (reply.Refused refusal.Idle) = said ++ saying n (reply.Refused refusal.Idle) ∷ []
 with_answer said n r = said
 
--- What a line comes to is done: a call, which is answered r, or else a change of the private side or a refusal, which is said.
+-- What a line comes to is done: a call, which is answered r, or else a change of the private side or a refusal, which
+-- is said.
 abbrev pub acts : Deeds → NumberedLine → Reply → Meaning → Deeds
 acts d l r (Calls c) =
     deeds (followed l.line r d.sides) (with_asked d.desk l.number c r) (with_answer d.said l.number r) (is_stop r)
@@ -124,8 +126,8 @@ acts d l r (Declines x) = deeds d.sides d.desk (d.said ++ saying l.number (reply
 acts d l r (Changes sides) = deeds sides d.desk (d.said ++ saying l.number reply.Done ∷ []) false
 acts d l r m = d
 
--- A state for the meaning of an actor's lines: none of them looks at the server but by a call, so that their meaning is the same
--- whatever state that has.
+-- A state for the meaning of an actor's lines: none of them looks at the server but by a call, so that their meaning is
+-- the same whatever state that has.
 abbrev pub unseen : State
 unseen = opened 0 0 [] true true no_ledger
 
@@ -148,10 +150,11 @@ DoesLines objects (l ∷ lines) old new = (r : Reply) × DoesLines objects lines
 -- the first of these lines were
 abbrev pub DoesFirst : List Object → List NumberedLine → Deeds → Deeds → Type 0
 DoesFirst objects lines old new =
-    (first : List NumberedLine) × (later : List NumberedLine) × (lines ≡ first ++ later) × DoesLines objects first old new
+    (first : List NumberedLine) × (later : List NumberedLine) × (lines ≡ first ++ later)
+    × DoesLines objects first old new
 
--- All lines were done, or those up to a call that stopped the actor: the calls that are new are theirs, and of those that come to no
--- call these are the answers.
+-- All lines were done, or those up to a call that stopped the actor: the calls that are new are theirs, and of those
+-- that come to no call these are the answers.
 abbrev pub AddsDone : List Object → List NumberedLine → DeskView → DeskView → List Said → Type 0
 AddsDone objects lines old new said =
     (sides : List Private) × (stopped : Bool) × DoesLines objects lines (no_deeds old) (deeds sides new said stopped)
@@ -169,7 +172,8 @@ DoneAs objects l sides calls sides_now calls_now Called =
 DoneAs objects l sides calls sides_now calls_now (Answered r) =
     (calls_now ≡ calls)
     × ((said : List Said)
-    → DoesLine objects l (deeds sides calls said false) (deeds sides_now calls_now (said ++ saying l.number r ∷ []) false))
+    → DoesLine objects l (deeds sides calls said false)
+    (deeds sides_now calls_now (said ++ saying l.number r ∷ []) false))
 DoneAs objects l sides calls sides_now calls_now Stopped =
     (said : List Said) → DoesLine objects l (deeds sides calls said false) (deeds sides_now calls_now said true)
 DoneAs objects l sides calls sides_now calls_now Wanting = calls_now ≡ calls

@@ -23,9 +23,9 @@ pub struct Said {
     pub text: Bytes,
 }
 
-/// Does the lines of one actor, in order: of a session, or of the administrator. What a line comes to before any call is
-/// known of the actor's own private side alone. It stops after a call that finds the history full, or for which memory
-/// is wanting. It gives what the lines are answered that come to no call.
+/// Does the lines of one actor, in order: of a session, or of the administrator. What a line comes to before any call
+/// is known of the actor's own private side alone. It stops after a call that finds the history full, or for which
+/// memory is wanting. It gives what the lines are answered that come to no call.
 pub fn actor_lines<K: Desk>(
     alloc: Global,
     desk: &mut K,
@@ -35,9 +35,11 @@ pub fn actor_lines<K: Desk>(
 ) -> Result<Vec<Said>, NoMemory>
     requires parts { AllByRecursion (λ l. has_part l.line ≡ true) lines.now }
     // The calls that it adds are those of its lines, in order, each with the reply that the desk gave.
-    ensures done { IfOk result (λ said. AddsDone objects.now (lines_of_actor who.now lines.now) (desk_view K.calls K.full_at desk.old)
+    ensures done { IfOk result
+        (λ said. AddsDone objects.now (lines_of_actor who.now lines.now) (desk_view K.calls K.full_at desk.old)
         (desk_view K.calls K.full_at desk.new) said.items) }
-    ensures begun { OnErr result (AddsPart objects.now (lines_of_actor who.now lines.now) (desk_view K.calls K.full_at desk.old)
+    ensures begun { OnErr result
+        (AddsPart objects.now (lines_of_actor who.now lines.now) (desk_view K.calls K.full_at desk.old)
         (desk_view K.calls K.full_at desk.new)) }
 {
     let mut sides = Sides::new(alloc);
@@ -115,7 +117,8 @@ fn do_line<K: Desk>(
 ) -> Done
     requires part { has_part numbered.now.line ≡ true }
     requires replied { line_kind numbered.now.line ≡ LineKind.Replied }
-    ensures { DoneAs objects.now numbered.now sides.old.items (desk_view K.calls K.full_at desk.old) sides.new.items (desk_view K.calls K.full_at desk.new)
+    ensures { DoneAs objects.now numbered.now sides.old.items (desk_view K.calls K.full_at desk.old) sides.new.items
+        (desk_view K.calls K.full_at desk.new)
         result }
 {
     match prepare(alloc, objects, &numbered.line, sides) {

@@ -129,13 +129,16 @@ value_again v h =
 
 value_spaceless : (v : RawValue) → IsValue v → is_free 32 (value_text v) ≡ true
 value_spaceless v h =
-    list_all-append (λ b. not (nat_eq b 32)) v.field (61 ∷ v.raw) (name_spaceless v.field h.0) (list_all-weaker is_key_byte (λ b. not (nat_eq b 32)) key_byte_spaceless v.raw h.1)
+    list_all-append (λ b. not (nat_eq b 32)) v.field (61 ∷ v.raw) (name_spaceless v.field h.0)
+    (list_all-weaker is_key_byte (λ b. not (nat_eq b 32)) key_byte_spaceless v.raw h.1)
 
 values_again : (v : RawValue) (vs : List RawValue) → IsValue v → AreValues vs → values_in (value_text v ++ values_text vs) ≡ Some (v ∷ vs)
 values_again v [] h k =
-    ap values_in (append-nil (value_text v)) ∙ values_in-last (value_text v) (cut_none 32 (value_text v) (value_spaceless v h)) ∙ ap (λ o. o >>= λ v. Some (v ∷ [])) (value_again v h)
+    ap values_in (append-nil (value_text v)) ∙ values_in-last (value_text v) (cut_none 32 (value_text v) (value_spaceless v h))
+    ∙ ap (λ o. o >>= λ v. Some (v ∷ [])) (value_again v h)
 values_again v (w ∷ ws) h k =
-    values_in-more (value_text v ++ values_text (w ∷ ws)) (value_text v) (value_text w ++ values_text ws) (cut_again 32 (value_text v) (value_text w ++ values_text ws) (value_spaceless v h))
+    values_in-more (value_text v ++ values_text (w ∷ ws)) (value_text v) (value_text w ++ values_text ws)
+    (cut_again 32 (value_text v) (value_text w ++ values_text ws) (value_spaceless v h))
     ∙ rw (value_again v h, values_again w ws k.0 k.1) refl
 
 with_values_again : (part : List ℕ) (vs : List RawValue) → is_free 32 part ≡ true → AreValues vs → with_values (part ++ values_text vs) ≡ Some (part, vs)
@@ -147,10 +150,19 @@ object_again : (o : List ℕ) (vs : List RawValue) → IsName o → AreValues vs
 unfolding object_and_values
 object_again o vs h k = rw (with_values_again o vs (name_spaceless o h) k, h) refl
 
-request_again : (o : List ℕ) (m : Mode) (s : Scope) (vs : List RawValue) → IsName o → AreValues vs → request_of (request_text o m s vs) ≡ Some (record { object = o; mode = m; scope = s; values = vs })
+request_again : (o : List ℕ) (m : Mode) (s : Scope) (vs : List RawValue) → IsName o → AreValues vs
+    → request_of (request_text o m s vs) ≡ Some (record { object = o; mode = m; scope = s; values = vs })
 unfolding request_of
 request_again o m s vs h k =
-    rw (cut_again 32 o (mode_text m ␣ (scope_text s ++ values_text vs)) (name_spaceless o h), h, mode_cut m (scope_text s ++ values_text vs), mode_again m, with_values_again (scope_text s) vs (scope_free s) k, scope_again s) refl
+    rw (
+      cut_again 32 o (mode_text m ␣ (scope_text s ++ values_text vs)) (name_spaceless o h),
+      h,
+      mode_cut m
+          (scope_text s ++ values_text vs),
+      mode_again m,
+      with_values_again (scope_text s) vs (scope_free s) k,
+      scope_again s,
+    ) refl
 
 key_and_again : (test : List ℕ → Bool) (key rest : List ℕ) → IsRaw key → test rest ≡ true → key_and test (key ␣ rest) ≡ Some (key, rest)
 unfolding key_and
@@ -197,7 +209,8 @@ verb_again s verb.V2 t = refl
 act_again : (s : List ℕ) (v : Verb) (t : List ℕ) → IsName s → line_of (s ␣ verb_text v ␣ t) ≡ verb_line s v t
 act_again s v t h = session_again s (verb_text v ␣ t) h ∙ verb_again s v t
 
-effect_again : (s : List ℕ) (part : ℕ) (c : Change) (table t : List ℕ) → IsName s → IsPart part → IsName table → line_of (s ␣ part_text part ␣ change_text c ␣ table ␣ t) ≡ effect_line s part c table t
+effect_again : (s : List ℕ) (part : ℕ) (c : Change) (table t : List ℕ) → IsName s → IsPart part → IsName table
+    → line_of (s ␣ part_text part ␣ change_text c ␣ table ␣ t) ≡ effect_line s part c table t
 unfolding update_line
 effect_again s part c table t h p q =
     session_again s (part_text part ␣ change_text c ␣ table ␣ t) h ∙ part_again s part (change_text c ␣ table ␣ t) p
@@ -223,11 +236,14 @@ line_again (line.Commit s) bytes h e = ap line_of e ∙ session_again s (codes "
 line_again (line.Rollback s) bytes h e = ap line_of e ∙ session_again s (codes "ROLLBACK") h
 line_again (line.Logon s user) bytes h e = ap line_of e ∙ act_again s verb.Logon user h.0 ∙ rw h.1 refl
 line_again (line.Enq s o m c vs) bytes h e =
-    ap line_of e ∙ act_again s verb.Enq (request_text o m c vs) h.0 ∙ ap (λ r. r >>= λ w. Some (line.Enq s w.object w.mode w.scope w.values)) (request_again o m c vs h.1 h.2)
+    ap line_of e ∙ act_again s verb.Enq (request_text o m c vs) h.0 ∙ ap (λ r. r >>= λ w. Some (line.Enq s w.object w.mode w.scope w.values))
+    (request_again o m c vs h.1 h.2)
 line_again (line.Deq s o m c vs) bytes h e =
-    ap line_of e ∙ act_again s verb.Deq (request_text o m c vs) h.0 ∙ ap (λ r. r >>= λ w. Some (line.Deq s w.object w.mode w.scope w.values)) (request_again o m c vs h.1 h.2)
+    ap line_of e ∙ act_again s verb.Deq (request_text o m c vs) h.0 ∙ ap (λ r. r >>= λ w. Some (line.Deq s w.object w.mode w.scope w.values))
+    (request_again o m c vs h.1 h.2)
 line_again (line.Collect s o m c vs) bytes h e =
-    ap line_of e ∙ act_again s verb.Collect (request_text o m c vs) h.0 ∙ ap (λ r. r >>= λ w. Some (line.Collect s w.object w.mode w.scope w.values)) (request_again o m c vs h.1 h.2)
+    ap line_of e ∙ act_again s verb.Collect (request_text o m c vs) h.0 ∙ ap (λ r. r >>= λ w. Some (line.Collect s w.object w.mode w.scope w.values))
+    (request_again o m c vs h.1 h.2)
 line_again (line.Convert s o vs) bytes h e =
     ap line_of e ∙ act_again s verb.Convert (o ++ values_text vs) h.0 ∙ ap (λ r. r >>= λ o. Some (line.Convert s o.0 o.1)) (object_again o vs h.1 h.2)
 line_again (line.Num s o nr v) bytes h e = ap line_of e ∙ act_again s verb.Num (o ␣ nr ␣ v) h.0 ∙ number_again s o nr v h.1 h.2 h.3

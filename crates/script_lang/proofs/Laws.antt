@@ -22,7 +22,8 @@ pub is_found : (bytes : List ℕ) (r : Result ScriptLine ReadFault) → Gives (�
 is_found bytes (Ok l) g = line_found bytes l g
 is_found bytes (Err e) g = tt
 
-pub is_bad : (bytes : List ℕ) (r : Result ScriptLine ReadFault) → Gives (λ (l : ScriptLine). l) r (line_of bytes) → r ≡ Err fault.BadLine → (l : ScriptLine) → IsReading bytes l → ⊥
+pub is_bad : (bytes : List ℕ) (r : Result ScriptLine ReadFault) → Gives (λ (l : ScriptLine). l) r (line_of bytes) → r ≡ Err fault.BadLine → (l : ScriptLine)
+    → IsReading bytes l → ⊥
 is_bad bytes r g e l h =
     let n : line_of bytes ≡ None = subst (λ r. Gives (λ (l : ScriptLine). l) r (line_of bytes)) e g in
     none-some l (sym n ∙ line_again l bytes h.0 h.1)

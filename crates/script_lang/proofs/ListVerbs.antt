@@ -32,6 +32,7 @@ word_listed text v e h =
     subst (λ t. IsTrue (list_any (λ verb. bytes_eq t verb) list_verbs)) (sym (spelled_at (verb_of text) v text (verb_if text) e)) (listed v h)
 
 -- so an act that begins with it begins with such a word
-pub begins_so : (act word rest : List ℕ) (v : Verb) → Some (word, rest) ≡ cut 32 act → verb_of word ≡ Some v → IsTrue (takes_lists v) → IsTrue (begins_with_list_verb act)
+pub begins_so : (act word rest : List ℕ) (v : Verb) → Some (word, rest) ≡ cut 32 act → verb_of word ≡ Some v → IsTrue (takes_lists v)
+    → IsTrue (begins_with_list_verb act)
 begins_so act word rest v e n h =
     subst (λ o. IsTrue (elim o [ None ↦ false | Some c ↦ list_any (λ verb. bytes_eq c.0 verb) list_verbs ])) e (word_listed word v n h)

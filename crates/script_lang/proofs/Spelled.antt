@@ -35,7 +35,8 @@ IsRead bytes l = IsLine l × (bytes ≡ spelling l)
 
 worker_if : (t : List ℕ) → IfSome (worker_of t) (λ w. IsWorker w × (t ≡ decimal w))
 unfolding worker_of
-worker_if t = bind_if _ _ (count_of t) (count_if t) (λ n h. test_then (nat_le n 64) (Some n) (λ w. IsWorker w × (t ≡ decimal w)) (λ e. ((h.0.0, leb-true _ _ e), h.1)))
+worker_if t = bind_if _ _ (count_of t) (count_if t)
+    (λ n h. test_then (nat_le n 64) (Some n) (λ w. IsWorker w × (t ≡ decimal w)) (λ e. ((h.0.0, leb-true _ _ e), h.1)))
 
 mode_if : (t : List ℕ) → IfSome (mode_of t) (λ m. t ≡ mode_text m)
 unfolding mode_of
@@ -74,7 +75,9 @@ change_if t = named_if (λ t c. t ≡ change_text c) changes t (refl, (refl, (re
 
 value_if : (t : List ℕ) → IfSome (value_of t) (λ v. IsValue v × (t ≡ value_text v))
 unfolding value_of
-value_if t = cut_then 61 t _ _ (λ a ha. pass_then is_name a.0 _ _ (λ hn. test_then (list_all is_key_byte a.1) (Some (record { field = a.0; raw = a.1 })) (λ v. IsValue v × (t ≡ value_text v)) (λ hr. ((hn, hr), ha.whole))))
+value_if t = cut_then 61 t _ _
+    (λ a ha. pass_then is_name a.0 _ _
+    (λ hn. test_then (list_all is_key_byte a.1) (Some (record { field = a.0; raw = a.1 })) (λ v. IsValue v × (t ≡ value_text v)) (λ hr. ((hn, hr), ha.whole))))
 
 values_if : (ps : List (List ℕ)) → IfSome (values_of ps) (λ vs. AreValues vs × (ps ≡ map value_text vs))
 unfolding values_of
@@ -91,7 +94,8 @@ joined_values t (v ∷ vs) e = ap (λ (x : List ℕ). 32 ∷ x) (sym (join_with_
 
 values_in_if : (t : List ℕ) → IfSome (values_in t) (λ vs. AreValues vs × (32 ∷ t ≡ values_text vs))
 unfolding values_in
-values_in_if t = weaker_if _ _ (values_of (slice_split (λ b. nat_eq b 32) t)) (values_if (slice_split (λ b. nat_eq b 32) t)) (λ vs h. (h.0, joined_values t vs h.1))
+values_in_if t = weaker_if _ _ (values_of (slice_split (λ b. nat_eq b 32) t)) (values_if (slice_split (λ b. nat_eq b 32) t))
+    (λ vs h. (h.0, joined_values t vs h.1))
 
 abbrev HasValues : List ℕ → List ℕ × List RawValue → Type 0
 HasValues t h = AreValues h.1 × (t ≡ h.0 ++ values_text h.1)
@@ -100,7 +104,8 @@ with_values_if : (t : List ℕ) → IfSome (with_values t) (HasValues t)
 unfolding with_values
 with_values_if t =
     by_cut t (HasValues t) (Some (t, [])) (λ c. option_map (λ (vs : List RawValue). (c.0, vs)) (values_in c.1)) (tt, sym (append-nil t))
-    (λ c h. map_if (λ (vs : List RawValue). (c.0, vs)) (HasValues t) (values_in c.1) (values_in_if c.1) (λ vs q. (q.0, h.whole ∙ ap (λ (x : List ℕ). c.0 ++ x) q.1)))
+    (λ c h. map_if (λ (vs : List RawValue). (c.0, vs)) (HasValues t) (values_in c.1) (values_in_if c.1)
+    (λ vs q. (q.0, h.whole ∙ ap (λ (x : List ℕ). c.0 ++ x) q.1)))
 
 object_if : (t : List ℕ) → IfSome (object_and_values t) (λ o. IsName o.0 × AreValues o.1 × (t ≡ o.0 ++ values_text o.1))
 unfolding object_and_values
@@ -131,7 +136,8 @@ server_if act = named_if (λ t l. IsRead (codes "!" ␣ t) l) server_lines act (
 
 order_if : (worker : ℕ) (act : List ℕ) → IsWorker worker → IfSome (order_line worker act) (IsRead (worker_text worker ␣ act))
 unfolding order_line
-order_if worker act h = named_if (λ t l. IsRead (worker_text worker ␣ t) l) (order_lines worker) act ((h, refl), ((h, refl), ((h, refl), ((h, refl), ((h, refl), tt)))))
+order_if worker act h = named_if (λ t l. IsRead (worker_text worker ␣ t) l) (order_lines worker) act
+    ((h, refl), ((h, refl), ((h, refl), ((h, refl), ((h, refl), tt)))))
 
 unit_line_if : (unit : UnitKey) (act : List ℕ) → IsUnitKey unit → IfSome (unit_line unit act) (IsRead (codes "!" ␣ act ␣ unit_text unit))
 unfolding unit_line
@@ -140,12 +146,16 @@ unit_line_if unit act h = named_if (λ t l. IsRead (codes "!" ␣ t ␣ unit_tex
 number_if : (s t : List ℕ) → IsName s → IfSome (number_line s t) (IsRead (s ␣ codes "NUM" ␣ t))
 unfolding number_line
 number_if s t h =
-    cut_then 32 t _ _ (λ a ha. pass_then is_name a.0 _ _ (λ ho. cut_then 32 a.1 _ _ (λ b hb. pass_then is_nr b.0 _ _ (λ hn. pass_then is_name b.1 _ _ (λ hv. ((h, ho, hn, hv), cc))))))
+    cut_then 32 t _ _
+    (λ a ha. pass_then is_name a.0 _ _
+    (λ ho. cut_then 32 a.1 _ _ (λ b hb. pass_then is_nr b.0 _ _ (λ hn. pass_then is_name b.1 _ _ (λ hv. ((h, ho, hn, hv), cc))))))
 
 row_if : (s t : List ℕ) → IsName s → IfSome (row_line s t) (IsRead (s ␣ codes "READ" ␣ t))
 unfolding row_line
 row_if s t h =
-    cut_then 32 t _ _ (λ a ha. pass_then is_name a.0 _ _ (λ ht. cut_then 32 a.1 _ _ (λ b hb. pass_then is_name b.1 _ _ (λ hv. pass_then is_raw b.0 _ _ (λ hk. ((h, ht, hk, hv), cc))))))
+    cut_then 32 t _ _
+    (λ a ha. pass_then is_name a.0 _ _
+    (λ ht. cut_then 32 a.1 _ _ (λ b hb. pass_then is_name b.1 _ _ (λ hv. pass_then is_raw b.0 _ _ (λ hk. ((h, ht, hk, hv), cc))))))
 
 -- a key and what stands behind it, which passes a test
 abbrev IsKeyAnd : (List ℕ → Bool) → List ℕ → List ℕ × List ℕ → Type 0
@@ -155,7 +165,8 @@ key_and_if : (test : List ℕ → Bool) (t : List ℕ) → IfSome (key_and test 
 unfolding key_and
 key_and_if test t = cut_then 32 t _ _ (λ a ha. pass_then is_raw a.0 _ _ (λ hk. pass_then test a.1 _ _ (λ ht. (hk, ht, ha.whole))))
 
-effect_if : (s : List ℕ) (part : ℕ) (c : Change) (table t : List ℕ) → IsName s → IsPart part → IsName table → IfSome (effect_line s part c table t) (IsRead (s ␣ part_text part ␣ change_text c ␣ table ␣ t))
+effect_if : (s : List ℕ) (part : ℕ) (c : Change) (table t : List ℕ) → IsName s → IsPart part → IsName table
+    → IfSome (effect_line s part c table t) (IsRead (s ␣ part_text part ␣ change_text c ␣ table ␣ t))
 unfolding effect_line
 effect_if s part change.Put table t h p q = bind_if _ _ (key_and is_rest t) (key_and_if is_rest t) (λ x k. ((h, p, q, k.0, k.1), cc))
 effect_if s part change.Ins table t h p q = bind_if _ _ (key_and is_rest t) (key_and_if is_rest t) (λ x k. ((h, p, q, k.0, k.1), cc))
@@ -184,14 +195,16 @@ verb_line_if s verb.V2 t h = update_if s 2 t h (lit≤ tt, lit≤ tt)
 session_if : (s act : List ℕ) → IsName s → IfSome (session_line s act) (IsRead (s ␣ act))
 unfolding session_line
 session_if s act h =
-    by_cut act (IsRead (s ␣ act)) (plain_line s act) (λ x. verb_of x.0 >>= λ v. verb_line s v x.1) (plain_if s act h) (λ a ha. bind_if _ _ (verb_of a.0) (verb_if a.0) (λ v hv.
+    by_cut act (IsRead (s ␣ act)) (plain_line s act) (λ x. verb_of x.0 >>= λ v. verb_line s v x.1) (plain_if s act h)
+    (λ a ha. bind_if _ _ (verb_of a.0) (verb_if a.0) (λ v hv.
     let e : act ≡ verb_text v ␣ a.1 = cc in
     subst (λ t. IfSome (verb_line s v a.1) (IsRead (s ␣ t))) (sym e) (verb_line_if s v a.1 h)))
 
 admin_if : (act : List ℕ) → IfSome (admin_line act) (IsRead (codes "!" ␣ act))
 unfolding admin_line
 admin_if act =
-    by_cut act (IsRead (codes "!" ␣ act)) (server_line act) (λ x. unit_key_of x.1 >>= λ unit. unit_line unit x.0) (server_if act) (λ a ha. bind_if _ _ (unit_key_of a.1) (unit_key_if a.1) (λ unit hu.
+    by_cut act (IsRead (codes "!" ␣ act)) (server_line act) (λ x. unit_key_of x.1 >>= λ unit. unit_line unit x.0) (server_if act)
+    (λ a ha. bind_if _ _ (unit_key_of a.1) (unit_key_if a.1) (λ unit hu.
     let e : act ≡ a.0 ␣ unit_text unit = cc in
     subst (λ t. IfSome (unit_line unit a.0) (IsRead (codes "!" ␣ t))) (sym e) (unit_line_if unit a.0 hu.0)))
 
@@ -206,8 +219,10 @@ act_if [] act = tt
 act_if (b ∷ bs) act =
     let P : Option ScriptLine → Type 0 = λ o. IfSome o (IsRead ((b ∷ bs) ␣ act)) in
     cond_both (nat_eq b 64) _ _ P (λ e. subst (λ c. IfSome (worker_line bs act) (IsRead ((c ∷ bs) ␣ act))) (sym (eqb-true b 64 e)) (worker_line_if bs act))
-    (λ _. cond_both (bytes_eq (b ∷ bs) (codes "!")) _ _ P (λ e. subst (λ w. IfSome (admin_line act) (IsRead (w ␣ act))) (sym ((bytes_eq-Decides (b ∷ bs) (codes "!")).0 e)) (admin_if act))
-    (λ _. cond_both (bytes_eq (b ∷ bs) (codes "?")) _ _ P (λ e. subst (λ w. IfSome (monitor_line act) (IsRead (w ␣ act))) (sym ((bytes_eq-Decides (b ∷ bs) (codes "?")).0 e)) (monitor_if act))
+    (λ _. cond_both (bytes_eq (b ∷ bs) (codes "!")) _ _ P
+    (λ e. subst (λ w. IfSome (admin_line act) (IsRead (w ␣ act))) (sym ((bytes_eq-Decides (b ∷ bs) (codes "!")).0 e)) (admin_if act))
+    (λ _. cond_both (bytes_eq (b ∷ bs) (codes "?")) _ _ P
+    (λ e. subst (λ w. IfSome (monitor_line act) (IsRead (w ␣ act))) (sym ((bytes_eq-Decides (b ∷ bs) (codes "?")).0 e)) (monitor_if act))
     (λ _. pass_then is_name (b ∷ bs) _ _ (λ h. session_if (b ∷ bs) act h))))
 
 spells_from : (bytes : List ℕ) (l : ScriptLine) → bytes ≡ spelling l → Spells bytes l

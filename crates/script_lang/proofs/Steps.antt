@@ -11,7 +11,8 @@ use Rattle.enq_base.proofs.Cuts.{IsCut, cut_takes}
 use Rattle.script_lang.specs.Reading.{passing}
 use Rattle.script_lang.specs.Words.{named}
 
-pub bind_if : {A B : Type 0} {Q : A → Type 0} (f : A → Option B) (P : B → Type 0) (o : Option A) → IfSome o Q → ((x : A) → Q x → IfSome (f x) P) → IfSome (o >>= f) P
+pub bind_if : {A B : Type 0} {Q : A → Type 0} (f : A → Option B) (P : B → Type 0) (o : Option A) → IfSome o Q → ((x : A) → Q x → IfSome (f x) P)
+    → IfSome (o >>= f) P
 bind_if f P None q h = tt
 bind_if f P (Some x) q h = h x q
 
@@ -28,20 +29,26 @@ test_then true x P h = h refl
 test_then false x P h = tt
 
 pub cut_if : (c : ℕ) (bs : List ℕ) → IfSome (cut c bs) (IsCut c bs)
-cut_if c bs = elim (cut c bs) as (λ o. ((x : List ℕ × List ℕ) → o ≡ Some x → IsCut c bs x) → IfSome o (IsCut c bs)) [ None ↦ λ h. tt | Some x ↦ λ h. h x refl ] (λ x e. cut_takes c bs x e)
+cut_if c bs = elim (cut c bs) as (λ o. ((x : List ℕ × List ℕ) → o ≡ Some x → IsCut c bs x) → IfSome o (IsCut c bs)) [ None ↦ λ h. tt | Some x ↦ λ h. h x refl ]
+    (λ x e. cut_takes c bs x e)
 
-pub cut_then : {B : Type 0} (c : ℕ) (bs : List ℕ) (f : List ℕ × List ℕ → Option B) (P : B → Type 0) → ((x : List ℕ × List ℕ) → IsCut c bs x → IfSome (f x) P) → IfSome (cut c bs >>= f) P
+pub cut_then : {B : Type 0} (c : ℕ) (bs : List ℕ) (f : List ℕ × List ℕ → Option B) (P : B → Type 0) → ((x : List ℕ × List ℕ) → IsCut c bs x → IfSome (f x) P)
+    → IfSome (cut c bs >>= f) P
 cut_then c bs f P h = bind_if f P (cut c bs) (cut_if c bs) h
 
 -- a choice by whether something stands behind the first part
-pub by_cut : {B : Type 0} (text : List ℕ) (P : B → Type 0) (whole : Option B) (parts : List ℕ × List ℕ → Option B) → IfSome whole P → ((x : List ℕ × List ℕ) → IsCut 32 text x → IfSome (parts x) P) → IfSome (elim (cut 32 text) [ None ↦ whole | Some x ↦ parts x ]) P
+pub by_cut : {B : Type 0} (text : List ℕ) (P : B → Type 0) (whole : Option B) (parts : List ℕ × List ℕ → Option B) → IfSome whole P
+    → ((x : List ℕ × List ℕ) → IsCut 32 text x → IfSome (parts x) P) → IfSome (elim (cut 32 text) [ None ↦ whole | Some x ↦ parts x ]) P
 by_cut text P whole parts p q =
-    elim (cut 32 text) as (λ o. IfSome o (IsCut 32 text) → IfSome (elim o [ None ↦ whole | Some x ↦ parts x ]) P) [ None ↦ λ _. p | Some x ↦ λ h. q x h ] (cut_if 32 text)
+    elim (cut 32 text) as (λ o. IfSome o (IsCut 32 text) → IfSome (elim o [ None ↦ whole | Some x ↦ parts x ]) P) [ None ↦ λ _. p | Some x ↦ λ h. q x h ]
+    (cut_if 32 text)
 
-pub pass_then : {B : Type 0} (test : List ℕ → Bool) (t : List ℕ) (f : List ℕ → Option B) (P : B → Type 0) → (test t ≡ true → IfSome (f t) P) → IfSome (passing test t >>= f) P
+pub pass_then : {B : Type 0} (test : List ℕ → Bool) (t : List ℕ) (f : List ℕ → Option B) (P : B → Type 0) → (test t ≡ true → IfSome (f t) P)
+    → IfSome (passing test t >>= f) P
 pass_then test t f P h = cond_both (test t) (Some t) None (λ o. IfSome (o >>= f) P) h (λ e. tt)
 
 pub named_if : {A : Type 0} (P : List ℕ → A → Type 0) (ns : List (List ℕ × A)) (t : List ℕ) → AllByRecursion (λ n. P n.0 n.1) ns → IfSome (named ns t) (P t)
 named_if P [] t h = tt
 named_if P (n ∷ ns) t h =
-    cond_both (bytes_eq t n.0) (Some n.1) (named ns t) (λ o. IfSome o (P t)) (λ e. subst (λ x. P x n.1) (sym ((bytes_eq-Decides t n.0).0 e)) h.0) (λ e. named_if P ns t h.1)
+    cond_both (bytes_eq t n.0) (Some n.1) (named ns t) (λ o. IfSome o (P t)) (λ e. subst (λ x. P x n.1) (sym ((bytes_eq-Decides t n.0).0 e)) h.0)
+    (λ e. named_if P ns t h.1)

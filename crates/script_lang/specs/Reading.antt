@@ -1,12 +1,14 @@
 -- The line that bytes spell, part by part from the left.
-use Rattle.std.specs.Prelude.{◌≡◌, ℕ, Bool, nat_eq, nat_le, List, [], ◌∷◌, codes, if◌then◌else◌, Option, Some, None, option_map, Result, Ok, Err}
+use Rattle.std.specs.Prelude.{◌≡◌, ℕ, Bool, nat_eq, nat_le, List, [], ◌∷◌, codes, if◌then◌else◌, Option, Some, None}
+use Rattle.std.specs.Prelude.{option_map, Result, Ok, Err}
 use Rattle.std.specs.Str.{bytes_eq}
 use Rattle.std.specs.List.{list_all, slice_split}
 use Rattle.enq_base.specs.Cut.{cut}
 use Rattle.enq_base.specs.Grammar.{is_name, is_key_byte}
 use Rattle.enq_base.specs.Number.{◌>>=◌, count_of, unit_key_of}
 use Rattle.script_lang.specs.Parts.{is_raw, is_rest, is_nr, is_blank}
-use Rattle.script_lang.specs.Words.{change_of, mode_of, monitor_line, order_line, plain_line, scope_of, server_line, unit_line, verb_of}
+use Rattle.script_lang.specs.Words.{change_of, mode_of, monitor_line, order_line, plain_line, scope_of, server_line}
+use Rattle.script_lang.specs.Words.{unit_line, verb_of}
 use Rattle.script_lang.specs.declared.read_fault.ReadFault.{ReadFault}
 use Rattle.script_lang.specs.declared.read_fault.ReadFault.TheVariants as fault
 use Rattle.script_lang.specs.declared.request.Request.{Request}

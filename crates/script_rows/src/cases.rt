@@ -18,6 +18,10 @@ pub(crate) enum Step {
     Put(StoreRow),
     /// Gives the backup file these bytes.
     Fill(Vec<u8>),
+    /// Leaves this many bytes of the backup file.
+    Cut(u64),
+    /// Puts a byte into the backup file, in the place of this offset.
+    Patch(u64, u8),
     /// Leaves the backup file as a crash may leave it.
     Crash(Image),
     /// Starts the program.

@@ -18,6 +18,8 @@ pub(crate) enum CaseFault {
     NotOnce,
     #[error("a text without its end")]
     NoEnd,
+    #[error("a place past the end of the backup file")]
+    NoPlace,
     #[error("a store that can't be read or written")]
     Store,
     #[error("no memory")]

@@ -14,12 +14,15 @@
 //! | `change OLD => NEW` | it has NEW in place of OLD, which has to stand in it just once |
 //! | `row TABLE KEY VALUE` | puts a row into the store |
 //! | `backup BYTES` | the backup file has these bytes |
+//! | `cut N` | it has its first N bytes alone |
+//! | `byte N BYTE` | it has this byte in place N, counted from 0 |
 //! | `crash synced`, `crash read` | the backup file is as it was last synced, or as it is read |
 //! | `crash ff`, `crash 01` | it has ff or 01 in each place that was written since it was synced |
 //! | `words WORD WORD ..` | the words of the next start, in place of `replay`; `""` is an empty one |
 //! | `DEVICE fails at N` | call N of `landscape`, `script`, `sink`, `store`, `backup` or `link` fails, in the next start |
 //! | `store fails at N kept` | the same, and what it was to write is there all the same |
 //! | `store stops at N`, `store stops at N kept` | so do all calls behind it |
+//! | `backup stops at N` | the same, of a thousand calls |
 //! | `link hands over all but the last` | in the next start the link leaves the last lock out |
 //! | `link hands over the first twice`, `.. backwards` | it hands over the first lock once more, or begins with the last |
 //! | `last N` | just the last N lines that the next start is answered are shown, and how many stand before |

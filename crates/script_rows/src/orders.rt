@@ -1,10 +1,13 @@
-use crate::cases::{Image, PlannedFaults, StoreRow};
+use crate::cases::{Image, PlannedFaults, Step, StoreRow};
 use crate::escapes::{decoded, read_count};
 use crate::faults::CaseFault;
 use crate::links::Hands;
 use enq_base::Items;
 use keeper_mem::Stop;
 use std::alloc::Global;
+
+// How many calls behind it fail with the call at which a disk stops: more than a case makes.
+const STOPPED: u64 = 1000;
 
 /// Plans that a call of a device fails.
 pub(crate) fn plan_failure(
@@ -33,14 +36,27 @@ pub(crate) fn plan_failure(
     Ok(())
 }
 
-/// Plans that the store stops at a call.
+/// Plans that a device stops at a call.
 pub(crate) fn plan_stop(
+    device: &str,
     call: &str,
     number: Option<u64>,
     faults: &mut PlannedFaults,
 ) -> Result<(), CaseFault> {
     let (at, after) = read_call(call, number)?;
-    faults.store.stop = Some(Stop { at, after });
+    match device {
+        "store" => faults.store.stop = Some(Stop { at, after }),
+        "backup" if !after => stop_disk(at, &mut faults.backup)?,
+        _ => return Err(CaseFault::NoForm),
+    }
+    Ok(())
+}
+
+/// The call and those behind it fail.
+fn stop_disk(at: u64, fails: &mut Vec<u64>) -> Result<(), CaseFault> {
+    for call in at..at.saturating_add(STOPPED) {
+        fails.push(call)?;
+    }
     Ok(())
 }
 
@@ -60,10 +76,31 @@ fn read_call(text: &str, number: Option<u64>) -> Result<(u64, bool), CaseFault> 
         Some(call) => (call, true),
         None => (text, false),
     };
-    if call == "\\#" {
-        return Ok((number.ok_or(CaseFault::NoNumber)?, is_kept));
+    Ok((read_number(call, number)?, is_kept))
+}
+
+/// Reads a number, or the one that the case is played for.
+pub(crate) fn read_number(text: &str, number: Option<u64>) -> Result<u64, CaseFault> {
+    if text == "\\#" {
+        return number.ok_or(CaseFault::NoNumber);
     }
-    Ok((read_count(call)?, is_kept))
+    read_count(text)
+}
+
+/// Reads `PLACE BYTE`: a byte that is put into the backup file.
+pub(crate) fn read_patch(
+    alloc: Global,
+    text: &str,
+    number: Option<u64>,
+) -> Result<Step, CaseFault> {
+    let Some((at, byte)) = text.split_once(' ') else {
+        return Err(CaseFault::NoForm);
+    };
+    let at = read_number(at, number)?;
+    match decoded(alloc, byte, number)?.as_slice() {
+        [byte] => Ok(Step::Patch(at, *byte)),
+        _ => Err(CaseFault::NoForm),
+    }
 }
 
 /// Changes the landscape, by `OLD => NEW`.

@@ -55,6 +55,8 @@ fn do_step<R: Threads + Wait + Sync>(
         Step::Put(row) => put_row(alloc, &mut keeper, row)?,
         Step::Rows(table) => show_rows(alloc, &mut keeper, table, shown)?,
         Step::Fill(bytes) => disk = MemDisk::new(alloc, bytes, Vec::new(alloc))?,
+        Step::Cut(length) => disk = cut_disk(alloc, &disk, length)?,
+        Step::Patch(at, byte) => disk = patched_disk(alloc, &disk, at, byte)?,
         Step::Crash(image) => disk = left_disk(alloc, &disk, image, Vec::new(alloc))?,
         Step::Backup => show_backup(alloc, image_of(alloc, &disk, Image::Read)?, shown)?,
         Step::Start(_) => {}
@@ -107,6 +109,23 @@ fn left_disk(
     fails: Vec<u64>,
 ) -> Result<MemDisk, CaseFault> {
     Ok(MemDisk::new(alloc, image_of(alloc, disk, image)?, fails)?)
+}
+
+/// A disk with this many bytes of another.
+fn cut_disk(alloc: Global, disk: &MemDisk, length: u64) -> Result<MemDisk, CaseFault> {
+    let mut bytes = image_of(alloc, disk, Image::Read)?;
+    bytes.truncate(length as usize);
+    Ok(MemDisk::new(alloc, bytes, Vec::new(alloc))?)
+}
+
+/// A disk with the bytes of another but for one.
+fn patched_disk(alloc: Global, disk: &MemDisk, at: u64, byte: u8) -> Result<MemDisk, CaseFault> {
+    let mut bytes = image_of(alloc, disk, Image::Read)?;
+    match bytes.get_mut(at as usize) {
+        Some(place) => *place = byte,
+        None => return Err(CaseFault::NoPlace),
+    }
+    Ok(MemDisk::new(alloc, bytes, Vec::new(alloc))?)
 }
 
 fn image_of(alloc: Global, disk: &MemDisk, image: Image) -> Result<Vec<u8>, CaseFault> {

@@ -2,8 +2,8 @@ use crate::cases::{Case, Start, Step};
 use crate::escapes::decoded;
 use crate::faults::{CaseFault, Refusal};
 use crate::orders::{
-    change_landscape, plan_failure, plan_stop, read_hands, read_image, read_length, read_row,
-    read_table, read_words,
+    change_landscape, plan_failure, plan_stop, read_hands, read_image, read_length, read_number,
+    read_patch, read_row, read_table, read_words,
 };
 use crate::scripts::{put_line, span_of};
 use std::alloc::Global;
@@ -249,8 +249,8 @@ fn take_order(
     if let Some((device, call)) = line.split_once(" fails at ") {
         return plan_failure(device, call, number, &mut draft.start.faults);
     }
-    if let Some(call) = line.strip_prefix("store stops at ") {
-        return plan_stop(call, number, &mut draft.start.faults);
+    if let Some((device, call)) = line.split_once(" stops at ") {
+        return plan_stop(device, call, number, &mut draft.start.faults);
     }
     if let Some(what) = line.strip_prefix("link hands over ") {
         draft.start.faults.hands = read_hands(what)?;
@@ -265,6 +265,8 @@ fn take_order(
         "row" => draft.steps.push(Step::Put(read_row(alloc, rest, number)?))?,
         "rows" => draft.steps.push(Step::Rows(read_table(rest)?))?,
         "backup" => draft.steps.push(read_backup(alloc, rest, number)?)?,
+        "cut" => draft.steps.push(Step::Cut(read_number(rest, number)?))?,
+        "byte" => draft.steps.push(read_patch(alloc, rest, number)?)?,
         "crash" => draft.steps.push(Step::Crash(read_image(rest)?))?,
         "start" => begin_script(alloc, rest, draft)?,
         _ => return Err(CaseFault::NoForm),

@@ -27,7 +27,8 @@ bad_number w n m None (Called call) e h = cc
 bad_number w n m (Some l) outcome e h = cc
 
 -- how a line comes to be a bad one
-line_bad : (w : World) (n m : ℕ) (bytes : List ℕ) (outcome : LineOutcome) (known : Option ScriptLine) → line_in bytes ≡ known → (line_does w n bytes outcome).stop ≡ Some (BadLine m) → (line_in bytes ≡ None) × (m ≡ n)
+line_bad : (w : World) (n m : ℕ) (bytes : List ℕ) (outcome : LineOutcome) (known : Option ScriptLine) → line_in bytes ≡ known
+    → (line_does w n bytes outcome).stop ≡ Some (BadLine m) → (line_in bytes ≡ None) × (m ≡ n)
 line_bad w n m bytes outcome (Some l) e h =
     let fine : IsFine (Some (BadLine m)) = subst IsFine h (line_fine w n bytes outcome (ap is_some e)) in
     absurd (bad_fine m fine)
@@ -38,7 +39,8 @@ none_stops w n None NoRoom e h = cc
 none_stops w n None (Called call) e h = cc
 none_stops w n (Some l) outcome e h = cc
 
-goes_known : (w : World) (n : ℕ) (bytes : List ℕ) (outcome : LineOutcome) (known : Option ScriptLine) → line_in bytes ≡ known → (line_does w n bytes outcome).stop ≡ None → IsKnown bytes
+goes_known : (w : World) (n : ℕ) (bytes : List ℕ) (outcome : LineOutcome) (known : Option ScriptLine) → line_in bytes ≡ known
+    → (line_does w n bytes outcome).stop ≡ None → IsKnown bytes
 goes_known w n bytes outcome (Some l) e h = ap is_some e
 goes_known w n bytes outcome None e h = absurd (none_stops w n (line_in bytes) outcome e h)
 
@@ -67,7 +69,8 @@ stop_number p t goes = ap (λ (q : Progress). q.number) (next_goes p t goes)
 stop_of : (p : Progress) (t : Turn) (o : Option Why) → p.stop ≡ None → (next p t).stop ≡ o → (line_does p.world (p.number + 1) t.line t.outcome).stop ≡ o
 stop_of p t o goes h = sym (ap (λ (q : Progress). q.stop) (next_goes p t goes)) ∙ h
 
-blame_step : (p : Progress) (t : Turn) (ts : List Turn) (n : ℕ) → p.stop ≡ None → (run_on (next p t) ts).stop ≡ Some (BadLine n) → ((next p t).stop ≡ None → Blamed (next p t) ts n) → (o : Option Why) → (next p t).stop ≡ o → Blamed p (t ∷ ts) n
+blame_step : (p : Progress) (t : Turn) (ts : List Turn) (n : ℕ) → p.stop ≡ None → (run_on (next p t) ts).stop ≡ Some (BadLine n)
+    → ((next p t).stop ≡ None → Blamed (next p t) ts n) → (o : Option Why) → (next p t).stop ≡ o → Blamed p (t ∷ ts) n
 blame_step p t ts n goes h below None e =
     let b = below e in
     record {
@@ -81,7 +84,8 @@ blame_step p t ts n goes h below None e =
     }
 blame_step p t ts n goes h below (Some why) e =
     let stays = run_stays (next p t) ts why e in
-    let here = line_bad p.world (p.number + 1) n t.line t.outcome (line_in t.line) refl (stop_of p t (Some (BadLine n)) goes (sym (ap (λ (q : Progress). q.stop) stays) ∙ h)) in
+    let here = line_bad p.world (p.number + 1) n t.line t.outcome (line_in t.line) refl
+    (stop_of p t (Some (BadLine n)) goes (sym (ap (λ (q : Progress). q.stop) stays) ∙ h)) in
     record { earlier = []; line = t.line; later = lines_in ts; lines = refl; place = omega (arith, here.1); known = tt; bad = here.0 }
 
 none_bad : (n : ℕ) → ◌≡◌ {A = Option Why} None (Some (BadLine n)) → ⊥
@@ -92,15 +96,19 @@ blame p [] n goes h = absurd (none_bad n (sym goes ∙ h))
 blame p (t ∷ ts) n goes h = blame_step p t ts n goes h (λ e. blame (next p t) ts n e h) ((next p t).stop) refl
 
 -- a run that goes on to its end counted each line, and each had a command
-all_known : (p : Progress) (turns : List Turn) → (run_on p turns).stop ≡ None → ((run_on p turns).number ≡ p.number + length turns) × AllByRecursion IsKnown (lines_in turns)
+all_known : (p : Progress) (turns : List Turn) → (run_on p turns).stop ≡ None → ((run_on p turns).number ≡ p.number + length turns)
+    × AllByRecursion IsKnown (lines_in turns)
 all_known p [] h = (omega arith, tt)
 all_known p (t ∷ ts) h =
     let goes = run_stops p (t ∷ ts) h in
     let here = run_stops (next p t) ts h in
-    let below = all_known (next p t) ts h in
-    (omega (arith, below.0, stop_number p t goes), (goes_known p.world (p.number + 1) t.line t.outcome (line_in t.line) refl (stop_of p t None goes here), below.1))
+    let below = all_known (next p t) ts h in (
+      omega (arith, below.0, stop_number p t goes),
+      (goes_known p.world (p.number + 1) t.line t.outcome (line_in t.line) refl (stop_of p t None goes here), below.1),
+    )
 
-blames : (before : World) (bytes left rest : List ℕ) (turns : List Turn) (old new : Seen) (why : Why) → lines_of bytes ≡ lines_in turns ++ lines_of (rest ++ left) → IsEnd before turns rest old new why → IsToBlame why bytes
+blames : (before : World) (bytes left rest : List ℕ) (turns : List Turn) (old new : Seen) (why : Why)
+    → lines_of bytes ≡ lines_in turns ++ lines_of (rest ++ left) → IsEnd before turns rest old new why → IsToBlame why bytes
 blames before bytes left rest turns old new (BadLine n) all end =
     let b = blame (begun before) turns n refl end.1 in
     record {
@@ -145,7 +153,8 @@ blames before bytes left rest turns old new NoMemory all end = tt
 blames before bytes left rest turns old new LogFull all end = tt
 
 -- a run over bytes that the source told
-pub blamed_line : (before after : World) (old new : Seen) (why : Why) (bytes : List ℕ) → Replays before after old new why → old.left ≡ Some bytes → IsToBlame why bytes
+pub blamed_line : (before after : World) (old new : Seen) (why : Why) (bytes : List ℕ) → Replays before after old new why → old.left ≡ Some bytes
+    → IsToBlame why bytes
 blamed_line before after old new why bytes h is =
     let rest = told bytes (h.lines ++ h.rest) new.left (subst (λ o. Consumes o new.left (h.lines ++ h.rest)) is h.read) in
     let all = begins bytes h.lines h.rest rest.0 h.turns rest.2 (known_whole h.lines h.rest rest.0 new.left rest.1 h.whole) h.each in

@@ -33,7 +33,8 @@ pub all_counted : (fails : Turn → Bool) (turns : List Turn) (f g : ℕ) → Co
 all_counted fails [] f g h = h
 all_counted fails (t ∷ ts) f g h = counted_on (fails t) (list_any fails ts) f h.0 g h.1.0 (all_counted fails ts h.0 g h.1.1)
 
-pub counted_more : (fails : Turn → Bool) (turns : List Turn) (turn : Turn) (f g h : ℕ) → CountsEach fails turns f g → HasCounted (fails turn) g h → CountsEach fails (turns ++ turn ∷ []) f h
+pub counted_more : (fails : Turn → Bool) (turns : List Turn) (turn : Turn) (f g h : ℕ) → CountsEach fails turns f g → HasCounted (fails turn) g h
+    → CountsEach fails (turns ++ turn ∷ []) f h
 counted_more fails [] turn f g h none k = (h, (subst (λ n. HasCounted (fails turn) n h) none k, refl))
 counted_more fails (t ∷ ts) turn f g h each k = (each.0, (each.1.0, counted_more fails ts turn each.0 g h each.1.1 k))
 
@@ -44,7 +45,8 @@ pub same_link : {L : Type 0} (applied : L → Option (List Entry)) (faults refus
 same_link applied faults refusals f = record { faults_later = omega arith; refusals_later = omega arith; told = refl }
 
 -- one stretch behind another
-pub link_on : {L : Type 0} (applied : L → Option (List Entry)) (faults refusals : L → ℕ) (a b c : Following L) → IsLater applied faults refusals a b → IsLater applied faults refusals b c → IsLater applied faults refusals a c
+pub link_on : {L : Type 0} (applied : L → Option (List Entry)) (faults refusals : L → ℕ) (a b c : Following L) → IsLater applied faults refusals a b
+    → IsLater applied faults refusals b c → IsLater applied faults refusals a c
 link_on applied faults refusals a b c h k = record {
   faults_later = omega (arith, h.faults_later, k.faults_later);
   refusals_later = omega (arith, h.refusals_later, k.refusals_later);

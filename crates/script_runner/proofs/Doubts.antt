@@ -169,9 +169,11 @@ in_doubt (Doubt j) k e = ap Doubt (same_number j k e)
 
 -- nothing fails
 stays_so : (store file : Bool) (before now : State) → now ≡ before → GoesTo store file false before now
-stays_so store file before now is = record { begun = ([], ap (λ (s : State). s.past) is ∙ sym (append-nil before.past)); doubt = inl (inl (ap doubt_of is)); made = inl refl }
+stays_so store file before now is =
+    record { begun = ([], ap (λ (s : State). s.past) is ∙ sym (append-nil before.past)); doubt = inl (inl (ap doubt_of is)); made = inl refl }
 
-failed_before : (a b d e : Bool) (from : ℕ) (mid now : State) → HasBegun mid.past now.past → doubt_of now ≡ doubt_of mid → IsFailed a d from mid → IsFailed (a || b) (d || e) from now
+failed_before : (a b d e : Bool) (from : ℕ) (mid now : State) → HasBegun mid.past now.past → doubt_of now ≡ doubt_of mid → IsFailed a d from mid
+    → IsFailed (a || b) (d || e) from now
 failed_before a b d e from mid now begun same h = record {
   place = h.place;
   doubt = in_doubt now.condition (h.place + 1) (same ∙ ap doubt_in h.doubt);
@@ -216,7 +218,8 @@ failed_then : (a b d e : Bool) (s t u : State) → HasBegun t.past u.past → St
 failed_then a b d e s t u begun (inl after) failed = inr (failed_before a b d e (length s.past) t u begun after failed)
 failed_then a b d e s t u begun (inr ended) failed = inl (inr ended)
 
-doubt_on : (a b d e : Bool) (s t u : State) → HasBegun s.past t.past → HasBegun t.past u.past → StaysOrFails a d s t → StaysOrFails b e t u → StaysOrFails (a || b) (d || e) s u
+doubt_on : (a b d e : Bool) (s t u : State) → HasBegun s.past t.past → HasBegun t.past u.past → StaysOrFails a d s t → StaysOrFails b e t u
+    → StaysOrFails (a || b) (d || e) s u
 doubt_on a b d e s t u begun more first (inr failed) = inr (failed_behind a b d e (length s.past) (length t.past) u (grown s.past t.past begun) failed)
 doubt_on a b d e s t u begun more (inl first) (inl after) = inl (ends_on s t u first after)
 doubt_on a b d e s t u begun more (inr failed) (inl after) = failed_then a b d e s t u more after failed
@@ -241,7 +244,8 @@ no_failure s t (inr (inl up)) = inr (ap doubt_in up)
 no_failure s t (inr (inr h)) = absurd (let wrong : false ≡ true = h.0 in cc)
 
 -- the store fails
-store_failed : (reading : Reading) (lost : Bool) (s : State) (n : ℕ) (c : Command) → IsFailed true false (length s.past) (step (record { event = StoreFails; reading = reading; lost = lost }) s n c).state
+store_failed : (reading : Reading) (lost : Bool) (s : State) (n : ℕ) (c : Command)
+    → IsFailed true false (length s.past) (step (record { event = StoreFails; reading = reading; lost = lost }) s n c).state
 store_failed reading lost s n c =
     let pending = pending_after reading s (call_of c) (call_verdict (found_by reading s) s (call_of c)) in
     by_stock (λ call t. IsFailed true false (length s.past) (noted n c false (losing lost (refused (doubted t call None pending) refusal.StoreFault))).state) s
@@ -250,7 +254,8 @@ store_failed reading lost s n c =
     (call_of c)
 
 -- no lock server could be made anew
-not_remade : (g : Reading) (lost : Bool) (s : State) (n : ℕ) (c : Command) (fault : RemakeFault) → IsFailed false false (length s.past) (step (record { event = NotRemade fault; reading = g; lost = lost }) s n c).state
+not_remade : (g : Reading) (lost : Bool) (s : State) (n : ℕ) (c : Command) (fault : RemakeFault)
+    → IsFailed false false (length s.past) (step (record { event = NotRemade fault; reading = g; lost = lost }) s n c).state
 not_remade g lost s n c MeetsWant = record {
   place = length s.past;
   doubt = refl;
@@ -282,23 +287,41 @@ step_doubt o s n c =
       | AllWell ↦ inl (no_failure s (step well s n c).state (step_becomes well s n c))
       | Wanting ↦ inl (no_failure s (step wanting s n c).state (step_becomes wanting s n c))
       | StoreFails ↦ inr (store_failed o.reading o.lost s n c)
-      | BackupFails ↦ inr (record { place = length s.past; doubt = refl; later = omega arith; within = longer s.past _; answer = inr (inl (refl, last_call s.past _)) })
+      | BackupFails ↦ inr
+          (record { place = length s.past; doubt = refl; later = omega arith; within = longer s.past _; answer = inr (inl (refl, last_call s.past _)) })
       | LinkFails ↦ inl (no_failure s (step unlinked s n c).state (step_becomes unlinked s n c))
       | NotRemade fault ↦ inr (not_remade o.reading o.lost s n c fault)
     ]
 
 -- a run that goes on behind a lock server that couldn't be made anew didn't meet want of memory, so a device isn't good
-finds_bad : (w : World) (g : Reading) (lost : Bool) (s : State) (n : ℕ) (c : Command) (fault : RemakeFault) → (answered w n (step (record { event = NotRemade fault; reading = g; lost = lost }) s n c).reply).stop ≡ None
+finds_bad : (w : World) (g : Reading) (lost : Bool) (s : State) (n : ℕ) (c : Command) (fault : RemakeFault)
+    → (answered w n (step (record { event = NotRemade fault; reading = g; lost = lost }) s n c).reply).stop ≡ None
     → MeetsBad s (step (record { event = NotRemade fault; reading = g; lost = lost }) s n c).state
 finds_bad w g lost s n c MeetsWant goes = absurd (let wrong : ◌≡◌ {A = Option Why} (Some NoMemory) None = goes in cc)
 finds_bad w g lost s n c (FindsBad place) goes =
-    record { call = length s.past + 1; later = omega arith; answer = reply.Refused (refusal.Unsound (bad.Backup place)); answered = last_call s.past _; unsound = refl }
+    record {
+      call = length s.past + 1;
+      later = omega arith;
+      answer = reply.Refused (refusal.Unsound (bad.Backup place));
+      answered =
+          last_call s.past _;
+      unsound = refl;
+    }
 finds_bad w g lost s n c (FindsBadStore table row) goes =
-    record { call = length s.past + 1; later = omega arith; answer = reply.Refused (refusal.Unsound (bad.Store table row)); answered = last_call s.past _; unsound = refl }
+    record {
+      call = length s.past + 1;
+      later = omega arith;
+      answer = reply.Refused (refusal.Unsound (bad.Store table row));
+      answered =
+          last_call s.past _;
+      unsound = refl;
+    }
 
-step_made : (w : World) (o : DeviceOutcome) (s : State) (n : ℕ) (c : Command) → (answered w n (step o s n c).reply).stop ≡ None → MadeOrBad (is_unmade o.event) s (step o s n c).state
+step_made : (w : World) (o : DeviceOutcome) (s : State) (n : ℕ) (c : Command) → (answered w n (step o s n c).reply).stop ≡ None
+    → MadeOrBad (is_unmade o.event) s (step o s n c).state
 step_made w o s n c =
-    elim o.event as (λ e. (answered w n (step (record { event = e; reading = o.reading; lost = o.lost }) s n c).reply).stop ≡ None → MadeOrBad (is_unmade e) s (step (record { event = e; reading = o.reading; lost = o.lost }) s n c).state) [
+    elim o.event as (λ e. (answered w n (step (record { event = e; reading = o.reading; lost = o.lost }) s n c).reply).stop ≡ None
+    → MadeOrBad (is_unmade e) s (step (record { event = e; reading = o.reading; lost = o.lost }) s n c).state) [
       | AllWell ↦ λ goes. inl refl
       | Wanting ↦ λ goes. inl refl
       | StoreFails ↦ λ goes. inl refl
@@ -308,7 +331,8 @@ step_made w o s n c =
     ]
 
 -- where the run goes on behind it
-step_goes : (w : World) (o : DeviceOutcome) (s : State) (n : ℕ) (c : Command) → (answered w n (step o s n c).reply).stop ≡ None → GoesTo (is_store_failure o.event) (is_file_failure o.event) (is_unmade o.event) s (step o s n c).state
+step_goes : (w : World) (o : DeviceOutcome) (s : State) (n : ℕ) (c : Command) → (answered w n (step o s n c).reply).stop ≡ None
+    → GoesTo (is_store_failure o.event) (is_file_failure o.event) (is_unmade o.event) s (step o s n c).state
 step_goes w o s n c goes = record { begun = step_begins o s n c; doubt = step_doubt o s n c; made = step_made w o s n c goes }
 
 -- ---- a line, and lines
@@ -318,9 +342,11 @@ abbrev LineGoes : LineOutcome → World → Turned → Type 0
 LineGoes outcome w t = t.stop ≡ None → GoesTo (store_fails outcome) (file_fails outcome) (unmade outcome) w.hall t.world.hall
 
 -- where there is no call, nothing fails
-quiet_goes : (d : DeviceOutcome) (before now : State) → d ≡ all_well → now ≡ before → GoesTo (is_store_failure d.event) (is_file_failure d.event) (is_unmade d.event) before now
+quiet_goes : (d : DeviceOutcome) (before now : State) → d ≡ all_well → now ≡ before
+    → GoesTo (is_store_failure d.event) (is_file_failure d.event) (is_unmade d.event) before now
 quiet_goes d before now quiet is =
-    subst (λ (x : DeviceOutcome). GoesTo (is_store_failure x.event) (is_file_failure x.event) (is_unmade x.event) before now) (sym quiet) (stays_so false false before now is)
+    subst (λ (x : DeviceOutcome). GoesTo (is_store_failure x.event) (is_file_failure x.event) (is_unmade x.event) before now) (sym quiet)
+    (stays_so false false before now is)
 
 does_goes : (w : World) (n : ℕ) (l : ScriptLine) (d : DeviceOutcome) (m : Meaning) → CallMayHave w d m → LineGoes (Called d) w (does w n l d m)
 does_goes w n l d Silent may goes = quiet_goes d w.hall w.hall may refl
@@ -328,11 +354,13 @@ does_goes w n l d (Shows m) may goes = quiet_goes d w.hall w.hall may refl
 does_goes w n l d (Calls c) may goes =
     let r = step d w.hall n c in
     let after = world w.objects r.state (settled l r.reply w.sides) in
-    subst (λ (x : World). GoesTo (store_fails (Called d)) (file_fails (Called d)) (unmade (Called d)) w.hall x.hall) (sym (answered-world after n r.reply)) (step_goes after d w.hall n c goes)
+    subst (λ (x : World). GoesTo (store_fails (Called d)) (file_fails (Called d)) (unmade (Called d)) w.hall x.hall) (sym (answered-world after n r.reply))
+    (step_goes after d w.hall n c goes)
 does_goes w n l d (Declines r) may goes = quiet_goes d w.hall _ may (ap (λ (x : World). x.hall) (answered-world w n (reply.Refused r)))
 does_goes w n l d (Changes sides) may goes = quiet_goes d w.hall w.hall may refl
 
-said_goes : (w : World) (n : ℕ) (lists : Bool) (known : Option ScriptLine) (outcome : LineOutcome) → MayHave w lists known outcome → LineGoes outcome w (said w n known outcome)
+said_goes : (w : World) (n : ℕ) (lists : Bool) (known : Option ScriptLine) (outcome : LineOutcome) → MayHave w lists known outcome
+    → LineGoes outcome w (said w n known outcome)
 said_goes w n lists known NoRoom may goes = stays_so _ _ w.hall w.hall refl
 said_goes w n lists None (Called d) may goes = quiet_goes d w.hall w.hall may refl
 said_goes w n lists (Some l) (Called d) may goes = does_goes w n l d (meaning w l) may goes
@@ -346,12 +374,15 @@ pub run_stops : (p : Progress) (turns : List Turn) → (fold next p turns).stop 
 run_stops p [] h = h
 run_stops p (t ∷ ts) h = stopped p t p.stop refl (run_stops (next p t) ts h)
 
-next_goes : (p : Progress) (t : Turn) → p.stop ≡ None → (next p t).stop ≡ None → LineMayHave p.world t.line t.outcome → GoesTo (store_fails_in t) (file_fails_in t) (unmade_in t) p.world.hall (next p t).world.hall
+next_goes : (p : Progress) (t : Turn) → p.stop ≡ None → (next p t).stop ≡ None → LineMayHave p.world t.line t.outcome
+    → GoesTo (store_fails_in t) (file_fails_in t) (unmade_in t) p.world.hall (next p t).world.hall
 next_goes p t began goes may =
-    subst (λ o. (after_turn o p t).stop ≡ None → GoesTo (store_fails_in t) (file_fails_in t) (unmade_in t) p.world.hall (after_turn o p t).world.hall) (sym began)
+    subst (λ o. (after_turn o p t).stop ≡ None → GoesTo (store_fails_in t) (file_fails_in t) (unmade_in t) p.world.hall (after_turn o p t).world.hall)
+    (sym began)
     (said_goes p.world (p.number + 1) (holds_lists t.line) (line_in t.line) t.outcome may) goes
 
-run_goes : (p : Progress) (turns : List Turn) → (fold next p turns).stop ≡ None → AreAllowed p turns → GoesTo (list_any store_fails_in turns) (list_any file_fails_in turns) (list_any unmade_in turns) p.world.hall (fold next p turns).world.hall
+run_goes : (p : Progress) (turns : List Turn) → (fold next p turns).stop ≡ None → AreAllowed p turns
+    → GoesTo (list_any store_fails_in turns) (list_any file_fails_in turns) (list_any unmade_in turns) p.world.hall (fold next p turns).world.hall
 run_goes p [] ends allowed = stays_so false false p.world.hall p.world.hall refl
 run_goes p (t ∷ ts) ends allowed =
     goes_far _ _ _ _ _ _ _ _ _ (next_goes p t (run_stops p (t ∷ ts) ends) (run_stops (next p t) ts ends) allowed.0) (run_goes (next p t) ts ends allowed.1)
@@ -366,7 +397,8 @@ pub run_stays_or_fails : (w : World) (turns : List Turn) → (run w turns).stop 
 run_stays_or_fails w turns ends allowed = (run_goes (begun w) turns ends allowed).doubt
 
 -- and its lock servers
-pub run_made : (w : World) (turns : List Turn) → (run w turns).stop ≡ None → AreAllowed (begun w) turns → MadeOrBad (list_any unmade_in turns) w.hall (run w turns).world.hall
+pub run_made : (w : World) (turns : List Turn) → (run w turns).stop ≡ None → AreAllowed (begun w) turns
+    → MadeOrBad (list_any unmade_in turns) w.hall (run w turns).world.hall
 run_made w turns ends allowed = (run_goes (begun w) turns ends allowed).made
 
 never_so : (b : Bool) → b ≡ false → IsTrue b → ⊥
@@ -434,37 +466,44 @@ stays_in_doubt : (before now : State) (k : ℕ) → StaysOrEnds before now → d
 stays_in_doubt before now k (inl same) doubt = sym same ∙ doubt
 stays_in_doubt before now k (inr ended) doubt = absurd (none_is_some k (sym ended ∙ doubt))
 
-pub stays_stored : (store file : Bool) (before now : State) (k : ℕ) → StaysOrFails store file before now → store ≡ false → doubt_of now ≡ Some k → option_map_or tells_other (answer_at now.past k) false ≡ false → doubt_of before ≡ Some k
+pub stays_stored : (store file : Bool) (before now : State) (k : ℕ) → StaysOrFails store file before now → store ≡ false → doubt_of now ≡ Some k
+    → option_map_or tells_other (answer_at now.past k) false ≡ false → doubt_of before ≡ Some k
 stays_stored store file before now k (inl stays) off doubt tells = stays_in_doubt before now k stays doubt
 stays_stored store file before now k (inr failed) off doubt tells =
     absurd (never_so store off (of_store store file _ (call_in store file (length before.past) now k failed doubt).answer tells))
 
-pub stays_filed : (store file : Bool) (before now : State) (k : ℕ) → StaysOrFails store file before now → file ≡ false → IsDoubted now k refusal.BackupFault → doubt_of before ≡ Some k
+pub stays_filed : (store file : Bool) (before now : State) (k : ℕ) → StaysOrFails store file before now → file ≡ false → IsDoubted now k refusal.BackupFault
+    → doubt_of before ≡ Some k
 stays_filed store file before now k (inl stays) off doubt = stays_in_doubt before now k stays doubt.0
 stays_filed store file before now k (inr failed) off doubt =
     absurd (never_so file off (of_file store file _ (call_in store file (length before.past) now k failed doubt.0).answer doubt.1))
 
-pub stays_or_found : (store file : Bool) (before now : State) (place : Bad) → StaysOrFails store file before now → IsDoubtedBy now (refusal.Unsound place) → HasBadCause before now place
+pub stays_or_found : (store file : Bool) (before now : State) (place : Bad) → StaysOrFails store file before now → IsDoubtedBy now (refusal.Unsound place)
+    → HasBadCause before now place
 stays_or_found store file before now place (inl stays) doubt = inl (ap is_some (stays_in_doubt before now doubt.0 stays doubt.1.0))
 stays_or_found store file before now place (inr failed) doubt =
     inr (record { call = doubt.0; doubted = doubt.1; later = (call_in store file (length before.past) now doubt.0 failed doubt.1.0).later })
 
 -- the call that found it is one of the run
-pub found_met : (before now : State) (place : Bad) → is_unsound (reply.Refused (refusal.Unsound place)) ≡ true → IsFoundBad before now place → MeetsBad before now
-found_met before now place unsound h = record { call = h.call; later = h.later; answer = reply.Refused (refusal.Unsound place); answered = h.doubted.1; unsound = unsound }
+pub found_met : (before now : State) (place : Bad) → is_unsound (reply.Refused (refusal.Unsound place)) ≡ true → IsFoundBad before now place
+    → MeetsBad before now
+found_met before now place unsound h =
+    record { call = h.call; later = h.later; answer = reply.Refused (refusal.Unsound place); answered = h.doubted.1; unsound = unsound }
 
 -- ---- a run that ends in doubt
 
 some_call : (earlier k : ℕ) → earlier < k → 0 < k
 some_call earlier k h = omega (arith, h)
 
-store_case : (store file : Bool) (before now : State) (k f g : ℕ) → StaysOrFails store file before now → doubt_of now ≡ Some k → option_map_or tells_other (answer_at now.past k) false ≡ false → HasCounted store f g → HasDoubtCause before k f g
+store_case : (store file : Bool) (before now : State) (k f g : ℕ) → StaysOrFails store file before now → doubt_of now ≡ Some k
+    → option_map_or tells_other (answer_at now.past k) false ≡ false → HasCounted store f g → HasDoubtCause before k f g
 store_case store file before now k f g (inl stays) doubt tells counted = inl (stays_in_doubt before now k stays doubt)
 store_case store file before now k f g (inr failed) doubt tells counted =
     let call = call_in store file (length before.past) now k failed doubt in
     inr (some_call (length before.past) k call.later, rose_where store f g (of_store store file _ call.answer tells) counted)
 
-file_case : (store file : Bool) (before now : State) (k f g : ℕ) → StaysOrFails store file before now → IsDoubted now k refusal.BackupFault → HasCounted file f g → HasDoubtCause before k f g
+file_case : (store file : Bool) (before now : State) (k f g : ℕ) → StaysOrFails store file before now → IsDoubted now k refusal.BackupFault
+    → HasCounted file f g → HasDoubtCause before k f g
 file_case store file before now k f g (inl stays) doubt counted = inl (stays_in_doubt before now k stays doubt.0)
 file_case store file before now k f g (inr failed) doubt counted =
     let call = call_in store file (length before.past) now k failed doubt.0 in
@@ -478,24 +517,32 @@ counted_later false f g h = omega (arith, h)
 pub device_later : (fails : Turn → Bool) (turns : List Turn) (f g : ℕ) → CountsEach fails turns f g → f ≤ g
 device_later fails turns f g h = counted_later _ f g (all_counted fails turns f g h)
 
-pub store_cause : (before after : World) (old new : Seen) (why : Why) (k : ℕ) → Replays before after old new why → why ≡ StoreFault k → HasDoubtCause before.hall k old.store_faults new.store_faults
+pub store_cause : (before after : World) (old new : Seen) (why : Why) (k : ℕ) → Replays before after old new why → why ≡ StoreFault k
+    → HasDoubtCause before.hall k old.store_faults new.store_faults
 store_cause before after old new why k h is =
     let ended = subst (λ w. Replays before after old new w) is h in
-    store_case _ _ before.hall (run before ended.turns).world.hall k _ _ (run_stays_or_fails before ended.turns ended.end.0.2 ended.allowed) ended.end.1 ended.end.2 (all_counted store_fails_in ended.turns _ _ ended.store)
+    store_case _ _ before.hall (run before ended.turns).world.hall k _ _
+    (run_stays_or_fails before ended.turns ended.end.0.2 ended.allowed) ended.end.1 ended.end.2 (all_counted store_fails_in ended.turns _ _ ended.store)
 
-pub file_cause : (before after : World) (old new : Seen) (why : Why) (k : ℕ) → Replays before after old new why → why ≡ BackupFault k → HasDoubtCause before.hall k old.file_faults new.file_faults
+pub file_cause : (before after : World) (old new : Seen) (why : Why) (k : ℕ) → Replays before after old new why → why ≡ BackupFault k
+    → HasDoubtCause before.hall k old.file_faults new.file_faults
 file_cause before after old new why k h is =
     let ended = subst (λ w. Replays before after old new w) is h in
-    file_case _ _ before.hall (run before ended.turns).world.hall k _ _ (run_stays_or_fails before ended.turns ended.end.0.2 ended.allowed) ended.end.1 (all_counted file_fails_in ended.turns _ _ ended.file)
+    file_case _ _ before.hall (run before ended.turns).world.hall k _ _ (run_stays_or_fails before ended.turns ended.end.0.2 ended.allowed) ended.end.1
+    (all_counted file_fails_in ended.turns _ _ ended.file)
 
-pub bad_store_cause : (before after : World) (old new : Seen) (why : Why) (table row : ℕ) → Replays before after old new why → why ≡ BadStore table row → HasBadCause before.hall after.hall (bad.Store table row)
+pub bad_store_cause : (before after : World) (old new : Seen) (why : Why) (table row : ℕ) → Replays before after old new why → why ≡ BadStore table row
+    → HasBadCause before.hall after.hall (bad.Store table row)
 bad_store_cause before after old new why table row h is =
     let ended = subst (λ w. Replays before after old new w) is h in
     subst (λ (w : World). HasBadCause before.hall w.hall (bad.Store table row)) (sym ended.world)
-    (stays_or_found _ _ before.hall (run before ended.turns).world.hall (bad.Store table row) (run_stays_or_fails before ended.turns ended.end.0.2 ended.allowed) ended.end.1)
+    (stays_or_found _ _ before.hall (run before ended.turns).world.hall (bad.Store table row)
+    (run_stays_or_fails before ended.turns ended.end.0.2 ended.allowed) ended.end.1)
 
-pub bad_backup_cause : (before after : World) (old new : Seen) (why : Why) (place : BackupBad) → Replays before after old new why → why ≡ BadBackup place → HasBadCause before.hall after.hall (bad.Backup place)
+pub bad_backup_cause : (before after : World) (old new : Seen) (why : Why) (place : BackupBad) → Replays before after old new why → why ≡ BadBackup place
+    → HasBadCause before.hall after.hall (bad.Backup place)
 bad_backup_cause before after old new why place h is =
     let ended = subst (λ w. Replays before after old new w) is h in
     subst (λ (w : World). HasBadCause before.hall w.hall (bad.Backup place)) (sym ended.world)
-    (stays_or_found _ _ before.hall (run before ended.turns).world.hall (bad.Backup place) (run_stays_or_fails before ended.turns ended.end.0.2 ended.allowed) ended.end.1)
+    (stays_or_found _ _ before.hall (run before ended.turns).world.hall (bad.Backup place)
+    (run_stays_or_fails before ended.turns ended.end.0.2 ended.allowed) ended.end.1)

@@ -27,7 +27,8 @@ given rule (Err e) ok (inl h) = refused_as rule e h
 given rule (Err e) ok (inr h) = subst (λ x. IsRefusedBy rule x) (sym h) tt
 
 -- a refusal that refuses the whole too
-pub refused_whole : {X Y : Type 0} (rule : Result X Refusal) (whole : Result Y Refusal) (r : Refusal) → ((e : Refusal) → rule ≡ Err e → whole ≡ Err e) → IsRefusedBy rule r → IsRefusedBy whole r
+pub refused_whole : {X Y : Type 0} (rule : Result X Refusal) (whole : Result Y Refusal) (r : Refusal) → ((e : Refusal) → rule ≡ Err e → whole ≡ Err e)
+    → IsRefusedBy rule r → IsRefusedBy whole r
 refused_whole rule whole refusal.NoMemory f h = tt
 refused_whole rule whole r f h = f r h
 
@@ -38,17 +39,23 @@ abbrev pub values_behind : List FieldValue → Result (List FieldValue) Refusal 
 values_behind front (Ok rest) = Ok (front ++ rest)
 values_behind front (Err r) = Err r
 
-one_more : (front : List FieldValue) (field : List ℕ) (v : Value) (r : Result (List FieldValue) Refusal) → values_behind (front ++ record { field = field; value = v } ∷ []) r ≡ values_behind front (value_before field (Ok v) r)
+one_more : (front : List FieldValue) (field : List ℕ) (v : Value) (r : Result (List FieldValue) Refusal)
+    → values_behind (front ++ record { field = field; value = v } ∷ []) r ≡ values_behind front (value_before field (Ok v) r)
 one_more front field v (Ok rest) = ap Ok (append_assoc front (record { field = field; value = v } ∷ []) rest)
 one_more front field v (Err r) = refl
 
-pub values-step : (vs : List Variable) (front all : List FieldValue) (raw : RawValue) (v : Value) (bytes : List ℕ) (rest after : List RawValue) (whole : Result (List FieldValue) Refusal) → rest ≡ raw ∷ after → bytes ≡ raw.raw → given_value vs bytes ≡ Ok v → all ≡ front ++ record { field = raw.field; value = v } ∷ [] → values_behind front (field_values vs rest) ≡ whole → values_behind all (field_values vs after) ≡ whole
+pub values-step : (vs : List Variable) (front all : List FieldValue) (raw : RawValue) (v : Value) (bytes : List ℕ) (rest after : List RawValue)
+    (whole : Result (List FieldValue) Refusal) → rest ≡ raw ∷ after → bytes ≡ raw.raw → given_value vs bytes ≡ Ok v
+    → all ≡ front ++ record { field = raw.field; value = v } ∷ [] → values_behind front (field_values vs rest) ≡ whole
+    → values_behind all (field_values vs after) ≡ whole
 values-step vs front all raw v bytes rest after whole split same is put h =
     ap (λ xs. values_behind xs (field_values vs after)) put ∙ one_more front raw.field v (field_values vs after)
     ∙ ap (λ x. values_behind front (value_before raw.field x (field_values vs after))) (sym is ∙ ap (given_value vs) same)
     ∙ ap (λ xs. values_behind front (field_values vs xs)) (sym split) ∙ h
 
-pub values-stop : (vs : List Variable) (front : List FieldValue) (raw : RawValue) (bytes : List ℕ) (rest after : List RawValue) (whole : Result (List FieldValue) Refusal) (r : Refusal) → rest ≡ raw ∷ after → bytes ≡ raw.raw → IsRefusedBy (given_value vs bytes) r → values_behind front (field_values vs rest) ≡ whole → IsRefusedBy whole r
+pub values-stop : (vs : List Variable) (front : List FieldValue) (raw : RawValue) (bytes : List ℕ) (rest after : List RawValue)
+    (whole : Result (List FieldValue) Refusal) (r : Refusal) → rest ≡ raw ∷ after → bytes ≡ raw.raw → IsRefusedBy (given_value vs bytes) r
+    → values_behind front (field_values vs rest) ≡ whole → IsRefusedBy whole r
 values-stop vs front raw bytes rest after whole r split same refused h =
     refused_whole (given_value vs bytes) whole r
     (λ e is.
@@ -56,17 +63,20 @@ values-stop vs front raw bytes rest after whole r split same refused h =
     ∙ ap (λ x. values_behind front (value_before raw.field x (field_values vs after))) (ap (given_value vs) (sym same) ∙ is))
     refused
 
-pub values-end : (vs : List Variable) (front : List FieldValue) (rest : List RawValue) (whole : Result (List FieldValue) Refusal) → rest ≡ [] → values_behind front (field_values vs rest) ≡ whole → whole ≡ Ok front
+pub values-end : (vs : List Variable) (front : List FieldValue) (rest : List RawValue) (whole : Result (List FieldValue) Refusal) → rest ≡ []
+    → values_behind front (field_values vs rest) ≡ whole → whole ≡ Ok front
 values-end vs front rest whole none h =
     sym h ∙ ap (λ xs. values_behind front (field_values vs xs)) none ∙ ap Ok (append-nil front)
 
 -- ---- sides
 
 -- the line of a session that has a side
-pub with_its_side : (sides : List Private) (s : List ℕ) (p : Private) (m : List Variable → Meaning) → Some p ≡ side_of sides s → of_session sides s (m (variables_of sides s)) ≡ m p.variables
+pub with_its_side : (sides : List Private) (s : List ℕ) (p : Private) (m : List Variable → Meaning) → Some p ≡ side_of sides s
+    → of_session sides s (m (variables_of sides s)) ≡ m p.variables
 with_its_side sides s p m is = at (side_of sides s) is
   where
-    at : (o : Option Private) → Some p ≡ o → (if is_some o then m (option_map_or (λ (x : Private). x.variables) o []) else Declines refusal.UnknownSession) ≡ m p.variables
+    at : (o : Option Private) → Some p ≡ o → (if is_some o then m (option_map_or (λ (x : Private). x.variables) o []) else Declines refusal.UnknownSession) ≡ m
+        p.variables
     at (Some q) e =
         let same : p ≡ q = cc in
         ap (λ (x : Private). m x.variables) (sym same)
@@ -76,17 +86,21 @@ with_its_side sides s p m is = at (side_of sides s) is
 abbrev of_effect : World → List ℕ → ℕ → Verb → List ℕ → List ℕ → List ℕ → List Variable → Meaning
 of_effect w s part v table key text vs = unless_refused (effect_with vs v table key text) (registering w.sides s part)
 
-means_effect : (w : World) (s : List ℕ) (part : ℕ) (v : Verb) (table key text : List ℕ) → (v ≡ verb.Del → text ≡ []) → meaning w (effect_line v s part table key text) ≡ effecting w s part v table key text
+means_effect : (w : World) (s : List ℕ) (part : ℕ) (v : Verb) (table key text : List ℕ) → (v ≡ verb.Del → text ≡ [])
+    → meaning w (effect_line v s part table key text) ≡ effecting w s part v table key text
 means_effect w s part verb.Put table key text nothing = refl
 means_effect w s part verb.Ins table key text nothing = refl
 means_effect w s part verb.Del table key text nothing = ap (effecting w s part verb.Del table key) (sym (nothing refl))
 means_effect w s part verb.Add table key text nothing = refl
 
-declined : {X : Type 0} (rule : Result X Refusal) (next : X → Meaning) (sides : List Private) (r : Refusal) → IsRefusedBy rule r → IsPrepared (unless_refused rule next) true sides sides (Err r)
+declined : {X : Type 0} (rule : Result X Refusal) (next : X → Meaning) (sides : List Private) (r : Refusal) → IsRefusedBy rule r
+    → IsPrepared (unless_refused rule next) true sides sides (Err r)
 declined rule next sides refusal.NoMemory h = (refl, refl)
 declined rule next sides r h = (ap (λ x. unless_refused x next) h, refl)
 
-pub effect_declined : (w : World) (s : List ℕ) (part : ℕ) (v : Verb) (table key text : List ℕ) (p : Private) (r : Refusal) → (v ≡ verb.Del → text ≡ []) → Some p ≡ side_of w.sides s → IsRefusedBy (effect_with p.variables v table key text) r → IsPrepared (meaning w (effect_line v s part table key text)) true w.sides w.sides (Err r)
+pub effect_declined : (w : World) (s : List ℕ) (part : ℕ) (v : Verb) (table key text : List ℕ) (p : Private) (r : Refusal) → (v ≡ verb.Del → text ≡ [])
+    → Some p ≡ side_of w.sides s → IsRefusedBy (effect_with p.variables v table key text) r
+    → IsPrepared (meaning w (effect_line v s part table key text)) true w.sides w.sides (Err r)
 effect_declined w s part v table key text p r nothing is refused =
     subst (λ m. IsPrepared m true w.sides w.sides (Err r))
     (sym (means_effect w s part v table key text nothing ∙ with_its_side w.sides s p (of_effect w s part v table key text) is))

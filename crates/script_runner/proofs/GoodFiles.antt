@@ -64,9 +64,11 @@ no_reply : (r : Reply) → ◌≡◌ {A = Option Reply} None (Some r) → ⊥
 no_reply r e = cc
 
 module _ (tells : Reply → Bool) where
-  found_sound : (past : List PastEntry) (i : ℕ) (r : Reply) → NoneTells tells past → option_map (λ (e : PastEntry). e.reply) (slice_get past i) ≡ Some r → tells r ≡ false
+  found_sound : (past : List PastEntry) (i : ℕ) (r : Reply) → NoneTells tells past → option_map (λ (e : PastEntry). e.reply) (slice_get past i) ≡ Some r
+      → tells r ≡ false
   found_sound [] i r none found = absurd (no_reply r found)
-  found_sound (e ∷ past) zero r none found = sym (ap tells (same_reply e.reply r found)) ∙ first_sound (tells e.reply) (list_any (λ (x : PastEntry). tells x.reply) past) none
+  found_sound (e ∷ past) zero r none found = sym (ap tells (same_reply e.reply r found))
+      ∙ first_sound (tells e.reply) (list_any (λ (x : PastEntry). tells x.reply) past) none
   found_sound (e ∷ past) (suc i) r none found = found_sound past i r (rest_sound (tells e.reply) (list_any (λ (x : PastEntry). tells x.reply) past) none) found
 
   -- no call of such a history is answered so
@@ -81,7 +83,8 @@ neither_so false false off none on = cc
 -- where no call found a device that isn't good, none of a run did
 pub never_met : (before now : State) → NoneUnsound now.past → NoneUnsoundStore now.past → MeetsBad before now → ⊥
 never_met before now files stores h =
-    neither_so (is_unsound_file h.answer) (is_unsound_store h.answer) (answer_sound is_unsound_file now.past h.call h.answer files h.answered) (answer_sound is_unsound_store now.past h.call h.answer stores h.answered) h.unsound
+    neither_so (is_unsound_file h.answer) (is_unsound_store h.answer) (answer_sound is_unsound_file now.past h.call h.answer files h.answered)
+    (answer_sound is_unsound_store now.past h.call h.answer stores h.answered) h.unsound
 
 -- that the link failed isn't answered where its count stood still
 pub no_link_fault : (f g : ℕ) (r : Reply) → HasLinkCause f g r → (Rose f g → ⊥) → is_link_fault r ≡ false

@@ -110,4 +110,5 @@ linked_call s t n c r a b h later cause loses attached first before =
     let same : t ≡ (step h.outcome s n c).state = ap (λ (x : Served). x.state) h.same in
     let told : r ≡ (step h.outcome s n c).reply = ap (λ (x : Served). x.reply) h.same in
     subst (λ x. HasLinked attached first x b) (sym same)
-    (linked_step s h.outcome n c a b h.allowed later attached first before (subst (HasLinkCause a.faults b.faults) told cause) (subst (λ x. Loses c s x a b) same loses))
+    (linked_step s h.outcome n c a b h.allowed later attached first before (subst (HasLinkCause a.faults b.faults) told cause)
+    (subst (λ x. Loses c s x a b) same loses))

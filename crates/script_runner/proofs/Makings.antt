@@ -27,7 +27,8 @@ MayMake s (Declines r) = Unit {0}
 MayMake s (Changes sides) = Unit {0}
 
 session_may : (s : State) (sides : List Private) (name : List ℕ) (m : Meaning) → MayMake s m → MayMake s (of_session sides name m)
-session_may s sides name m h = elim (is_some (side_of sides name)) as (λ b. MayMake s (if b then m else Declines refusal.UnknownSession)) [ true ↦ h | false ↦ tt ]
+session_may s sides name m h = elim (is_some (side_of sides name)) as (λ b. MayMake s (if b then m else Declines refusal.UnknownSession))
+    [ true ↦ h | false ↦ tt ]
 
 unless_may : {X : Type 0} (s : State) (r : Result X Refusal) (next : X → Meaning) → ((x : X) → MayMake s (next x)) → MayMake s (unless_refused r next)
 unless_may s (Ok x) next h = h x
@@ -36,7 +37,8 @@ unless_may s (Err r) next h = tt
 effect_may : (w : World) (n : List ℕ) (part : ℕ) (v : Verb) (table key text : List ℕ) (s : State) → MayMake s (effecting w n part v table key text)
 effect_may w n part v table key text s =
     session_may s w.sides n _
-    (unless_may s (effect_with (variables_of w.sides n) v table key text) (registering w.sides n part) (λ e. unless_may s (registered w.sides n part e) Changes (λ sides. tt)))
+    (unless_may s (effect_with (variables_of w.sides n) v table key text) (registering w.sides n part)
+    (λ e. unless_may s (registered w.sides n part e) Changes (λ sides. tt)))
 
 pub line_may : (w : World) (l : ScriptLine) (s : State) → MayMake s (meaning w l)
 line_may w (line.Logoff n) s = session_may s w.sides n _ tt
@@ -50,9 +52,11 @@ line_may w (line.Deq n object m scope values) s =
     session_may s w.sides n _ (unless_may s (requesting (variables_of w.sides n) w.objects object m scope values) (λ rs. Calls (command.Free n rs)) (λ rs. tt))
 line_may w (line.Collect n object m scope values) s =
     session_may s w.sides n _
-    (unless_may s (requesting (variables_of w.sides n) w.objects object m scope values) (collecting w.sides n) (λ rs. unless_may s (collected w.sides n rs) Changes (λ sides. tt)))
+    (unless_may s (requesting (variables_of w.sides n) w.objects object m scope values) (collecting w.sides n)
+    (λ rs. unless_may s (collected w.sides n rs) Changes (λ sides. tt)))
 line_may w (line.Convert n object values) s =
-    session_may s w.sides n _ (unless_may s (asking (variables_of w.sides n) w.objects object mode.O values) (λ asked. Calls (command.Convert n asked)) (λ asked. tt))
+    session_may s w.sides n _
+    (unless_may s (asking (variables_of w.sides n) w.objects object mode.O values) (λ asked. Calls (command.Convert n asked)) (λ asked. tt))
 line_may w (line.Num n object nr variable) s = session_may s w.sides n _ tt
 line_may w (line.Read n table key variable) s =
     session_may s w.sides n _ (unless_may s (key_with (variables_of w.sides n) key) (λ k. Calls (command.Read n table k)) (λ k. tt))

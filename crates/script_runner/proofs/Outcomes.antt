@@ -76,7 +76,8 @@ all_well_may : (w : World) (lists : Bool) (known : Option ScriptLine) → MayHav
 all_well_may w lists None = refl
 all_well_may w lists (Some l) = well_may w (meaning w l) (line_may w l w.hall)
 
-event_may : (w : World) (lists : Bool) (known : Option ScriptLine) (e : Event) (g : Reading) (lost : Bool) → MayHave w lists known (Called (record { event = e; reading = g; lost = lost })) → MayHave w lists known (Called (calmed_by e g lost))
+event_may : (w : World) (lists : Bool) (known : Option ScriptLine) (e : Event) (g : Reading) (lost : Bool)
+    → MayHave w lists known (Called (record { event = e; reading = g; lost = lost })) → MayHave w lists known (Called (calmed_by e g lost))
 event_may w lists known AllWell g lost h = h
 event_may w lists known Wanting g lost h = all_well_may w lists known
 event_may w lists known StoreFails g lost h = h
@@ -88,7 +89,8 @@ pub calmed_may : (w : World) (lists : Bool) (known : Option ScriptLine) (o : Lin
 calmed_may w lists known NoRoom h = all_well_may w lists known
 calmed_may w lists known (Called o) h = event_may w lists known o.event o.reading o.lost h
 
-wanting_stops : (w : World) (n : ℕ) (l : ScriptLine) (g : Reading) (lost : Bool) (m : Meaning) → (does w n l (record { event = Wanting; reading = g; lost = lost }) m).stop ≡ None
+wanting_stops : (w : World) (n : ℕ) (l : ScriptLine) (g : Reading) (lost : Bool) (m : Meaning)
+    → (does w n l (record { event = Wanting; reading = g; lost = lost }) m).stop ≡ None
     → does w n l (record { event = Wanting; reading = g; lost = lost }) m ≡ does w n l all_well m
 wanting_stops w n l g lost Silent h = refl
 wanting_stops w n l g lost (Shows m) h = refl
@@ -96,7 +98,8 @@ wanting_stops w n l g lost (Calls c) h = cc
 wanting_stops w n l g lost (Declines r) h = refl
 wanting_stops w n l g lost (Changes sides) h = refl
 
-event_well : (w : World) (n : ℕ) (l : ScriptLine) (e : Event) (g : Reading) (lost : Bool) → (done w n l (record { event = e; reading = g; lost = lost })).stop ≡ None
+event_well : (w : World) (n : ℕ) (l : ScriptLine) (e : Event) (g : Reading) (lost : Bool)
+    → (done w n l (record { event = e; reading = g; lost = lost })).stop ≡ None
     → done w n l (record { event = e; reading = g; lost = lost }) ≡ done w n l (calmed_by e g lost)
 event_well w n l AllWell g lost h = refl
 event_well w n l Wanting g lost h = wanting_stops w n l g lost (meaning w l) h
@@ -105,11 +108,13 @@ event_well w n l BackupFails g lost h = refl
 event_well w n l LinkFails g lost h = refl
 event_well w n l (NotRemade fault) g lost h = refl
 
-said_well : (w : World) (n : ℕ) (known : Option ScriptLine) (outcome : LineOutcome) → (said w n known outcome).stop ≡ None → said w n known outcome ≡ said w n known (calmed outcome)
+said_well : (w : World) (n : ℕ) (known : Option ScriptLine) (outcome : LineOutcome) → (said w n known outcome).stop ≡ None
+    → said w n known outcome ≡ said w n known (calmed outcome)
 said_well w n known NoRoom h = cc
 said_well w n None (Called o) h = refl
 said_well w n (Some l) (Called o) h = event_well w n l o.event o.reading o.lost h
 
 -- a line after which the run goes on wanted nothing
-pub line_well : (w : World) (n : ℕ) (bytes : List ℕ) (outcome : LineOutcome) → (line_does w n bytes outcome).stop ≡ None → line_does w n bytes outcome ≡ line_does w n bytes (calmed outcome)
+pub line_well : (w : World) (n : ℕ) (bytes : List ℕ) (outcome : LineOutcome) → (line_does w n bytes outcome).stop ≡ None
+    → line_does w n bytes outcome ≡ line_does w n bytes (calmed outcome)
 line_well w n bytes outcome h = said_well w n (line_in bytes) outcome h

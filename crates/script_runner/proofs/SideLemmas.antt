@@ -26,14 +26,17 @@ refused_as rule refusal.NoMemory is = tt
 refused_as rule _ is = is
 
 -- there is no room, or what is to go in does
-room : (full : Bool) (why : Refusal) (r : Result Unit Refusal) (rule : Result (List Private) Refusal) (after : List Private) → rule ≡ (if full then Err why else Ok after) → (full ≡ true → IsErrOf r why) → (IsErrOf r why → full ≡ true) → IfErr r (λ e. (e ≡ why) ⊎ (e ≡ refusal.NoMemory)) → IsGivenBy (λ _. after) rule r
+room : (full : Bool) (why : Refusal) (r : Result Unit Refusal) (rule : Result (List Private) Refusal) (after : List Private)
+    → rule ≡ (if full then Err why else Ok after) → (full ≡ true → IsErrOf r why) → (IsErrOf r why → full ≡ true)
+    → IfErr r (λ e. (e ≡ why) ⊎ (e ≡ refusal.NoMemory)) → IsGivenBy (λ _. after) rule r
 room true why (Ok done) rule after is on only fault = absurd (ok_err why done (on refl))
 room false why (Ok done) rule after is on only fault = is
 room true why (Err r) rule after is on only (inl e) = subst (λ x. IsRefusedBy rule x) (sym e) (refused_as rule why is)
 room false why (Err r) rule after is on only (inl e) = absurd (let wrong : false ≡ true = only (ap Err e) in cc)
 room b why (Err r) rule after is on only (inr e) = subst (λ x. IsRefusedBy rule x) (sym e) tt
 
-given_more : {X Y : Type 0} (f g : Y → X) (rule : Result X Refusal) (r : Result Y Refusal) → OnOk r ((y : Y) → f y ≡ g y) → IsGivenBy f rule r → IsGivenBy g rule r
+given_more : {X Y : Type 0} (f g : Y → X) (rule : Result X Refusal) (r : Result Y Refusal) → OnOk r ((y : Y) → f y ≡ g y) → IsGivenBy f rule r
+    → IsGivenBy g rule r
 given_more f g rule (Ok y) same h = h ∙ ap Ok (same y)
 given_more f g rule (Err e) same h = h
 
@@ -61,7 +64,9 @@ pub none_of : {X : Type 0} (o : Option X) → is_some o ≡ false → o ≡ None
 none_of None h = refl
 none_of (Some x) h = absurd (cc)
 
-pub collects : (name : List ℕ) (rs : List Request) (xs : List Private) (x y : Private) (new : List Private) (r : Result Unit Refusal) → side_of xs name ≡ Some x → Puts name xs x y new → OnOk r (y ≡ with_requests rs x) → (64 < length x.container + length rs) ↔ IsErrOf r refusal.ContainerFull → IfErr r (λ e. (e ≡ refusal.ContainerFull) ⊎ (e ≡ refusal.NoMemory)) → IsGivenBy (λ _. new) (collected xs name rs) r
+pub collects : (name : List ℕ) (rs : List Request) (xs : List Private) (x y : Private) (new : List Private) (r : Result Unit Refusal) → side_of xs name ≡ Some x
+    → Puts name xs x y new → OnOk r (y ≡ with_requests rs x) → (64 < length x.container + length rs) ↔ IsErrOf r refusal.ContainerFull
+    → IfErr r (λ e. (e ≡ refusal.ContainerFull) ⊎ (e ≡ refusal.NoMemory)) → IsGivenBy (λ _. new) (collected xs name rs) r
 collects name rs xs x y new r found put done full fault =
     let n = length x.container + length rs in
     let after = with_side name (with_requests rs) xs in
@@ -72,7 +77,9 @@ collects name rs xs x y new r found put done full fault =
     (when_done r (λ e _. sym (put (with_requests rs) e)) done)
     (room (nat_lt 64 n) refusal.ContainerFull r (collected xs name rs) after rule (λ t. full.0 (ltb-true 64 n t)) (λ e. lt-ltb 64 n (full.1 e)) fault)
 
-pub registers : (name : List ℕ) (part : ℕ) (effect : Effect) (xs : List Private) (x y : Private) (new : List Private) (r : Result Unit Refusal) → side_of xs name ≡ Some x → Puts name xs x y new → OnOk r (y ≡ with_effect part effect x) → (200 ≤ effect_count x) ↔ IsErrOf r refusal.UnitTooLarge → IfErr r (λ e. (e ≡ refusal.UnitTooLarge) ⊎ (e ≡ refusal.NoMemory)) → IsGivenBy (λ _. new) (registered xs name part effect) r
+pub registers : (name : List ℕ) (part : ℕ) (effect : Effect) (xs : List Private) (x y : Private) (new : List Private) (r : Result Unit Refusal)
+    → side_of xs name ≡ Some x → Puts name xs x y new → OnOk r (y ≡ with_effect part effect x) → (200 ≤ effect_count x) ↔ IsErrOf r refusal.UnitTooLarge
+    → IfErr r (λ e. (e ≡ refusal.UnitTooLarge) ⊎ (e ≡ refusal.NoMemory)) → IsGivenBy (λ _. new) (registered xs name part effect) r
 registers name part effect xs x y new r found put done full fault =
     let n = effect_count x in
     let after = with_side name (with_effect part effect) xs in
@@ -81,4 +88,5 @@ registers name part effect xs x y new r found put done full fault =
     ap (λ c. if nat_le 200 (effects_in c) then Err refusal.UnitTooLarge else Ok after) parts in
     given_more (λ _. after) (λ _. new) (registered xs name part effect) r
     (when_done r (λ e _. sym (put (with_effect part effect) e)) done)
-    (room (nat_le 200 n) refusal.UnitTooLarge r (registered xs name part effect) after rule (λ t. full.0 (leb-true 200 n t)) (λ e. le-leb 200 n (full.1 e)) fault)
+    (room (nat_le 200 n) refusal.UnitTooLarge r (registered xs name part effect) after rule (λ t. full.0 (leb-true 200 n t))
+    (λ e. le-leb 200 n (full.1 e)) fault)

@@ -33,9 +33,11 @@ some_first b (l ∷ ls) = (b ∷ l, ls, refl)
 
 some_line : (b : ℕ) (bs : List ℕ) → (line : List ℕ) × (rest : List (List ℕ)) × (lines_of (b ∷ bs) ≡ line ∷ rest)
 some_line b bs =
-    elim (nat_eq b 10) as (λ v. (line : List ℕ) × (rest : List (List ℕ)) × ((if v then [] ∷ lines_of bs else onto_first b (lines_of bs)) ≡ line ∷ rest)) [ true ↦ ([], lines_of bs, refl) | false ↦ some_first b (lines_of bs) ]
+    elim (nat_eq b 10) as (λ v. (line : List ℕ) × (rest : List (List ℕ)) × ((if v then [] ∷ lines_of bs else onto_first b (lines_of bs)) ≡ line ∷ rest))
+    [ true ↦ ([], lines_of bs, refl) | false ↦ some_first b (lines_of bs) ]
 
-onto_first-append : (b : ℕ) (xs ys : List (List ℕ)) → (line : List ℕ) × (rest : List (List ℕ)) × (xs ≡ line ∷ rest) → onto_first b (xs ++ ys) ≡ onto_first b xs ++ ys
+onto_first-append : (b : ℕ) (xs ys : List (List ℕ)) → (line : List ℕ) × (rest : List (List ℕ)) × (xs ≡ line ∷ rest)
+    → onto_first b (xs ++ ys) ≡ onto_first b xs ++ ys
 onto_first-append b [] ys h = absurd (let e = h.2 in cc)
 onto_first-append b (x ∷ xs) ys h = refl
 
@@ -47,7 +49,9 @@ lines_of-append (b ∷ []) ys h =
 lines_of-append (b ∷ c ∷ xs) ys h =
     let below = lines_of-append (c ∷ xs) ys h in
     let split = onto_first-append b (lines_of (c ∷ xs)) (lines_of ys) (some_line c xs) in
-    elim (nat_eq b 10) as (λ v. (if v then [] ∷ lines_of (c ∷ xs ++ ys) else onto_first b (lines_of (c ∷ xs ++ ys))) ≡ (if v then [] ∷ lines_of (c ∷ xs) else onto_first b (lines_of (c ∷ xs))) ++ lines_of ys) [
+    elim (nat_eq b 10)
+    as (λ v. (if v then [] ∷ lines_of (c ∷ xs ++ ys) else onto_first b (lines_of (c ∷ xs ++ ys)))
+    ≡ (if v then [] ∷ lines_of (c ∷ xs) else onto_first b (lines_of (c ∷ xs))) ++ lines_of ys) [
       | true ↦ ap (λ ls. [] ∷ ls) below
       | false ↦ ap (onto_first b) below ∙ split
     ]
@@ -122,11 +126,14 @@ run_well p (t ∷ ts) h =
     let goes = run_stops (next p t) ts h in
     run_well (next p t) ts h ∙ ap (λ q. run_on q (map calm_turn ts)) (next_well p t goes)
 
-run_calm : (turns : List Turn) → list_any store_fails_in turns ≡ false → list_any file_fails_in turns ≡ false → list_any unmade_in turns ≡ false → AllByRecursion (λ t. IsCalm t.outcome) (map calm_turn turns)
+run_calm : (turns : List Turn) → list_any store_fails_in turns ≡ false → list_any file_fails_in turns ≡ false → list_any unmade_in turns ≡ false
+    → AllByRecursion (λ t. IsCalm t.outcome) (map calm_turn turns)
 run_calm [] off unfiled made = tt
 run_calm (t ∷ ts) off unfiled made = (
-  calmed_calm t.outcome (or_left (store_fails_in t) (list_any store_fails_in ts) off) (or_left (file_fails_in t) (list_any file_fails_in ts) unfiled) (or_left (unmade_in t) (list_any unmade_in ts) made),
-  run_calm ts (or_right (store_fails_in t) (list_any store_fails_in ts) off) (or_right (file_fails_in t) (list_any file_fails_in ts) unfiled) (or_right (unmade_in t) (list_any unmade_in ts) made),
+  calmed_calm t.outcome (or_left (store_fails_in t) (list_any store_fails_in ts) off) (or_left (file_fails_in t) (list_any file_fails_in ts) unfiled)
+      (or_left (unmade_in t) (list_any unmade_in ts) made),
+  run_calm ts (or_right (store_fails_in t) (list_any store_fails_in ts) off) (or_right (file_fails_in t) (list_any file_fails_in ts) unfiled)
+      (or_right (unmade_in t) (list_any unmade_in ts) made),
 )
 
 run_allowed : (p : Progress) (turns : List Turn) → (run_on p turns).stop ≡ None → AreAllowed p turns → AreAllowed p (map calm_turn turns)
@@ -164,7 +171,8 @@ good_next [] ys line all = all.0
 good_next (x ∷ xs) ys line all = good_next xs ys line all.1
 
 -- the lines of the bytes are those of the turns, and then those of what was read behind them and of what is left
-pub begins : (bytes lines rest left : List ℕ) (turns : List Turn) → bytes ≡ (lines ++ rest) ++ left → (is_ended lines ≡ true) ⊎ ((rest ≡ []) × (left ≡ [])) → lines_in turns ≡ lines_of lines → lines_of bytes ≡ lines_in turns ++ lines_of (rest ++ left)
+pub begins : (bytes lines rest left : List ℕ) (turns : List Turn) → bytes ≡ (lines ++ rest) ++ left → (is_ended lines ≡ true) ⊎ ((rest ≡ []) × (left ≡ []))
+    → lines_in turns ≡ lines_of lines → lines_of bytes ≡ lines_in turns ++ lines_of (rest ++ left)
 begins bytes lines rest left turns all (inl ended) each =
     ap lines_of (all ∙ append_assoc lines rest left) ∙ lines_of-append lines (rest ++ left) ended ∙ ap (λ ls. ls ++ lines_of (rest ++ left)) (sym each)
 begins bytes lines rest left turns all (inr e) each =
@@ -172,7 +180,8 @@ begins bytes lines rest left turns all (inr e) each =
     let none : lines_of (rest ++ left) ≡ [] = ap lines_of (ap (λ x. x ++ left) e.0 ∙ e.1) in
     ap lines_of alone ∙ sym each ∙ sym (append-nil (lines_in turns)) ∙ ap (λ ls. lines_in turns ++ ls) (sym none)
 
-pub count_lines : (bytes : List ℕ) (turns : List Turn) (tail : List (List ℕ)) → lines_of bytes ≡ lines_in turns ++ tail → length (lines_of bytes) ≡ length turns + length tail
+pub count_lines : (bytes : List ℕ) (turns : List Turn) (tail : List (List ℕ)) → lines_of bytes ≡ lines_in turns ++ tail
+    → length (lines_of bytes) ≡ length turns + length tail
 count_lines bytes turns tail e =
     ap length e ∙ length-append (lines_in turns) tail ∙ ap (λ n. n + length tail) (length-map turns (λ (t : Turn). t.line))
 
@@ -180,17 +189,22 @@ pub some_tail : (rest left : List ℕ) → length rest ≡ 1 → 0 < length (lin
 some_tail [] left h = absurd (omega arith)
 some_tail (b ∷ rest) left h = let l = some_line b (rest ++ left) in omega (arith, ap length l.2)
 
-too_long : (xs ys : List (List ℕ)) (rest left : List ℕ) → ys ≡ xs ++ lines_of (rest ++ left) → length rest ≡ 1025 → IsUnbroken rest → AllByRecursion IsGood ys → ⊥
+too_long : (xs ys : List (List ℕ)) (rest left : List ℕ) → ys ≡ xs ++ lines_of (rest ++ left) → length rest ≡ 1025 → IsUnbroken rest → AllByRecursion IsGood ys
+    → ⊥
 too_long xs ys rest left e long unbroken all =
     let l = first_line rest left (omega arith) unbroken in
     let good = good_next xs l.rest l.line (subst (AllByRecursion IsGood) (e ∙ ap (λ t. xs ++ t) l.are) all) in
     omega (arith, good.fits.fits, l.long)
 
 -- what is seen at the end, over bytes that the source told
-all_done : (before after : World) (bytes left rest : List ℕ) (turns : List Turn) (old new : Seen) → AreAllowed (begun before) turns → new.left ≡ Some left → lines_of bytes ≡ lines_in turns ++ lines_of (rest ++ left) → list_any store_fails_in turns ≡ false → list_any file_fails_in turns ≡ false → list_any unmade_in turns ≡ false → after ≡ (run before turns).world → IsReadToEnd before turns rest old new → IsAllDone before after.hall bytes old.written new.written
+all_done : (before after : World) (bytes left rest : List ℕ) (turns : List Turn) (old new : Seen) → AreAllowed (begun before) turns → new.left ≡ Some left
+    → lines_of bytes ≡ lines_in turns ++ lines_of (rest ++ left) → list_any store_fails_in turns ≡ false → list_any file_fails_in turns ≡ false
+    → list_any unmade_in turns ≡ false → after ≡ (run before turns).world → IsReadToEnd before turns rest old new
+    → IsAllDone before after.hall bytes old.written new.written
 all_done before after bytes left rest turns old new allowed is all off unfiled made hall end =
     let at_end : left ≡ [] = subst IsAtEnd is end.1 in
-    let each : lines_of bytes ≡ lines_in turns = all ∙ ap (λ x. lines_in turns ++ lines_of x) (ap (λ x. x ++ left) end.0 ∙ at_end) ∙ append-nil (lines_in turns) in
+    let each : lines_of bytes ≡ lines_in turns = all ∙ ap (λ x. lines_in turns ++ lines_of x) (ap (λ x. x ++ left) end.0 ∙ at_end)
+    ∙ append-nil (lines_in turns) in
     let same : run before turns ≡ run before (map calm_turn turns) = run_well (begun before) turns end.2 in
     record {
       turns = map calm_turn turns;
@@ -202,17 +216,27 @@ all_done before after bytes left rest turns old new allowed is all off unfiled m
     }
 
 -- all lines were done, where each lock server was made anew
-done_or_bad : (before after : World) (bytes left rest : List ℕ) (turns : List Turn) (old new : Seen) → AreAllowed (begun before) turns → new.left ≡ Some left → lines_of bytes ≡ lines_in turns ++ lines_of (rest ++ left) → list_any store_fails_in turns ≡ false → list_any file_fails_in turns ≡ false → MadeOrBad (list_any unmade_in turns) before.hall (run before turns).world.hall → after ≡ (run before turns).world → IsReadToEnd before turns rest old new → IsDoneUnlessBad before after.hall bytes old.written new.written
-done_or_bad before after bytes left rest turns old new allowed is all off unfiled (inl made) hall end = inl (all_done before after bytes left rest turns old new allowed is all off unfiled made hall end)
-done_or_bad before after bytes left rest turns old new allowed is all off unfiled (inr met) hall end = inr (subst (λ (w : World). MeetsBad before.hall w.hall) (sym hall) met)
+done_or_bad : (before after : World) (bytes left rest : List ℕ) (turns : List Turn) (old new : Seen) → AreAllowed (begun before) turns → new.left ≡ Some left
+    → lines_of bytes ≡ lines_in turns ++ lines_of (rest ++ left) → list_any store_fails_in turns ≡ false → list_any file_fails_in turns ≡ false
+    → MadeOrBad (list_any unmade_in turns) before.hall (run before turns).world.hall → after ≡ (run before turns).world → IsReadToEnd before turns rest old new
+    → IsDoneUnlessBad before after.hall bytes old.written new.written
+done_or_bad before after bytes left rest turns old new allowed is all off unfiled (inl made) hall end =
+    inl (all_done before after bytes left rest turns old new allowed is all off unfiled made hall end)
+done_or_bad before after bytes left rest turns old new allowed is all off unfiled (inr met) hall end =
+    inr (subst (λ (w : World). MeetsBad before.hall w.hall) (sym hall) met)
 
 -- by a server that was in doubt before, or is so since a call that found such a device
-doubted_or_bad : (before after : World) (bytes : List ℕ) (old new : Option (List ℕ)) (place : Bad) → is_unsound (reply.Refused (refusal.Unsound place)) ≡ true → HasBadCause before.hall after.hall place → IsDoneUnlessBad before after.hall bytes old new → IsDoneInDoubt before after.hall bytes old new ⊎ MeetsBad before.hall after.hall
+doubted_or_bad : (before after : World) (bytes : List ℕ) (old new : Option (List ℕ)) (place : Bad) → is_unsound (reply.Refused (refusal.Unsound place)) ≡ true
+    → HasBadCause before.hall after.hall place → IsDoneUnlessBad before after.hall bytes old new → IsDoneInDoubt before after.hall bytes old new
+    ⊎ MeetsBad before.hall after.hall
 doubted_or_bad before after bytes old new place unsound (inr found) done = inr (found_met before.hall after.hall place unsound found)
 doubted_or_bad before after bytes old new place unsound (inl was) (inl done) = inl (was, done)
 doubted_or_bad before after bytes old new place unsound (inl was) (inr met) = inr met
 
-ends : (before after : World) (bytes left lines rest : List ℕ) (turns : List Turn) (old new : Seen) (why : Why) → AreAllowed (begun before) turns → new.left ≡ Some left → lines_of bytes ≡ lines_in turns ++ lines_of (rest ++ left) → IsScript bytes → (Rose old.source_faults new.source_faults → ⊥) → (Rose old.sink_faults new.sink_faults → ⊥) → list_any store_fails_in turns ≡ false → list_any file_fails_in turns ≡ false → after ≡ (run before turns).world → IsEnd before turns rest old new why → IsComplete before after.hall bytes old.written new.written why
+ends : (before after : World) (bytes left lines rest : List ℕ) (turns : List Turn) (old new : Seen) (why : Why) → AreAllowed (begun before) turns
+    → new.left ≡ Some left → lines_of bytes ≡ lines_in turns ++ lines_of (rest ++ left) → IsScript bytes → (Rose old.source_faults new.source_faults → ⊥)
+    → (Rose old.sink_faults new.sink_faults → ⊥) → list_any store_fails_in turns ≡ false → list_any file_fails_in turns ≡ false
+    → after ≡ (run before turns).world → IsEnd before turns rest old new why → IsComplete before after.hall bytes old.written new.written why
 ends before after bytes left lines rest turns old new Done allowed is all script quiet_source quiet_sink off unfiled hall end =
     done_or_bad before after bytes left rest turns old new allowed is all off unfiled (run_made before turns end.0.2 allowed) hall end.0
 ends before after bytes left lines rest turns old new (StoreFault k) allowed is all script quiet_source quiet_sink off unfiled hall end = (
@@ -225,11 +249,13 @@ ends before after bytes left lines rest turns old new (BackupFault k) allowed is
 )
 ends before after bytes left lines rest turns old new (BadStore table row) allowed is all script quiet_source quiet_sink off unfiled hall end =
     let cause = stays_or_found _ _ before.hall (run before turns).world.hall (bad.Store table row) (run_stays_or_fails before turns end.0.2 allowed) end.1 in
-    doubted_or_bad before after bytes old.written new.written (bad.Store table row) refl (subst (λ (w : World). HasBadCause before.hall w.hall (bad.Store table row)) (sym hall) cause)
+    doubted_or_bad before after bytes old.written new.written (bad.Store table row) refl
+    (subst (λ (w : World). HasBadCause before.hall w.hall (bad.Store table row)) (sym hall) cause)
     (done_or_bad before after bytes left rest turns old new allowed is all off unfiled (run_made before turns end.0.2 allowed) hall end.0)
 ends before after bytes left lines rest turns old new (BadBackup place) allowed is all script quiet_source quiet_sink off unfiled hall end =
     let cause = stays_or_found _ _ before.hall (run before turns).world.hall (bad.Backup place) (run_stays_or_fails before turns end.0.2 allowed) end.1 in
-    doubted_or_bad before after bytes old.written new.written (bad.Backup place) refl (subst (λ (w : World). HasBadCause before.hall w.hall (bad.Backup place)) (sym hall) cause)
+    doubted_or_bad before after bytes old.written new.written (bad.Backup place) refl
+    (subst (λ (w : World). HasBadCause before.hall w.hall (bad.Backup place)) (sym hall) cause)
     (done_or_bad before after bytes left rest turns old new allowed is all off unfiled (run_made before turns end.0.2 allowed) hall end.0)
 ends before after bytes left lines rest turns old new NoStart allowed is all script quiet_source quiet_sink off unfiled hall end = absurd end
 ends before after bytes left lines rest turns old new LogFull allowed is all script quiet_source quiet_sink off unfiled hall end = absurd end
@@ -240,7 +266,8 @@ ends before after bytes left lines rest turns old new (BadLine n) allowed is all
     let fine = run_fine (begun before) turns (good_front (lines_in turns) (lines_of (rest ++ left)) (subst (AllByRecursion IsGood) all good)) (inl refl) in
     let memory : BadLine n ≡ NoMemory = memory_is (BadLine n) (subst IsFine end.1 fine) in
     absurd (cc)
-ends before after bytes left lines rest turns old new SourceFault allowed is all script quiet_source quiet_sink off unfiled hall end = absurd (quiet_source end.1)
+ends before after bytes left lines rest turns old new SourceFault allowed is all script quiet_source quiet_sink off unfiled hall end =
+    absurd (quiet_source end.1)
 ends before after bytes left lines rest turns old new SinkFault allowed is all script quiet_source quiet_sink off unfiled hall end = absurd (quiet_sink end.1)
 ends before after bytes left lines rest turns old new (LongLine n) allowed is all script quiet_source quiet_sink off unfiled hall end =
     absurd (too_long (lines_in turns) (lines_of bytes) rest left all end.1 end.2 (recursion_from_All IsGood (lines_of bytes) script.each))
@@ -258,13 +285,18 @@ told bytes taken (Some rest) h = (rest, refl, h)
 at_end_of : (left : Option (List ℕ)) (rest : List ℕ) → left ≡ Some rest → IsAtEnd left → rest ≡ []
 at_end_of left rest is h = subst IsAtEnd is h
 
-pub known_whole : (lines rest left : List ℕ) (told : Option (List ℕ)) → told ≡ Some left → (is_ended lines ≡ true) ⊎ ((rest ≡ []) × IsAtEnd told) → (is_ended lines ≡ true) ⊎ ((rest ≡ []) × (left ≡ []))
+pub known_whole : (lines rest left : List ℕ) (told : Option (List ℕ)) → told ≡ Some left → (is_ended lines ≡ true) ⊎ ((rest ≡ []) × IsAtEnd told)
+    → (is_ended lines ≡ true) ⊎ ((rest ≡ []) × (left ≡ []))
 known_whole lines rest left told is (inl ended) = inl ended
 known_whole lines rest left told is (inr h) = inr (h.0, at_end_of told left is h.1)
 
 -- a run over a script that is in order from the first line to the last
-pub completes : (before after : World) (old new : Seen) (why : Why) (bytes : List ℕ) → Replays before after old new why → old.left ≡ Some bytes → IsScript bytes → (Rose old.source_faults new.source_faults → ⊥) → (Rose old.sink_faults new.sink_faults → ⊥) → (Rose old.store_faults new.store_faults → ⊥) → (Rose old.file_faults new.file_faults → ⊥) → IsComplete before after.hall bytes old.written new.written why
+pub completes : (before after : World) (old new : Seen) (why : Why) (bytes : List ℕ) → Replays before after old new why → old.left ≡ Some bytes → IsScript bytes
+    → (Rose old.source_faults new.source_faults → ⊥) → (Rose old.sink_faults new.sink_faults → ⊥) → (Rose old.store_faults new.store_faults → ⊥)
+    → (Rose old.file_faults new.file_faults → ⊥) → IsComplete before after.hall bytes old.written new.written why
 completes before after old new why bytes h is script quiet_source quiet_sink quiet_store quiet_file =
     let rest = told bytes (h.lines ++ h.rest) new.left (subst (λ o. Consumes o new.left (h.lines ++ h.rest)) is h.read) in
     let all = begins bytes h.lines h.rest rest.0 h.turns rest.2 (known_whole h.lines h.rest rest.0 new.left rest.1 h.whole) h.each in
-    ends before after bytes rest.0 h.lines h.rest h.turns old new why h.allowed rest.1 all script quiet_source quiet_sink (none_failed _ _ _ (all_counted store_fails_in h.turns _ _ h.store) quiet_store) (none_failed _ _ _ (all_counted file_fails_in h.turns _ _ h.file) quiet_file) h.world h.end
+    ends before after bytes rest.0 h.lines h.rest h.turns old new why h.allowed rest.1 all script quiet_source quiet_sink
+    (none_failed _ _ _ (all_counted store_fails_in h.turns _ _ h.store) quiet_store)
+    (none_failed _ _ _ (all_counted file_fails_in h.turns _ _ h.file) quiet_file) h.world h.end

@@ -1,5 +1,6 @@
 -- What a line of a script comes to.
-use Rattle.std.specs.Prelude.{ℕ, ℤ, ◌+◌, Bool, true, false, ◌&&◌, nat_le, nat_lt, List, [], ◌∷◌, map, length, decimal, cond, if◌then◌else◌, Option, Some, None, is_some, Result, Ok, Err}
+use Rattle.std.specs.Prelude.{ℕ, ℤ, ◌+◌, Bool, true, false, ◌&&◌, nat_le, nat_lt, List, [], ◌∷◌, map, length, decimal}
+use Rattle.std.specs.Prelude.{cond, if◌then◌else◌, Option, Some, None, is_some, Result, Ok, Err}
 use Rattle.std.specs.List.{find, list_all}
 use Rattle.std.specs.Str.{bytes_eq}
 use Rattle.enq_base.specs.Grammar.{is_key_byte, is_short, is_text_byte}
@@ -27,7 +28,8 @@ use Rattle.module_effects.specs.Integers.{integer_of}
 use Rattle.owner_scope.specs.Halves.{names_dialogue, names_update}
 use Rattle.dialogue_session.specs.Filling.{filled}
 use Rattle.dialogue_session.specs.declared.variables.Variable.{Variable}
-use Rattle.dialogue_session.specs.Private.{Private, with_effect, with_requests, with_variable, without_effects, without_requests}
+use Rattle.dialogue_session.specs.Private.{Private, with_effect, with_requests, with_variable, without_effects}
+use Rattle.dialogue_session.specs.Private.{without_requests}
 use Rattle.hall_model.specs.declared.command.Command.{Command}
 use Rattle.hall_model.specs.declared.command.Command.TheVariants as command
 use Rattle.hall_model.specs.declared.command.Reply.{Reply}
@@ -43,7 +45,8 @@ use Rattle.script_runner.specs.declared.monitor.Monitor.{Monitor}
 use Rattle.script_runner.specs.declared.monitor.Monitor.TheVariants as monitor
 use Rattle.script_runner.specs.declared.monitor.LineKind.{LineKind}
 use Rattle.script_runner.specs.declared.monitor.LineKind.TheVariants as kind
-use Rattle.script_runner.specs.Sides.{container_of, parts_of, side_of, variables_of, with_new_side, with_side, without_side}
+use Rattle.script_runner.specs.Sides.{container_of, parts_of, side_of, variables_of, with_new_side, with_side}
+use Rattle.script_runner.specs.Sides.{without_side}
 use Rattle.script_runner.specs.World.{World}
 
 -- the line of these bytes; none is a bad line
@@ -65,7 +68,8 @@ abbrev pub given_value : List Variable → List ℕ → Result Value Refusal
 given_value variables raw = and_next (filled variables raw) (λ bytes. Ok (value_of bytes))
 
 -- a value of a field, in front of those behind it
-abbrev pub value_before : List ℕ → Result Value Refusal → Result (List FieldValue) Refusal → Result (List FieldValue) Refusal
+abbrev pub value_before : List ℕ → Result Value Refusal → Result (List FieldValue) Refusal
+    → Result (List FieldValue) Refusal
 value_before field (Ok v) (Ok vs) = Ok (record { field = field; value = v } ∷ vs)
 value_before field (Ok v) (Err r) = Err r
 value_before field (Err r) vs = Err r
@@ -101,7 +105,8 @@ abbrev pub asked_at : List Object → List ℕ → Mode → List FieldValue → 
 asked_at objects object m values =
     elim (object_at objects object) [ None ↦ Err refusal.UnknownObject | Some o ↦ arguments_at o values m ]
 
--- what a line on a lock object asks for: first its variables are looked up, then the object, and then the values are tested
+-- what a line on a lock object asks for: first its variables are looked up, then the object, and then the values are
+-- tested
 abbrev pub asking : List Variable → List Object → List ℕ → Mode → List RawValue → Result (List Asked) Refusal
 asking variables objects object m values = and_next (field_values variables values) (asked_at objects object m)
 
@@ -113,7 +118,8 @@ in_scope scope (Ok asked) = Ok (map (request_in scope) asked)
 in_scope scope (Err r) = Err r
 
 -- the requests of a line, for the owners that its scope names
-abbrev pub requesting : List Variable → List Object → List ℕ → Mode → Scope → List RawValue → Result (List Request) Refusal
+abbrev pub requesting : List Variable → List Object → List ℕ → Mode → Scope → List RawValue
+    → Result (List Request) Refusal
 requesting variables objects object m scope values = in_scope scope (asking variables objects object m values)
 
 -- 1 to 60 bytes
@@ -261,7 +267,8 @@ meaning w (line.Enq s object m scope values) =
 meaning w (line.Deq s object m scope values) =
     with_requested w s object m scope values (λ rs. Calls (command.Free s rs))
 meaning w (line.Collect s object m scope values) = with_requested w s object m scope values (collecting w.sides s)
-meaning w (line.Convert s object values) = with_asked w s object mode.O values (λ asked. Calls (command.Convert s asked))
+meaning w (line.Convert s object values) = with_asked w s object mode.O values
+    (λ asked. Calls (command.Convert s asked))
 meaning w (line.Num s object nr variable) = numbering w s object nr
 meaning w (line.Read s table key variable) = reading w s table key
 meaning w (line.Put s part table key text) = effecting w s part verb.Put table key text
@@ -289,12 +296,13 @@ settled (line.Flush s) reply.Done sides = with_side s without_requests sides
 settled (line.Rollback s) reply.Done sides = with_side s (λ p. without_requests (without_effects p)) sides
 settled (line.Commit s) reply.Done sides = with_side s without_effects sides
 settled (line.Commit s) (reply.Unit unit) sides = with_side s without_effects sides
-settled (line.Num s object nr variable) (reply.Number number code) sides = with_side s (with_variable variable (decimal number)) sides
+settled (line.Num s object nr variable) (reply.Number number code) sides =
+    with_side s (with_variable variable (decimal number)) sides
 settled (line.Read s table key variable) (reply.Row (Some text)) sides = with_side s (with_variable variable text) sides
 settled _ _ sides = sides
 
--- the lines for which memory may be wanting once they are read: with lists, an effect or a variable, that make or copy a
--- private side, or that show a monitor
+-- the lines for which memory may be wanting once they are read: with lists, an effect or a variable, that make or copy
+-- a private side, or that show a monitor
 abbrev pub grows : ScriptLine → Bool
 grows line.Sm12 = true
 grows line.Sm13 = true

@@ -24,24 +24,24 @@ has_part (line.Del s part table key) = is_part part
 has_part (line.Add s part table key number) = is_part part
 has_part _ = true
 
--- A line of this meaning is prepared so, or refused, or memory is wanting where it may. Of the private sides only those of
--- a line that comes to no call are changed.
+-- A line of this meaning is prepared so, or refused, or memory is wanting where it may. Of the private sides only those
+-- of a line that comes to no call are changed.
 abbrev pub IsPrepared : Meaning → Bool → List Private → List Private → Result Prepared Refusal → Type 0
 IsPrepared m grows before after (Ok (Call c)) = (m ≡ Calls c) × (after ≡ before)
 IsPrepared m grows before after (Ok Changed) = m ≡ Changes after
 IsPrepared m grows before after (Err refusal.NoMemory) = (grows ≡ true) × (after ≡ before)
 IsPrepared m grows before after (Err r) = (m ≡ Declines r) × (after ≡ before)
 
--- where a session is to be logged on there is room for its private side, and where a number is to be drawn or a row to be
--- read for the variable
+-- where a session is to be logged on there is room for its private side, and where a number is to be drawn or a row to
+-- be read for the variable
 abbrev pub HasRoomFor : ScriptLine → Result Prepared Refusal → SidesView → Type 0
 HasRoomFor (line.Logon s user) (Ok made) sides = 1 ≤ sides.room
 HasRoomFor (line.Num s object nr variable) (Ok made) sides = 1 ≤ variable_room sides s
 HasRoomFor (line.Read s table key variable) (Ok made) sides = 1 ≤ variable_room sides s
 HasRoomFor _ _ sides = Unit {0}
 
--- a session that was logged on has no private side yet, and there is room for it; there is room for a number that was drawn,
--- and for a text that was read
+-- a session that was logged on has no private side yet, and there is room for it; there is room for a number that was
+-- drawn, and for a text that was read
 abbrev pub MayEnter : ScriptLine → Reply → SidesView → Type 0
 MayEnter (line.Logon s user) reply.Done sides = (1 ≤ sides.room) × (is_some (side_of sides.items s) ≡ false)
 MayEnter (line.Num s object nr variable) (reply.Number number code) sides = 1 ≤ variable_room sides s

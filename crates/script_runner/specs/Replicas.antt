@@ -24,7 +24,8 @@ pub record AreLater (before now : LinkCounts) : Type 0 where
 abbrev pub OneRose : LinkCounts → LinkCounts → Type 0
 OneRose before now = Rose before.faults now.faults ⊎ Rose before.refusals now.refusals
 
--- a replica followed, and behind this call it doesn't, though the call brings no other or none, and leaves the server in no doubt
+-- a replica followed, and behind this call it doesn't, though the call brings no other or none, and leaves the server
+-- in no doubt
 pub record IsLost (attached : Bool) (e : PastEntry) : Type 0 where
   pub before : attached ≡ true
   pub now : e.after.attached ≡ false
@@ -50,11 +51,13 @@ abbrev pub follows_behind : (attached : Bool) → List PastEntry → Bool
 follows_behind attached [] = attached
 follows_behind attached (e ∷ past) = follows_behind e.after.attached past
 
--- the same of each call of the history, from these counts and a replica that follows or doesn't on; and it tells whether one follows now
+-- the same of each call of the history, from these counts and a replica that follows or doesn't on; and it tells
+-- whether one follows now
 pub record HasLinked (attached : Bool) (first : LinkCounts) (s : State) (now : LinkCounts) : Type 0 where
   pub counted : CountsLinkEach attached s.past first now
   pub follows : follows_behind attached s.past ≡ s.attached
 
 -- where it held of each call of the history, it holds of each that came to it too
 abbrev pub GoesOnLinked : (old new : State) → (before now : LinkCounts) → Type 0
-GoesOnLinked old new before now = (attached : Bool) → (first : LinkCounts) → HasLinked attached first old before → HasLinked attached first new now
+GoesOnLinked old new before now = (attached : Bool) → (first : LinkCounts) → HasLinked attached first old before
+    → HasLinked attached first new now

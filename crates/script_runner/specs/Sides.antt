@@ -11,8 +11,8 @@ use Rattle.hall_model.specs.declared.command.Session.{Session}
 use Rattle.lock_entry.specs.Freeing.{replace_first}
 use Rattle.lock_entry.specs.declared.entry.Request.{Request}
 
--- what the private sides are seen as: those that there are, the same with the room of each for variables, and for how many
--- sides more there is room
+-- what the private sides are seen as: those that there are, the same with the room of each for variables, and for how
+-- many sides more there is room
 pub record SidesView : Type 0 where
   pub items : List Private
   pub dialogues : List DialogueView

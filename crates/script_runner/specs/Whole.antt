@@ -6,7 +6,9 @@ use Rattle.hall_model.specs.Devices.{AllWell, LinkFails}
 use Rattle.hall_model.specs.State.{State}
 use Rattle.io_edge.specs.Lines.{lines_of, IsLine}
 use Rattle.script_runner.specs.declared.runner.Why.{Why}
-use Rattle.script_runner.specs.declared.runner.Why.TheVariants.{Done, BadWords, BadLandscape, BadLine, SourceFault, SinkFault, LongLine, ManyLines, StoreFault, BackupFault, BadStore, BadBackup, NoStart, NoMemory, LogFull}
+use Rattle.script_runner.specs.declared.runner.Why.TheVariants.{Done, BadWords, BadLandscape, BadLine, SourceFault}
+use Rattle.script_runner.specs.declared.runner.Why.TheVariants.{SinkFault, LongLine, ManyLines, StoreFault, BackupFault}
+use Rattle.script_runner.specs.declared.runner.Why.TheVariants.{BadStore, BadBackup, NoStart, NoMemory, LogFull}
 use Rattle.script_runner.specs.Lines.{line_in}
 use Rattle.script_runner.specs.Replay.{MeetsBad, doubt_of}
 use Rattle.script_runner.specs.Run.{AreAllowed, Called, LineOutcome, NoRoom, Turn, begun, run}
@@ -42,10 +44,11 @@ IsDoneUnlessBad before after bytes old new = IsAllDone before after bytes old ne
 
 -- all lines were done, by a server that was in doubt before
 abbrev pub IsDoneInDoubt : World → State → List ℕ → Option (List ℕ) → Option (List ℕ) → Type 0
-IsDoneInDoubt before after bytes old new = IsTrue (is_some (doubt_of before.hall)) × IsAllDone before after bytes old new
+IsDoneInDoubt before after bytes old new = IsTrue (is_some (doubt_of before.hall))
+    × IsAllDone before after bytes old new
 
--- All lines were done, by a server that is in doubt only where it was before, unless memory was wanting, or a call found a
--- device that isn't good.
+-- All lines were done, by a server that is in doubt only where it was before, unless memory was wanting, or a call
+-- found a device that isn't good.
 abbrev pub IsComplete : World → State → List ℕ → Option (List ℕ) → Option (List ℕ) → Why → Type 0
 IsComplete before after bytes old new Done = IsDoneUnlessBad before after bytes old new
 IsComplete before after bytes old new (StoreFault k) =

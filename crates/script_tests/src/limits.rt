@@ -1,12 +1,17 @@
-use crate::runs::{Script, empty_disk, empty_store, new_link};
-use bk_disk::MemDisk;
+ghost use Rattle.ledger_steps.specs.Levels.{AreIntervals};
+
+use crate::runs::{Script, disk_of, empty_store, new_link};
+use bk_disk::{Disk, MemDisk};
 use enq_base::{Items, Name, read_name};
 use hall::Hall;
 use io_edge::{MemSink, MemSource};
+use keeper_api::Keeper;
 use keeper_mem::MemKeeper;
+use lock_entry::LockStore;
 use lock_objects::{Field, KeyTable, LockObject};
 use lock_table::ListTable;
-use replica_link::MemLink;
+use number_ranges::Interval;
+use replica_link::{Link, MemLink};
 use script_runner::replay;
 use std::alloc::Global;
 use std::test::*;
@@ -75,29 +80,55 @@ fn orders(alloc: Global) -> Result<LockObject, Fail> {
     }
 }
 
-fn small_hall(alloc: Global) -> Result<Hall<ListTable, MemKeeper, MemDisk, MemLink>, Fail> {
-    let disk = empty_disk(alloc)?;
-    let link = new_link(alloc)?;
-    match Hall::open(
-        alloc,
-        empty_store(alloc)?,
-        disk,
-        link,
-        1,
-        2,
-        Vec::new(alloc),
-    ) {
-        Ok(hall) => Ok(hall),
-        Err(_) => Err(Fail::from("no hall")),
+// A landscape without number ranges.
+fn no_intervals(alloc: Global) -> Vec<Interval>
+    ensures { AreIntervals result.items }
+{
+    Vec::new(alloc)
+}
+
+// Opens a hall that may have one lock and two marks, and does a script with it. It says whether a hall was opened.
+fn is_replayed<T: LockStore, K: Keeper + Drop, D: Disk + Drop, L: Link + Drop>(
+    alloc: Global,
+    source: &mut MemSource,
+    sink: &mut MemSink,
+    objects: &[LockObject],
+    keeper: K,
+    disk: D,
+    link: L,
+) -> bool {
+    let intervals = no_intervals(alloc);
+    match Hall::<T, K, D, L>::open(alloc, keeper, disk, link, 1, 2, intervals) {
+        Ok(mut hall) => {
+            let _why = replay(alloc, source, sink, &mut hall, objects);
+            true
+        }
+        Err(_) => false,
     }
+}
+
+// Does a script with a new hall.
+fn replayed(
+    alloc: Global,
+    source: &mut MemSource,
+    sink: &mut MemSink,
+    objects: &[LockObject],
+) -> Result<bool, Fail> {
+    let disk = disk_of(alloc, b"")?;
+    let link = new_link(alloc)?;
+    let keeper = empty_store(alloc)?;
+    Ok(is_replayed::<ListTable, MemKeeper, MemDisk, MemLink>(
+        alloc, source, sink, objects, keeper, disk, link,
+    ))
 }
 
 fn replies(alloc: Global, script: &[u8]) -> Result<Vec<u8>, Fail> {
     let mut source = MemSource::new(script.to_vec(alloc)?, Vec::new(alloc))?;
     let mut sink = MemSink::new(alloc, Vec::new(alloc))?;
-    let mut hall = small_hall(alloc)?;
     let objects = [orders(alloc)?];
-    let _why = replay(alloc, &mut source, &mut sink, &mut hall, &objects);
+    if !replayed(alloc, &mut source, &mut sink, &objects)? {
+        return Err(Fail::from("no hall"));
+    }
     Ok(sink.bytes().to_vec(alloc)?)
 }
 

@@ -1,7 +1,5 @@
-use crate::runs::{LANDSCAPE, empty_disk, empty_store, new_link, source_of};
-use enq_base::Items;
-use enq_cmd::{Site, Why, enqueue_main};
-use io_edge::MemSink;
+use crate::runs::{Given, Left, REPLAY, disk_of, empty_store, run};
+use enq_cmd::Why;
 use std::alloc::Global;
 use std::process::Abort;
 use std::sync::Wait;
@@ -102,62 +100,31 @@ const BAD_WORDS: [&[u8]; 24] = [
     b"replay --workers 1",
 ];
 
-fn words_of(alloc: Global, text: &[u8]) -> Result<Vec<Items<u8>>, Fail> {
-    let mut words = Vec::new(alloc);
-    for word in text.split(|byte| *byte == b' ') {
-        words.push(Items::from_vec(word.to_vec(alloc)?))?;
-    }
-    Ok(words)
-}
-
-// What was written, how many calls were made, and how it ended.
-#[derive(Drop)]
-struct Run {
-    replies: Vec<u8>,
-    calls: usize,
-    why: Why,
-    status: u8,
-}
-
 // Does these words, with a script that nobody is to read.
 fn run_row<R: Threads + Wait + Sync>(
     rt: &R,
     alloc: Global,
-    text: &[u8],
-    writes: &[u64],
-) -> Result<Run, Fail> {
-    let words = words_of(alloc, text)?;
-    let mut landscape = source_of(alloc, LANDSCAPE.as_bytes(), &[])?;
-    let mut script = source_of(alloc, b"A LOGON MILLER\n", &[])?;
-    let mut sink = MemSink::new(alloc, writes.to_vec(alloc)?)?;
-    let site = Site {
-        keeper: empty_store(alloc)?,
-        disk: empty_disk(alloc)?,
-        link: new_link(alloc)?,
-    };
-    let words = words.as_slice();
-    let ended = enqueue_main(
-        rt,
-        alloc,
+    words: &'static [u8],
+    writes: &'static [u64],
+) -> Result<Left, Fail> {
+    let given = Given {
         words,
-        &mut landscape,
-        &mut script,
-        &mut sink,
-        site,
-    );
-    Ok(Run {
-        replies: sink.bytes().to_vec(alloc)?,
-        calls: ended.past.as_slice().len(),
-        why: ended.why,
-        status: ended.status,
-    })
+        script: b"A LOGON MILLER\n",
+        fails: [&[], &[], writes],
+        ..REPLAY
+    };
+    let disk = disk_of(alloc, b"")?;
+    let keeper = empty_store(alloc)?;
+    run(rt, alloc, &given, keeper, disk)
 }
 
 fn ends_so<R: Abort + Threads + Wait + Sync>(rt: &R, alloc: Global, row: &Row) -> Result<(), Fail> {
-    let run = run_row(rt, alloc, row.words, row.writes)?;
-    assert_eq!(rt; run.replies.as_slice(), row.text);
-    assert_eq!(rt; run.why, row.why);
-    assert_eq!(rt; (run.status, run.calls), (row.status, row.calls));
+    let left = run_row(rt, alloc, row.words, row.writes)?;
+    assert_eq!(rt; left.replies.as_slice(), row.text);
+    assert_eq!(rt;
+        (left.why, left.status, left.calls),
+        (row.why, row.status, row.calls)
+    );
     Ok(())
 }
 
@@ -169,12 +136,20 @@ fn scripts_are_written_and_done(rt: HostRuntime) -> Result<(), Fail> {
     Ok(())
 }
 
+fn is_refused<R: Abort + Threads + Wait + Sync>(
+    rt: &R,
+    alloc: Global,
+    words: &'static [u8],
+) -> Result<(), Fail> {
+    let left = run_row(rt, alloc, words, &[])?;
+    assert_eq!(rt; (left.status, left.calls, left.replies.len()), (2, 0, 0));
+    Ok(())
+}
+
 #[test]
 fn other_numbers_of_units_are_refused(rt: HostRuntime) -> Result<(), Fail> {
-    let alloc = rt.alloc();
-    for words in BAD_WORDS {
-        let run = run_row(&rt, alloc, words, &[])?;
-        assert_eq!(rt; (run.status, run.calls, run.replies.len()), (2, 0, 0));
+    for words in &BAD_WORDS {
+        is_refused(&rt, rt.alloc(), words)?;
     }
     Ok(())
 }

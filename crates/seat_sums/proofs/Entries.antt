@@ -13,7 +13,8 @@ below_higher low high xs le all = λ k d lt. let h = all k d lt in omega arith
 module _ {E : Type 0} where
   pub entries_append : (log : List E) (xs ys : List ℕ) → entries_at log (xs ++ ys) ≡ entries_at log xs ++ entries_at log ys
   entries_append log [] ys = refl
-  entries_append log (x ∷ xs) ys = ap (λ (l : List E). entry_of (slice_get log x) ++ l) (entries_append log xs ys) ∙ sym (append_assoc (entry_of (slice_get log x)) (entries_at log xs) (entries_at log ys))
+  entries_append log (x ∷ xs) ys = ap (λ (l : List E). entry_of (slice_get log x) ++ l) (entries_append log xs ys)
+      ∙ sym (append_assoc (entry_of (slice_get log x)) (entries_at log xs) (entries_at log ys))
 
   -- an entry of the front stands at the same place in the whole
   front_entry : (front rest : List E) (k : ℕ) → k < length front → slice_get (front ++ rest) k ≡ slice_get front k

@@ -89,7 +89,8 @@ pub trait SingleCalls {
         // Each number of the stock is of an interval with a buffer, from its first number to its level; none stands
         // there twice, none was committed before, and no session has drawn one.
         requires stock { IsStockIn (state self.old) stock.items }
-        ensures step { IsStep (state self.old) (state self.new) line (Command.Commit session parts stock.items) result };
+        ensures step { IsStep (state self.old) (state self.new) line (Command.Commit session parts stock.items)
+            result };
 
     /// Gives a worker an order for the oldest unit that waits for its V1 part and that no worker has an order for.
     fn take1(&mut self, line: u32, worker: u8) -> Reply

@@ -45,7 +45,8 @@ from_both first (e ∷ a) b in_a in_b = (in_a.0, from_both first a b in_a.1 in_b
 
 from_tables : (first table : ℕ) (tables : List (Vec Row Global)) → first ≤ table → AreFrom first (entries_from table tables)
 from_tables first table [] h = tt
-from_tables first table (rows ∷ more) h = from_both first (entries_in table rows.items) (entries_from (suc table) more) (from_in first table rows.items h) (from_tables first (suc table) more (omega arith))
+from_tables first table (rows ∷ more) h = from_both first (entries_in table rows.items) (entries_from (suc table) more) (from_in first table rows.items h)
+    (from_tables first (suc table) more (omega arith))
 
 -- no entry has this spot
 abbrev pub AreApart : Spot → List Entry → Type 0
@@ -62,7 +63,8 @@ apart_below n table k (r ∷ rows) h = (ap is_eq (spot_more table n r.key k h), 
 
 -- ---- a put
 
-put_below : (n table : ℕ) (k v : List ℕ) (rows : List Row) (rest : List Entry) → table < n → put spot_cmp (n, k) v (entries_in table rows ++ rest) ≡ entries_in table rows ++ put spot_cmp (n, k) v rest
+put_below : (n table : ℕ) (k v : List ℕ) (rows : List Row) (rest : List Entry) → table < n
+    → put spot_cmp (n, k) v (entries_in table rows ++ rest) ≡ entries_in table rows ++ put spot_cmp (n, k) v rest
 put_below n table k v [] rest h = refl
 put_below n table k v (r ∷ rows) rest h =
     let e = entry_in table r in
@@ -72,19 +74,24 @@ put_below n table k v (r ∷ rows) rest h =
 
 put_first : (n : ℕ) (k v : List ℕ) (rest : List Entry) → AreFrom (suc n) rest → put spot_cmp (n, k) v rest ≡ ((n, k), v) ∷ rest
 put_first n k v [] h = refl
-put_first n k v (e ∷ rest) h = ap (λ o. by_order o (((n, k), v) ∷ e ∷ rest) ((e.0, v) ∷ rest) (e ∷ put spot_cmp (n, k) v rest)) (spot_less n e.0.0 k e.0.1 (omega (arith, h.0)))
+put_first n k v (e ∷ rest) h = ap (λ o. by_order o (((n, k), v) ∷ e ∷ rest) ((e.0, v) ∷ rest) (e ∷ put spot_cmp (n, k) v rest))
+    (spot_less n e.0.0 k e.0.1 (omega (arith, h.0)))
 
 put_above : (n : ℕ) (k v : List ℕ) (es rest : List Entry) → AreFrom (suc n) rest → put spot_cmp (n, k) v (es ++ rest) ≡ put spot_cmp (n, k) v es ++ rest
 put_above n k v [] rest h = put_first n k v rest h
 put_above n k v (e ∷ es) rest h =
-    elim (spot_cmp (n, k) e.0) as (λ o. by_order o (((n, k), v) ∷ e ∷ (es ++ rest)) ((e.0, v) ∷ (es ++ rest)) (e ∷ put spot_cmp (n, k) v (es ++ rest)) ≡ by_order o (((n, k), v) ∷ e ∷ es) ((e.0, v) ∷ es) (e ∷ put spot_cmp (n, k) v es) ++ rest) [
+    elim (spot_cmp (n, k) e.0)
+    as (λ o. by_order o (((n, k), v) ∷ e ∷ (es ++ rest)) ((e.0, v) ∷ (es ++ rest)) (e ∷ put spot_cmp (n, k) v (es ++ rest)) ≡ by_order o
+    (((n, k), v) ∷ e ∷ es) ((e.0, v) ∷ es) (e ∷ put spot_cmp (n, k) v es) ++ rest) [
       | Less ↦ refl
       | Equal ↦ refl
       | Greater ↦ ap (λ new. e ∷ new) (put_above n k v es rest h)
     ]
 
-pub put_table : (n first table : ℕ) (k v : List ℕ) (tables : List (Vec Row Global)) (old new : Vec Row Global) → n ≡ first + table → table < length tables → old ≡ get_or tables table old
-    → entries_in n new.items ≡ put spot_cmp (n, k) v (entries_in n old.items) → entries_from first (set tables table new) ≡ put spot_cmp (n, k) v (entries_from first tables)
+pub put_table : (n first table : ℕ) (k v : List ℕ) (tables : List (Vec Row Global)) (old new : Vec Row Global) → n ≡ first + table → table < length tables
+    → old ≡ get_or tables table old
+    → entries_in n new.items ≡ put spot_cmp (n, k) v (entries_in n old.items)
+    → entries_from first (set tables table new) ≡ put spot_cmp (n, k) v (entries_from first tables)
 put_table n first table k v [] old new at h was is = absurd (omega arith)
 put_table n first zero k v (rows ∷ more) old new at h was is =
     let same : first ≡ n = omega arith in
@@ -102,7 +109,8 @@ put_table n first (suc table) k v (rows ∷ more) old new at h was is =
 
 filter_both : (p : Entry → Bool) (a b : List Entry) → filter p (a ++ b) ≡ filter p a ++ filter p b
 filter_both p [] b = refl
-filter_both p (e ∷ a) b = elim (p e) as (λ t. cond t (e ∷ filter p (a ++ b)) (filter p (a ++ b)) ≡ cond t (e ∷ filter p a) (filter p a) ++ filter p b) [ true ↦ ap (λ es. e ∷ es) (filter_both p a b) | false ↦ filter_both p a b ]
+filter_both p (e ∷ a) b = elim (p e) as (λ t. cond t (e ∷ filter p (a ++ b)) (filter p (a ++ b)) ≡ cond t (e ∷ filter p a) (filter p a) ++ filter p b)
+    [ true ↦ ap (λ es. e ∷ es) (filter_both p a b) | false ↦ filter_both p a b ]
 
 abbrev pub without : Spot → List Entry → List Entry
 without spot es = where_key spot_cmp (λ k. not (eq_by_cmp spot_cmp spot k)) es
@@ -114,7 +122,8 @@ without_apart : (spot : Spot) (es : List Entry) → AreApart spot es → without
 without_apart spot [] h = refl
 without_apart spot (e ∷ es) h = ap (λ t. cond (not t) (e ∷ without spot es) (without spot es)) h.0 ∙ ap (λ rest. e ∷ rest) (without_apart spot es h.1)
 
-pub remove_table : (n first table : ℕ) (k : List ℕ) (tables : List (Vec Row Global)) (old new : Vec Row Global) → n ≡ first + table → table < length tables → old ≡ get_or tables table old
+pub remove_table : (n first table : ℕ) (k : List ℕ) (tables : List (Vec Row Global)) (old new : Vec Row Global) → n ≡ first + table → table < length tables
+    → old ≡ get_or tables table old
     → entries_in n new.items ≡ without (n, k) (entries_in n old.items) → entries_from first (set tables table new) ≡ without (n, k) (entries_from first tables)
 remove_table n first table k [] old new at h was is = absurd (omega arith)
 remove_table n first zero k (rows ∷ more) old new at h was is =
@@ -122,13 +131,15 @@ remove_table n first zero k (rows ∷ more) old new at h was is =
     let rest = entries_from (suc first) more in
     ap (λ m. entries_in m new.items ++ rest) same
     ∙ ap (λ es. es ++ rest) is
-    ∙ ap (λ es. without (n, k) (entries_in n old.items) ++ es) (sym (without_apart (n, k) rest (apart_above n k rest (from_tables (suc n) (suc first) more (omega arith)))))
+    ∙ ap (λ es. without (n, k) (entries_in n old.items) ++ es)
+    (sym (without_apart (n, k) rest (apart_above n k rest (from_tables (suc n) (suc first) more (omega arith)))))
     ∙ sym (without_both (n, k) (entries_in n old.items) rest)
     ∙ ap (λ (w : Vec Row Global). without (n, k) (entries_in n w.items ++ rest)) was
     ∙ ap (λ m. without (n, k) (entries_in m rows.items ++ rest)) (sym same)
 remove_table n first (suc table) k (rows ∷ more) old new at h was is =
     ap (λ es. entries_in first rows.items ++ es) (remove_table n (suc first) table k more old new (omega arith) (omega arith) was is)
-    ∙ ap (λ es. es ++ without (n, k) (entries_from (suc first) more)) (sym (without_apart (n, k) (entries_in first rows.items) (apart_below n first k rows.items (omega arith))))
+    ∙ ap (λ es. es ++ without (n, k) (entries_from (suc first) more))
+    (sym (without_apart (n, k) (entries_in first rows.items) (apart_below n first k rows.items (omega arith))))
     ∙ sym (without_both (n, k) (entries_in first rows.items) (entries_from (suc first) more))
 
 -- ---- a value
@@ -145,7 +156,8 @@ find_before : (spot : Spot) (a b : List Entry) → AreApart spot b → find spot
 find_before spot [] b h = find_nowhere spot b h
 find_before spot (e ∷ a) b h = ap (cond (eq_by_cmp spot_cmp spot e.0) (Some e.1)) (find_before spot a b h)
 
-pub find_table : (n first table : ℕ) (k : List ℕ) (tables : List (Vec Row Global)) (old : Vec Row Global) → n ≡ first + table → table < length tables → old ≡ get_or tables table old
+pub find_table : (n first table : ℕ) (k : List ℕ) (tables : List (Vec Row Global)) (old : Vec Row Global) → n ≡ first + table → table < length tables
+    → old ≡ get_or tables table old
     → find spot_cmp (n, k) (entries_from first tables) ≡ find spot_cmp (n, k) (entries_in n old.items)
 find_table n first table k [] old at h was = absurd (omega arith)
 find_table n first zero k (rows ∷ more) old at h was =
@@ -158,7 +170,8 @@ find_table n first (suc table) k (rows ∷ more) old at h was =
     find_behind (n, k) (entries_in first rows.items) (entries_from (suc first) more) (apart_below n first k rows.items (omega arith))
     ∙ find_table n (suc first) table k more old (omega arith) (omega arith) was
 
-pub find_no_table : (n first table : ℕ) (k : List ℕ) (tables : List (Vec Row Global)) → n ≡ first + table → length tables ≤ table → find spot_cmp (n, k) (entries_from first tables) ≡ None
+pub find_no_table : (n first table : ℕ) (k : List ℕ) (tables : List (Vec Row Global)) → n ≡ first + table → length tables ≤ table
+    → find spot_cmp (n, k) (entries_from first tables) ≡ None
 find_no_table n first table k [] at h = refl
 find_no_table n first zero k (rows ∷ more) at h = absurd (omega arith)
 find_no_table n first (suc table) k (rows ∷ more) at h =
@@ -172,17 +185,21 @@ behind n after es = filter (is_behind n after) es
 
 behind_above : (n : ℕ) (after : List ℕ) (es : List Entry) → AreFrom (suc n) es → behind n after es ≡ []
 behind_above n after [] h = refl
-behind_above n after (e ∷ es) h = ap (λ t. cond (t && is_below after e.0.1) (e ∷ behind n after es) (behind n after es)) (number_off n e.0.0 (omega (arith, h.0))) ∙ behind_above n after es h.1
+behind_above n after (e ∷ es) h = ap (λ t. cond (t && is_below after e.0.1) (e ∷ behind n after es) (behind n after es))
+    (number_off n e.0.0 (omega (arith, h.0))) ∙ behind_above n after es h.1
 
 behind_below : (n table : ℕ) (after : List ℕ) (rows : List Row) → table < n → behind n after (entries_in table rows) ≡ []
 behind_below n table after [] h = refl
-behind_below n table after (r ∷ rows) h = ap (λ t. cond (t && is_below after r.key) (entry_in table r ∷ behind n after (entries_in table rows)) (behind n after (entries_in table rows))) (number_other table n h) ∙ behind_below n table after rows h
+behind_below n table after (r ∷ rows) h =
+    ap (λ t. cond (t && is_below after r.key) (entry_in table r ∷ behind n after (entries_in table rows)) (behind n after (entries_in table rows)))
+    (number_other table n h) ∙ behind_below n table after rows h
 
 nothing_behind : (es : List Entry) → es ++ [] ≡ es
 nothing_behind [] = refl
 nothing_behind (e ∷ es) = ap (λ rest. e ∷ rest) (nothing_behind es)
 
-pub page_table : (n first table : ℕ) (after : List ℕ) (tables : List (Vec Row Global)) (old : Vec Row Global) → n ≡ first + table → table < length tables → old ≡ get_or tables table old
+pub page_table : (n first table : ℕ) (after : List ℕ) (tables : List (Vec Row Global)) (old : Vec Row Global) → n ≡ first + table → table < length tables
+    → old ≡ get_or tables table old
     → behind n after (entries_from first tables) ≡ behind n after (entries_in n old.items)
 page_table n first table after [] old at h was = absurd (omega arith)
 page_table n first zero after (rows ∷ more) old at h was =
@@ -198,7 +215,8 @@ page_table n first (suc table) after (rows ∷ more) old at h was =
     ∙ ap (λ es. es ++ behind n after (entries_from (suc first) more)) (behind_below n first after rows.items (omega arith))
     ∙ page_table n (suc first) table after more old (omega arith) (omega arith) was
 
-pub page_no_table : (n first table : ℕ) (after : List ℕ) (tables : List (Vec Row Global)) → n ≡ first + table → length tables ≤ table → behind n after (entries_from first tables) ≡ []
+pub page_no_table : (n first table : ℕ) (after : List ℕ) (tables : List (Vec Row Global)) → n ≡ first + table → length tables ≤ table
+    → behind n after (entries_from first tables) ≡ []
 page_no_table n first table after [] at h = refl
 page_no_table n first zero after (rows ∷ more) at h = absurd (omega arith)
 page_no_table n first (suc table) after (rows ∷ more) at h =
@@ -224,10 +242,12 @@ sorted_back : (a b : List Entry) → AreSorted (a ++ b) → AreSorted b
 sorted_back [] b h = h
 sorted_back (e ∷ a) b h = sorted_back a b (second_true _ _ h)
 
-pub sorted_table : (n first table : ℕ) (tables : List (Vec Row Global)) (old : Vec Row Global) → n ≡ first + table → table < length tables → old ≡ get_or tables table old → AreSorted (entries_from first tables) → AreSorted (entries_in n old.items)
+pub sorted_table : (n first table : ℕ) (tables : List (Vec Row Global)) (old : Vec Row Global) → n ≡ first + table → table < length tables
+    → old ≡ get_or tables table old → AreSorted (entries_from first tables) → AreSorted (entries_in n old.items)
 sorted_table n first table [] old at h was sorted = absurd (omega arith)
 sorted_table n first zero (rows ∷ more) old at h was sorted =
     let same : first ≡ n = omega arith in
     subst (λ (w : Vec Row Global). AreSorted (entries_in n w.items)) (sym was)
     (subst (λ m. AreSorted (entries_in m rows.items)) same (sorted_front (entries_in first rows.items) (entries_from (suc first) more) sorted))
-sorted_table n first (suc table) (rows ∷ more) old at h was sorted = sorted_table n (suc first) table more old (omega arith) (omega arith) was (sorted_back (entries_in first rows.items) (entries_from (suc first) more) sorted)
+sorted_table n first (suc table) (rows ∷ more) old at h was sorted = sorted_table n (suc first) table more old (omega arith) (omega arith) was
+    (sorted_back (entries_in first rows.items) (entries_from (suc first) more) sorted)

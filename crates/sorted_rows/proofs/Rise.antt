@@ -30,25 +30,34 @@ table_of table after e h = eqb-true _ _ (first_true _ _ h)
 abbrev behind : ℕ → List ℕ → Entries → List Row
 behind table after es = map row_of (filter (is_behind table after) es)
 
-rises_above : (table : ℕ) (after low : List ℕ) (es : Entries) → IsTrue (below_all spot_cmp (table, low) es) → IsTrue (is_sorted spot_cmp es) → RiseFrom low (behind table after es)
+rises_above : (table : ℕ) (after low : List ℕ) (es : Entries) → IsTrue (below_all spot_cmp (table, low) es) → IsTrue (is_sorted spot_cmp es)
+    → RiseFrom low (behind table after es)
 rises_above table after low [] below sorted = tt
 rises_above table after low (e ∷ es) below sorted =
-    elim (is_behind table after e) as (λ b. is_behind table after e ≡ b → RiseFrom low (map row_of (cond b (e ∷ filter (is_behind table after) es) (filter (is_behind table after) es)))) [
+    elim (is_behind table after e)
+    as (λ b. is_behind table after e ≡ b → RiseFrom low (map row_of (cond b (e ∷ filter (is_behind table after) es) (filter (is_behind table after) es)))) [
       | true ↦ λ h.
           let same : e.0.0 ≡ table = table_of table after e h in
-          let spot : e.0 ≡ (table, e.0.1) = λ i. (same i, e.0.1) in
-          (key_below table low e.0 same (first_true _ _ below), rises_above table after e.0.1 es (subst (λ s. IsTrue (below_all spot_cmp s es)) spot (first_true _ _ sorted)) (second_true _ _ sorted))
+          let spot : e.0 ≡ (table, e.0.1) = λ i. (same i, e.0.1) in (
+            key_below table low e.0 same (first_true _ _ below),
+            rises_above table after e.0.1 es
+                (subst (λ s. IsTrue (below_all spot_cmp s es)) spot (first_true _ _ sorted)) (second_true _ _ sorted),
+          )
       | false ↦ λ h. rises_above table after low es (second_true _ _ below) (second_true _ _ sorted)
     ] refl
 
 rises : (table : ℕ) (after : List ℕ) (es : Entries) → IsTrue (is_sorted spot_cmp es) → RiseFrom after (behind table after es)
 rises table after [] sorted = tt
 rises table after (e ∷ es) sorted =
-    elim (is_behind table after e) as (λ b. is_behind table after e ≡ b → RiseFrom after (map row_of (cond b (e ∷ filter (is_behind table after) es) (filter (is_behind table after) es)))) [
+    elim (is_behind table after e)
+    as (λ b. is_behind table after e ≡ b → RiseFrom after (map row_of (cond b (e ∷ filter (is_behind table after) es) (filter (is_behind table after) es)))) [
       | true ↦ λ h.
           let same : e.0.0 ≡ table = table_of table after e h in
-          let spot : e.0 ≡ (table, e.0.1) = λ i. (same i, e.0.1) in
-          (second_true _ _ h, rises_above table after e.0.1 es (subst (λ s. IsTrue (below_all spot_cmp s es)) spot (first_true _ _ sorted)) (second_true _ _ sorted))
+          let spot : e.0 ≡ (table, e.0.1) = λ i. (same i, e.0.1) in (
+            second_true _ _ h,
+            rises_above table after e.0.1 es (subst (λ s. IsTrue (below_all spot_cmp s es)) spot (first_true _ _ sorted))
+                (second_true _ _ sorted),
+          )
       | false ↦ λ h. rises table after es (second_true _ _ sorted)
     ] refl
 
@@ -57,7 +66,8 @@ first_ones zero low rows h = tt
 first_ones (suc n) low [] h = tt
 first_ones (suc n) low (row ∷ rows) h = (h.0, first_ones n row.key rows h.1)
 
-pub is_page : (table : ℕ) (after : List ℕ) (n : ℕ) (es : Entries) → IsTrue (is_sorted spot_cmp es) → IsPage after n (take n (map row_of (filter (is_behind table after) es)))
+pub is_page : (table : ℕ) (after : List ℕ) (n : ℕ) (es : Entries) → IsTrue (is_sorted spot_cmp es)
+    → IsPage after n (take n (map row_of (filter (is_behind table after) es)))
 is_page table after n es sorted = record {
   few = omega (arith, length-take n (map row_of (filter (is_behind table after) es)));
   rise = first_ones n after _ (rises table after es sorted);

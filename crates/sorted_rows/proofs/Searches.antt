@@ -32,7 +32,8 @@ greater_of Equal low same = cc
 greater_of Greater low same = refl
 
 -- a spot below all is below each
-below_at : (a : Spot) (table : ℕ) (rows : List Row) (j : ℕ) (d : Row) → IsTrue (below_all spot_cmp a (entries_in table rows)) → j < length rows → spot_cmp a (table, (get_or rows j d).key) ≡ Less
+below_at : (a : Spot) (table : ℕ) (rows : List Row) (j : ℕ) (d : Row) → IsTrue (below_all spot_cmp a (entries_in table rows)) → j < length rows
+    → spot_cmp a (table, (get_or rows j d).key) ≡ Less
 below_at a table [] j d h within = absurd (omega arith)
 below_at a table (r ∷ rows) zero d h within = less_of _ (first_true _ _ h)
 below_at a table (r ∷ rows) (suc j) d h within = below_at a table rows j d (second_true _ _ h) (omega arith)
@@ -43,7 +44,8 @@ parted table key [] h i j d low within t = absurd (omega arith)
 parted table key (x ∷ rows) h zero zero d low within t = t
 parted table key (x ∷ rows) h zero (suc j) d low within t =
     let y = get_or rows j d in
-    let far : slice_cmp nat_cmp x.key y.key ≡ Less = sym (in_table table x.key y.key) ∙ below_at (table, x.key) table rows j d (first_true _ _ h) (omega arith) in
+    let far : slice_cmp nat_cmp x.key y.key ≡ Less = sym (in_table table x.key y.key)
+    ∙ below_at (table, x.key) table rows j d (first_true _ _ h) (omega arith) in
     ap is_lt (nat_list_cmp_total.trans x.key y.key key far (less_of (slice_cmp nat_cmp y.key key) t))
 parted table key (x ∷ rows) h (suc i) zero d low within t = absurd (omega arith)
 parted table key (x ∷ rows) h (suc i) (suc j) d low within t = parted table key rows (second_true _ _ h) i j d (omega arith) (omega arith) t
@@ -52,23 +54,27 @@ abbrev pub Parts : List ℕ → List Row → ℕ → Type 0
 Parts key rows n = IsPartitionPoint (λ row. is_below row.key key ≡ true) (λ row. is_below row.key key ≡ false) rows n
 
 later_parts : (key : List ℕ) (r : Row) (rows : List Row) (n : ℕ) → Parts key (r ∷ rows) (suc n) → Parts key rows n
-later_parts key r rows n parts = ((λ k d low high. parts.0 (suc k) d (omega arith) (omega arith)), (λ k d low high. parts.1 (suc k) d (omega arith) (omega arith)))
+later_parts key r rows n parts =
+    ((λ k d low high. parts.0 (suc k) d (omega arith) (omega arith)), (λ k d low high. parts.1 (suc k) d (omega arith) (omega arith)))
 
 abbrev ordered : ℕ → List ℕ → List Row → Ordering → Place
 ordered table key rows r = by_order r (next (place_in (table, key) (entries_in table rows))) (At 0) (Before 0)
 
 -- the first row is before the key
-passed : (table : ℕ) (key : List ℕ) (r : Row) (rows : List Row) (n : ℕ) → Parts key (r ∷ rows) (suc n) → place_in (table, key) (entries_in table (r ∷ rows)) ≡ next (place_in (table, key) (entries_in table rows))
+passed : (table : ℕ) (key : List ℕ) (r : Row) (rows : List Row) (n : ℕ) → Parts key (r ∷ rows) (suc n)
+    → place_in (table, key) (entries_in table (r ∷ rows)) ≡ next (place_in (table, key) (entries_in table rows))
 passed table key r rows n parts = ap (ordered table key rows) (in_table table r.key key ∙ less_of _ (parts.0 0 r (omega arith) (omega arith)))
 
-pub place_at : (table : ℕ) (key : List ℕ) (rows : List Row) (n : ℕ) (row : Row) → n < length rows → row ≡ get_or rows n row → is_eq (slice_cmp nat_cmp row.key key) ≡ true → Parts key rows n → At n ≡ place_in (table, key) (entries_in table rows)
+pub place_at : (table : ℕ) (key : List ℕ) (rows : List Row) (n : ℕ) (row : Row) → n < length rows → row ≡ get_or rows n row
+    → is_eq (slice_cmp nat_cmp row.key key) ≡ true → Parts key rows n → At n ≡ place_in (table, key) (entries_in table rows)
 place_at table key [] n row h is same parts = absurd (omega arith)
 place_at table key (r ∷ rows) zero row h is same parts =
     sym (ap (ordered table key rows) (in_table table r.key key ∙ ap (λ (x : Row). slice_cmp nat_cmp x.key key) (sym is) ∙ equal_of _ same))
 place_at table key (r ∷ rows) (suc n) row h is same parts =
     ap next (place_at table key rows n row (omega arith) is same (later_parts key r rows n parts)) ∙ sym (passed table key r rows n parts)
 
-pub place_off : (table : ℕ) (key : List ℕ) (rows : List Row) (n : ℕ) (row : Row) → n < length rows → row ≡ get_or rows n row → is_eq (slice_cmp nat_cmp row.key key) ≡ false → Parts key rows n → Before n ≡ place_in (table, key) (entries_in table rows)
+pub place_off : (table : ℕ) (key : List ℕ) (rows : List Row) (n : ℕ) (row : Row) → n < length rows → row ≡ get_or rows n row
+    → is_eq (slice_cmp nat_cmp row.key key) ≡ false → Parts key rows n → Before n ≡ place_in (table, key) (entries_in table rows)
 place_off table key [] n row h is other parts = absurd (omega arith)
 place_off table key (r ∷ rows) zero row h is other parts =
     let apart : is_eq (slice_cmp nat_cmp r.key key) ≡ false = ap (λ (x : Row). is_eq (slice_cmp nat_cmp x.key key)) (sym is) ∙ other in
@@ -76,7 +82,8 @@ place_off table key (r ∷ rows) zero row h is other parts =
 place_off table key (r ∷ rows) (suc n) row h is other parts =
     ap next (place_off table key rows n row (omega arith) is other (later_parts key r rows n parts)) ∙ sym (passed table key r rows n parts)
 
-pub place_end : (table : ℕ) (key : List ℕ) (rows : List Row) (n : ℕ) → n ≤ length rows → length rows ≤ n → Parts key rows n → Before n ≡ place_in (table, key) (entries_in table rows)
+pub place_end : (table : ℕ) (key : List ℕ) (rows : List Row) (n : ℕ) → n ≤ length rows → length rows ≤ n → Parts key rows n
+    → Before n ≡ place_in (table, key) (entries_in table rows)
 place_end table key [] n h end parts = ap Before (omega arith)
 place_end table key (r ∷ rows) zero h end parts = absurd (omega arith)
 place_end table key (r ∷ rows) (suc n) h end parts =
@@ -97,7 +104,8 @@ end_next (Before i) = refl
 abbrev taken : Bool → Entry → List Entry → List Entry
 taken b e es = cond b (e ∷ es) es
 
-all_behind : (table : ℕ) (after : List ℕ) (x : Spot) (rows : List Row) → IsTrue (below_all spot_cmp x (entries_in table rows)) → (spot_cmp (table, after) x ≡ Less) ⊎ (spot_cmp (table, after) x ≡ Equal) → filter (is_behind table after) (entries_in table rows) ≡ entries_in table rows
+all_behind : (table : ℕ) (after : List ℕ) (x : Spot) (rows : List Row) → IsTrue (below_all spot_cmp x (entries_in table rows))
+    → (spot_cmp (table, after) x ≡ Less) ⊎ (spot_cmp (table, after) x ≡ Equal) → filter (is_behind table after) (entries_in table rows) ≡ entries_in table rows
 all_behind table after x [] h at_most = refl
 all_behind table after x (r ∷ rows) h at_most =
     let low : spot_cmp (table, after) (table, r.key) ≡ Less = below_too (table, after) x (table, r.key) at_most (less_of _ (first_true _ _ h)) in
@@ -105,16 +113,21 @@ all_behind table after x (r ∷ rows) h at_most =
     ap (λ b. taken b (entry_in table r) (filter (is_behind table after) (entries_in table rows))) is
     ∙ ap (λ rest. entry_in table r ∷ rest) (all_behind table after x rows (second_true _ _ h) at_most)
 
-pub behind_is : (table : ℕ) (after : List ℕ) (rows : List Row) → AreSorted (entries_in table rows) → filter (is_behind table after) (entries_in table rows) ≡ drop (end_of (place_in (table, after) (entries_in table rows))) (entries_in table rows)
+pub behind_is : (table : ℕ) (after : List ℕ) (rows : List Row) → AreSorted (entries_in table rows)
+    → filter (is_behind table after) (entries_in table rows) ≡ drop (end_of (place_in (table, after) (entries_in table rows))) (entries_in table rows)
 behind_is table after [] h = refl
 behind_is table after (r ∷ rows) h =
     let es = entries_in table rows in
     let place = place_in (table, after) es in
     let rest = filter (is_behind table after) es in
-    elim (spot_cmp (table, r.key) (table, after)) as (λ o. spot_cmp (table, r.key) (table, after) ≡ o → taken (is_behind table after (entry_in table r)) (entry_in table r) rest ≡ drop (end_of (by_order o (next place) (At 0) (Before 0))) (entry_in table r ∷ es)) [
+    elim (spot_cmp (table, r.key) (table, after))
+    as (λ o. spot_cmp (table, r.key) (table, after) ≡ o → taken (is_behind table after (entry_in table r)) (entry_in table r) rest ≡ drop
+    (end_of (by_order o (next place) (At 0) (Before 0))) (entry_in table r ∷ es)) [
       | Less ↦ λ o.
-          let is : is_behind table after (entry_in table r) ≡ false = behind_row table after r ∙ ap is_lt (sym (in_table table after r.key) ∙ spots_total.antisymm (table, after) (table, r.key) ∙ ap ordering_reverse o) in
-          ap (λ b. taken b (entry_in table r) rest) is ∙ behind_is table after rows (second_true _ _ h) ∙ sym (ap (λ k. drop k (entry_in table r ∷ es)) (end_next place))
+          let is : is_behind table after (entry_in table r) ≡ false = behind_row table after r
+          ∙ ap is_lt (sym (in_table table after r.key) ∙ spots_total.antisymm (table, after) (table, r.key) ∙ ap ordering_reverse o) in
+          ap (λ b. taken b (entry_in table r) rest) is ∙ behind_is table after rows (second_true _ _ h)
+          ∙ sym (ap (λ k. drop k (entry_in table r ∷ es)) (end_next place))
       | Equal ↦ λ o.
           let tied : spot_cmp (table, after) (table, r.key) ≡ Equal = spots_total.antisymm (table, after) (table, r.key) ∙ ap ordering_reverse o in
           let is : is_behind table after (entry_in table r) ≡ false = behind_row table after r ∙ ap is_lt (sym (in_table table after r.key) ∙ tied) in
@@ -122,17 +135,20 @@ behind_is table after (r ∷ rows) h =
       | Greater ↦ λ o.
           let under : spot_cmp (table, after) (table, r.key) ≡ Less = spots_total.antisymm (table, after) (table, r.key) ∙ ap ordering_reverse o in
           let is : is_behind table after (entry_in table r) ≡ true = behind_row table after r ∙ ap is_lt (sym (in_table table after r.key) ∙ under) in
-          ap (λ b. taken b (entry_in table r) rest) is ∙ ap (λ es. entry_in table r ∷ es) (all_behind table after (table, r.key) rows (first_true _ _ h) (inl under))
+          ap (λ b. taken b (entry_in table r) rest) is ∙ ap (λ es. entry_in table r ∷ es)
+          (all_behind table after (table, r.key) rows (first_true _ _ h) (inl under))
     ] refl
 
 -- the rows from the place of a key on
-pub rows_behind : (table : ℕ) (after : List ℕ) (rows : List Row) (p : Place) → AreSorted (entries_in table rows) → p ≡ place_in (table, after) (entries_in table rows) → map row_of (filter (is_behind table after) (entries_in table rows)) ≡ drop (end_of p) rows
+pub rows_behind : (table : ℕ) (after : List ℕ) (rows : List Row) (p : Place) → AreSorted (entries_in table rows)
+    → p ≡ place_in (table, after) (entries_in table rows) → map row_of (filter (is_behind table after) (entries_in table rows)) ≡ drop (end_of p) rows
 rows_behind table after rows p sorted is =
     ap (map row_of) (behind_is table after rows sorted ∙ ap (λ q. drop (end_of q) (entries_in table rows)) (sym is) ∙ sym (entries-drop table rows (end_of p)))
     ∙ rows_again table (drop (end_of p) rows)
 
 -- what was found in a slice holds of the list that it shows
-pub placed : (p : Place) (key : List ℕ) (slice items : List Row) → slice ≡ items → ((table : ℕ) → AreSorted (entries_in table slice) → p ≡ place_in (table, key) (entries_in table slice))
+pub placed : (p : Place) (key : List ℕ) (slice items : List Row) → slice ≡ items
+    → ((table : ℕ) → AreSorted (entries_in table slice) → p ≡ place_in (table, key) (entries_in table slice))
     → (table : ℕ) → AreSorted (entries_in table items) → p ≡ place_in (table, key) (entries_in table items)
 placed p key slice items same found table sorted =
     subst (λ rows. p ≡ place_in (table, key) (entries_in table rows)) same (found table (subst (λ rows. AreSorted (entries_in table rows)) (sym same) sorted))

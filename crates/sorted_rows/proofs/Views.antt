@@ -34,10 +34,12 @@ view_empty = empty_of_len _ (len-entries _ ∙ ap length (entries-from_sorted sp
 pub view_get : (es : List Entry) (spot : Spot) → IsTrue (is_sorted spot_cmp es) → get (from_sorted {R = spot_cmp} es) spot ≡ find spot_cmp spot es
 view_get es spot h = get-from_sorted spot_cmp es spot (test_of _ h)
 
-pub sorted_put : (es new : List Entry) (spot : Spot) (v : List ℕ) → IsTrue (is_sorted spot_cmp es) → new ≡ put spot_cmp spot v es → IsTrue (is_sorted spot_cmp new)
+pub sorted_put : (es new : List Entry) (spot : Spot) (v : List ℕ) → IsTrue (is_sorted spot_cmp es) → new ≡ put spot_cmp spot v es
+    → IsTrue (is_sorted spot_cmp new)
 sorted_put es new spot v h is = ap (is_sorted spot_cmp) is ∙ true_of _ (is_sorted-put spot_cmp spots_total spot v es (test_of _ h))
 
-pub view_put : (es new : List Entry) (spot : Spot) (v : List ℕ) → IsTrue (is_sorted spot_cmp es) → new ≡ put spot_cmp spot v es → from_sorted {R = spot_cmp} new ≡ insert (from_sorted es) spot v
+pub view_put : (es new : List Entry) (spot : Spot) (v : List ℕ) → IsTrue (is_sorted spot_cmp es) → new ≡ put spot_cmp spot v es
+    → from_sorted {R = spot_cmp} new ≡ insert (from_sorted es) spot v
 view_put es new spot v h is = same_entries_map _ _ (
     entries-from_sorted spot_cmp new (test_of _ (sorted_put es new spot v h is))
     ∙ is
@@ -51,7 +53,8 @@ turned : {A : Type 0} (b : Bool) (x y : A) → cond (not b) x y ≡ cond b y x
 turned true x y = refl
 turned false x y = refl
 
-pub view_remove : (es new : List Entry) (spot : Spot) → IsTrue (is_sorted spot_cmp es) → new ≡ without spot es → from_sorted {R = spot_cmp} new ≡ remove (from_sorted es) spot
+pub view_remove : (es new : List Entry) (spot : Spot) → IsTrue (is_sorted spot_cmp es) → new ≡ without spot es
+    → from_sorted {R = spot_cmp} new ≡ remove (from_sorted es) spot
 view_remove es new spot h is = same_map spots_total exact_spots _ _ (λ q.
     view_get new q (sorted_remove es new spot h is)
     ∙ ap (find spot_cmp q) is
@@ -61,7 +64,8 @@ view_remove es new spot h is = same_map spots_total exact_spots _ _ (λ q.
     ∙ ap (cond (eq_by_cmp spot_cmp q spot) None) (sym (view_get es q h))
     ∙ sym (get-remove spots_total (from_sorted es) spot q))
 
-pub view_page : (es : List Entry) (table : ℕ) (after : List ℕ) (n : ℕ) → IsTrue (is_sorted spot_cmp es) → take n (map row_of (filter (is_behind table after) es)) ≡ page_of (from_sorted es) table after n
+pub view_page : (es : List Entry) (table : ℕ) (after : List ℕ) (n : ℕ) → IsTrue (is_sorted spot_cmp es)
+    → take n (map row_of (filter (is_behind table after) es)) ≡ page_of (from_sorted es) table after n
 view_page es table after n h = ap (λ all. take n (map row_of (filter (is_behind table after) all))) (sym (entries-from_sorted spot_cmp es (test_of _ h)))
 
 -- ---- what sorted rows show
@@ -90,13 +94,19 @@ sorted_new tables bare = ap (λ (t : Tables). is_sorted spot_cmp (entries_from 0
 pub room_none : (waiting : List Change) (tables : Tables) → waiting ≡ [] → HasRoom (length waiting) waiting tables
 room_none waiting tables none = subst (λ w. HasRoom (length w) w tables) (sym none) tt
 
-pub got : (tables slice : Tables) (view : RowsView) (waiting : List Change) (rows : List Row) (table : ℕ) (key : List ℕ) (value : Option (List ℕ)) → AreSorted (entries_from 0 tables) → slice ≡ tables → shown tables waiting ≡ view
-    → find spot_cmp (table, key) (entries_from 0 slice) ≡ find spot_cmp (table, key) (entries_in table rows) → find spot_cmp (table, key) (entries_in table rows) ≡ value → value ≡ get view.rows (table, key)
+pub got : (tables slice : Tables) (view : RowsView) (waiting : List Change) (rows : List Row) (table : ℕ) (key : List ℕ) (value : Option (List ℕ))
+    → AreSorted (entries_from 0 tables) → slice ≡ tables → shown tables waiting ≡ view
+    → find spot_cmp (table, key) (entries_from 0 slice) ≡ find spot_cmp (table, key) (entries_in table rows)
+    → find spot_cmp (table, key) (entries_in table rows) ≡ value → value ≡ get view.rows (table, key)
 got tables slice view waiting rows table key value h is view_is among found =
-    sym found ∙ sym among ∙ ap (λ (s : Tables). find spot_cmp (table, key) (entries_from 0 s)) is ∙ sym (view_get (entries_from 0 tables) (table, key) h) ∙ ap (λ (v : RowsView). get v.rows (table, key)) view_is
+    sym found ∙ sym among ∙ ap (λ (s : Tables). find spot_cmp (table, key) (entries_from 0 s)) is ∙ sym (view_get (entries_from 0 tables) (table, key) h)
+    ∙ ap (λ (v : RowsView). get v.rows (table, key)) view_is
 
-pub paged : {E : Type 0} (r : Result (Vec Row Global) E) (tables slice : Tables) (view : RowsView) (waiting : List Change) (rows : List Row) (table : ℕ) (after : List ℕ) (n : ℕ) → AreSorted (entries_from 0 tables) → slice ≡ tables → shown tables waiting ≡ view
-    → behind table after (entries_from 0 slice) ≡ behind table after (entries_in table rows) → IfOk r (λ page. page.items ≡ take n (map row_of (behind table after (entries_in table rows)))) → IfOk r (λ page. page.items ≡ page_of view.rows table after n)
+pub paged : {E : Type 0} (r : Result (Vec Row Global) E) (tables slice : Tables) (view : RowsView) (waiting : List Change) (rows : List Row) (table : ℕ)
+    (after : List ℕ) (n : ℕ) → AreSorted (entries_from 0 tables) → slice ≡ tables → shown tables waiting ≡ view
+    → behind table after (entries_from 0 slice) ≡ behind table after (entries_in table rows)
+    → IfOk r (λ page. page.items ≡ take n (map row_of (behind table after (entries_in table rows))))
+    → IfOk r (λ page. page.items ≡ page_of view.rows table after n)
 paged (Ok page) tables slice view waiting rows table after n h is view_is among ok =
     ok ∙ ap (λ es. take n (map row_of es)) (sym among) ∙ ap (λ (s : Tables). take n (map row_of (behind table after (entries_from 0 s)))) is
     ∙ view_page (entries_from 0 tables) table after n h ∙ ap (λ (v : RowsView). page_of v.rows table after n) view_is
@@ -111,20 +121,24 @@ page_shape (Err e) rows table after n h ok = tt
 pub sorted_same : (old new : Tables) → entries_from 0 new ≡ entries_from 0 old → AreSorted (entries_from 0 old) → AreSorted (entries_from 0 new)
 sorted_same old new same h = ap (is_sorted spot_cmp) same ∙ h
 
-pub shown_same : (old new : Tables) (waiting : List Change) (view : RowsView) → entries_from 0 new ≡ entries_from 0 old → shown old waiting ≡ view → shown new waiting ≡ view
+pub shown_same : (old new : Tables) (waiting : List Change) (view : RowsView) → entries_from 0 new ≡ entries_from 0 old → shown old waiting ≡ view
+    → shown new waiting ≡ view
 shown_same old new waiting view same is = ap (λ es. showing es waiting) same ∙ is
 
 abbrev waiting_for : List Change → RowsView → RowsView
 waiting_for batch view = record view { made = changed batch view.rows }
 
-pub shown_ready : (old new : Tables) (before waiting batch : List Change) (view : RowsView) → entries_from 0 new ≡ entries_from 0 old → waiting ≡ batch → shown old before ≡ view → shown new waiting ≡ record view { made = changed batch view.rows }
+pub shown_ready : (old new : Tables) (before waiting batch : List Change) (view : RowsView) → entries_from 0 new ≡ entries_from 0 old → waiting ≡ batch
+    → shown old before ≡ view → shown new waiting ≡ record view { made = changed batch view.rows }
 shown_ready old new before waiting batch view same is was = ap (λ es. showing es waiting) same ∙ ap (λ w. shown old w) is ∙ ap (waiting_for batch) was
 
 abbrev making : RowsView → RowsView
 making view = record view { rows = view.made }
 
-pub shown_made : (old new : Tables) (before waiting : List Change) (view : RowsView) → rows_of new ≡ changed before (rows_of old) → waiting ≡ [] → shown old before ≡ view → shown new waiting ≡ record view { rows = view.made }
+pub shown_made : (old new : Tables) (before waiting : List Change) (view : RowsView) → rows_of new ≡ changed before (rows_of old) → waiting ≡ []
+    → shown old before ≡ view → shown new waiting ≡ record view { rows = view.made }
 shown_made old new before waiting view made none was = ap (shown new) none ∙ ap alike made ∙ ap making was
 
-pub made_more : (waiting : List Change) (change : Change) (rest : List Change) (old new : Tables) (all : Rows) → waiting ≡ change ∷ rest → rows_of new ≡ changed_once change (rows_of old) → changed waiting (rows_of old) ≡ all → changed rest (rows_of new) ≡ all
+pub made_more : (waiting : List Change) (change : Change) (rest : List Change) (old new : Tables) (all : Rows) → waiting ≡ change ∷ rest
+    → rows_of new ≡ changed_once change (rows_of old) → changed waiting (rows_of old) ≡ all → changed rest (rows_of new) ≡ all
 made_more waiting change rest old new all is made before = ap (changed rest) made ∙ ap (λ cs. changed cs (rows_of old)) (sym is) ∙ before

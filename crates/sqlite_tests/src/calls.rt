@@ -1,4 +1,4 @@
-ghost use Rattle.std.specs.Prelude.{◌≡◌, ◌≤◌, true, IfOk, OnOk};
+ghost use Rattle.std.specs.Prelude.{◌≡◌, true, IfOk, OnOk};
 
 use enq_base::{Items, Short};
 use keeper_api::{Change, Keeper, Row};
@@ -36,15 +36,20 @@ fn change_to(alloc: Global, row: &Kept) -> Result<Change, Fail> {
     }
 }
 
+fn batch_of(alloc: Global, rows: &[Kept]) -> Result<Vec<Change>, Fail> {
+    let mut batch = Vec::new(alloc);
+    for row in rows {
+        batch.push(change_to(alloc, row)?)?;
+    }
+    Ok(batch)
+}
+
 /// Makes the rows what the list says, in one batch.
 pub fn commit(keeper: &mut SqliteKeeper, alloc: Global, rows: &[Kept]) -> Result<(), Fail>
     requires { keeper.old.is_open ≡ true }
     ensures { OnOk result (keeper.new.is_open ≡ true) }
 {
-    let mut batch = Vec::new(alloc);
-    for row in rows {
-        batch.push(change_to(alloc, row)?)?;
-    }
+    let batch = batch_of(alloc, rows)?;
     match keeper.commit(batch.as_slice()) {
         Ok(()) => Ok(()),
         Err(fault) => Err(Fail::from(fault)),

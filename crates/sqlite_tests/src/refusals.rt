@@ -1,5 +1,9 @@
+ghost use Rattle.std.specs.Prelude.{◌≡◌, true};
+
 use super::calls::{Kept, commit, emptied, keeper_at, opened, wants};
+use super::files::{Step, follow};
 use keeper_api::{KeepFault, Keeper};
+use keeper_sqlite::SqliteKeeper;
 use std::fs;
 use std::test::*;
 
@@ -8,6 +12,8 @@ const TEXT: &[u8] = b"ENQWAL01 is no database, and is longer than the first page
 const PATH: &str = "keeper_refusals/a.db";
 
 const ROW: [Kept; 1] = [(0, b"a", Some(b"b"))];
+
+const PUT: [Step; 1] = [Step::Commit(&ROW)];
 
 /// What stands at a path in place of a database that can be written.
 #[derive(Clone, Copy, Debug, PartialEq, Eq)]
@@ -20,7 +26,7 @@ enum Obstacle {
 const OBSTACLES: [Obstacle; 3] = [Obstacle::Text, Obstacle::Folder, Obstacle::ReadOnly];
 
 fn make_read_only(rt: HostRuntime) -> Result<(), Fail> {
-    commit(&mut opened(rt, PATH)?, rt.alloc(), &ROW)?;
+    follow(rt, PATH, &PUT)?;
     let mut permissions = fs::metadata(&rt, PATH)?.permissions();
     permissions.set_readonly(true);
     fs::set_permissions(&rt, PATH, permissions)?;
@@ -42,16 +48,16 @@ fn is_writable(rt: HostRuntime) -> bool {
     options.open(&rt, PATH).is_ok()
 }
 
-/// Tests that a keeper is refused twice, and leaves the file as it was.
-fn test_refusal(rt: HostRuntime) -> Result<(), Fail> {
-    let before = fs::read(&rt, PATH).ok();
-    let mut keeper = keeper_at(rt, PATH)?;
-    for _ in 0..2 {
-        let answer = keeper.reopen(rt.alloc());
-        wants(answer == Err(KeepFault::Failed), "a refusal")?;
-        wants(fs::read(&rt, PATH).ok() == before, "the file as it was")?;
-    }
-    Ok(())
+/// Whether a keeper is refused, and leaves the file as it was.
+fn is_refused(rt: HostRuntime, keeper: &mut SqliteKeeper, path: &str) -> bool {
+    let before = fs::read(&rt, path).ok();
+    let answer = keeper.reopen(rt.alloc());
+    answer == Err(KeepFault::Failed) && fs::read(&rt, path).ok() == before
+}
+
+fn is_refused_twice(rt: HostRuntime, path: &str) -> Result<bool, Fail> {
+    let mut keeper = keeper_at(rt, path)?;
+    Ok(is_refused(rt, &mut keeper, path) && is_refused(rt, &mut keeper, path))
 }
 
 #[test]
@@ -62,25 +68,47 @@ fn what_is_no_database_to_write_is_refused(rt: HostRuntime) -> Result<(), Fail> 
         if *obstacle == Obstacle::ReadOnly && is_writable(rt) {
             continue;
         }
-        test_refusal(rt)?;
+        wants(
+            is_refused_twice(rt, PATH)?,
+            "a refusal, and the file as it was",
+        )?;
     }
     fs::remove_dir_all(&rt, "keeper_refusals")?;
     Ok(())
 }
 
+const LOCKED: &str = "keeper_locked/a.db";
+
+fn is_refused_beside(
+    rt: HostRuntime,
+    keeper: &mut SqliteKeeper,
+    other: &mut SqliteKeeper,
+) -> Result<bool, Fail>
+    requires { keeper.old.is_open ≡ true }
+{
+    commit(keeper, rt.alloc(), &ROW)?;
+    Ok(is_refused(rt, other, LOCKED))
+}
+
+/// Whether a keeper is refused while another one has the file.
+fn is_locked(rt: HostRuntime, other: &mut SqliteKeeper) -> Result<bool, Fail> {
+    let mut keeper = opened(rt, LOCKED)?;
+    is_refused_beside(rt, &mut keeper, other)
+}
+
+fn is_locked_and_let_go(rt: HostRuntime) -> Result<bool, Fail> {
+    let mut other = keeper_at(rt, LOCKED)?;
+    let is_locked = is_locked(rt, &mut other)?;
+    Ok(is_locked && other.reopen(rt.alloc()) == Ok(()) && other.reopen(rt.alloc()) == Ok(()))
+}
+
 #[test]
 fn a_file_is_locked_until_its_keeper_is_gone(rt: HostRuntime) -> Result<(), Fail> {
-    let alloc = rt.alloc();
     emptied(&rt, "keeper_locked")?;
-    let mut keeper = opened(rt, "keeper_locked/a.db")?;
-    commit(&mut keeper, alloc, &ROW)?;
-    let before = fs::read(&rt, "keeper_locked/a.db")?;
-    let mut other = keeper_at(rt, "keeper_locked/a.db")?;
-    assert_eq!(rt; other.reopen(alloc), Err(KeepFault::Failed));
-    assert_eq!(rt; fs::read(&rt, "keeper_locked/a.db")?, before);
-    drop(keeper);
-    assert_eq!(rt; other.reopen(alloc), Ok(()));
-    assert_eq!(rt; other.reopen(alloc), Ok(()));
+    wants(
+        is_locked_and_let_go(rt)?,
+        "a lock as long as there is a keeper",
+    )?;
     fs::remove_dir_all(&rt, "keeper_locked")?;
     Ok(())
 }

@@ -1,4 +1,4 @@
-ghost use Rattle.std.specs.Prelude.{◌≡◌, true, IsTrue, IfOk, OnOk};
+ghost use Rattle.std.specs.Prelude.{IsTrue, IfOk};
 ghost use Rattle.sqlite_disk.specs.Memory.{memory_is_usable};
 
 use super::calls::{delete, is_row, put};
@@ -39,11 +39,12 @@ fn files_in(connection: Connection<Fused>) -> Files<Fuse<Memory>> {
 /// Opens the files of these bytes, each of which stops after so many calls.
 fn open_fused(
     alloc: Global,
-    image: &Image,
+    log: &[u8],
+    db: &[u8],
     calls: u64,
 ) -> Result<Result<Connection<Fused>, Files<Fuse<Memory>>>, Fail> {
-    let log = Fuse::new(memory_with(alloc, image.log.as_slice())?, calls);
-    let db = Fuse::new(memory_with(alloc, image.db.as_slice())?, calls);
+    let log = Fuse::new(memory_with(alloc, log)?, calls);
+    let db = Fuse::new(memory_with(alloc, db)?, calls);
     match Connection::open_files(alloc, Files { log, db }, Options::new(1)) {
         Ok(connection) => Ok(Ok(connection)),
         Err((_, left)) => Ok(Err(files_left(left))),
@@ -77,16 +78,22 @@ fn commit_all<S: Alter>(keeper: &mut AdoptedKeeper<S>, alloc: Global) -> Result<
     Ok(6)
 }
 
-/// Commits the batches through a keeper, which can't be opened again, and gives the connection back.
+/// Commits the batches through a keeper, which can't be opened again.
+fn commit_once<S: Alter>(keeper: &mut AdoptedKeeper<S>, alloc: Global) -> Result<u8, Fail> {
+    let answered = commit_all(keeper, alloc)?;
+    if keeper.reopen(alloc) != Err(KeepFault::Failed) {
+        return Err(Fail::from("a second opening"));
+    }
+    Ok(answered)
+}
+
+/// Commits the batches through a keeper, and gives the connection back.
 fn run_over<S: Alter + Drop>(
     connection: Connection<S>,
     alloc: Global,
 ) -> Result<(u8, Connection<S>), Fail> {
     let mut keeper = AdoptedKeeper::new(connection);
-    let answered = commit_all(&mut keeper, alloc)?;
-    if keeper.reopen(alloc) != Err(KeepFault::Failed) {
-        return Err(Fail::from("a second opening"));
-    }
+    let answered = commit_once(&mut keeper, alloc)?;
     Ok((answered, keeper.into_connection()))
 }
 
@@ -153,11 +160,7 @@ fn images_of(alloc: Global, files: Files<Fuse<Memory>>) -> Result<[Image; 2], Fa
 
 /// Runs the batches until each file has had so many calls, and answers how many were answered and what is left.
 fn run_to(alloc: Global, calls: u64) -> Result<(u8, [Image; 2]), Fail> {
-    let empty = Image {
-        log: Vec::new(alloc),
-        db: Vec::new(alloc),
-    };
-    let connection = match open_fused(alloc, &empty, calls)? {
+    let connection = match open_fused(alloc, b"", b"", calls)? {
         Ok(connection) => connection,
         Err(files) => return Ok((0, images_of(alloc, files)?)),
     };
@@ -166,25 +169,36 @@ fn run_to(alloc: Global, calls: u64) -> Result<(u8, [Image; 2]), Fail> {
 }
 
 fn count_in(alloc: Global, image: &Image) -> Result<Option<u8>, Fail> {
-    match open_fused(alloc, image, u64::MAX)? {
+    match open_fused(alloc, image.log.as_slice(), image.db.as_slice(), u64::MAX)? {
         Ok(connection) => Ok(batches_over(connection, alloc)),
         Err(_) => Ok(None),
     }
 }
 
+/// Whether an image has the batches that were answered, or one more.
+fn is_prefix(alloc: Global, image: &Image, answered: u8) -> Result<bool, Fail> {
+    let count = count_in(alloc, image)?;
+    Ok(count == Some(answered) || count == Some(answered.saturating_add(1)))
+}
+
+fn are_prefixes(alloc: Global, images: &[Image; 2], answered: u8) -> Result<bool, Fail> {
+    Ok(is_prefix(alloc, &images[0], answered)? && is_prefix(alloc, &images[1], answered)?)
+}
+
+/// How many batches are answered before each file has had so many calls, where what is left is a prefix of them.
+fn answered_at(alloc: Global, calls: u64) -> Result<u8, Fail> {
+    let (answered, images) = run_to(alloc, calls)?;
+    if are_prefixes(alloc, &images, answered)? {
+        Ok(answered)
+    } else {
+        Err(Fail::from("rows of no prefix"))
+    }
+}
+
 #[test]
 fn a_stop_leaves_a_prefix_of_the_batches(rt: HostRuntime) -> Result<(), Fail> {
-    let alloc = rt.alloc();
     for calls in 0..1000 {
-        let (answered, images) = run_to(alloc, calls)?;
-        for image in images.iter() {
-            let count = count_in(alloc, image)?.ok_or("rows of no prefix")?;
-            assert!(rt;
-                count == answered || count == answered.saturating_add(1),
-                "{count} of {answered} at {calls}"
-            );
-        }
-        if answered == 6 {
+        if answered_at(rt.alloc(), calls)? == 6 {
             assert!(rt; calls > 20, "{calls}");
             return Ok(());
         }

@@ -41,11 +41,13 @@ bare_front (suc n) (records ∷ lists) none =
 bare_records : (rows : Rows) (records : List (List Record)) → own rows ≡ rows_of no_ledger → SpellAll rows records → is_bare records ≡ true
 bare_records rows records exact all = bare_front 8 records (λ table low. no_records (records_in records table) (λ r h.
     let v = value_there r in
-    none_held (spot_of (record_row r)) v.0 (subst (λ (rs : Rows). get rs (spot_of (record_row r)) ≡ Some v.0) exact (record_stands rows records all table low r h ∙ v.1))))
+    none_held (spot_of (record_row r)) v.0
+    (subst (λ (rs : Rows). get rs (spot_of (record_row r)) ≡ Some v.0) exact (record_stands rows records all table low r h ∙ v.1))))
 
 -- ---- a store that stands for a lawful ledger
 
-business_right : (rows : Rows) (records : List (List Record)) (ledger : Ledger) → IsLawful ledger → own rows ≡ rows_of ledger → SpellAll rows records → AreRecordsOf records ledger
+business_right : (rows : Rows) (records : List (List Record)) (ledger : Ledger) → IsLawful ledger → own rows ≡ rows_of ledger → SpellAll rows records
+    → AreRecordsOf records ledger
     → difference_from 1 (rows_for (tables_by (records_in records 3) (records_in records 4))) (records_in records 6) ≡ None
 business_right rows records ledger law exact all are =
     let steps = records_in records 3 in
@@ -56,7 +58,8 @@ business_right rows records ledger law exact all are =
     ∙ no_difference 1 (rows_for (tables_of ledger.units ledger.marks)) (records_in records 6)
     (subst (λ rs. SpellEach 6 rs (records_in records 6)) (sym (business_rows_are rows ledger exact)) (all 6 (omega arith)))
 
-rules_kept : (rows : Rows) (records : List (List Record)) (ledger : Ledger) → IsLawful ledger → own rows ≡ rows_of ledger → SpellAll rows records → rule_fault records ≡ None
+rules_kept : (rows : Rows) (records : List (List Record)) (ledger : Ledger) → IsLawful ledger → own rows ≡ rows_of ledger → SpellAll rows records
+    → rule_fault records ≡ None
 rules_kept rows records ledger law exact all =
     let are = are_records rows records ledger law exact all in
     no_place _ _

@@ -46,7 +46,8 @@ row_there (x ∷ rows) key value h =
       | false ↦ λ is at. contains_there x rows row (row_there rows key value at)
     ] refl h
 
-half : (xs ys : List Row) → RiseFrom [] xs → ((key : List ℕ) → has_bytes key ≡ true → value_of key xs ≡ value_of key ys) → (row : Row) → Contains xs row → Contains ys row
+half : (xs ys : List Row) → RiseFrom [] xs → ((key : List ℕ) → has_bytes key ≡ true → value_of key xs ≡ value_of key ys) → (row : Row) → Contains xs row
+    → Contains ys row
 half xs ys rise same row h =
     let at = value_here [] xs row rise h in
     row_there ys row.key row.value (sym (same row.key (some_bytes row.key at.1)) ∙ at.0)
@@ -54,7 +55,8 @@ half xs ys rise same row h =
 -- rows in the order of their keys that tell the same of each key are the same
 one_rows : (xs ys : List Row) → RiseFrom [] xs → RiseFrom [] ys → ((key : List ℕ) → has_bytes key ≡ true → value_of key xs ≡ value_of key ys) → xs ≡ ys
 one_rows xs ys rise_x rise_y same =
-    one_list (λ (row : Row). row.key) [] [] xs ys (rows_rises [] xs rise_x) (rows_rises [] ys rise_y) (half xs ys rise_x same) (half ys xs rise_y (λ key some. sym (same key some)))
+    one_list (λ (row : Row). row.key) [] [] xs ys (rows_rises [] xs rise_x) (rows_rises [] ys rise_y) (half xs ys rise_x same)
+    (half ys xs rise_y (λ key some. sym (same key some)))
 
 -- ---- business rows
 
@@ -81,14 +83,17 @@ business_is row (rec.Business table key text) spells =
     let values : Some text ≡ Some row.value = ap value_in spells.spelled in
     let value_is : text ≡ row.value = cc in
     and_from (bytes_eq row.key (row_name (table, key))) (bytes_eq row.value text)
-    (subst (λ k. bytes_eq row.key k ≡ true) (sym key_is) (bytes_eq-refl row.key)) (subst (λ v. bytes_eq row.value v ≡ true) (sym value_is) (bytes_eq-refl row.value))
+    (subst (λ k. bytes_eq row.key k ≡ true) (sym key_is) (bytes_eq-refl row.key))
+    (subst (λ v. bytes_eq row.value v ≡ true) (sym value_is) (bytes_eq-refl row.value))
 business_is row (rec.Meta s n) spells = let odd = table_six row.key row.value (rec.Meta s n) spells in cc
 business_is row (rec.Header u user v1 v2 locks numbers) spells = let odd = table_six row.key row.value (rec.Header u user v1 v2 locks numbers) spells in cc
 business_is row (rec.Module u part count) spells = let odd = table_six row.key row.value (rec.Module u part count) spells in cc
 business_is row (rec.Step u part index effect) spells = let odd = table_six row.key row.value (rec.Step u part index effect) spells in cc
 business_is row (rec.Mark m) spells = let odd = table_six row.key row.value (rec.Mark m) spells in cc
-business_is row (rec.Level object nr from to level buffered) spells = let odd = table_six row.key row.value (rec.Level object nr from to level buffered) spells in cc
-business_is row (rec.Lock u index table mode count pattern) spells = let odd = table_six row.key row.value (rec.Lock u index table mode count pattern) spells in cc
+business_is row (rec.Level object nr from to level buffered) spells = let odd =
+    table_six row.key row.value (rec.Level object nr from to level buffered) spells in cc
+business_is row (rec.Lock u index table mode count pattern) spells = let odd = table_six row.key row.value (rec.Lock u index table mode count pattern) spells in
+    cc
 
 -- records that rows of table 6 spell don't differ from them
 pub no_difference : (n : ℕ) (rows : List Row) (records : List Record) → SpellEach 6 rows records → difference_from n rows records ≡ None
@@ -96,4 +101,5 @@ no_difference n [] [] each = refl
 no_difference n [] (r ∷ records) each = absurd each
 no_difference n (row ∷ rows) [] each = absurd each
 no_difference n (row ∷ rows) (r ∷ records) each =
-    ap (λ b. if b then difference_from (n + 1) rows records else Some (record { table = 6; row = n })) (business_is row r each.0) ∙ no_difference (n + 1) rows records each.1
+    ap (λ b. if b then difference_from (n + 1) rows records else Some (record { table = 6; row = n })) (business_is row r each.0)
+    ∙ no_difference (n + 1) rows records each.1

@@ -36,13 +36,15 @@ module _ {B : Type 0} (step : B → Record → B) where
   abbrev Tells : B → List Record → Type 0
   Tells x records = (r : Record) × Contains records r × ((b : B) → step b r ≡ x)
 
-  later : (x before : B) (r : Record) (records : List Record) → ((b : B) → step b r ≡ b) → (before ≡ x) ⊎ Tells x (r ∷ records) → (step before r ≡ x) ⊎ Tells x records
+  later : (x before : B) (r : Record) (records : List Record) → ((b : B) → step b r ≡ b) → (before ≡ x) ⊎ Tells x (r ∷ records) → (step before r ≡ x)
+      ⊎ Tells x records
   later x before r records keeps (inl e) = inl (keeps before ∙ e)
   later x before r records keeps (inr at) =
       ⊎_elim (λ e. inl (ap (step before) e ∙ at.2 before)) (λ there. inr (at.0, there, at.2)) (contains_cases r records at.0 at.1)
 
   -- where each record tells x or nothing, and one of them tells it
-  once_told : (x : B) (records : List Record) (before : B) → ((r : Record) → Contains records r → ((b : B) → step b r ≡ b) ⊎ ((b : B) → step b r ≡ x)) → (before ≡ x) ⊎ Tells x records
+  once_told : (x : B) (records : List Record) (before : B) → ((r : Record) → Contains records r → ((b : B) → step b r ≡ b) ⊎ ((b : B) → step b r ≡ x))
+      → (before ≡ x) ⊎ Tells x records
       → fold step before records ≡ x
   once_told x [] before each (inl e) = e
   once_told x [] before each (inr at) = absurd (contains_none at.0 at.1)
@@ -52,7 +54,8 @@ module _ {B : Type 0} (step : B → Record → B) where
 
 none_pass : (test : Record → Bool) (records : List Record) → ((r : Record) → Contains records r → test r ≡ false) → list_any test records ≡ false
 none_pass test [] h = refl
-none_pass test (r ∷ records) h = or_from (test r) (list_any test records) (h r (contains_here r records)) (none_pass test records (λ s at. h s (contains_there r records s at)))
+none_pass test (r ∷ records) h = or_from (test r) (list_any test records) (h r (contains_here r records))
+    (none_pass test records (λ s at. h s (contains_there r records s at)))
 
 counts_fold : (key : UnitKey) (before : Counts) (records : List Record) → counts_after key before records ≡ fold (told key) before records
 counts_fold key before [] = refl
@@ -92,13 +95,15 @@ module _ (records : List (List Record)) (ledger : Ledger) (law : IsLawful ledger
   found_by unit key h same = ap (unit_at ledger.units) (sym (one_unit unit.key key same)) ∙ unit_found ledger.units unit (keys_apart ledger law) h
 
   -- of the headers each tells of its unit alone
-  headers_tell : {B : Type 0} (step : B → Record → B) (value : UnitOfWork → B) (key : UnitKey) → ((b : B) (unit : UnitOfWork) → step b (header_of unit) ≡ cond (same_unit unit.key key) (value unit) b)
+  headers_tell : {B : Type 0} (step : B → Record → B) (value : UnitOfWork → B) (key : UnitKey)
+      → ((b : B) (unit : UnitOfWork) → step b (header_of unit) ≡ cond (same_unit unit.key key) (value unit) b)
       → (before : B) → fold step before (records_in records 1) ≡ option_map_or value (unit_at ledger.units key) before
   headers_tell {B} step value key says before =
       elim (unit_at ledger.units key) as (λ o. unit_at ledger.units key ≡ o → fold step before (records_in records 1) ≡ option_map_or value o before) [
         | None ↦ λ found. still step (records_in records 1) before (λ r h b.
             let at = header_told r h in
-            let out : same_unit at.0.key key ≡ false = no_true (same_unit at.0.key key) (λ same. let odd : None ≡ Some at.0 = sym found ∙ found_by at.0 key at.1 same in cc) in
+            let out : same_unit at.0.key key ≡ false = no_true (same_unit at.0.key key)
+            (λ same. let odd : None ≡ Some at.0 = sym found ∙ found_by at.0 key at.1 same in cc) in
             subst (λ x. step b x ≡ b) at.2 (says b at.0 ∙ ap (λ c. cond c (value at.0) b) out))
         | Some unit ↦ λ found.
             let here = found_unit ledger.units key unit found in
@@ -124,13 +129,16 @@ module _ (records : List (List Record)) (ledger : Ledger) (law : IsLawful ledger
   pub numbers_are : (key : UnitKey) → numbers_at (records_in records 1) key ≡ option_map_or (λ (unit : UnitOfWork). unit.numbers) (unit_at ledger.units key) []
   numbers_are key = numbers_fold key [] (records_in records 1) ∙ headers_tell (numbers_told key) (λ (unit : UnitOfWork). unit.numbers) key (λ b u. refl) []
 
-  no_second : (key : UnitKey) → ((unit : UnitOfWork) → Contains ledger.units unit → same_unit unit.key key ≡ true → nat_le 1 (length unit.parts.v2) ≡ false) → has_second (records_in records 1) key ≡ false
+  no_second : (key : UnitKey) → ((unit : UnitOfWork) → Contains ledger.units unit → same_unit unit.key key ≡ true → nat_le 1 (length unit.parts.v2) ≡ false)
+      → has_second (records_in records 1) key ≡ false
   no_second key none = none_pass (tells_second key) (records_in records 1) (λ r h.
       let at = header_told r h in
       subst (λ x. tells_second key x ≡ false) at.2
-      (elim (same_unit at.0.key key) as (λ b. same_unit at.0.key key ≡ b → (b && nat_le 1 (length at.0.parts.v2)) ≡ false) [ true ↦ λ is. none at.0 at.1 is | false ↦ λ is. refl ] refl))
+      (elim (same_unit at.0.key key) as (λ b. same_unit at.0.key key ≡ b → (b && nat_le 1 (length at.0.parts.v2)) ≡ false)
+      [ true ↦ λ is. none at.0 at.1 is | false ↦ λ is. refl ] refl))
 
-  some_second : (unit : UnitOfWork) (key : UnitKey) → unit_at ledger.units key ≡ Some unit → is_empty_part unit.parts.v2 ≡ not (has_second (records_in records 1) key)
+  some_second : (unit : UnitOfWork) (key : UnitKey) → unit_at ledger.units key ≡ Some unit
+      → is_empty_part unit.parts.v2 ≡ not (has_second (records_in records 1) key)
   some_second unit key found =
       let here = found_unit ledger.units key unit found in
       let own : same_unit unit.key key ≡ true = subst (λ k. same_unit unit.key k ≡ true) here.1 (unit_refl unit.key) in
@@ -147,7 +155,9 @@ module _ (records : List (List Record)) (ledger : Ledger) (law : IsLawful ledger
   -- the headers tell which units have a V2 part
   pub second_told : (key : UnitKey) → has_no_v2 ledger.units key ≡ not (has_second (records_in records 1) key)
   second_told key =
-      elim (unit_at ledger.units key) as (λ o. unit_at ledger.units key ≡ o → is_empty_part (option_map_or (λ (unit : UnitOfWork). unit.parts.v2) o []) ≡ not (has_second (records_in records 1) key)) [
+      elim (unit_at ledger.units key)
+      as (λ o. unit_at ledger.units key ≡ o → is_empty_part (option_map_or (λ (unit : UnitOfWork). unit.parts.v2) o []) ≡ not
+      (has_second (records_in records 1) key)) [
         | None ↦ λ found. sym (ap not (no_second key (λ unit at same. let odd : None ≡ Some unit = sym found ∙ found_by unit key at same in cc)))
         | Some unit ↦ λ found. some_second unit key found
       ] refl

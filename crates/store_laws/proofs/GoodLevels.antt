@@ -57,7 +57,8 @@ drawn_back true level numbers h =
     and_from (are_apart numbers) (list_all (λ n. nat_le level.from n && nat_le n level.level) numbers) (apart_back numbers h.0)
     (within_back level.from level.level numbers (recursion_from_All (λ n. (level.from ≤ n) × (n ≤ level.level)) numbers h.1))
 
-level_right : (name : RowName) (numbers : List Number) (level : Level) → IsRightLevel name numbers level → is_right_level numbers (level_record name level) ≡ true
+level_right : (name : RowName) (numbers : List Number) (level : Level) → IsRightLevel name numbers level
+    → is_right_level numbers (level_record name level) ≡ true
 level_right name numbers level right =
     let from = level.from in
     let to = level.to in
@@ -70,7 +71,9 @@ level_right name numbers level right =
 
 -- ---- what the marks commit
 
-one_committed : (headers : List Record) (units : List UnitOfWork) → ((key : UnitKey) → numbers_at headers key ≡ option_map_or (λ (unit : UnitOfWork). unit.numbers) (unit_at units key) []) → (seq : ℕ) (unit : UnitKey) (kind : MarkKind)
+one_committed : (headers : List Record) (units : List UnitOfWork)
+    → ((key : UnitKey) → numbers_at headers key ≡ option_map_or (λ (unit : UnitOfWork). unit.numbers) (unit_at units key) [])
+    → (seq : ℕ) (unit : UnitKey) (kind : MarkKind)
     → numbers_by headers (rec.Mark (record { seq = seq; unit = unit; kind = kind })) ≡ numbers_in units (record { seq = seq; unit = unit; kind = kind })
 one_committed headers units told seq unit (Num numbers) = refl
 one_committed headers units told seq unit Rec = told unit
@@ -82,14 +85,16 @@ one_committed headers units told seq unit (Bad2 index reason) = refl
 one_committed headers units told seq unit Again2 = refl
 one_committed headers units told seq unit Gone = refl
 
-all_committed : (headers : List Record) (units : List UnitOfWork) → ((key : UnitKey) → numbers_at headers key ≡ option_map_or (λ (unit : UnitOfWork). unit.numbers) (unit_at units key) []) → (marks : List Mark)
+all_committed : (headers : List Record) (units : List UnitOfWork)
+    → ((key : UnitKey) → numbers_at headers key ≡ option_map_or (λ (unit : UnitOfWork). unit.numbers) (unit_at units key) []) → (marks : List Mark)
     → committed headers (mark_records marks) ≡ numbers_of units marks
 all_committed headers units told [] = refl
 all_committed headers units told (m ∷ marks) =
     ap (λ (ns : List Number). ns ++ committed headers (mark_records marks)) (one_committed headers units told m.seq m.unit m.kind)
     ∙ ap (λ (ns : List Number). numbers_in units m ++ ns) (all_committed headers units told marks)
 
-each_stored : (levels : List Record) (stored : Levels) (numbers : List Number) → ((name : RowName) (level : Level) → get stored name ≡ Some level → Contains levels (level_record name level))
+each_stored : (levels : List Record) (stored : Levels) (numbers : List Number)
+    → ((name : RowName) (level : Level) → get stored name ≡ Some level → Contains levels (level_record name level))
     → AllByRecursion (λ num. IsSome (get stored (interval_of num))) numbers → list_all (λ num. has_level levels (interval_of num)) numbers ≡ true
 each_stored levels stored [] there h = refl
 each_stored levels stored (num ∷ numbers) there h =
@@ -116,7 +121,8 @@ module _ (records : List (List Record)) (ledger : Ledger) (law : IsLawful ledger
       let numbers = numbers_of ledger.units ledger.marks in
       let at = level_of ledger r (are.told 5 (omega arith) r h) (are.table 5 (omega arith) r h) in
       let right : IsRightLevel at.name numbers at.level = subst (λ o. IfSome o (IsRightLevel at.name numbers)) at.stored (law.levels.right at.name) in
-      ap (λ (ns : List Number). is_right_level ns r) numbers_told ∙ subst (λ x. is_right_level numbers x ≡ true) at.is (level_right at.name numbers at.level right)
+      ap (λ (ns : List Number). is_right_level ns r) numbers_told ∙ subst (λ x. is_right_level numbers x ≡ true) at.is
+      (level_right at.name numbers at.level right)
 
   none_missing : missing_level (records_in records 5) (committed (records_in records 1) (records_in records 4)) ≡ None
   none_missing =
@@ -129,4 +135,5 @@ module _ (records : List (List Record)) (ledger : Ledger) (law : IsLawful ledger
       (each_stored levels ledger.levels numbers there (recursion_from_All (λ num. IsSome (get ledger.levels (interval_of num))) numbers law.levels.stored))
 
   pub levels_right : level_fault (records_in records 1) (records_in records 4) (records_in records 5) ≡ None
-  levels_right = no_place _ _ (none_breaks (is_right_level (committed (records_in records 1) (records_in records 4))) 5 (records_in records 5) each_right) none_missing
+  levels_right = no_place _ _ (none_breaks (is_right_level (committed (records_in records 1) (records_in records 4))) 5 (records_in records 5) each_right)
+      none_missing

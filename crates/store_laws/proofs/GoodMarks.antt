@@ -41,7 +41,8 @@ length_marks : (marks : List Mark) → length (mark_records marks) ≡ length ma
 length_marks [] = refl
 length_marks (m ∷ marks) = ap suc (length_marks marks)
 
-pub numbered_back : (before : List Record) (marks : List Mark) (n : ℕ) → seqs marks ≡ range_with_len (length before + 1) n → AreRight (λ before. has_number (length before + 1)) before (mark_records marks)
+pub numbered_back : (before : List Record) (marks : List Mark) (n : ℕ) → seqs marks ≡ range_with_len (length before + 1) n
+    → AreRight (λ before. has_number (length before + 1)) before (mark_records marks)
 numbered_back before [] n is = tt
 numbered_back before (m ∷ marks) zero is = cc
 numbered_back before (m ∷ marks) (suc n) is =
@@ -52,16 +53,20 @@ numbered_back before (m ∷ marks) (suc n) is =
 
 -- ---- what the marks say of their units
 
-legal_back : (start : ℕ) (headers : List Record) (units : List UnitOfWork) (before : List Record) (marks : List Mark) → ((key : UnitKey) → has_no_v2 units key ≡ not (has_second headers key))
+legal_back : (start : ℕ) (headers : List Record) (units : List UnitOfWork) (before : List Record) (marks : List Mark)
+    → ((key : UnitKey) → has_no_v2 units key ≡ not (has_second headers key))
     → AllByRecursion (IsMarkUnder start) marks → IsLegalAfter units (marks_in before) marks → AreRight (is_right_mark start headers) before (mark_records marks)
 legal_back start headers units before [] second under legal = tt
 legal_back start headers units before (m ∷ marks) second under legal =
     let follows : may_follow (status_after (not (has_second headers m.unit)) m.unit None (marks_in before)) m.kind ≡ true =
     ap (λ b. may_follow (status_after b m.unit None (marks_in before)) m.kind) (sym (second m.unit)) ∙ legal.0 in (
-      and_from (nat_le 1 m.unit.start) (nat_le m.unit.start start && may_follow (status_after (not (has_second headers m.unit)) m.unit None (marks_in before)) m.kind)
+      and_from (nat_le 1 m.unit.start)
+          (nat_le m.unit.start start && may_follow (status_after (not (has_second headers m.unit)) m.unit None (marks_in before)) m.kind)
           (le-leb 1 m.unit.start under.0.first)
-          (and_from (nat_le m.unit.start start) (may_follow (status_after (not (has_second headers m.unit)) m.unit None (marks_in before)) m.kind) (le-leb m.unit.start start under.0.last) follows),
-      legal_back start headers units (before ++ rec.Mark m ∷ []) marks second under.1 (subst (λ ms. IsLegalAfter units ms marks) (sym (marks_push before m)) legal.1),
+          (and_from (nat_le m.unit.start start) (may_follow (status_after (not (has_second headers m.unit)) m.unit None (marks_in before)) m.kind)
+          (le-leb m.unit.start start under.0.last) follows),
+      legal_back start headers units (before ++ rec.Mark m ∷ []) marks second under.1
+          (subst (λ ms. IsLegalAfter units ms marks) (sym (marks_push before m)) legal.1),
     )
 
 -- ---- what their posts say
@@ -72,34 +77,46 @@ done_of (Err fault) h = h
 
 refused_of : (index : ℕ) (reason : Reason) (r : Result Tables EffectFault) → r ≡ Err (Refused index reason) → is_refused index reason r ≡ true
 refused_of index reason r h =
-    ap (is_refused index reason) h ∙ and_from (nat_eq index index) (nat_eq (reason_number reason) (reason_number reason)) (eq-eqb index index refl) (eq-eqb (reason_number reason) (reason_number reason) refl)
+    ap (is_refused index reason) h ∙ and_from (nat_eq index index) (nat_eq (reason_number reason) (reason_number reason)) (eq-eqb index index refl)
+    (eq-eqb (reason_number reason) (reason_number reason) refl)
 
 one_result : (es fs : List Effect) (s t : Tables) → es ≡ fs → s ≡ t → applied es s ≡ applied fs t
 one_result es fs s t effects tables = λ i. applied (effects i) (tables i)
 
-post_back : (steps : List Record) (units : List UnitOfWork) → HaveEffects steps units → (before : List Record) (tables : Tables) → tables_by steps before ≡ tables → (seq : ℕ) (unit : UnitKey) (kind : MarkKind)
-    → IsRightMark units tables (record { seq = seq; unit = unit; kind = kind }) → is_right_post steps before (rec.Mark (record { seq = seq; unit = unit; kind = kind })) ≡ true
+post_back : (steps : List Record) (units : List UnitOfWork) → HaveEffects steps units → (before : List Record) (tables : Tables)
+    → tables_by steps before ≡ tables → (seq : ℕ) (unit : UnitKey) (kind : MarkKind)
+    → IsRightMark units tables (record { seq = seq; unit = unit; kind = kind })
+    → is_right_post steps before (rec.Mark (record { seq = seq; unit = unit; kind = kind })) ≡ true
 post_back steps units have before tables same seq unit (Num numbers) h = refl
 post_back steps units have before tables same seq unit Rec h = refl
 post_back steps units have before tables same seq unit V1 h =
-    ap is_done (one_result (effects_of steps unit 1) (v1_of units unit) (tables_by steps before) tables (have.first unit) same) ∙ done_of (applied (v1_of units unit) tables) h
+    ap is_done (one_result (effects_of steps unit 1) (v1_of units unit) (tables_by steps before) tables (have.first unit) same)
+    ∙ done_of (applied (v1_of units unit) tables) h
 post_back steps units have before tables same seq unit (Bad1 index reason) h =
-    ap (is_refused index reason) (one_result (effects_of steps unit 1) (v1_of units unit) (tables_by steps before) tables (have.first unit) same) ∙ refused_of index reason (applied (v1_of units unit) tables) h
+    ap (is_refused index reason) (one_result (effects_of steps unit 1) (v1_of units unit) (tables_by steps before) tables (have.first unit) same)
+    ∙ refused_of index reason (applied (v1_of units unit) tables) h
 post_back steps units have before tables same seq unit Again1 h = refl
 post_back steps units have before tables same seq unit V2 h =
-    ap is_done (one_result (effects_of steps unit 2) (v2_of units unit) (tables_by steps before) tables (have.second unit) same) ∙ done_of (applied (v2_of units unit) tables) h
+    ap is_done (one_result (effects_of steps unit 2) (v2_of units unit) (tables_by steps before) tables (have.second unit) same)
+    ∙ done_of (applied (v2_of units unit) tables) h
 post_back steps units have before tables same seq unit (Bad2 index reason) h =
-    ap (is_refused index reason) (one_result (effects_of steps unit 2) (v2_of units unit) (tables_by steps before) tables (have.second unit) same) ∙ refused_of index reason (applied (v2_of units unit) tables) h
+    ap (is_refused index reason) (one_result (effects_of steps unit 2) (v2_of units unit) (tables_by steps before) tables (have.second unit) same)
+    ∙ refused_of index reason (applied (v2_of units unit) tables) h
 post_back steps units have before tables same seq unit Again2 h = refl
 post_back steps units have before tables same seq unit Gone h = refl
 
-posts_back : (steps : List Record) (units : List UnitOfWork) → HaveEffects steps units → (before : List Record) (tables : Tables) (marks : List Mark) → tables_by steps before ≡ tables → ArePostsRight units tables marks
+posts_back : (steps : List Record) (units : List UnitOfWork) → HaveEffects steps units → (before : List Record) (tables : Tables) (marks : List Mark)
+    → tables_by steps before ≡ tables → ArePostsRight units tables marks
     → AreRight (is_right_post steps) before (mark_records marks)
 posts_back steps units have before tables [] same right = tt
 posts_back steps units have before tables (m ∷ marks) same right =
     let next : tables_by steps (before ++ rec.Mark m ∷ []) ≡ posted (part_of units m) tables =
-    fold-append (tables_with steps) empty before (rec.Mark m ∷ []) ∙ ap (λ t. tables_with steps t (rec.Mark m)) same ∙ one_follows steps units have tables m.seq m.unit m.kind in
-    (post_back steps units have before tables same m.seq m.unit m.kind right.0, posts_back steps units have (before ++ rec.Mark m ∷ []) (posted (part_of units m) tables) marks next right.1)
+    fold-append (tables_with steps) empty before (rec.Mark m ∷ []) ∙ ap (λ t. tables_with steps t (rec.Mark m)) same
+    ∙ one_follows steps units have tables m.seq m.unit m.kind in (
+      post_back steps units have before tables same m.seq m.unit m.kind right.0,
+      posts_back steps units have (before ++ rec.Mark m ∷ [])
+          (posted (part_of units m) tables) marks next right.1,
+    )
 
 -- ---- the rules
 
@@ -110,7 +127,8 @@ module _ (records : List (List Record)) (ledger : Ledger) (law : IsLawful ledger
   one_start : has_meta (start_record ledger ∷ []) (length ledger.marks) ≡ true
   one_start =
       let n = length ledger.marks in
-      and_from (nat_le 1 ledger.start) (nat_eq n n && nat_le n 1048576) (le-leb 1 ledger.start law.started) (and_from (nat_eq n n) (nat_le n 1048576) (eq-eqb n n refl) (le-leb n 1048576 law.few))
+      and_from (nat_le 1 ledger.start) (nat_eq n n && nat_le n 1048576) (le-leb 1 ledger.start law.started)
+      (and_from (nat_eq n n) (nat_le n 1048576) (eq-eqb n n refl) (le-leb n 1048576 law.few))
 
   pub start_right : meta_fault (records_in records 0) (length (records_in records 4)) ≡ None
   start_right =
@@ -121,7 +139,8 @@ module _ (records : List (List Record)) (ledger : Ledger) (law : IsLawful ledger
   pub numbers_right : number_fault (records_in records 4) ≡ None
   numbers_right =
       ap number_fault (mark_table records ledger law are)
-      ∙ none_wrong (λ before. has_number (length before + 1)) 4 [] (mark_records ledger.marks) (numbered_back [] ledger.marks (length ledger.marks) law.numbered)
+      ∙ none_wrong (λ before. has_number (length before + 1)) 4 [] (mark_records ledger.marks)
+      (numbered_back [] ledger.marks (length ledger.marks) law.numbered)
 
   pub marks_right : mark_fault (start_in (records_in records 0)) (records_in records 1) (records_in records 4) ≡ None
   marks_right =
@@ -129,10 +148,12 @@ module _ (records : List (List Record)) (ledger : Ledger) (law : IsLawful ledger
       ap (λ (rs : List Record). mark_fault (start_in rs) headers (records_in records 4)) (start_table records ledger law are)
       ∙ ap (mark_fault ledger.start headers) (mark_table records ledger law are)
       ∙ none_wrong (is_right_mark ledger.start headers) 4 [] (mark_records ledger.marks)
-      (legal_back ledger.start headers ledger.units [] ledger.marks (second_told records ledger law are) (recursion_from_All (IsMarkUnder ledger.start) ledger.marks law.marks) law.legal)
+      (legal_back ledger.start headers ledger.units [] ledger.marks (second_told records ledger law are)
+      (recursion_from_All (IsMarkUnder ledger.start) ledger.marks law.marks) law.legal)
 
   pub posts_right : first_wrong (is_right_post (records_in records 3)) 4 [] (records_in records 4) ≡ None
   posts_right =
       let steps = records_in records 3 in
       ap (first_wrong (is_right_post steps) 4 []) (mark_table records ledger law are)
-      ∙ none_wrong (is_right_post steps) 4 [] (mark_records ledger.marks) (posts_back steps ledger.units (have_effects records ledger law are) [] empty ledger.marks refl law.right)
+      ∙ none_wrong (is_right_post steps) 4 [] (mark_records ledger.marks)
+      (posts_back steps ledger.units (have_effects records ledger law are) [] empty ledger.marks refl law.right)

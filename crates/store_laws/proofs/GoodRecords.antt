@@ -75,7 +75,8 @@ module _ (records : List (List Record)) (ledger : Ledger) (law : IsLawful ledger
   pub start_table : records_in records 0 ≡ start_record ledger ∷ []
   start_table =
       one_list key_in [] [] (records_in records 0) (start_record ledger ∷ []) (are.rise 0 (omega arith)) (refl, tt)
-      (λ r h. subst (λ x. Contains (start_record ledger ∷ []) x) (start_of ledger r (are.told 0 (omega arith) r h) (are.table 0 (omega arith) r h)) (contains_here (start_record ledger) []))
+      (λ r h. subst (λ x. Contains (start_record ledger ∷ []) x) (start_of ledger r (are.told 0 (omega arith) r h) (are.table 0 (omega arith) r h))
+      (contains_here (start_record ledger) []))
       (λ r h. subst (λ x. Contains (records_in records 0) x) (only (start_record ledger) r h) (are.there (start_record ledger) (told_start ledger)))
 
   pub mark_table : records_in records 4 ≡ mark_records ledger.marks
@@ -90,21 +91,26 @@ module _ (records : List (List Record)) (ledger : Ledger) (law : IsLawful ledger
 
   -- ---- table 3
 
-  step_there : (key : UnitKey) (part : ℕ) (unit : UnitOfWork) (r : Record) → Contains ledger.units unit → (p : ℕ) → Contains (steps_of unit.key p 1 (side p unit)) r → is_step key part r ≡ true
+  step_there : (key : UnitKey) (part : ℕ) (unit : UnitOfWork) (r : Record) → Contains ledger.units unit → (p : ℕ)
+      → Contains (steps_of unit.key p 1 (side p unit)) r → is_step key part r ≡ true
       → Contains (steps_of key part 1 (side_at ledger.units part key)) r
   step_there key part unit r in_units p h is =
       let s = step_is unit.key p 1 (side p unit) r h in
       let both : (same_unit unit.key key && nat_eq p part) ≡ true = ap (is_step key part) s.is ∙ is in
       let key_is : unit.key ≡ key = one_unit unit.key key (first_true (same_unit unit.key key) (nat_eq p part) both) in
       let part_is : p ≡ part = eqb-true p part (second_true (same_unit unit.key key) (nat_eq p part) both) in
-      let found : unit_at ledger.units key ≡ Some unit = ap (unit_at ledger.units) (sym key_is) ∙ unit_found ledger.units unit (keys_apart ledger law) in_units in
+      let found : unit_at ledger.units key ≡ Some unit = ap (unit_at ledger.units) (sym key_is)
+      ∙ unit_found ledger.units unit (keys_apart ledger law) in_units in
       let effects : side part unit ≡ side_at ledger.units part key = ap (λ o. option_map_or (side part) o []) (sym found) in
-      subst (λ es. Contains (steps_of key part 1 es) r) effects (subst (λ n. Contains (steps_of key n 1 (side n unit)) r) part_is (subst (λ k. Contains (steps_of k p 1 (side p unit)) r) key_is h))
+      subst (λ es. Contains (steps_of key part 1 es) r) effects
+      (subst (λ n. Contains (steps_of key n 1 (side n unit)) r) part_is (subst (λ k. Contains (steps_of k p 1 (side p unit)) r) key_is h))
 
-  step_told : (key : UnitKey) (part : ℕ) (r : Record) → Contains (records_in records 3) r → is_step key part r ≡ true → Contains (steps_of key part 1 (side_at ledger.units part key)) r
+  step_told : (key : UnitKey) (part : ℕ) (r : Record) → Contains (records_in records 3) r → is_step key part r ≡ true
+      → Contains (steps_of key part 1 (side_at ledger.units part key)) r
   step_told key part r h is =
       let R = Contains (steps_of key part 1 (side_at ledger.units part key)) r in
-      let other : (x : Record) → x ≡ r → is_step key part x ≡ false → R = λ x same out. let odd : true ≡ false = sym is ∙ ap (is_step key part) (sym same) ∙ out in cc in
+      let other : (x : Record) → x ≡ r → is_step key part x ≡ false → R = λ x same out. let odd : true ≡ false =
+      sym is ∙ ap (is_step key part) (sym same) ∙ out in cc in
       let at = of_unit ledger r 3 (are.told 3 (omega arith) r h) (are.table 3 (omega arith) r h) refl in
       unit_cases at.0 r R at.2
       (λ same. other (header_of at.0) same refl)
@@ -118,22 +124,28 @@ module _ (records : List (List Record)) (ledger : Ledger) (law : IsLawful ledger
   step_back key part r has (Some unit) found h =
       let at = found_unit ledger.units key unit found in
       let s = step_is key part 1 (side part unit) r h in
-      let own : Contains (records_of unit) r = has unit r (subst (λ k. Contains (part_of k part (side part unit)) r) (sym at.1) (step_part key part (side part unit) r h)) in
-      (subst (λ n. Contains (records_in records n) r) (ap table_in (sym s.is)) (are.there r (told_unit ledger unit r at.0 own)), ap (is_step key part) (sym s.is) ∙ same_part key part)
+      let own : Contains (records_of unit) r =
+      has unit r (subst (λ k. Contains (part_of k part (side part unit)) r) (sym at.1) (step_part key part (side part unit) r h)) in (
+        subst (λ n. Contains (records_in records n) r) (ap table_in (sym s.is)) (are.there r (told_unit ledger unit r at.0 own)),
+        ap (is_step key part)
+            (sym s.is) ∙ same_part key part,
+      )
 
   few_effects : (part : ℕ) (unit : UnitOfWork) → Contains ledger.units unit → length (side part unit) ≤ 200
   few_effects part unit h =
       let few = (unit_law ledger law unit h).few in
       elim (nat_eq part 1) as (λ b. length (if b then unit.parts.v1 else unit.parts.v2) ≤ 200) [ true ↦ omega arith | false ↦ omega arith ]
 
-  side_rises : (key : UnitKey) (part : ℕ) (o : Option UnitOfWork) → unit_at ledger.units key ≡ o → Rises key_in [] (steps_of key part 1 (option_map_or (side part) o []))
+  side_rises : (key : UnitKey) (part : ℕ) (o : Option UnitOfWork) → unit_at ledger.units key ≡ o
+      → Rises key_in [] (steps_of key part 1 (option_map_or (side part) o []))
   side_rises key part None found = tt
   side_rises key part (Some unit) found =
       let few = few_effects part unit (found_unit ledger.units key unit found).0 in
       steps_rise key part 1 (side part unit) [] (omega arith) (λ i more high. refl)
 
   -- the effects of a part, in order
-  pub step_table : (key : UnitKey) (part : ℕ) → ((unit : UnitOfWork) → HasPart unit part) → filter (is_step key part) (records_in records 3) ≡ steps_of key part 1 (side_at ledger.units part key)
+  pub step_table : (key : UnitKey) (part : ℕ) → ((unit : UnitOfWork) → HasPart unit part)
+      → filter (is_step key part) (records_in records 3) ≡ steps_of key part 1 (side_at ledger.units part key)
   step_table key part has =
       one_list key_in [] [] (filter (is_step key part) (records_in records 3)) (steps_of key part 1 (side_at ledger.units part key))
       (rises_filter key_in (is_step key part) [] (records_in records 3) (are.rise 3 (omega arith)))
@@ -141,7 +153,8 @@ module _ (records : List (List Record)) (ledger : Ledger) (law : IsLawful ledger
       (λ r h. let at = of_filter (is_step key part) (records_in records 3) r h in step_told key part r at.0 at.1)
       (λ r h. let at = step_back key part r has (unit_at ledger.units key) refl h in contains_filter (is_step key part) (records_in records 3) r at.0 at.1)
 
-  effects_are : (key : UnitKey) (part : ℕ) → ((unit : UnitOfWork) → HasPart unit part) → effects_of (records_in records 3) key part ≡ side_at ledger.units part key
+  effects_are : (key : UnitKey) (part : ℕ) → ((unit : UnitOfWork) → HasPart unit part)
+      → effects_of (records_in records 3) key part ≡ side_at ledger.units part key
   effects_are key part has =
       effects_kept (records_in records 3) key part
       ∙ ap (λ (steps : List Record). effects_of steps key part) (step_table key part has)
@@ -153,10 +166,12 @@ module _ (records : List (List Record)) (ledger : Ledger) (law : IsLawful ledger
 
   -- ---- table 7
 
-  lock_told : (unit : UnitOfWork) (r : Record) → Contains ledger.units unit → Contains (records_in records 7) r → is_lock unit.key r ≡ true → Contains (locks_of unit.key 1 unit.entries) r
+  lock_told : (unit : UnitOfWork) (r : Record) → Contains ledger.units unit → Contains (records_in records 7) r → is_lock unit.key r ≡ true
+      → Contains (locks_of unit.key 1 unit.entries) r
   lock_told unit r in_units h is =
       let R = Contains (locks_of unit.key 1 unit.entries) r in
-      let other : (x : Record) → x ≡ r → is_lock unit.key x ≡ false → R = λ x same out. let odd : true ≡ false = sym is ∙ ap (is_lock unit.key) (sym same) ∙ out in cc in
+      let other : (x : Record) → x ≡ r → is_lock unit.key x ≡ false → R = λ x same out. let odd : true ≡ false =
+      sym is ∙ ap (is_lock unit.key) (sym same) ∙ out in cc in
       let at = of_unit ledger r 7 (are.told 7 (omega arith) r h) (are.table 7 (omega arith) r h) refl in
       unit_cases at.0 r R at.2
       (λ same. other (header_of at.0) same refl)
@@ -164,7 +179,8 @@ module _ (records : List (List Record)) (ledger : Ledger) (law : IsLawful ledger
       (λ p steps. let s = step_is at.0.key p 1 (side p at.0) r steps in other _ s.is refl)
       (λ locks.
       let l = lock_is at.0.key 1 at.0.entries r locks in
-      let same : at.0 ≡ unit = one_unit_of ledger.units at.0 unit (keys_apart ledger law) at.1 in_units (one_unit at.0.key unit.key (ap (is_lock unit.key) l.is ∙ is)) in
+      let same : at.0 ≡ unit = one_unit_of ledger.units at.0 unit (keys_apart ledger law) at.1 in_units
+      (one_unit at.0.key unit.key (ap (is_lock unit.key) l.is ∙ is)) in
       subst (λ (u : UnitOfWork). Contains (locks_of u.key 1 u.entries) r) same locks)
 
   -- the locks of a unit, in order

@@ -43,7 +43,8 @@ pub record AreRecordsOf (records : List (List Record)) (ledger : Ledger) : Type 
   pub there : (r : Record) → IsToldBy ledger r → Contains (records_in records (table_in r)) r
   pub rise : (table : ℕ) → table < 8 → Rises key_in [] (records_in records table)
 
-records_rise : (table : ℕ) (low : List ℕ) (rows : List Row) (records : List Record) → RiseFrom low rows → SpellEach table rows records → Rises key_in low records
+records_rise : (table : ℕ) (low : List ℕ) (rows : List Row) (records : List Record) → RiseFrom low rows → SpellEach table rows records
+    → Rises key_in low records
 records_rise table low [] [] rise each = tt
 records_rise table low [] (r ∷ records) rise each = absurd each
 records_rise table low (row ∷ rows) [] rise each = absurd each
@@ -51,7 +52,8 @@ records_rise table low (row ∷ rows) (r ∷ records) rise each =
     let key : row.key ≡ key_in r = ap (λ (c : Change). (spot_of c).1) (sym each.0.spelled) in
     (subst (λ k. is_below low k ≡ true) key rise.0, subst (λ k. Rises key_in k records) key (records_rise table row.key rows records rise.1 each.1))
 
-pub are_records : (rows : Rows) (records : List (List Record)) (ledger : Ledger) → IsLawful ledger → own rows ≡ rows_of ledger → SpellAll rows records → AreRecordsOf records ledger
+pub are_records : (rows : Rows) (records : List (List Record)) (ledger : Ledger) → IsLawful ledger → own rows ≡ rows_of ledger → SpellAll rows records
+    → AreRecordsOf records ledger
 are_records rows records ledger law exact all = record {
   table = table_of rows records all;
   told = contained_told rows ledger law exact records all;
@@ -66,8 +68,10 @@ unit_table unit r h =
     all_contained (λ (c : Change). is_unit_table (spot_of c).0 ≡ true) (unit_rows unit) (record_row r) (unit_in is_unit_table refl refl refl refl unit)
     (subst (λ (rows : List Change). Contains rows (record_row r)) (unit_is unit) (contains_map record_row (records_of unit) r h))
 
-pub told_in : (ledger : Ledger) (r : Record) (R : Type 0) → IsToldBy ledger r → ((unit : UnitOfWork) → Contains ledger.units unit → Contains (records_of unit) r → R)
-    → ((m : Mark) → Contains ledger.marks m → rec.Mark m ≡ r → R) → (start_record ledger ≡ r → R) → (IsLevelOf ledger.levels r → R) → (IsBusinessOf (tables_of ledger.units ledger.marks) r → R) → R
+pub told_in : (ledger : Ledger) (r : Record) (R : Type 0) → IsToldBy ledger r
+    → ((unit : UnitOfWork) → Contains ledger.units unit → Contains (records_of unit) r → R)
+    → ((m : Mark) → Contains ledger.marks m → rec.Mark m ≡ r → R) → (start_record ledger ≡ r → R) → (IsLevelOf ledger.levels r → R)
+    → (IsBusinessOf (tables_of ledger.units ledger.marks) r → R) → R
 told_in ledger r R told unit mark start level business =
     let units = flat_map records_of ledger.units in
     let marks = mark_records ledger.marks in
@@ -94,16 +98,20 @@ told_mark ledger r h =
     inl (Contains-append_left (units ++ mark_records ledger.marks) (start_record ledger ∷ []) r (Contains-append_right units (mark_records ledger.marks) r h))
 
 pub told_start : (ledger : Ledger) → IsToldBy ledger (start_record ledger)
-told_start ledger = inl (Contains-append_right (flat_map records_of ledger.units ++ mark_records ledger.marks) (start_record ledger ∷ []) (start_record ledger) (contains_here (start_record ledger) []))
+told_start ledger =
+    inl (Contains-append_right (flat_map records_of ledger.units ++ mark_records ledger.marks) (start_record ledger ∷ []) (start_record ledger)
+    (contains_here (start_record ledger) []))
 
 no_unit_table : (n : ℕ) (R : Type 0) → is_unit_table n ≡ true → is_unit_table n ≡ false → R
 no_unit_table n R is not_is = let odd : true ≡ false = sym is ∙ not_is in cc
 
 -- a record in a table of units is one of a unit
-pub of_unit : (ledger : Ledger) (r : Record) (n : ℕ) → IsToldBy ledger r → table_in r ≡ n → is_unit_table n ≡ true → (unit : UnitOfWork) × Contains ledger.units unit × Contains (records_of unit) r
+pub of_unit : (ledger : Ledger) (r : Record) (n : ℕ) → IsToldBy ledger r → table_in r ≡ n → is_unit_table n ≡ true → (unit : UnitOfWork)
+    × Contains ledger.units unit × Contains (records_of unit) r
 of_unit ledger r n told table is =
     let R = (unit : UnitOfWork) × Contains ledger.units unit × Contains (records_of unit) r in
-    let not_here : (x : Record) → x ≡ r → is_unit_table (table_in x) ≡ false → R = λ x same out. no_unit_table n R is (ap is_unit_table (sym table) ∙ ap (λ y. is_unit_table (table_in y)) (sym same) ∙ out) in
+    let not_here : (x : Record) → x ≡ r → is_unit_table (table_in x) ≡ false → R =
+    λ x same out. no_unit_table n R is (ap is_unit_table (sym table) ∙ ap (λ y. is_unit_table (table_in y)) (sym same) ∙ out) in
     told_in ledger r R told
     (λ unit at h. (unit, at, h))
     (λ m at same. not_here (rec.Mark m) same refl)
@@ -201,7 +209,8 @@ module _ (unit : UnitOfWork) where
       let locks = locks_of unit.key 1 unit.entries in
       contains_there (header_of unit) (first ++ second ++ locks) r (Contains-append_right (first ++ second) locks r h)
 
-pub step_part : (key : UnitKey) (part : ℕ) (effects : List Effect) (r : Record) → Contains (steps_of key part 1 effects) r → Contains (part_of key part effects) r
+pub step_part : (key : UnitKey) (part : ℕ) (effects : List Effect) (r : Record) → Contains (steps_of key part 1 effects) r
+    → Contains (part_of key part effects) r
 step_part key part [] r h = absurd (contains_none r h)
 step_part key part (e ∷ effects) r h = contains_there (rec.Module key part (length (e ∷ effects))) (steps_of key part 1 (e ∷ effects)) r h
 
@@ -213,7 +222,8 @@ pub record IsStep (key : UnitKey) (part index n : ℕ) (r : Record) : Type 0 whe
   pub low : index ≤ at
   pub high : at < index + n
 
-pub step_is : (key : UnitKey) (part index : ℕ) (effects : List Effect) (r : Record) → Contains (steps_of key part index effects) r → IsStep key part index (length effects) r
+pub step_is : (key : UnitKey) (part index : ℕ) (effects : List Effect) (r : Record) → Contains (steps_of key part index effects) r
+    → IsStep key part index (length effects) r
 step_is key part index [] r h = absurd (contains_none r h)
 step_is key part index (e ∷ effects) r h = ⊎_elim
     (λ same. record { at = index; effect = e; is = same; low = omega arith; high = omega arith })
@@ -251,7 +261,8 @@ steps_rise key part index [] low fits above = tt
 steps_rise key part index (e ∷ effects) low fits above = (
   above index (omega arith) (omega arith),
   steps_rise key part (index + 1) effects (unit_bytes key ++ part ∷ big_bytes 2 index) (omega arith)
-      (λ i more high. below_behind (unit_bytes key) (part ∷ big_bytes 2 index) (part ∷ big_bytes 2 i) (below_behind (part ∷ []) (big_bytes 2 index) (big_bytes 2 i) (bytes_below 2 index i (omega arith) high))),
+      (λ i more high. below_behind (unit_bytes key) (part ∷ big_bytes 2 index) (part ∷ big_bytes 2 i)
+      (below_behind (part ∷ []) (big_bytes 2 index) (big_bytes 2 i) (bytes_below 2 index i (omega arith) high))),
 )
 
 pub locks_rise : (key : UnitKey) (index : ℕ) (entries : List Entry) (low : List ℕ) → index + length entries ≤ 256 ^ 4

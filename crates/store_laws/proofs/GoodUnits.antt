@@ -41,15 +41,18 @@ use Rattle.store_reading.proofs.Shelved.{any_contained}
 -- ---- rules of one record
 
 -- where each record passes the test none is wrong
-pub right_each : (test : Record → Bool) (before records : List Record) → ((r : Record) → Contains records r → test r ≡ true) → AreRight (λ before. test) before records
+pub right_each : (test : Record → Bool) (before records : List Record) → ((r : Record) → Contains records r → test r ≡ true)
+    → AreRight (λ before. test) before records
 right_each test before [] h = tt
-right_each test before (r ∷ records) h = (h r (contains_here r records), right_each test (before ++ r ∷ []) records (λ s at. h s (contains_there r records s at)))
+right_each test before (r ∷ records) h =
+    (h r (contains_here r records), right_each test (before ++ r ∷ []) records (λ s at. h s (contains_there r records s at)))
 
 pub no_place : (a b : Option Place) → a ≡ None → b ≡ None → option_or a b ≡ None
 no_place None b none other = other
 no_place (Some place) b none other = cc
 
-pub none_breaks : (test : Record → Bool) (table : ℕ) (records : List Record) → ((r : Record) → Contains records r → test r ≡ true) → first_wrong (λ before. test) table [] records ≡ None
+pub none_breaks : (test : Record → Bool) (table : ℕ) (records : List Record) → ((r : Record) → Contains records r → test r ≡ true)
+    → first_wrong (λ before. test) table [] records ≡ None
 none_breaks test table records h = none_wrong (λ before. test) table [] records (right_each test [] records h)
 
 -- ---- marks
@@ -72,11 +75,13 @@ recorded_has [] m h is = absurd (contains_none m h)
 recorded_has (x ∷ marks) m h is =
     subst (λ keys. Contains keys m.unit) (sym (first_recorded x marks))
     (⊎_elim
-    (λ e. subst (λ (y : Mark). Contains (keys_after (is_rec x.kind) x.unit (recorded marks)) y.unit) e (first_key (is_rec x.kind) x.unit (recorded marks) (ap (λ (y : Mark). is_rec y.kind) e ∙ is)))
+    (λ e. subst (λ (y : Mark). Contains (keys_after (is_rec x.kind) x.unit (recorded marks)) y.unit) e
+    (first_key (is_rec x.kind) x.unit (recorded marks) (ap (λ (y : Mark). is_rec y.kind) e ∙ is)))
     (λ there. behind_key (is_rec x.kind) x.unit m.unit (recorded marks) (recorded_has marks m there is))
     (contains_cases x marks m h))
 
-right_kind : (headers modules steps locks : List Record) (seq : ℕ) (unit : UnitKey) (kind : MarkKind) → IsKind kind → (is_rec kind ≡ true → is_whole headers modules steps locks unit ≡ true)
+right_kind : (headers modules steps locks : List Record) (seq : ℕ) (unit : UnitKey) (kind : MarkKind) → IsKind kind
+    → (is_rec kind ≡ true → is_whole headers modules steps locks unit ≡ true)
     → is_right_unit headers modules steps locks (rec.Mark (record { seq = seq; unit = unit; kind = kind })) ≡ true
 right_kind headers modules steps locks seq unit (Num numbers) is whole =
     and_from (nat_le 1 (length numbers)) (nat_le (length numbers) 64) (le-leb 1 (length numbers) is.0) (le-leb (length numbers) 64 is.1)
@@ -94,7 +99,8 @@ right_kind headers modules steps locks seq unit Gone is whole = refl
 same_place : (key : UnitKey) (part n : ℕ) → ((same_unit key key && nat_eq part part) && nat_eq n n) ≡ true
 same_place key part n = and_from (same_unit key key && nat_eq part part) (nat_eq n n) (same_part key part) (eq-eqb n n refl)
 
-steps_there : (steps : List Record) (key : UnitKey) (part index : ℕ) (effects : List Effect) → ((r : Record) → Contains (steps_of key part index effects) r → Contains steps r)
+steps_there : (steps : List Record) (key : UnitKey) (part index : ℕ) (effects : List Effect)
+    → ((r : Record) → Contains (steps_of key part index effects) r → Contains steps r)
     → list_all (has_row steps key part) (range_with_len index (length effects)) ≡ true
 steps_there steps key part index [] h = refl
 steps_there steps key part index (e ∷ effects) h =
@@ -103,7 +109,8 @@ steps_there steps key part index (e ∷ effects) h =
     (any_contained (is_row key part index) steps r (same_place key part index) (h r (contains_here r (steps_of key part (index + 1) effects))))
     (steps_there steps key part (index + 1) effects (λ s at. h s (contains_there r (steps_of key part (index + 1) effects) s at)))
 
-locks_there : (locks : List Record) (key : UnitKey) (index : ℕ) (entries : List Entry) → ((r : Record) → Contains (locks_of key index entries) r → Contains locks r)
+locks_there : (locks : List Record) (key : UnitKey) (index : ℕ) (entries : List Entry)
+    → ((r : Record) → Contains (locks_of key index entries) r → Contains locks r)
     → list_all (has_row locks key 0) (range_with_len index (length entries)) ≡ true
 locks_there locks key index [] h = refl
 locks_there locks key index (e ∷ entries) h =
@@ -116,7 +123,8 @@ some_rows : (a b : Bool) → b ≡ true → (a || b) ≡ true
 some_rows true b h = refl
 some_rows false b h = h
 
-part_there : (modules steps : List Record) (key : UnitKey) (part : ℕ) (effects : List Effect) → ((r : Record) → Contains (part_of key part effects) r → table_in r ≡ 2 → Contains modules r)
+part_there : (modules steps : List Record) (key : UnitKey) (part : ℕ) (effects : List Effect)
+    → ((r : Record) → Contains (part_of key part effects) r → table_in r ≡ 2 → Contains modules r)
     → ((r : Record) → Contains (part_of key part effects) r → table_in r ≡ 3 → Contains steps r) → has_part modules steps key part (length effects) ≡ true
 part_there modules steps key part [] in_modules in_steps = refl
 part_there modules steps key part (e ∷ effects) in_modules in_steps =
@@ -126,17 +134,20 @@ part_there modules steps key part (e ∷ effects) in_modules in_steps =
     some_rows (nat_eq n 0) (has_row modules key part n && has_rows steps key part n)
     (and_from (has_row modules key part n) (has_rows steps key part n)
     (any_contained (is_row key part n) modules r (same_place key part n) (in_modules r (contains_here r rest) refl))
-    (steps_there steps key part 1 (e ∷ effects) (λ s at. let step = step_is key part 1 (e ∷ effects) s at in in_steps s (contains_there r rest s at) (ap table_in (sym step.is)))))
+    (steps_there steps key part 1 (e ∷ effects)
+    (λ s at. let step = step_is key part 1 (e ∷ effects) s at in in_steps s (contains_there r rest s at) (ap table_in (sym step.is)))))
 
 -- ---- names of locks
 
-named_one : (b c : Bool) (key : UnitKey) (name : LockName) → is_named_for key name ≡ c → filter (is_named_for key) (if b then name ∷ [] else []) ≡ (if c then (if b then name ∷ [] else []) else [])
+named_one : (b c : Bool) (key : UnitKey) (name : LockName) → is_named_for key name ≡ c
+    → filter (is_named_for key) (if b then name ∷ [] else []) ≡ (if c then (if b then name ∷ [] else []) else [])
 named_one true true key name is = ap (λ t. cond t (name ∷ []) []) is
 named_one true false key name is = ap (λ t. cond t (name ∷ []) []) is
 named_one false true key name is = refl
 named_one false false key name is = refl
 
-named_rest : (headers : List Record) (c : Bool) (r : Record) (locks : List Record) → (if c then names_in headers r else []) ++ flat_map (names_in headers) locks ≡ flat_map (names_in headers) (cond c (r ∷ locks) locks)
+named_rest : (headers : List Record) (c : Bool) (r : Record) (locks : List Record)
+    → (if c then names_in headers r else []) ++ flat_map (names_in headers) locks ≡ flat_map (names_in headers) (cond c (r ∷ locks) locks)
 named_rest headers true r locks = refl
 named_rest headers false r locks = refl
 
@@ -144,7 +155,8 @@ abbrev names_of : List Record → List Record → List LockName
 names_of headers locks = flat_map (names_in headers) locks
 
 -- the names of a unit are those of its locks
-names_kept : (headers : List Record) (key : UnitKey) (locks : List Record) → filter (is_named_for key) (names_of headers locks) ≡ names_of headers (filter (is_lock key) locks)
+names_kept : (headers : List Record) (key : UnitKey) (locks : List Record)
+    → filter (is_named_for key) (names_of headers locks) ≡ names_of headers (filter (is_lock key) locks)
 names_kept headers key [] = refl
 names_kept headers key (rec.Lock u index table mode count pattern ∷ locks) =
     let r = rec.Lock u index table mode count pattern in
@@ -162,7 +174,8 @@ names_kept headers key (rec.Level object nr from to level buffered ∷ locks) = 
 names_kept headers key (rec.Business table k text ∷ locks) = names_kept headers key locks
 
 lock_names : (headers : List Record) (unit : UnitOfWork) (index : ℕ) (entries : List Entry) → AllByRecursion (IsEntryOf unit) entries
-    → ((i : ℕ) → i < index + length entries → nat_le i (counts_at headers unit.key).locks ≡ true) → names_of headers (locks_of unit.key index entries) ≡ map name_of entries
+    → ((i : ℕ) → i < index + length entries → nat_le i (counts_at headers unit.key).locks ≡ true)
+    → names_of headers (locks_of unit.key index entries) ≡ map name_of entries
 lock_names headers unit index [] are counted = refl
 lock_names headers unit index (e ∷ entries) are counted =
     let name : LockName = record { owner = Upd unit.key; asked = asked_of e } in
@@ -176,12 +189,15 @@ all_named e (x ∷ entries) = ap (λ b. names_differ e x && b) (all_named e entr
 
 pairs_named : (entries : List Entry) → all_pairs differ (map name_of entries) ≡ all_pairs names_differ entries
 pairs_named [] = refl
-pairs_named (e ∷ entries) = ap (λ b. b && all_pairs differ (map name_of entries)) (all_named e entries) ∙ ap (λ b. list_all (names_differ e) entries && b) (pairs_named entries)
+pairs_named (e ∷ entries) = ap (λ b. b && all_pairs differ (map name_of entries)) (all_named e entries)
+    ∙ ap (λ b. list_all (names_differ e) entries && b) (pairs_named entries)
 
 -- ---- the rule
 
 side_length : (unit : UnitOfWork) (part : ℕ) → effects_in (counts_for unit) part ≡ length (side part unit)
-side_length unit part = elim (nat_eq part 1) as (λ b. (if b then length unit.parts.v1 else length unit.parts.v2) ≡ length (if b then unit.parts.v1 else unit.parts.v2)) [ true ↦ refl | false ↦ refl ]
+side_length unit part =
+    elim (nat_eq part 1) as (λ b. (if b then length unit.parts.v1 else length unit.parts.v2) ≡ length (if b then unit.parts.v1 else unit.parts.v2))
+    [ true ↦ refl | false ↦ refl ]
 
 module _ (records : List (List Record)) (ledger : Ledger) (law : IsLawful ledger) (are : AreRecordsOf records ledger) where
   few_of : (unit : UnitOfWork) → Contains ledger.units unit → has_few (counts_for unit) ≡ true
@@ -191,10 +207,12 @@ module _ (records : List (List Record)) (ledger : Ledger) (law : IsLawful ledger
       and_from (nat_le 1 n) (nat_le n 200 && nat_le (length unit.numbers) 64) (le-leb 1 n is.some)
       (and_from (nat_le n 200) (nat_le (length unit.numbers) 64) (le-leb n 200 is.few) (le-leb (length unit.numbers) 64 is.few_numbers))
 
-  stands_at : (unit : UnitOfWork) (r : Record) (n : ℕ) → Contains ledger.units unit → Contains (records_of unit) r → table_in r ≡ n → Contains (records_in records n) r
+  stands_at : (unit : UnitOfWork) (r : Record) (n : ℕ) → Contains ledger.units unit → Contains (records_of unit) r → table_in r ≡ n
+      → Contains (records_in records n) r
   stands_at unit r n in_units h table = subst (λ k. Contains (records_in records k) r) table (are.there r (told_unit ledger unit r in_units h))
 
-  part_stands : (unit : UnitOfWork) (part : ℕ) → Contains ledger.units unit → HasPart unit part → has_part (records_in records 2) (records_in records 3) unit.key part (length (side part unit)) ≡ true
+  part_stands : (unit : UnitOfWork) (part : ℕ) → Contains ledger.units unit → HasPart unit part
+      → has_part (records_in records 2) (records_in records 3) unit.key part (length (side part unit)) ≡ true
   part_stands unit part h has =
       part_there (records_in records 2) (records_in records 3) unit.key part (side part unit)
       (λ r at table. stands_at unit r 2 h (has r at) table)
@@ -202,7 +220,8 @@ module _ (records : List (List Record)) (ledger : Ledger) (law : IsLawful ledger
 
   locks_stand : (unit : UnitOfWork) → Contains ledger.units unit → has_rows (records_in records 7) unit.key 0 (length unit.entries) ≡ true
   locks_stand unit h =
-      locks_there (records_in records 7) unit.key 1 unit.entries (λ r at. let l = lock_is unit.key 1 unit.entries r at in stands_at unit r 7 h (locks_in unit r at) (ap table_in (sym l.is)))
+      locks_there (records_in records 7) unit.key 1 unit.entries
+      (λ r at. let l = lock_is unit.key 1 unit.entries r at in stands_at unit r 7 h (locks_in unit r at) (ap table_in (sym l.is)))
 
   distinct_locks : (unit : UnitOfWork) → Contains ledger.units unit → has_distinct_locks (records_in records 1) (records_in records 7) unit.key ≡ true
   distinct_locks unit h =
@@ -216,20 +235,24 @@ module _ (records : List (List Record)) (ledger : Ledger) (law : IsLawful ledger
       ∙ is.distinct
 
   -- each unit has all rows that its header counts
-  whole_unit : (unit : UnitOfWork) → Contains ledger.units unit → is_whole (records_in records 1) (records_in records 2) (records_in records 3) (records_in records 7) unit.key ≡ true
+  whole_unit : (unit : UnitOfWork) → Contains ledger.units unit → is_whole (records_in records 1) (records_in records 2) (records_in records 3)
+      (records_in records 7) unit.key ≡ true
   whole_unit unit h =
       let modules = records_in records 2 in
       let steps = records_in records 3 in
       let locks = records_in records 7 in
       let distinct = has_distinct_locks (records_in records 1) locks unit.key in
       let c = counts_for unit in
-      ap (λ (c : Counts). has_few c && (has_parts modules steps unit.key c && (has_rows locks unit.key 0 c.locks && distinct))) (counts_are records ledger law are unit h)
+      ap (λ (c : Counts). has_few c && (has_parts modules steps unit.key c && (has_rows locks unit.key 0 c.locks && distinct)))
+      (counts_are records ledger law are unit h)
       ∙ and_from (has_few c) (has_parts modules steps unit.key c && (has_rows locks unit.key 0 c.locks && distinct)) (few_of unit h)
       (and_from (has_parts modules steps unit.key c) (has_rows locks unit.key 0 c.locks && distinct)
-      (and_from (has_part modules steps unit.key 1 c.v1) (has_part modules steps unit.key 2 c.v2) (part_stands unit 1 h (first_in unit)) (part_stands unit 2 h (second_in unit)))
+      (and_from (has_part modules steps unit.key 1 c.v1) (has_part modules steps unit.key 2 c.v2) (part_stands unit 1 h (first_in unit))
+      (part_stands unit 2 h (second_in unit)))
       (and_from (has_rows locks unit.key 0 c.locks) distinct (locks_stand unit h) (distinct_locks unit h)))
 
-  right_mark : (r : Record) → Contains (records_in records 4) r → is_right_unit (records_in records 1) (records_in records 2) (records_in records 3) (records_in records 7) r ≡ true
+  right_mark : (r : Record) → Contains (records_in records 4) r → is_right_unit (records_in records 1) (records_in records 2) (records_in records 3)
+      (records_in records 7) r ≡ true
   right_mark r h =
       let headers = records_in records 1 in
       let modules = records_in records 2 in
@@ -240,7 +263,8 @@ module _ (records : List (List Record)) (ledger : Ledger) (law : IsLawful ledger
       let under = All-contains (IsMarkUnder ledger.start) ledger.marks m law.marks at.1 in
       subst (λ x. is_right_unit headers modules steps locks x ≡ true) at.2
       (right_kind headers modules steps locks m.seq m.unit m.kind under.kind (λ is.
-      let key = of_map (λ (u : UnitOfWork). u.key) ledger.units m.unit (subst (λ keys. Contains keys m.unit) (sym law.recorded) (recorded_has ledger.marks m at.1 is)) in
+      let key = of_map (λ (u : UnitOfWork). u.key) ledger.units m.unit
+      (subst (λ keys. Contains keys m.unit) (sym law.recorded) (recorded_has ledger.marks m at.1 is)) in
       subst (λ k. is_whole headers modules steps locks k ≡ true) key.2 (whole_unit key.0 key.1)))
 
   right_header : (r : Record) → Contains (records_in records 1) r → is_recorded_header (records_in records 4) r ≡ true
@@ -249,14 +273,17 @@ module _ (records : List (List Record)) (ledger : Ledger) (law : IsLawful ledger
       let unit = at.0 in
       let marks : marks_in (records_in records 4) ≡ ledger.marks = ap marks_in (mark_table records ledger law are) ∙ marks_back ledger.marks in
       let key : Contains (keys_of ledger.units) unit.key = contains_map (λ (u : UnitOfWork). u.key) ledger.units unit at.1 in
-      let there : Contains (recorded (marks_in (records_in records 4))) unit.key = subst (λ keys. Contains keys unit.key) (law.recorded ∙ ap recorded (sym marks)) key in
+      let there : Contains (recorded (marks_in (records_in records 4))) unit.key =
+      subst (λ keys. Contains keys unit.key) (law.recorded ∙ ap recorded (sym marks)) key in
       subst (λ x. is_recorded_header (records_in records 4) x ≡ true) at.2 (key_recorded (records_in records 4) unit.key there)
 
-  counted_by : (unit : UnitOfWork) (f : Counts → ℕ) (i : ℕ) → Contains ledger.units unit → i ≤ f (counts_for unit) → nat_le i (f (counts_at (records_in records 1) unit.key)) ≡ true
+  counted_by : (unit : UnitOfWork) (f : Counts → ℕ) (i : ℕ) → Contains ledger.units unit → i ≤ f (counts_for unit)
+      → nat_le i (f (counts_at (records_in records 1) unit.key)) ≡ true
   counted_by unit f i h low = ap (λ (c : Counts). nat_le i (f c)) (counts_are records ledger law are unit h) ∙ le-leb i (f (counts_for unit)) low
 
   -- each row of a unit is one that its header counts
-  right_row : (table : ℕ) → table < 8 → is_unit_table table ≡ true → (1 ≡ table → ⊥) → (r : Record) → Contains (records_in records table) r → is_counted (records_in records 1) r ≡ true
+  right_row : (table : ℕ) → table < 8 → is_unit_table table ≡ true → (1 ≡ table → ⊥) → (r : Record) → Contains (records_in records table) r
+      → is_counted (records_in records 1) r ≡ true
   right_row table low units other r h =
       let headers = records_in records 1 in
       let here = are.table table low r h in
@@ -270,7 +297,8 @@ module _ (records : List (List Record)) (ledger : Ledger) (law : IsLawful ledger
       let s = step_is unit.key part 1 (side part unit) r steps in
       let high = s.high in
       let within : s.at ≤ length (side part unit) = omega arith in
-      subst (λ x. is_counted headers x ≡ true) s.is (counted_by unit (λ (c : Counts). effects_in c part) s.at at.1 (subst (λ n. s.at ≤ n) (sym (side_length unit part)) within)))
+      subst (λ x. is_counted headers x ≡ true) s.is
+      (counted_by unit (λ (c : Counts). effects_in c part) s.at at.1 (subst (λ n. s.at ≤ n) (sym (side_length unit part)) within)))
       (λ locks.
       let l = lock_is unit.key 1 unit.entries r locks in
       let high = l.high in

@@ -32,13 +32,15 @@ module _ {X : Type 0} (key : X → List ℕ) where
   pub rises_above : (low : List ℕ) (xs : List X) (x : X) → Rises key low xs → Contains xs x → is_below low (key x) ≡ true
   rises_above low [] x rise h = absurd (contains_none x h)
   rises_above low (y ∷ xs) x rise h =
-      ⊎_elim (λ e. subst (λ z. is_below low (key z) ≡ true) e rise.0) (λ at. below_trans low (key y) (key x) rise.0 (rises_above (key y) xs x rise.1 at)) (contains_cases y xs x h)
+      ⊎_elim (λ e. subst (λ z. is_below low (key z) ≡ true) e rise.0) (λ at. below_trans low (key y) (key x) rise.0 (rises_above (key y) xs x rise.1 at))
+      (contains_cases y xs x h)
 
   one_first : (x y : X) (xs ys : List X) → Rises key (key x) xs → Rises key (key y) ys → Contains (y ∷ ys) x → Contains (x ∷ xs) y → x ≡ y
   one_first x y xs ys rise_x rise_y there back = ⊎_elim
       (λ e. sym e)
       (λ behind_y. ⊎_elim (λ e. e)
-      (λ behind_x. absurd (not_itself (key x) (below_trans (key x) (key y) (key x) (rises_above (key x) xs y rise_x behind_x) (rises_above (key y) ys x rise_y behind_y))))
+      (λ behind_x. absurd
+      (not_itself (key x) (below_trans (key x) (key y) (key x) (rises_above (key x) xs y rise_x behind_x) (rises_above (key y) ys x rise_y behind_y))))
       (contains_cases x xs y back))
       (contains_cases y ys x there)
 
@@ -49,7 +51,8 @@ module _ {X : Type 0} (key : X → List ℕ) where
       (contains_cases y ys z h)
 
   -- two lists in the order of their keys, with the same elements, are one
-  pub one_list : (a b : List ℕ) (xs ys : List X) → Rises key a xs → Rises key b ys → ((x : X) → Contains xs x → Contains ys x) → ((x : X) → Contains ys x → Contains xs x) → xs ≡ ys
+  pub one_list : (a b : List ℕ) (xs ys : List X) → Rises key a xs → Rises key b ys → ((x : X) → Contains xs x → Contains ys x)
+      → ((x : X) → Contains ys x → Contains xs x) → xs ≡ ys
   one_list a b [] [] rise_x rise_y there back = refl
   one_list a b [] (y ∷ ys) rise_x rise_y there back = absurd (contains_none y (back y (contains_here y ys)))
   one_list a b (x ∷ xs) [] rise_x rise_y there back = absurd (contains_none x (there x (contains_here x xs)))
@@ -71,11 +74,14 @@ module _ {X : Type 0} (test : X → Bool) where
   pub contains_filter : (xs : List X) (x : X) → Contains xs x → test x ≡ true → Contains (filter test xs) x
   contains_filter [] x h is = absurd (contains_none x h)
   contains_filter (y ∷ xs) x h is = ⊎_elim
-      (λ e. subst (λ b. Contains (cond b (y ∷ filter test xs) (filter test xs)) x) (sym (ap test e ∙ is)) (subst (λ z. Contains (y ∷ filter test xs) z) e (contains_here y (filter test xs))))
-      (λ at. elim (test y) as (λ b. Contains (cond b (y ∷ filter test xs) (filter test xs)) x) [ true ↦ contains_there y (filter test xs) x (contains_filter xs x at is) | false ↦ contains_filter xs x at is ])
+      (λ e. subst (λ b. Contains (cond b (y ∷ filter test xs) (filter test xs)) x) (sym (ap test e ∙ is))
+      (subst (λ z. Contains (y ∷ filter test xs) z) e (contains_here y (filter test xs))))
+      (λ at. elim (test y) as (λ b. Contains (cond b (y ∷ filter test xs) (filter test xs)) x)
+      [ true ↦ contains_there y (filter test xs) x (contains_filter xs x at is) | false ↦ contains_filter xs x at is ])
       (contains_cases y xs x h)
 
-  filter_one : (y : X) (xs : List X) (x : X) (b : Bool) → test y ≡ b → (Contains (filter test xs) x → Contains xs x × (test x ≡ true)) → Contains (cond b (y ∷ filter test xs) (filter test xs)) x
+  filter_one : (y : X) (xs : List X) (x : X) (b : Bool) → test y ≡ b → (Contains (filter test xs) x → Contains xs x × (test x ≡ true))
+      → Contains (cond b (y ∷ filter test xs) (filter test xs)) x
       → Contains (y ∷ xs) x × (test x ≡ true)
   filter_one y xs x true is rest h = ⊎_elim
       (λ e. (subst (λ z. Contains (y ∷ xs) z) e (contains_here y xs), ap test (sym e) ∙ is))
@@ -125,12 +131,14 @@ lowest_below zero x y h = absurd (omega arith)
 lowest_below (suc n) x y h =
     let a = byte_at n x in
     let b = byte_at n y in
-    let less : a * 256 ^ n + x % 256 ^ n < b * 256 ^ n + y % 256 ^ n = subst (λ k. k < b * 256 ^ n + y % 256 ^ n) (parts_of n x) (subst (λ k. x % 256 ^ suc n < k) (parts_of n y) h) in
+    let less : a * 256 ^ n + x % 256 ^ n < b * 256 ^ n + y % 256 ^ n = subst (λ k. k < b * 256 ^ n + y % 256 ^ n) (parts_of n x)
+    (subst (λ k. x % 256 ^ suc n < k) (parts_of n y) h) in
     ⊎_elim
     (λ low. first_less a b (bytes_high_first n x) (bytes_high_first n y) low)
     (λ high. ⊎_elim
     (λ more. absurd (not_more a b (x % 256 ^ n) (y % 256 ^ n) (256 ^ n) more (mod_below n y) less))
-    (λ most. let same : a ≡ b = omega arith in first_same a b (bytes_high_first n x) (bytes_high_first n y) same (lowest_below n x y (rest_less a b (x % 256 ^ n) (y % 256 ^ n) (256 ^ n) same less)))
+    (λ most. let same : a ≡ b = omega arith in first_same a b (bytes_high_first n x) (bytes_high_first n y) same
+    (lowest_below n x y (rest_less a b (x % 256 ^ n) (y % 256 ^ n) (256 ^ n) same less)))
     (cases_lt b a))
     (cases_lt a b)
 

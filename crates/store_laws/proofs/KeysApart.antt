@@ -43,12 +43,14 @@ last_none : (key : UnitKey) (xs : List Mark) (m : Mark) → NoneOf key (xs ++ m 
 last_none key [] m h = h.0
 last_none key (x ∷ xs) m h = last_none key xs m h.1
 
-after_cases : (b : Bool) (unit key : UnitKey) (keys : List UnitKey) (R : Type 0) → Contains (keys_after b unit keys) key → (b ≡ true → unit ≡ key → R) → (Contains keys key → R) → R
+after_cases : (b : Bool) (unit key : UnitKey) (keys : List UnitKey) (R : Type 0) → Contains (keys_after b unit keys) key → (b ≡ true → unit ≡ key → R)
+    → (Contains keys key → R) → R
 after_cases true unit key keys R h here there = ⊎_elim (λ e. here refl e) there (contains_cases unit keys key h)
 after_cases false unit key keys R h here there = there h
 
 -- no mark before gave a status to a unit whose recording comes
-none_before : (units : List UnitOfWork) (before marks : List Mark) (key : UnitKey) → IsLegalAfter units before marks → Contains (recorded marks) key → NoneOf key before
+none_before : (units : List UnitOfWork) (before marks : List Mark) (key : UnitKey) → IsLegalAfter units before marks → Contains (recorded marks) key
+    → NoneOf key before
 none_before units before [] key h at = absurd (contains_none key at)
 none_before units before (m ∷ marks) key h at =
     after_cases (is_rec m.kind) m.unit key (recorded marks) (NoneOf key before) (subst (λ keys. Contains keys key) (first_recorded m marks) at)
@@ -62,14 +64,16 @@ apart_first false key keys h rest = rest
 recorded_once : (before : List Mark) (m : Mark) → is_rec m.kind ≡ true → NoneOf m.unit (before ++ m ∷ []) → ⊥
 recorded_once before m is none =
     let last : (same_unit m.unit m.unit && not (draws_alone m.kind)) ≡ false = last_none m.unit before m none in
-    let odd : true ≡ false = sym (ap (λ b. b && true) (unit_refl m.unit)) ∙ ap (λ (k : MarkKind). same_unit m.unit m.unit && not (draws_alone k)) (sym (rec_is m.kind is)) ∙ last in cc
+    let odd : true ≡ false = sym (ap (λ b. b && true) (unit_refl m.unit))
+    ∙ ap (λ (k : MarkKind). same_unit m.unit m.unit && not (draws_alone k)) (sym (rec_is m.kind is)) ∙ last in cc
 
 -- each unit is recorded once
 pub recorded_apart : (units : List UnitOfWork) (before marks : List Mark) → IsLegalAfter units before marks → KeysApart (recorded marks)
 recorded_apart units before [] h = tt
 recorded_apart units before (m ∷ marks) h =
     subst KeysApart (sym (first_recorded m marks))
-    (apart_first (is_rec m.kind) m.unit (recorded marks) (λ is at. recorded_once before m is (none_before units (before ++ m ∷ []) marks m.unit h.1 at)) (recorded_apart units (before ++ m ∷ []) marks h.1))
+    (apart_first (is_rec m.kind) m.unit (recorded marks) (λ is at. recorded_once before m is (none_before units (before ++ m ∷ []) marks m.unit h.1 at))
+    (recorded_apart units (before ++ m ∷ []) marks h.1))
 
 -- ---- units with such keys
 
@@ -86,7 +90,8 @@ unit_found (u ∷ units) unit apart h = ⊎_elim
     (λ e. ap (λ b. cond b (Some u) (unit_at units unit.key)) (same_key u.key unit.key (ap (λ (x : UnitOfWork). x.key) e)) ∙ ap (λ (x : UnitOfWork). Some x) e)
     (λ there.
     elim (same_unit u.key unit.key) as (λ b. same_unit u.key unit.key ≡ b → cond b (Some u) (unit_at units unit.key) ≡ Some unit) [
-      | true ↦ λ is. absurd (apart.0 (subst (λ k. Contains (keys_of units) k) (sym (one_unit u.key unit.key is)) (contains_map (λ (x : UnitOfWork). x.key) units unit there)))
+      | true ↦ λ is. absurd
+          (apart.0 (subst (λ k. Contains (keys_of units) k) (sym (one_unit u.key unit.key is)) (contains_map (λ (x : UnitOfWork). x.key) units unit there)))
       | false ↦ λ is. unit_found units unit apart.1 there
     ] refl)
     (contains_cases u units unit h)
@@ -99,7 +104,9 @@ one_unit_of units u v apart in_u in_v same =
 pub found_unit : (units : List UnitOfWork) (key : UnitKey) (unit : UnitOfWork) → unit_at units key ≡ Some unit → Contains units unit × (unit.key ≡ key)
 found_unit [] key unit h = cc
 found_unit (u ∷ units) key unit h =
-    elim (same_unit u.key key) as (λ b. same_unit u.key key ≡ b → cond b (Some u) (unit_at units key) ≡ Some unit → Contains (u ∷ units) unit × (unit.key ≡ key)) [
-      | true ↦ λ is at. let e : u ≡ unit = cc in (subst (λ x. Contains (u ∷ units) x) e (contains_here u units), ap (λ (x : UnitOfWork). x.key) (sym e) ∙ one_unit u.key key is)
+    elim (same_unit u.key key)
+    as (λ b. same_unit u.key key ≡ b → cond b (Some u) (unit_at units key) ≡ Some unit → Contains (u ∷ units) unit × (unit.key ≡ key)) [
+      | true ↦ λ is at. let e : u ≡ unit = cc in
+          (subst (λ x. Contains (u ∷ units) x) e (contains_here u units), ap (λ (x : UnitOfWork). x.key) (sym e) ∙ one_unit u.key key is)
       | false ↦ λ is at. let r = found_unit units key unit at in (contains_there u units unit r.0, r.1)
     ] refl h

@@ -81,14 +81,18 @@ seq_within marks n m is h =
 abbrev pub mark_key : Mark → List ℕ
 mark_key m = big_bytes 8 m.seq
 
-pub marks_rise : (marks : List Mark) (a n : ℕ) (low : List ℕ) → seqs marks ≡ range_with_len a n → a + n ≤ 256 ^ 8 → ((i : ℕ) → a ≤ i → i < 256 ^ 8 → is_below low (big_bytes 8 i) ≡ true)
+pub marks_rise : (marks : List Mark) (a n : ℕ) (low : List ℕ) → seqs marks ≡ range_with_len a n → a + n ≤ 256 ^ 8
+    → ((i : ℕ) → a ≤ i → i < 256 ^ 8 → is_below low (big_bytes 8 i) ≡ true)
     → Rises mark_key low marks
 marks_rise [] a n low is fits above = tt
 marks_rise (m ∷ marks) a zero low is fits above = cc
 marks_rise (m ∷ marks) a (suc n) low is fits above =
     let first : m.seq ≡ a = cc in
-    let rest : seqs marks ≡ range_with_len (a + 1) n = cc in
-    (above m.seq (omega arith) (omega arith), marks_rise marks (a + 1) n (mark_key m) rest (omega arith) (λ i more high. bytes_below 8 m.seq i (omega arith) high))
+    let rest : seqs marks ≡ range_with_len (a + 1) n = cc in (
+      above m.seq (omega arith) (omega arith),
+      marks_rise marks (a + 1) n (mark_key m) rest (omega arith)
+          (λ i more high. bytes_below 8 m.seq i (omega arith) high),
+    )
 
 -- ---- the grammar
 
@@ -137,7 +141,8 @@ module _ (ledger : Ledger) (law : IsLawful ledger) where
 
   business_fit : (r : Record) → IsBusinessOf (tables_of ledger.units ledger.marks) r → IsRecord r
   business_fit r at =
-      let row : IsRow at.name at.text = subst (λ o. IfSome o (IsRow at.name)) at.stored (business_fits ledger.units ledger.marks (recursion_from_All IsUnit ledger.units law.units) at.name) in
+      let row : IsRow at.name at.text = subst (λ o. IfSome o (IsRow at.name)) at.stored
+      (business_fits ledger.units ledger.marks (recursion_from_All IsUnit ledger.units law.units) at.name) in
       subst IsRecord at.is (row.table, row.key, row.spelt)
 
   -- each record of the ledger is in the grammar
@@ -199,7 +204,8 @@ marks_distinct (m ∷ marks) low rise =
     (spot_apart (spot_of (mark_row m)) (map mark_row marks) (λ d at same.
     let n = of_map mark_row marks d at in
     let key : mark_key m ≡ mark_key n.0 = ap (λ (s : Spot). s.1) (same ∙ ap spot_of (sym n.2)) in
-    let odd : true ≡ false = sym (rises_above mark_key (mark_key m) marks n.0 rise.1 n.1) ∙ ap (is_below (mark_key m)) (sym key) ∙ not_below_itself (mark_key m) in cc))
+    let odd : true ≡ false = sym (rises_above mark_key (mark_key m) marks n.0 rise.1 n.1) ∙ ap (is_below (mark_key m)) (sym key)
+    ∙ not_below_itself (mark_key m) in cc))
     (marks_distinct marks (mark_key m) rise.1)
 
 units_in : (units : List UnitOfWork) → InTables is_unit_table (flat_map unit_rows units)

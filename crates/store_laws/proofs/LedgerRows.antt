@@ -72,7 +72,8 @@ past p [] base q inside out = refl
 past p (c ∷ batch) base q inside out =
     past p batch (changed_once c base) q inside.1 out
     ∙ get_once c base q
-    ∙ ap (λ b. cond b (value_in c) (get base q)) (not_same q (spot_of c) (λ same. let odd : true ≡ false = sym inside.0 ∙ ap (λ (s : Spot). p s.0) (sym same) ∙ out in cc))
+    ∙ ap (λ b. cond b (value_in c) (get base q))
+    (not_same q (spot_of c) (λ same. let odd : true ≡ false = sym inside.0 ∙ ap (λ (s : Spot). p s.0) (sym same) ∙ out in cc))
 
 -- ---- what stands in the rows of a map
 
@@ -83,7 +84,8 @@ laid_back true write (Some x) base v R here there h = let is : write x ≡ v = c
 laid_back false write o base v R here there h = there h
 
 -- a row of the map, or one below
-map_cases : {X : Type 0} (table : ℕ) (write : X → List ℕ) (xs : FinMap row_cmp X) (base : Rows) (q : Spot) (v : List ℕ) → get (with_map table write xs base) q ≡ Some v
+map_cases : {X : Type 0} (table : ℕ) (write : X → List ℕ) (xs : FinMap row_cmp X) (base : Rows) (q : Spot) (v : List ℕ)
+    → get (with_map table write xs base) q ≡ Some v
     → ((name : RowName) × (x : X) × (get xs name ≡ Some x) × ((table, row_name name) ≡ q) × (write x ≡ v)) ⊎ (get base q ≡ Some v)
 map_cases {X} table write xs base q v h =
     laid_back (is_named table q) write (get xs (unname q.1)) (get base q) v
@@ -142,7 +144,8 @@ told_row ledger law r told =
     let base = map_rows ledger.levels tables in
     let inside = books_in is_book_table refl refl refl refl refl refl ledger in
     ⊎_elim
-    (λ at. settled (book_rows ledger) base (record_row r) (book_distinct ledger law) (subst (λ (rows : List Change). Contains rows (record_row r)) (book_is ledger law.started) (contains_map record_row (book_records ledger) r at)))
+    (λ at. settled (book_rows ledger) base (record_row r) (book_distinct ledger law)
+    (subst (λ (rows : List Change). Contains rows (record_row r)) (book_is ledger law.started) (contains_map record_row (book_records ledger) r at)))
     (λ maps. ⊎_elim
     (λ at. subst (λ (x : Record). get (rows_of ledger) (spot_of (record_row x)) ≡ value_in (record_row x)) at.is
     (past is_book_table (book_rows ledger) base (5, row_name at.name) inside refl
@@ -179,7 +182,8 @@ module _ (rows : Rows) (ledger : Ledger) (law : IsLawful ledger) (exact : own ro
       (at.one, at.told, spells_row at.one q v (told_fits ledger law at.one at.told) at.spot at.value)
 
   -- each record of the store is one of the ledger
-  pub contained_told : (records : List (List Record)) → SpellAll rows records → (table : ℕ) → table < 8 → (r : Record) → Contains (records_in records table) r → IsToldBy ledger r
+  pub contained_told : (records : List (List Record)) → SpellAll rows records → (table : ℕ) → table < 8 → (r : Record) → Contains (records_in records table) r
+      → IsToldBy ledger r
   contained_told records all table low r h =
       let q = spot_of (record_row r) in
       let v = value_there r in
@@ -187,7 +191,8 @@ module _ (rows : Rows) (ledger : Ledger) (law : IsLawful ledger) (exact : own ro
       subst (IsToldBy ledger) (one_record q.0 q.1 v.0 at.0 r at.2 (spells_row r q v.0 (grammar_of rows records all table low r h) refl v.1)) at.1
 
   -- each record of the ledger is one of the store
-  pub told_contained : (records : List (List Record)) → SpellAll rows records → (r : Record) → IsToldBy ledger r → Contains (records_in records (spot_of (record_row r)).0) r
+  pub told_contained : (records : List (List Record)) → SpellAll rows records → (r : Record) → IsToldBy ledger r
+      → Contains (records_in records (spot_of (record_row r)).0) r
   told_contained records all r told =
       let q = spot_of (record_row r) in
       let v = value_there r in
@@ -202,10 +207,12 @@ not_same_key a b below = false_from_ne_true (bytes_eq a b) (λ same.
     let odd : true ≡ false = sym itself ∙ not_below_itself b in cc)
 
 -- of rows whose keys rise each is the one with its key
-pub value_here : (low : List ℕ) (rows : List Row) (row : Row) → RiseFrom low rows → Contains rows row → (value_of row.key rows ≡ Some row.value) × (is_below low row.key ≡ true)
+pub value_here : (low : List ℕ) (rows : List Row) (row : Row) → RiseFrom low rows → Contains rows row → (value_of row.key rows ≡ Some row.value)
+    × (is_below low row.key ≡ true)
 value_here low [] row rise h = absurd (contains_none row h)
 value_here low (x ∷ rows) row rise h = ⊎_elim
-    (λ e. subst (λ (z : Row). (value_of z.key (x ∷ rows) ≡ Some z.value) × (is_below low z.key ≡ true)) e (ap (λ b. cond b (Some x.value) (value_of x.key rows)) (bytes_eq-refl x.key), rise.0))
+    (λ e. subst (λ (z : Row). (value_of z.key (x ∷ rows) ≡ Some z.value) × (is_below low z.key ≡ true)) e
+    (ap (λ b. cond b (Some x.value) (value_of x.key rows)) (bytes_eq-refl x.key), rise.0))
     (λ there.
     let rest = value_here x.key rows row rise.1 there in
     (ap (λ b. cond b (Some x.value) (value_of row.key rows)) (not_same_key row.key x.key rest.1) ∙ rest.0, below_trans low x.key row.key rise.0 rest.1))
@@ -225,7 +232,8 @@ row_stands rows table row low h =
     ∙ at.0
 
 bad_there : (table : ℕ) (rows : List Row) (place : ℕ) (bad : IsFirstBad table rows place) → Contains rows bad.bad
-bad_there table rows place bad = subst (λ (xs : List Row). Contains xs bad.bad) (sym bad.whole) (Contains-append_right bad.front (bad.bad ∷ bad.rest) bad.bad (contains_here bad.bad bad.rest))
+bad_there table rows place bad = subst (λ (xs : List Row). Contains xs bad.bad) (sym bad.whole)
+    (Contains-append_right bad.front (bad.bad ∷ bad.rest) bad.bad (contains_here bad.bad bad.rest))
 
 nothing : {X : Type 0} (name : RowName) (x : X) → get {R = row_cmp} empty name ≡ Some x → ⊥
 nothing name x has = let odd : None ≡ Some x = sym (get-empty row_cmp name) ∙ has in cc
@@ -240,14 +248,18 @@ none_held q v h =
     (map_cases 6 (λ (text : List ℕ). text) empty empty q v lower))
     (map_cases 5 level_value empty (with_map 6 (λ (text : List ℕ). text) empty empty) q v h)
 
-all_spelled : (rows : Rows) (ledger : Ledger) → StandFor rows ledger → (table : ℕ) (row : Row) → table < 8 → Contains (rows_in rows table) row → IsSpelled table row
+all_spelled : (rows : Rows) (ledger : Ledger) → StandFor rows ledger → (table : ℕ) (row : Row) → table < 8 → Contains (rows_in rows table) row
+    → IsSpelled table row
 all_spelled rows ledger stand table row low h =
     let held = row_stands rows table row low h in
     ⊎_elim
-    (λ none. absurd (none_held (table, row.key) row.value (subst (λ (l : Ledger). get (rows_of l) (table, row.key) ≡ Some row.value) none (subst (λ (rs : Rows). get rs (table, row.key) ≡ Some row.value) stand.exact held))))
+    (λ none. absurd (none_held (table, row.key) row.value
+    (subst (λ (l : Ledger). get (rows_of l) (table, row.key) ≡ Some row.value) none
+    (subst (λ (rs : Rows). get rs (table, row.key) ≡ Some row.value) stand.exact held))))
     (λ law. let at = row_of_ledger rows ledger law stand.exact (table, row.key) row.value held in (at.0, at.2))
     stand.lawful
 
 -- each row of a good store is in the grammar
 pub good_rows_spelled : (rows : Rows) → IsGood rows → (table row : ℕ) → IsFirstBadRow rows table row → ⊥
-good_rows_spelled rows good table row bad = bad.here.outside (all_spelled rows good.0 good.1 table bad.here.bad bad.own (bad_there table (rows_in rows table) row bad.here))
+good_rows_spelled rows good table row bad =
+    bad.here.outside (all_spelled rows good.0 good.1 table bad.here.bad bad.own (bad_there table (rows_in rows table) row bad.here))

@@ -58,14 +58,16 @@ text_of false b c h k = cc
 
 sum_text : (z : ℤ) → IsTrue (is_i64 z) → IsText (signed_decimal z)
 sum_text z h =
-    text_of (list_all is_text_byte (signed_decimal z)) (nat_le 1 (length (signed_decimal z))) (nat_le (length (signed_decimal z)) 512) (integer_bytes z (small z h)) (integer_length z (small z h))
+    text_of (list_all is_text_byte (signed_decimal z)) (nat_le 1 (length (signed_decimal z))) (nat_le (length (signed_decimal z)) 512)
+    (integer_bytes z (small z h)) (integer_length z (small z h))
 
 abbrev OnOkText : Result (Option (List ℕ)) Reason → Type 0
 OnOkText (Ok text) = IfSome text IsText
 OnOkText (Err reason) = Unit {0}
 
 summed : (z : ℤ) → OnOkText (sum_row z)
-summed z = elim (is_i64 z) as (λ b. is_i64 z ≡ b → OnOkText (if b then Ok (Some (signed_decimal z)) else Err Overflow)) [ true ↦ λ is. sum_text z is | false ↦ λ is. tt ] refl
+summed z = elim (is_i64 z) as (λ b. is_i64 z ≡ b → OnOkText (if b then Ok (Some (signed_decimal z)) else Err Overflow))
+    [ true ↦ λ is. sum_text z is | false ↦ λ is. tt ] refl
 
 added : (m : Option ℤ) (n : ℤ) → OnOkText (added_row m n)
 added None n = tt
@@ -97,18 +99,21 @@ abbrev OnOkTables : Result Tables EffectFault → Type 0
 OnOkTables (Ok tables) = AreRows tables
 OnOkTables (Err fault) = Unit {0}
 
-applied_rows : (index : ℕ) (effects : List Effect) (tables : Tables) → AllByRecursion IsEffect effects → AreRows tables → OnOkTables (applied_from index effects tables)
+applied_rows : (index : ℕ) (effects : List Effect) (tables : Tables) → AllByRecursion IsEffect effects → AreRows tables
+    → OnOkTables (applied_from index effects tables)
 applied_rows index [] tables are all = all
 applied_rows index (effect ∷ effects) tables are all =
     elim (row_after (get tables (row_of effect)) effect.deed) as (λ r. OnOkText r
     → OnOkTables (elim r [ Ok row ↦ applied_from (index + 1) effects (with_row tables (row_of effect) row) | Err reason ↦ Err (fault.Refused index reason) ])) [
-      | Ok row ↦ λ is. applied_rows (index + 1) effects (with_row tables (row_of effect) row) are.1 (one_row tables (row_of effect) row all (left_row (row_of effect) row are.0.table are.0.key is))
+      | Ok row ↦ λ is. applied_rows (index + 1) effects (with_row tables (row_of effect) row) are.1
+          (one_row tables (row_of effect) row all (left_row (row_of effect) row are.0.table are.0.key is))
       | Err reason ↦ λ is. tt
     ] (deed_text (get tables (row_of effect)) effect.deed are.0.deed)
 
 posted_rows : (effects : List Effect) (tables : Tables) → AllByRecursion IsEffect effects → AreRows tables → AreRows (posted effects tables)
 posted_rows effects tables are all =
-    elim (applied effects tables) as (λ r. OnOkTables r → AreRows (tables_or tables r)) [ Ok after ↦ λ h. h | Err e ↦ λ h. all ] (applied_rows 1 effects tables are all)
+    elim (applied effects tables) as (λ r. OnOkTables r → AreRows (tables_or tables r)) [ Ok after ↦ λ h. h | Err e ↦ λ h. all ]
+    (applied_rows 1 effects tables are all)
 
 first_effects : (units : List UnitOfWork) (key : UnitKey) → AllByRecursion IsUnit units → AllByRecursion IsEffect (v1_of units key)
 first_effects [] key all = tt
@@ -126,7 +131,8 @@ second_effects (u ∷ units) key all =
       | false ↦ second_effects units key all.1
     ]
 
-part_effects : (units : List UnitOfWork) (seq : ℕ) (key : UnitKey) (kind : MarkKind) → AllByRecursion IsUnit units → AllByRecursion IsEffect (part_of units (record { seq = seq; unit = key; kind = kind }))
+part_effects : (units : List UnitOfWork) (seq : ℕ) (key : UnitKey) (kind : MarkKind) → AllByRecursion IsUnit units
+    → AllByRecursion IsEffect (part_of units (record { seq = seq; unit = key; kind = kind }))
 part_effects units seq key V1 all = first_effects units key all
 part_effects units seq key V2 all = second_effects units key all
 part_effects units seq key (Num numbers) all = tt
@@ -137,7 +143,8 @@ part_effects units seq key (Bad2 index reason) all = tt
 part_effects units seq key Again2 all = tt
 part_effects units seq key Gone all = tt
 
-rows_after : (units : List UnitOfWork) (tables : Tables) (marks : List Mark) → AllByRecursion IsUnit units → AreRows tables → AreRows (tables_after units tables marks)
+rows_after : (units : List UnitOfWork) (tables : Tables) (marks : List Mark) → AllByRecursion IsUnit units → AreRows tables
+    → AreRows (tables_after units tables marks)
 rows_after units tables [] are all = all
 rows_after units tables (m ∷ marks) are all =
     rows_after units (posted (part_of units m) tables) marks are (posted_rows (part_of units m) tables (part_effects units m.seq m.unit m.kind are) all)

@@ -54,7 +54,8 @@ meta_told (rec.Lock u index table mode count pattern ∷ []) n h = let odd : fal
 
 -- ---- the marks
 
-pub marks_told : (before marks : List Record) → AreRight (λ before. has_number (length before + 1)) before marks → map mark_row (marks_in marks) ≡ map record_row marks
+pub marks_told : (before marks : List Record) → AreRight (λ before. has_number (length before + 1)) before marks
+    → map mark_row (marks_in marks) ≡ map record_row marks
 marks_told before [] h = refl
 marks_told before (rec.Mark m ∷ marks) h = ap (λ (rows : List Change). mark_row m ∷ rows) (marks_told (before ++ rec.Mark m ∷ []) marks h.1)
 marks_told before (rec.Meta s n ∷ marks) h = let odd : false ≡ true = h.0 in cc
@@ -75,21 +76,26 @@ keys_after b key keys = cond b (key ∷ keys) keys
 
 pub first_recorded : (m : Mark) (marks : List Mark) → recorded (m ∷ marks) ≡ keys_after (is_rec m.kind) m.unit (recorded marks)
 first_recorded m marks =
-    elim (is_rec m.kind) as (λ b. map (λ (x : Mark). x.unit) (cond b (m ∷ filter (λ (x : Mark). is_rec x.kind) marks) (filter (λ (x : Mark). is_rec x.kind) marks)) ≡ keys_after b m.unit (recorded marks)) [
+    elim (is_rec m.kind)
+    as (λ b. map (λ (x : Mark). x.unit) (cond b (m ∷ filter (λ (x : Mark). is_rec x.kind) marks) (filter (λ (x : Mark). is_rec x.kind) marks)) ≡ keys_after
+    b m.unit (recorded marks)) [
       | true ↦ refl
       | false ↦ refl
     ]
 
-one_recorded : (b : Bool) (unit key : UnitKey) (keys : List UnitKey) (rest : Bool) → (Contains keys key → rest ≡ true) → Contains (keys_after b unit keys) key → ((b && same_unit unit key) || rest) ≡ true
+one_recorded : (b : Bool) (unit key : UnitKey) (keys : List UnitKey) (rest : Bool) → (Contains keys key → rest ≡ true) → Contains (keys_after b unit keys) key
+    → ((b && same_unit unit key) || rest) ≡ true
 one_recorded true unit key keys rest h at =
-    ⊎_elim (λ e. or_left (same_unit unit key) rest (same_unit_itself unit key e)) (λ there. or_right (same_unit unit key) rest (h there)) (contains_cases unit keys key at)
+    ⊎_elim (λ e. or_left (same_unit unit key) rest (same_unit_itself unit key e)) (λ there. or_right (same_unit unit key) rest (h there))
+    (contains_cases unit keys key at)
 one_recorded false unit key keys rest h at = h at
 
 -- a unit whose recording the marks tell is a recorded one
 pub key_recorded : (marks : List Record) (key : UnitKey) → Contains (recorded (marks_in marks)) key → is_recorded marks key ≡ true
 key_recorded [] key h = absurd (contains_none key h)
 key_recorded (rec.Mark m ∷ marks) key h =
-    one_recorded (is_rec m.kind) m.unit key (recorded (marks_in marks)) (is_recorded marks key) (key_recorded marks key) (subst (λ keys. Contains keys key) (first_recorded m (marks_in marks)) h)
+    one_recorded (is_rec m.kind) m.unit key (recorded (marks_in marks)) (is_recorded marks key) (key_recorded marks key)
+    (subst (λ keys. Contains keys key) (first_recorded m (marks_in marks)) h)
 key_recorded (rec.Meta s n ∷ marks) key h = key_recorded marks key h
 key_recorded (rec.Header u user v1 v2 locks numbers ∷ marks) key h = key_recorded marks key h
 key_recorded (rec.Module u part count ∷ marks) key h = key_recorded marks key h
@@ -98,7 +104,8 @@ key_recorded (rec.Level object nr from to level buffered ∷ marks) key h = key_
 key_recorded (rec.Business table k text ∷ marks) key h = key_recorded marks key h
 key_recorded (rec.Lock u index table mode count pattern ∷ marks) key h = key_recorded marks key h
 
-one_among : (b : Bool) (unit key : UnitKey) (keys : List UnitKey) (rest : Bool) → (rest ≡ true → Contains keys key) → ((b && same_unit unit key) || rest) ≡ true → Contains (keys_after b unit keys) key
+one_among : (b : Bool) (unit key : UnitKey) (keys : List UnitKey) (rest : Bool) → (rest ≡ true → Contains keys key) → ((b && same_unit unit key) || rest) ≡ true
+    → Contains (keys_after b unit keys) key
 one_among false unit key keys rest h is = h is
 one_among true unit key keys rest h is =
     elim (same_unit unit key) as (λ same. same_unit unit key ≡ same → (same || rest) ≡ true → Contains (unit ∷ keys) key) [
@@ -172,24 +179,28 @@ table_below (rec.Level object nr from to level buffered) = omega arith
 table_below (rec.Business table k text) = omega arith
 table_below (rec.Lock u index table mode count pattern) = omega arith
 
-row_agrees : (rows : Rows) (records : List (List Record)) → SpellAll rows records → (table : ℕ) → table < 8 → (c : Change) → Contains (map record_row (records_in records table)) c → Agrees (own rows) c
+row_agrees : (rows : Rows) (records : List (List Record)) → SpellAll rows records → (table : ℕ) → table < 8 → (c : Change)
+    → Contains (map record_row (records_in records table)) c → Agrees (own rows) c
 row_agrees rows records all table low c h =
     let at = of_map record_row (records_in records table) c h in
     subst (Agrees (own rows)) at.2 (record_stands rows records all table low at.0 at.1)
 
 -- the unit of a change, and its record
-unit_agrees : (rows : Rows) (records : List (List Record)) → SpellAll rows records → AreUnits records → (c : Change) → Contains (flat_map unit_rows (units_in records)) c → Agrees (own rows) c
+unit_agrees : (rows : Rows) (records : List (List Record)) → SpellAll rows records → AreUnits records → (c : Change)
+    → Contains (flat_map unit_rows (units_in records)) c → Agrees (own rows) c
 unit_agrees rows records all units c h =
     let keys = recorded (marks_in (records_in records 4)) in
     let unit = of_flat unit_rows (units_in records) c h in
     let key = of_map (unit_for records) keys unit.0 unit.1 in
     let row : Contains (unit_rows (unit_for records key.0)) c = subst (λ u. Contains (unit_rows u) c) (sym key.2) unit.2 in
-    let at = of_map record_row (records_of (unit_for records key.0)) c (subst (λ (rows : List Change). Contains rows c) (sym (unit_is (unit_for records key.0))) row) in
+    let at = of_map record_row (records_of (unit_for records key.0)) c
+    (subst (λ (rows : List Change). Contains rows c) (sym (unit_is (unit_for records key.0))) row) in
     let stands = units.stand key.0 (key_recorded (records_in records 4) key.0 key.1) at.0 at.1 in
     subst (Agrees (own rows)) at.2 (record_stands rows records all (spot_of (record_row at.0)).0 (table_below at.0) at.0 stands)
 
 -- the rows have each row of the books
-pub books_agree : (rows : Rows) (records : List (List Record)) → SpellAll rows records → AreUnits records → AllByRecursion (Agrees (own rows)) (told_rows records)
+pub books_agree : (rows : Rows) (records : List (List Record)) → SpellAll rows records → AreUnits records
+    → AllByRecursion (Agrees (own rows)) (told_rows records)
 books_agree rows records all units = each_contained (Agrees (own rows)) (told_rows records) (λ c h.
     let book = flat_map unit_rows (units_in records) in
     let marks = map record_row (records_in records 4) in
@@ -202,7 +213,8 @@ books_agree rows records all units = each_contained (Agrees (own rows)) (told_ro
 
 pub meta_booked : (records : List (List Record)) (r : Record) → Contains (records_in records 0) r → Contains (told_rows records) (record_row r)
 meta_booked records r h =
-    Contains-append_right (flat_map unit_rows (units_in records) ++ map record_row (records_in records 4)) (map record_row (records_in records 0)) (record_row r) (contains_map record_row (records_in records 0) r h)
+    Contains-append_right (flat_map unit_rows (units_in records) ++ map record_row (records_in records 4)) (map record_row (records_in records 0))
+    (record_row r) (contains_map record_row (records_in records 0) r h)
 
 pub mark_booked : (records : List (List Record)) (r : Record) → Contains (records_in records 4) r → Contains (told_rows records) (record_row r)
 mark_booked records r h =
@@ -218,6 +230,7 @@ unit_booked records r at =
     let keys = recorded (marks_in (records_in records 4)) in
     let unit = contains_map (unit_for records) keys at.0 (recorded_key (records_in records 4) at.0 at.1) in
     let row : Contains (unit_rows (unit_for records at.0)) (record_row r) =
-    subst (λ (rows : List Change). Contains rows (record_row r)) (unit_is (unit_for records at.0)) (contains_map record_row (records_of (unit_for records at.0)) r at.2) in
+    subst (λ (rows : List Change). Contains rows (record_row r)) (unit_is (unit_for records at.0))
+    (contains_map record_row (records_of (unit_for records at.0)) r at.2) in
     Contains-append_left (book ++ marks) (map record_row (records_in records 0)) (record_row r)
     (Contains-append_left book marks (record_row r) (contains_flat unit_rows (units_in records) (unit_for records at.0) (record_row r) unit row))

@@ -16,13 +16,15 @@ use Rattle.store_reading.specs.declared.fault.ReadingFault.TheVariants.{Failed, 
 
 -- ---- a fault of the keeper, handed on
 
-pub fault_cause : {T U : Type 0} (before now : ℕ) (fault : KeepFault) (e : ReadingFault) → e ≡ reading_fault fault → HasFaultCause {T = T} before now (Err fault) → HasReadingCause {T = U} before now (Err e)
+pub fault_cause : {T U : Type 0} (before now : ℕ) (fault : KeepFault) (e : ReadingFault) → e ≡ reading_fault fault
+    → HasFaultCause {T = T} before now (Err fault) → HasReadingCause {T = U} before now (Err e)
 fault_cause {T} {U} before now keep.Failed e is h =
     subst (λ e. HasReadingCause {T = U} before now (Err e)) (sym is) (record { later = h.later; failed = h.failed; quiet = tt })
 fault_cause {T} {U} before now keep.NoMemory e is h =
     subst (λ e. HasReadingCause {T = U} before now (Err e)) (sym is) (record { later = h.later; failed = tt; quiet = h.quiet })
 
-pub fault_stays : (T U : Type 0) (P : Type 0) (fault : KeepFault) (e : ReadingFault) → e ≡ reading_fault fault → keeping.UnlessFailed {T = T} (Err fault) P → UnlessFailed {T = U} (Err e) P
+pub fault_stays : (T U : Type 0) (P : Type 0) (fault : KeepFault) (e : ReadingFault) → e ≡ reading_fault fault → keeping.UnlessFailed {T = T} (Err fault) P
+    → UnlessFailed {T = U} (Err e) P
 fault_stays T U P keep.Failed e is h = subst (λ e. UnlessFailed {T = U} (Err e) P) (sym is) tt
 fault_stays T U P keep.NoMemory e is h = subst (λ e. UnlessFailed {T = U} (Err e) P) (sym is) h
 
@@ -30,7 +32,8 @@ pub fault_not_bad : (P : ℕ → ℕ → Type 0) (fault : KeepFault) (e : Readin
 fault_not_bad P keep.Failed e is = subst (λ e. OnBad e P) (sym is) tt
 fault_not_bad P keep.NoMemory e is = subst (λ e. OnBad e P) (sym is) tt
 
-pub fault_not_bad_in : (held : Option Rows) (P : Rows → ℕ → ℕ → Type 0) (fault : KeepFault) (e : ReadingFault) → e ≡ reading_fault fault → IfSome held (λ rows. OnBad e (P rows))
+pub fault_not_bad_in : (held : Option Rows) (P : Rows → ℕ → ℕ → Type 0) (fault : KeepFault) (e : ReadingFault) → e ≡ reading_fault fault
+    → IfSome held (λ rows. OnBad e (P rows))
 fault_not_bad_in None P fault e is = tt
 fault_not_bad_in (Some rows) P fault e is = fault_not_bad (P rows) fault e is
 
@@ -51,17 +54,20 @@ decoded_read table items slice (Err e) same rise each = tt
 decoded_read table items slice (Ok records) same rise each = (slice, subst (RiseFrom []) (sym same) rise, each)
 
 pub decoded_bad : (held : Option Rows) (table : ℕ) (items slice : List Row) (r : Decoded) → slice ≡ items → IfSome held (λ rows. items ≡ rows_in rows table)
-    → IfErr r (λ fault. OnBad fault (λ t row. (t ≡ table) × IsFirstBad table slice row)) → IfErr r (λ fault. IfSome held (λ rows. OnBad fault (λ t row. (t ≡ table) × IsFirstBad table (rows_in rows table) row)))
+    → IfErr r (λ fault. OnBad fault (λ t row. (t ≡ table) × IsFirstBad table slice row))
+    → IfErr r (λ fault. IfSome held (λ rows. OnBad fault (λ t row. (t ≡ table) × IsFirstBad table (rows_in rows table) row)))
 decoded_bad held table items slice (Ok records) same read bad = tt
 decoded_bad None table items slice (Err e) same read bad = tt
 decoded_bad (Some rows) table items slice (Err e) same read bad = subst (λ xs. OnBad e (λ t row. (t ≡ table) × IsFirstBad table xs row)) (same ∙ read) bad
 
-may_be_bad : (table : ℕ) (rows : List Row) (fault : ReadingFault) → table < 8 → OnBad fault (λ t row. (t ≡ table) × IsFirstBad table rows row) → MayBeFault fault
+may_be_bad : (table : ℕ) (rows : List Row) (fault : ReadingFault) → table < 8 → OnBad fault (λ t row. (t ≡ table) × IsFirstBad table rows row)
+    → MayBeFault fault
 may_be_bad table rows Failed own bad = tt
 may_be_bad table rows NoMemory own bad = tt
 may_be_bad table rows (Bad t row) own bad = (omega (arith, bad.0), omega (arith, bad.1.counted))
 
-pub decoded_untold : (table : ℕ) (rows : List Row) (r : Decoded) → table < 8 → IfErr r (λ fault. OnBad fault (λ t row. (t ≡ table) × IsFirstBad table rows row)) → IfErr r MayBeFault
+pub decoded_untold : (table : ℕ) (rows : List Row) (r : Decoded) → table < 8 → IfErr r (λ fault. OnBad fault (λ t row. (t ≡ table) × IsFirstBad table rows row))
+    → IfErr r MayBeFault
 decoded_untold table rows (Ok records) own bad = tt
 decoded_untold table rows (Err e) own bad = may_be_bad table rows e own bad
 
@@ -92,7 +98,11 @@ unless_failed T U P Q Failed f h = tt
 unless_failed T U P Q (Bad t row) f h = f h
 unless_failed T U P Q NoMemory f h = f h
 
-pub cause_on : {T U : Type 0} (before mid now : ℕ) (e : ReadingFault) → mid ≡ before → HasReadingCause {T = T} mid now (Err e) → HasReadingCause {T = U} before now (Err e)
-cause_on {T} {U} before mid now Failed same h = subst (λ n. HasReadingCause {T = U} n now (Err Failed)) same (record { later = h.later; failed = h.failed; quiet = tt })
-cause_on {T} {U} before mid now (Bad t row) same h = subst (λ n. HasReadingCause {T = U} n now (Err (Bad t row))) same (record { later = h.later; failed = tt; quiet = h.quiet })
-cause_on {T} {U} before mid now NoMemory same h = subst (λ n. HasReadingCause {T = U} n now (Err NoMemory)) same (record { later = h.later; failed = tt; quiet = h.quiet })
+pub cause_on : {T U : Type 0} (before mid now : ℕ) (e : ReadingFault) → mid ≡ before → HasReadingCause {T = T} mid now (Err e)
+    → HasReadingCause {T = U} before now (Err e)
+cause_on {T} {U} before mid now Failed same h = subst (λ n. HasReadingCause {T = U} n now (Err Failed)) same
+    (record { later = h.later; failed = h.failed; quiet = tt })
+cause_on {T} {U} before mid now (Bad t row) same h = subst (λ n. HasReadingCause {T = U} n now (Err (Bad t row))) same
+    (record { later = h.later; failed = tt; quiet = h.quiet })
+cause_on {T} {U} before mid now NoMemory same h = subst (λ n. HasReadingCause {T = U} n now (Err NoMemory)) same
+    (record { later = h.later; failed = tt; quiet = h.quiet })

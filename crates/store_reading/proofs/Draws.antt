@@ -11,7 +11,8 @@ use Rattle.update_records.specs.Business.{is_from, numbers_from}
 use Rattle.store_reading.specs.Intervals.{are_apart}
 use Rattle.store_reading.proofs.Twins.{none_passes, pairs_push}
 
-pub numbers_push : (name : RowName) (xs : List Number) (x : Number) → numbers_from name (xs ++ x ∷ []) ≡ (if is_from name x then numbers_from name xs ++ x.number ∷ [] else numbers_from name xs)
+pub numbers_push : (name : RowName) (xs : List Number) (x : Number) → numbers_from name
+    (xs ++ x ∷ []) ≡ (if is_from name x then numbers_from name xs ++ x.number ∷ [] else numbers_from name xs)
 numbers_push name xs x =
     let number = λ (num : Number). num.number in
     let own = filter (is_from name) xs in
@@ -47,11 +48,13 @@ run_at xs from count i x h is low =
 
 pub run_more : (xs : List ℕ) (from count i x : ℕ) (all : Bool) → i < length xs → x ≡ get_or xs i 0 → i < count → x ≡ from + i
     → rest_runs xs from count i ≡ all → rest_runs xs from count (i + 1) ≡ all
-run_more xs from count i x all h is low same rest = sym (run_at xs from count i x h is low ∙ ap (λ b. b && rest_runs xs from count (i + 1)) (eq-eqb x (from + i) same)) ∙ rest
+run_more xs from count i x all h is low same rest =
+    sym (run_at xs from count i x h is low ∙ ap (λ b. b && rest_runs xs from count (i + 1)) (eq-eqb x (from + i) same)) ∙ rest
 
 pub run_differs : (xs : List ℕ) (from count i x : ℕ) (all : Bool) → i < length xs → x ≡ get_or xs i 0 → i < count → x ≢ from + i
     → rest_runs xs from count i ≡ all → false ≡ all
-run_differs xs from count i x all h is low other rest = sym (run_at xs from count i x h is low ∙ ap (λ b. b && rest_runs xs from count (i + 1)) (unequal x (from + i) other)) ∙ rest
+run_differs xs from count i x all h is low other rest =
+    sym (run_at xs from count i x h is low ∙ ap (λ b. b && rest_runs xs from count (i + 1)) (unequal x (from + i) other)) ∙ rest
 
 pub run_long : (xs : List ℕ) (from count i : ℕ) (all : Bool) → i < length xs → count ≤ i → rest_runs xs from count i ≡ all → false ≡ all
 run_long xs from count i all h high rest =

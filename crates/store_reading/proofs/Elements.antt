@@ -32,7 +32,8 @@ module _ {X Y : Type 0} where
   pub contains_map : (f : X → Y) (xs : List X) (x : X) → Contains xs x → Contains (map f xs) (f x)
   contains_map f [] x h = absurd (contains_none x h)
   contains_map f (y ∷ xs) x h =
-      ⊎_elim (λ e. subst (λ z. Contains (map f (y ∷ xs)) (f z)) e (contains_here (f y) (map f xs))) (λ at. contains_there (f y) (map f xs) (f x) (contains_map f xs x at)) (contains_cases y xs x h)
+      ⊎_elim (λ e. subst (λ z. Contains (map f (y ∷ xs)) (f z)) e (contains_here (f y) (map f xs)))
+      (λ at. contains_there (f y) (map f xs) (f x) (contains_map f xs x at)) (contains_cases y xs x h)
 
   pub of_map : (f : X → Y) (xs : List X) (z : Y) → Contains (map f xs) z → (x : X) × Contains xs x × (f x ≡ z)
   of_map f [] z h = absurd (contains_none z h)
@@ -42,9 +43,11 @@ module _ {X Y : Type 0} where
   pub contains_flat : (f : X → List Y) (xs : List X) (x : X) (z : Y) → Contains xs x → Contains (f x) z → Contains (flat_map f xs) z
   contains_flat f [] x z h at = absurd (contains_none x h)
   contains_flat f (y ∷ xs) x z h at =
-      ⊎_elim (λ e. Contains-append_left (f y) (flat_map f xs) z (subst (λ w. Contains (f w) z) (sym e) at)) (λ there. Contains-append_right (f y) (flat_map f xs) z (contains_flat f xs x z there at)) (contains_cases y xs x h)
+      ⊎_elim (λ e. Contains-append_left (f y) (flat_map f xs) z (subst (λ w. Contains (f w) z) (sym e) at))
+      (λ there. Contains-append_right (f y) (flat_map f xs) z (contains_flat f xs x z there at)) (contains_cases y xs x h)
 
   pub of_flat : (f : X → List Y) (xs : List X) (z : Y) → Contains (flat_map f xs) z → (x : X) × Contains xs x × Contains (f x) z
   of_flat f [] z h = absurd (contains_none z h)
   of_flat f (y ∷ xs) z h =
-      ⊎_elim (λ at. (y, contains_here y xs, at)) (λ at. let r = of_flat f xs z at in (r.0, contains_there y xs r.0 r.1, r.2)) (Contains-append_cases (f y) (flat_map f xs) z h)
+      ⊎_elim (λ at. (y, contains_here y xs, at)) (λ at. let r = of_flat f xs z at in (r.0, contains_there y xs r.0 r.1, r.2))
+      (Contains-append_cases (f y) (flat_map f xs) z h)

@@ -60,16 +60,20 @@ kept_rules records h =
 abbrev IsLedgerRow : List (List Record) → Tables → Spot → Type 0
 IsLedgerRow records tables q = IsBooked (told_rows records) q ⊎ (IsMapped 5 (levels_in (records_in records 5)) q ⊎ IsMapped 6 tables q)
 
-in_table : (records : List (List Record)) (r : Record) (q : Spot) → spot_of (record_row r) ≡ q → Contains (records_in records q.0) r → Contains (records_in records (spot_of (record_row r)).0) r
+in_table : (records : List (List Record)) (r : Record) (q : Spot) → spot_of (record_row r) ≡ q → Contains (records_in records q.0) r
+    → Contains (records_in records (spot_of (record_row r)).0) r
 in_table records r q spot h = subst (λ s. Contains (records_in records s.0) r) (sym spot) h
 
-one_told : (rows : Rows) (records : List (List Record)) (tables : Tables) → SpellAll rows records → AreUnits records → difference_from 1 (rows_for tables) (records_in records 6) ≡ None
+one_told : (rows : Rows) (records : List (List Record)) (tables : Tables) → SpellAll rows records → AreUnits records
+    → difference_from 1 (rows_for tables) (records_in records 6) ≡ None
     → (r : Record) (q : Spot) → spot_of (record_row r) ≡ q → Contains (records_in records (spot_of (record_row r)).0) r → IsLedgerRow records tables q
 one_told rows records tables all units none (rec.Meta s n) q spot h = inl (record_row (rec.Meta s n), meta_booked records _ h, spot)
 one_told rows records tables all units none (rec.Header u user v1 v2 locks numbers) q spot h =
     inl (record_row (rec.Header u user v1 v2 locks numbers), unit_booked records _ (units.headers _ h), spot)
-one_told rows records tables all units none (rec.Module u part count) q spot h = inl (record_row (rec.Module u part count), unit_booked records _ (units.modules _ h), spot)
-one_told rows records tables all units none (rec.Step u part index effect) q spot h = inl (record_row (rec.Step u part index effect), unit_booked records _ (units.steps _ h), spot)
+one_told rows records tables all units none (rec.Module u part count) q spot h =
+    inl (record_row (rec.Module u part count), unit_booked records _ (units.modules _ h), spot)
+one_told rows records tables all units none (rec.Step u part index effect) q spot h =
+    inl (record_row (rec.Step u part index effect), unit_booked records _ (units.steps _ h), spot)
 one_told rows records tables all units none (rec.Mark m) q spot h = inl (record_row (rec.Mark m), mark_booked records _ h, spot)
 one_told rows records tables all units none (rec.Level object nr from to level buffered) q spot h =
     inr (inl (subst (IsMapped 5 (levels_in (records_in records 5))) spot (level_mapped (records_in records 5) object nr from to level buffered h)))
@@ -83,11 +87,14 @@ one_told rows records tables all units none (rec.Lock u index table mode count p
 pub ledger_told : (records : List (List Record)) → is_bare records ≡ false → ledger_in records ≡ told_ledger records
 ledger_told records some = ap (λ b. if b then no_ledger else told_ledger records) some
 
-shelved : (rows : Rows) (records : List (List Record)) → SpellAll rows records → AreUnits records → AreKept records → AreShelved (own rows) (told_ledger records)
+shelved : (rows : Rows) (records : List (List Record)) → SpellAll rows records → AreUnits records → AreKept records
+    → AreShelved (own rows) (told_ledger records)
 shelved rows records all units kept =
     let tables = tables_of (units_in records) (marks_in (records_in records 4)) in
-    let same : tables_by (records_in records 3) (records_in records 4) ≡ tables = tables_follow (records_in records 3) (units_in records) units.effects (records_in records 4) in
-    let none : difference_from 1 (rows_for tables) (records_in records 6) ≡ None = subst (λ (t : Tables). difference_from 1 (rows_for t) (records_in records 6) ≡ None) same kept.business in
+    let same : tables_by (records_in records 3) (records_in records 4) ≡ tables =
+    tables_follow (records_in records 3) (units_in records) units.effects (records_in records 4) in
+    let none : difference_from 1 (rows_for tables) (records_in records 6) ≡ None =
+    subst (λ (t : Tables). difference_from 1 (rows_for t) (records_in records 6) ≡ None) same kept.business in
     let books = books_told records kept.meta kept.numbered in
     record {
       books = subst (AllByRecursion (Agrees (own rows))) (sym books) (books_agree rows records all units);
@@ -101,7 +108,8 @@ shelved rows records all units kept =
     }
 
 -- rows that break no rule are those of the ledger that their records spell
-pub exact : (rows : Rows) (records : List (List Record)) → SpellAll rows records → is_bare records ≡ false → AreUnits records → rule_fault records ≡ None → own rows ≡ rows_of (ledger_in records)
+pub exact : (rows : Rows) (records : List (List Record)) → SpellAll rows records → is_bare records ≡ false → AreUnits records → rule_fault records ≡ None
+    → own rows ≡ rows_of (ledger_in records)
 exact rows records all some units none =
     shelved_rows (own rows) (told_ledger records) (shelved rows records all units (kept_rules records none)) ∙ ap rows_of (sym (ledger_told records some))
 
@@ -116,7 +124,8 @@ pub record AreLawful (records : List (List Record)) : Type 0 where
   pub lawful : IsLawful (ledger_in records)
 
 -- the rows of a store that breaks no rule stand for the ledger that its records spell
-pub stand_for : (rows : Rows) (records : List (List Record)) → SpellAll rows records → store_fault records ≡ None → (is_bare records ≡ false → rule_fault records ≡ None → AreLawful records)
+pub stand_for : (rows : Rows) (records : List (List Record)) → SpellAll rows records → store_fault records ≡ None
+    → (is_bare records ≡ false → rule_fault records ≡ None → AreLawful records)
     → StandFor rows (ledger_in records)
 stand_for rows records all none right =
     elim (is_bare records) as (λ b. is_bare records ≡ b → (if b then None else rule_fault records) ≡ None → StandFor rows (ledger_in records)) [

@@ -137,8 +137,10 @@ locks_have records read right r h =
     told records r (lock_back (records_in records) w r here.0 here.1 there)
 
 -- the effects that the rows give a part are those of its unit
-pub first_part : (records : Lists) → AreRead records → rule_fault records ≡ None → (key : UnitKey) → effects_of (records_in records 3) key 1 ≡ v1_of (units_in records) key
+pub first_part : (records : Lists) → AreRead records → rule_fault records ≡ None → (key : UnitKey)
+    → effects_of (records_in records 3) key 1 ≡ v1_of (units_in records) key
 first_part records read right key = first_is (records_in records) (are_whole records read (breaks_none records right)) key
 
-pub second_part : (records : Lists) → AreRead records → rule_fault records ≡ None → (key : UnitKey) → effects_of (records_in records 3) key 2 ≡ v2_of (units_in records) key
+pub second_part : (records : Lists) → AreRead records → rule_fault records ≡ None → (key : UnitKey)
+    → effects_of (records_in records 3) key 2 ≡ v2_of (units_in records) key
 second_part records read right key = second_is (records_in records) (are_whole records read (breaks_none records right)) key

@@ -27,16 +27,19 @@ use Rattle.store_reading.proofs.Rising.{AreIn, In, in_all, table_of}
 use Rattle.store_reading.proofs.UnitFacts.{AreWhole, recorded_head, unit_at_key, unit_read, unit_whole}
 use Rattle.update_records.proofs.Status.{one_unit}
 
-effect_here : (b : Bool) (e : Effect) (rest : List Effect) → IsEffect e → AllByRecursion IsEffect rest → AllByRecursion IsEffect ((if b then e ∷ [] else []) ++ rest)
+effect_here : (b : Bool) (e : Effect) (rest : List Effect) → IsEffect e → AllByRecursion IsEffect rest
+    → AllByRecursion IsEffect ((if b then e ∷ [] else []) ++ rest)
 effect_here true e rest is all = (is, all)
 effect_here false e rest is all = all
 
 effects_fit : (key : UnitKey) (part : ℕ) (steps : List Record) → AreIn 3 steps → AllByRecursion IsEffect (effects_of steps key part)
 effects_fit key part [] all = tt
-effects_fit key part (rec.Step u p i e ∷ steps) all = effect_here (same_unit u key && nat_eq p part) e (effects_of steps key part) all.0.0.3 (effects_fit key part steps all.1)
+effects_fit key part (rec.Step u p i e ∷ steps) all = effect_here (same_unit u key && nat_eq p part) e (effects_of steps key part) all.0.0.3
+    (effects_fit key part steps all.1)
 effects_fit key part (r ∷ steps) all = effects_fit key part steps all.1
 
-entry_here : (b : Bool) (unit : UnitOfWork) (e : Entry) (rest : List Entry) → (b ≡ true → IsEntryOf unit e) → AllByRecursion (IsEntryOf unit) rest → AllByRecursion (IsEntryOf unit) ((if b then e ∷ [] else []) ++ rest)
+entry_here : (b : Bool) (unit : UnitOfWork) (e : Entry) (rest : List Entry) → (b ≡ true → IsEntryOf unit e) → AllByRecursion (IsEntryOf unit) rest
+    → AllByRecursion (IsEntryOf unit) ((if b then e ∷ [] else []) ++ rest)
 entry_here true unit e rest is all = (is refl, all)
 entry_here false unit e rest is all = all
 
@@ -61,17 +64,20 @@ entries_fit unit (r ∷ locks) all = entries_fit unit locks all.1
 
 -- ---- names
 
-name_here : (b : Bool) (key u : UnitKey) (n : LockName) (e : Entry) (names : List LockName) (entries : List Entry) → name_of e ≡ n → filter (is_named_for key) names ≡ map name_of entries
+name_here : (b : Bool) (key u : UnitKey) (n : LockName) (e : Entry) (names : List LockName) (entries : List Entry) → name_of e ≡ n
+    → filter (is_named_for key) names ≡ map name_of entries
     → cond b (n ∷ filter (is_named_for key) names) (filter (is_named_for key) names) ≡ map name_of ((if b then e ∷ [] else []) ++ entries)
 name_here true key u n e names entries is same = ap (λ ns. n ∷ ns) same ∙ ap (λ x. x ∷ map name_of entries) (sym is)
 name_here false key u n e names entries is same = same
 
-names_are : (headers : List Record) (user : List ℕ) (key : UnitKey) (locks : List Record) → AreIn 7 locks → ((r : Record) → In locks r → is_counted headers r ≡ true)
+names_are : (headers : List Record) (user : List ℕ) (key : UnitKey) (locks : List Record) → AreIn 7 locks
+    → ((r : Record) → In locks r → is_counted headers r ≡ true)
     → filter (is_named_for key) (flat_map (names_in headers) locks) ≡ map name_of (flat_map (entry_in user key) locks)
 names_are headers user key [] all counted = refl
 names_are headers user key (rec.Lock u i table mode count pattern ∷ locks) all counted =
     let e = entry_at user u table mode count pattern in
-    ap (λ b. filter (is_named_for key) ((if b then name_of e ∷ [] else []) ++ flat_map (names_in headers) locks)) (counted (rec.Lock u i table mode count pattern) (inl refl))
+    ap (λ b. filter (is_named_for key) ((if b then name_of e ∷ [] else []) ++ flat_map (names_in headers) locks))
+    (counted (rec.Lock u i table mode count pattern) (inl refl))
     ∙ name_here (same_unit u key) key u (name_of e) e (flat_map (names_in headers) locks) (flat_map (entry_in user key) locks) refl
     (names_are headers user key locks all.1 (λ r h. counted r (inr h)))
 names_are headers user key (r ∷ locks) all counted = let odd = all.0.1 in cc

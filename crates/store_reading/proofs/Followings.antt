@@ -20,7 +20,8 @@ pub record HaveEffects (steps : List Record) (units : List UnitOfWork) : Type 0 
   pub second : (key : UnitKey) → effects_of steps key 2 ≡ v2_of units key
 
 pub one_follows : (steps : List Record) (units : List UnitOfWork) → HaveEffects steps units → (tables : Tables) (seq : ℕ) (unit : UnitKey) (kind : MarkKind)
-    → tables_with steps tables (rec.Mark (record { seq = seq; unit = unit; kind = kind })) ≡ posted (part_of units (record { seq = seq; unit = unit; kind = kind })) tables
+    → tables_with steps tables (rec.Mark (record { seq = seq; unit = unit; kind = kind })) ≡ posted
+    (part_of units (record { seq = seq; unit = unit; kind = kind })) tables
 one_follows steps units have tables seq unit (Num numbers) = refl
 one_follows steps units have tables seq unit Rec = refl
 one_follows steps units have tables seq unit V1 = ap (λ (effects : List Effect). posted effects tables) (have.first unit)
@@ -31,7 +32,8 @@ one_follows steps units have tables seq unit (Bad2 index reason) = refl
 one_follows steps units have tables seq unit Again2 = refl
 one_follows steps units have tables seq unit Gone = refl
 
-all_follow : (steps : List Record) (units : List UnitOfWork) → HaveEffects steps units → (marks : List Record) (tables : Tables) → fold (tables_with steps) tables marks ≡ tables_after units tables (marks_in marks)
+all_follow : (steps : List Record) (units : List UnitOfWork) → HaveEffects steps units → (marks : List Record) (tables : Tables)
+    → fold (tables_with steps) tables marks ≡ tables_after units tables (marks_in marks)
 all_follow steps units have [] tables = refl
 all_follow steps units have (rec.Mark m ∷ marks) tables =
     all_follow steps units have marks (tables_with steps tables (rec.Mark m))
@@ -45,5 +47,6 @@ all_follow steps units have (rec.Business table key text ∷ marks) tables = all
 all_follow steps units have (rec.Lock u index table mode count pattern ∷ marks) tables = all_follow steps units have marks tables
 
 -- the tables that the records make are those of the units and of their marks
-pub tables_follow : (steps : List Record) (units : List UnitOfWork) → HaveEffects steps units → (marks : List Record) → tables_by steps marks ≡ tables_of units (marks_in marks)
+pub tables_follow : (steps : List Record) (units : List UnitOfWork) → HaveEffects steps units → (marks : List Record)
+    → tables_by steps marks ≡ tables_of units (marks_in marks)
 tables_follow steps units have marks = all_follow steps units have marks empty

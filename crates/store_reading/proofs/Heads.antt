@@ -35,7 +35,8 @@ counted v1 v2 locks numbers = record { v1 = v1; v2 = v2; locks = locks; numbers 
 abbrev pub HasNoHeader : UnitKey → List Record → Type 0
 HasNoHeader key headers = list_any (is_header key) headers ≡ false
 
-pub none_told : (headers : List Record) (key : UnitKey) (before : Counts) (none : List Number) → HasNoHeader key headers → IsTold headers key before before none none false []
+pub none_told : (headers : List Record) (key : UnitKey) (before : Counts) (none : List Number) → HasNoHeader key headers
+    → IsTold headers key before before none none false []
 none_told [] key before none h = record { counts = refl; numbers = refl; second = refl; user = refl }
 none_told (rec.Header u user v1 v2 locks numbers ∷ headers) key before none h =
     let parts = or_parts (same_unit u key) (list_any (is_header key) headers) h in
@@ -55,7 +56,8 @@ header_key : (key : UnitKey) (r : Record) → is_header key r ≡ true → key_o
 header_key key (rec.Header u user v1 v2 locks numbers) h = ap unit_bytes (one_unit u key h)
 header_key key r h = let odd : false ≡ true = h in cc
 
-none_behind : (key : UnitKey) (r : Record) (headers : List Record) → key_of r ≡ unit_bytes key → AllByRecursion (IsAbove (key_of r)) headers → HasNoHeader key headers
+none_behind : (key : UnitKey) (r : Record) (headers : List Record) → key_of r ≡ unit_bytes key → AllByRecursion (IsAbove (key_of r)) headers
+    → HasNoHeader key headers
 none_behind key r headers is above = false_from_ne_true (list_any (is_header key) headers) (λ e.
     let found = any_in (is_header key) headers e in
     not_again r found.0 headers above found.1 (is ∙ sym (header_key key found.0 found.2)))
@@ -66,7 +68,8 @@ no_or true b false h = h
 no_or false b c h = h
 
 told_first : (key : UnitKey) (user : List ℕ) (v1 v2 locks : ℕ) (numbers : List Number) (headers : List Record) (before : Counts) (none : List Number)
-    → AllByRecursion (IsAbove (unit_bytes key)) headers → IsTold (header key user v1 v2 locks numbers ∷ headers) key before (counted v1 v2 locks numbers) none numbers (nat_le 1 v2) user
+    → AllByRecursion (IsAbove (unit_bytes key)) headers → IsTold (header key user v1 v2 locks numbers ∷ headers) key before
+    (counted v1 v2 locks numbers) none numbers (nat_le 1 v2) user
 told_first key user v1 v2 locks numbers headers before none above =
     let rest = none_told headers key (counted v1 v2 locks numbers) numbers (none_behind key (header key user v1 v2 locks numbers) headers refl above) in
     record {
@@ -84,7 +87,8 @@ one_told (r ∷ headers) key user v1 v2 locks numbers before none rise (inl e) =
     (told_first key user v1 v2 locks numbers headers before none (subst (λ x. AllByRecursion (IsAbove (key_of x)) headers) e rise.0))
 one_told (rec.Header u other w1 w2 count nums ∷ headers) key user v1 v2 locks numbers before none rise (inr h) =
     let rest = one_told headers key user v1 v2 locks numbers before none rise.1 h in
-    let differ : same_unit u key ≡ false = false_from_ne_true (same_unit u key) (λ e. not_again (header u other w1 w2 count nums) (header key user v1 v2 locks numbers) headers rise.0 h (ap unit_bytes (one_unit u key e))) in
+    let differ : same_unit u key ≡ false = false_from_ne_true (same_unit u key)
+    (λ e. not_again (header u other w1 w2 count nums) (header key user v1 v2 locks numbers) headers rise.0 h (ap unit_bytes (one_unit u key e))) in
     record {
       counts = ap (λ b. counts_after key (if b then counted w1 w2 count nums else before) headers) differ ∙ rest.counts;
       numbers = ap (λ b. numbers_after key (if b then nums else none) headers) differ ∙ rest.numbers;
@@ -92,7 +96,8 @@ one_told (rec.Header u other w1 w2 count nums ∷ headers) key user v1 v2 locks 
       user = ap (λ b. option_map_or user_told (cond b (Some (header u other w1 w2 count nums)) (find (is_header key) headers)) []) differ ∙ rest.user;
     }
 one_told (r ∷ headers) key user v1 v2 locks numbers before none rise (inr h) =
-    let rest = one_told headers key user v1 v2 locks numbers before none rise.1 h in record { counts = rest.counts; numbers = rest.numbers; second = rest.second; user = rest.user }
+    let rest = one_told headers key user v1 v2 locks numbers before none rise.1 h in
+    record { counts = rest.counts; numbers = rest.numbers; second = rest.second; user = rest.user }
 
 -- ---- each unit
 
@@ -137,7 +142,8 @@ found_header headers key r rise h is = let odd : false ≡ true = is in cc
 
 -- a unit has one header, or nothing is told of it
 pub head_or_none : (headers : List Record) (key : UnitKey) → Rise headers → HasHead headers key ⊎ IsBare headers key
-head_or_none headers key rise = elim (list_any (is_header key) headers) as (λ b. list_any (is_header key) headers ≡ b → HasHead headers key ⊎ IsBare headers key) [
-  | true ↦ λ e. let found = any_in (is_header key) headers e in inl (found_header headers key found.0 rise found.1 found.2)
-  | false ↦ λ e. let told = none_told headers key no_counts [] e in inr (record { counts = told.counts; numbers = told.numbers; second = told.second })
-] refl
+head_or_none headers key rise = elim (list_any (is_header key) headers) as
+    (λ b. list_any (is_header key) headers ≡ b → HasHead headers key ⊎ IsBare headers key) [
+      | true ↦ λ e. let found = any_in (is_header key) headers e in inl (found_header headers key found.0 rise found.1 found.2)
+      | false ↦ λ e. let told = none_told headers key no_counts [] e in inr (record { counts = told.counts; numbers = told.numbers; second = told.second })
+    ] refl

@@ -19,10 +19,12 @@ use Rattle.store_reading.proofs.Members.{no_true}
 abbrev pub IsInTables : Option Place → Type 0
 IsInTables place = IfSome place (λ p. (p.table < 8) × (1 ≤ p.row))
 
-first_in : (is_right : List Record → Record → Bool) (table : ℕ) (before records : List Record) → table < 8 → IsInTables (first_wrong is_right table before records)
+first_in : (is_right : List Record → Record → Bool) (table : ℕ) (before records : List Record) → table < 8
+    → IsInTables (first_wrong is_right table before records)
 first_in is_right table before [] low = tt
 first_in is_right table before (r ∷ records) low =
-    elim (is_right before r) as (λ b. IsInTables (cond b (first_wrong is_right table (before ++ r ∷ []) records) (Some (record { table = table; row = length before + 1 })))) [
+    elim (is_right before r)
+    as (λ b. IsInTables (cond b (first_wrong is_right table (before ++ r ∷ []) records) (Some (record { table = table; row = length before + 1 })))) [
       | true ↦ first_in is_right table (before ++ r ∷ []) records low
       | false ↦ (low, omega arith)
     ]
@@ -53,7 +55,8 @@ unit_in headers modules steps marks locks =
     or_in _ _
     (or_in _ _
     (or_in _ _
-    (or_in _ _ (first_in (λ before. is_right_unit headers modules steps locks) 4 [] marks (omega arith)) (first_in (λ before. is_recorded_header marks) 1 [] headers (omega arith)))
+    (or_in _ _ (first_in (λ before. is_right_unit headers modules steps locks) 4 [] marks (omega arith))
+    (first_in (λ before. is_recorded_header marks) 1 [] headers (omega arith)))
     (first_in (λ before. is_counted headers) 2 [] modules (omega arith)))
     (first_in (λ before. is_counted headers) 3 [] steps (omega arith)))
     (first_in (λ before. is_counted headers) 7 [] locks (omega arith))
@@ -65,7 +68,8 @@ post_in steps marks business =
 level_in : (headers marks levels : List Record) → IsInTables (level_fault headers marks levels)
 level_in headers marks levels =
     or_in _ _ (first_in (λ before. is_right_level (committed headers marks)) 5 [] levels (omega arith))
-    (or_none (list_all (λ num. has_level levels (interval_of num)) (committed headers marks)) (record { table = 5; row = length levels + 1 }) (omega arith) (omega arith))
+    (or_none (list_all (λ num. has_level levels (interval_of num)) (committed headers marks)) (record { table = 5; row = length levels + 1 }) (omega arith)
+    (omega arith))
 
 pub rule_in : (records : List (List Record)) → IsInTables (rule_fault records)
 rule_in records =
@@ -81,7 +85,8 @@ rule_in records =
     (level_in (t 1) (t 4) (t 5))
 
 -- what is answered, where it is the place of the rules
-pub told_in : {E : Type 0} (records : List (List Record)) (result : Result (Option Place) E) → IfOk result (λ place. place ≡ rule_fault records) → IfOk result IsInTables
+pub told_in : {E : Type 0} (records : List (List Record)) (result : Result (Option Place) E) → IfOk result (λ place. place ≡ rule_fault records)
+    → IfOk result IsInTables
 told_in records (Ok place) is = subst IsInTables (sym is) (rule_in records)
 told_in records (Err e) is = tt
 
@@ -91,7 +96,8 @@ has_none-length : (records : List Record) → has_none records ≡ nat_eq (lengt
 has_none-length [] = refl
 has_none-length (r ∷ records) = sym (no_true (nat_eq (length (r ∷ records)) 0) (λ h. let odd = eqb-true (length (r ∷ records)) 0 h in absurd (omega arith)))
 
-bare_from : (xs : List (List Record)) (n i : ℕ) → i < n → list_all has_none (drop i (take n xs)) ≡ (has_none (records_in xs i) && list_all has_none (drop (suc i) (take n xs)))
+bare_from : (xs : List (List Record)) (n i : ℕ) → i < n → list_all has_none
+    (drop i (take n xs)) ≡ (has_none (records_in xs i) && list_all has_none (drop (suc i) (take n xs)))
 bare_from xs zero i h = absurd (omega arith)
 bare_from [] (suc n) zero h = refl
 bare_from [] (suc n) (suc i) h = refl
@@ -113,12 +119,14 @@ bare_at xs i records b h is test =
     ∙ ap (λ t. t && list_all has_none (drop (suc i) (take 8 xs))) (has_none-length records ∙ sym test)
     ∙ ap (λ k. b && list_all has_none (drop k (take 8 xs))) next
 
-pub bare_more : (xs : List (List Record)) (i : ℕ) (records : List Record) (b : Bool) → i < 8 → records ≡ records_in xs i → b ≡ nat_eq (length records) 0 → b ≡ true
+pub bare_more : (xs : List (List Record)) (i : ℕ) (records : List Record) (b : Bool) → i < 8 → records ≡ records_in xs i → b ≡ nat_eq (length records) 0
+    → b ≡ true
     → list_all has_none (drop i (take 8 xs)) ≡ is_bare xs → list_all has_none (drop (i + 1) (take 8 xs)) ≡ is_bare xs
 bare_more xs i records b h is test passes whole =
     sym (bare_at xs i records b h is test ∙ ap (λ t. t && list_all has_none (drop (i + 1) (take 8 xs))) passes) ∙ whole
 
-pub bare_not : (xs : List (List Record)) (i : ℕ) (records : List Record) (b : Bool) → i < 8 → records ≡ records_in xs i → b ≡ nat_eq (length records) 0 → b ≡ false
+pub bare_not : (xs : List (List Record)) (i : ℕ) (records : List Record) (b : Bool) → i < 8 → records ≡ records_in xs i → b ≡ nat_eq (length records) 0
+    → b ≡ false
     → list_all has_none (drop i (take 8 xs)) ≡ is_bare xs → false ≡ is_bare xs
 bare_not xs i records b h is test fails whole =
     sym (bare_at xs i records b h is test ∙ ap (λ t. t && list_all has_none (drop (i + 1) (take 8 xs))) fails) ∙ whole

@@ -23,10 +23,12 @@ use Rattle.store_reading.specs.declared.rules.Place.{Place}
 abbrev found : RowName → List Record → Option Level
 found name levels = find row_cmp name (flat_map level_entry levels)
 
-right_found : (numbers : List Number) (levels : List Record) → AllByRecursion (IsRightRow numbers) levels → (name : RowName) → IfSome (found name levels) (IsRightLevel name numbers)
+right_found : (numbers : List Number) (levels : List Record) → AllByRecursion (IsRightRow numbers) levels → (name : RowName)
+    → IfSome (found name levels) (IsRightLevel name numbers)
 right_found numbers [] all name = tt
 right_found numbers (rec.Level object nr from to level buffered ∷ levels) all name =
-    elim (same_row name (object, nr)) as (λ b. same_row name (object, nr) ≡ b → IfSome (cond b (Some (level_in from to level buffered)) (found name levels)) (IsRightLevel name numbers)) [
+    elim (same_row name (object, nr))
+    as (λ b. same_row name (object, nr) ≡ b → IfSome (cond b (Some (level_in from to level buffered)) (found name levels)) (IsRightLevel name numbers)) [
       | true ↦ λ e. subst (λ n. IsRightLevel n numbers (level_in from to level buffered)) (sym ((same_row-Decides name (object, nr)).0 e)) all.0
       | false ↦ λ e. right_found numbers levels all.1 name
     ] refl
@@ -41,7 +43,8 @@ level_found : (name : RowName) (levels : List Record) → has_level levels name 
 level_found name [] h = cc
 level_found name (rec.Level object nr from to level buffered ∷ levels) h =
     some_here (same_row name (object, nr)) (level_in from to level buffered) (found name levels)
-    (elim (or_cases (bytes_eq object name.0 && bytes_eq nr name.1) (has_level levels name) h) as (λ _. (same_row name (object, nr) ≡ true) ⊎ IsSome (found name levels)) [
+    (elim (or_cases (bytes_eq object name.0 && bytes_eq nr name.1) (has_level levels name) h)
+    as (λ _. (same_row name (object, nr) ≡ true) ⊎ IsSome (found name levels)) [
       | inl e ↦
           let both = and_parts (bytes_eq object name.0) (bytes_eq nr name.1) e in
           let first = bytes_eq-same object name.0 both.0 in
@@ -60,12 +63,17 @@ all_stored : (levels : List Record) (numbers : List Number) → list_all (λ num
     → AllByRecursion (λ num. IsSome (get (levels_in levels) (interval_of num))) numbers
 all_stored levels [] h = tt
 all_stored levels (num ∷ numbers) h =
-    let both = and_parts (has_level levels (interval_of num)) (list_all (λ n. has_level levels (interval_of n)) numbers) h in
-    (subst IsSome (sym (get-from_entries rows_total (flat_map level_entry levels) (interval_of num))) (level_found (interval_of num) levels both.0), all_stored levels numbers both.1)
+    let both = and_parts (has_level levels (interval_of num)) (list_all (λ n. has_level levels (interval_of n)) numbers) h in (
+      subst IsSome (sym (get-from_entries rows_total (flat_map level_entry levels) (interval_of num)))
+          (level_found (interval_of num) levels both.0),
+      all_stored levels numbers both.1,
+    )
 
-pub levels_agree : (levels : List Record) (numbers : List Number) → AllByRecursion (IsRightRow numbers) levels → missing_level levels numbers ≡ None → LevelsAgree (levels_in levels) numbers
+pub levels_agree : (levels : List Record) (numbers : List Number) → AllByRecursion (IsRightRow numbers) levels → missing_level levels numbers ≡ None
+    → LevelsAgree (levels_in levels) numbers
 levels_agree levels numbers all missing = record {
-  right = λ name. subst (λ x. IfSome x (IsRightLevel name numbers)) (sym (get-from_entries rows_total (flat_map level_entry levels) name)) (right_found numbers levels all name);
+  right = λ name. subst (λ x. IfSome x (IsRightLevel name numbers)) (sym (get-from_entries rows_total (flat_map level_entry levels) name))
+      (right_found numbers levels all name);
   stored = All-from_recursion (λ num. IsSome (get (levels_in levels) (interval_of num))) numbers
       (all_stored levels numbers (none_missing (list_all (λ num. has_level levels (interval_of num)) numbers) _ missing));
 }

@@ -46,11 +46,13 @@ covers_more spot spots (e ∷ effects) h =
 pub covered : (texts : BTreeMap TextId (List ℕ)) (effects : List Effect) → covers (map (spot_for texts) effects) effects ≡ true
 covered texts [] = refl
 covered texts (e ∷ effects) =
-    both (is_at (row_of e) (spot_for texts e) || list_any (is_at (row_of e)) (map (spot_for texts) effects)) (covers (map (spot_for texts) (e ∷ effects)) effects)
+    both (is_at (row_of e) (spot_for texts e) || list_any (is_at (row_of e)) (map (spot_for texts) effects))
+    (covers (map (spot_for texts) (e ∷ effects)) effects)
     (here (is_at (row_of e) (spot_for texts e)) _ ((is_at-Decides (row_of e) (spot_for texts e)).1 refl))
     (covers_more (spot_for texts e) (map (spot_for texts) effects) effects (covered texts effects))
 
-agree_at : (texts : BTreeMap TextId (List ℕ)) (tables : Tables) → AreTexts texts tables → (effects : List Effect) (k : ℕ) (d : Spot) → k < length (map (spot_for texts) effects)
+agree_at : (texts : BTreeMap TextId (List ℕ)) (tables : Tables) → AreTexts texts tables → (effects : List Effect) (k : ℕ) (d : Spot)
+    → k < length (map (spot_for texts) effects)
     → get tables (row_at (get_or (map (spot_for texts) effects) k d)) ≡ (get_or (map (spot_for texts) effects) k d).text
 agree_at texts tables are [] k d h = absurd (omega arith)
 agree_at texts tables are (e ∷ effects) zero d h = sym (are (row_of e))
@@ -59,18 +61,21 @@ agree_at texts tables are (e ∷ effects) (suc k) d h = agree_at texts tables ar
 agree : (texts : BTreeMap TextId (List ℕ)) (tables : Tables) → AreTexts texts tables → (effects : List Effect) → Agree (map (spot_for texts) effects) tables
 agree texts tables are effects = agree_at texts tables are effects
 
-pub done_for : (texts : BTreeMap TextId (List ℕ)) (effects : List Effect) (result : Result (Vec Spot) EffectFault) → IfOk result (λ after. IsDone (map (spot_for texts) effects) effects after.items)
+pub done_for : (texts : BTreeMap TextId (List ℕ)) (effects : List Effect) (result : Result (Vec Spot) EffectFault)
+    → IfOk result (λ after. IsDone (map (spot_for texts) effects) effects after.items)
     → IfOk result (λ after. (tables : Tables) → AreTexts texts tables → applied effects tables ≡ Ok (with_spots after.items tables))
 done_for texts effects (Ok after) done = λ tables are. done tables (agree texts tables are effects)
 done_for texts effects (Err fault) done = tt
 
-pub refused_for : (texts : BTreeMap TextId (List ℕ)) (effects : List Effect) (result : Result (Vec Spot) EffectFault) → IfErr result (IsRefused (map (spot_for texts) effects) effects)
+pub refused_for : (texts : BTreeMap TextId (List ℕ)) (effects : List Effect) (result : Result (Vec Spot) EffectFault)
+    → IfErr result (IsRefused (map (spot_for texts) effects) effects)
     → IfErr result (λ fault. (tables : Tables) → AreTexts texts tables → IsFaultOf (applied effects tables) fault)
 refused_for texts effects (Ok after) refused = tt
 refused_for texts effects (Err fault) refused = λ tables are. refused tables (agree texts tables are effects)
 
 -- one spot more is laid over the tables
-pub spots_more : (spots : List Spot) (done : ℕ) (place : ℕ) (spot : Spot) (tables : Tables) → done < length spots → place ≡ length spots - 1 - done → spot ≡ get_or spots place spot
+pub spots_more : (spots : List Spot) (done : ℕ) (place : ℕ) (spot : Spot) (tables : Tables) → done < length spots → place ≡ length spots - 1 - done
+    → spot ≡ get_or spots place spot
     → with_spots (drop (length spots - (done + 1)) spots) tables ≡ with_row (with_spots (drop (length spots - done) spots) tables) (row_at spot) spot.text
 spots_more spots done place spot tables low is there =
     let here : length spots - (done + 1) ≡ place = omega arith in

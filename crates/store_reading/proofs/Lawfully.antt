@@ -73,7 +73,8 @@ own_keys : (t : ℕ → List Record) (keys : List UnitKey) → map (λ (unit : U
 own_keys t [] = refl
 own_keys t (key ∷ keys) = ap (λ ks. key ∷ ks) (own_keys t keys)
 
-units_fit : (t : ℕ → List Record) → AreWhole t → (keys : List UnitKey) → ((key : UnitKey) → In keys key → is_recorded (t 4) key ≡ true) → AllByRecursion IsUnit (map (unit_at_key t) keys)
+units_fit : (t : ℕ → List Record) → AreWhole t → (keys : List UnitKey) → ((key : UnitKey) → In keys key → is_recorded (t 4) key ≡ true)
+    → AllByRecursion IsUnit (map (unit_at_key t) keys)
 units_fit t w [] known = tt
 units_fit t w (key ∷ keys) known = (unit_fits t w key (known key (inl refl)), units_fit t w keys (λ k h. known k (inr h)))
 
@@ -89,20 +90,25 @@ no_second t w key =
     ap is_empty_part (sym (second_is t w key))
     ∙ elim (head_or_none (t 1) key w.rise_headers) as (λ _. is_empty_part (effects_of (t 3) key 2) ≡ not (has_second (t 1) key)) [
       | inl head ↦ empty_is (effects_of (t 3) key 2) head.0.v2 (unit_read t w key head).second ∙ ap not (sym head.1.second)
-      | inr bare ↦ empty_is (effects_of (t 3) key 2) 0 ((part_read t w key 2 two_is_part).many ∙ ap (λ (c : Counts). c.v2) bare.counts) ∙ ap not (sym bare.second)
+      | inr bare ↦ empty_is (effects_of (t 3) key 2) 0 ((part_read t w key 2 two_is_part).many ∙ ap (λ (c : Counts). c.v2) bare.counts)
+          ∙ ap not (sym bare.second)
     ]
 
 -- ---- numbers
 
-numbers_same : (t : ℕ → List Record) → AreWhole t → (key : UnitKey) → numbers_at (t 1) key ≡ option_map_or (λ (unit : UnitOfWork). unit.numbers) (unit_at (units_by t) key) []
+numbers_same : (t : ℕ → List Record) → AreWhole t → (key : UnitKey) → numbers_at (t 1) key ≡ option_map_or (λ (unit : UnitOfWork). unit.numbers)
+    (unit_at (units_by t) key) []
 numbers_same t w key =
-    elim (is_recorded (t 4) key) as (λ b. is_recorded (t 4) key ≡ b → numbers_at (t 1) key ≡ option_map_or (λ (unit : UnitOfWork). unit.numbers) (if b then Some (unit_at_key t key) else None) []) [
+    elim (is_recorded (t 4) key)
+    as (λ b. is_recorded (t 4) key ≡ b → numbers_at (t 1) key ≡ option_map_or (λ (unit : UnitOfWork). unit.numbers)
+    (if b then Some (unit_at_key t key) else None) []) [
       | true ↦ λ e. refl
       | false ↦ λ e. (unknown_bare t w key e).numbers
     ] refl
     ∙ ap (λ u. option_map_or (λ (unit : UnitOfWork). unit.numbers) u []) (sym (unit_by t key))
 
-module _ (headers : List Record) (units : List UnitOfWork) (same : (key : UnitKey) → numbers_at headers key ≡ option_map_or (λ (unit : UnitOfWork). unit.numbers) (unit_at units key) []) where
+module _ (headers : List Record) (units : List UnitOfWork)
+    (same : (key : UnitKey) → numbers_at headers key ≡ option_map_or (λ (unit : UnitOfWork). unit.numbers) (unit_at units key) []) where
   numbers_kind : (m : Mark) (kind : MarkKind) → numbers_by headers (rec.Mark (record m { kind = kind })) ≡ numbers_in units (record m { kind = kind })
   numbers_kind m Rec = same m.unit
   numbers_kind m kind = refl
@@ -123,7 +129,14 @@ grammars table records all = All-from_recursion IsRecord records (all_weaker (λ
 
 -- the ledger of which the four parts are told
 abbrev spelled : Lists → Ledger
-spelled records = record { start = start_in (records_in records 0); units = units_in records; marks = marks_in (records_in records 4); levels = levels_in (records_in records 5) }
+spelled records =
+    record {
+      start = start_in (records_in records 0);
+      units = units_in records;
+      marks = marks_in (records_in records 4);
+      levels =
+          levels_in (records_in records 5);
+    }
 
 spelled_lawful : (records : Lists) → AreRead records → rule_fault records ≡ None → IsLawful (spelled records)
 spelled_lawful records read right =
@@ -138,13 +151,15 @@ spelled_lawful records read right =
     meta_read (t 0) (length (t 4)) (read_in 0 (t 0) r0) (meta_holds (has_meta (t 0) (length (t 4))) (record { table = 0; row = 1 }) none.meta) in
     let numbers : committed (t 1) (t 4) ≡ numbers_of (units_in records) (marks_in (t 4)) = committed_is (t 1) (units_in records) (numbers_same t w) (t 4) in
     let rows : All (IsRightRow (committed (t 1) (t 4))) (t 5) =
-    right_rows (committed (t 1) (t 4)) [] (t 5) (grammars 5 (t 5) (read_in 5 (t 5) r5)) (all_right (λ before. is_right_level (committed (t 1) (t 4))) 5 [] (t 5) (first_none _ _ none.levels)) in
+    right_rows (committed (t 1) (t 4)) [] (t 5) (grammars 5 (t 5) (read_in 5 (t 5) r5))
+    (all_right (λ before. is_right_level (committed (t 1) (t 4))) 5 [] (t 5) (first_none _ _ none.levels)) in
     record {
       started = meta.low;
       start = meta.fits;
       few = subst (λ n. n ≤ 1048576) (sym (all_marks [] (t 4) places)) meta.few;
       numbered = numbered (t 4) places;
-      marks = under_from (start_in (t 0)) (t 1) (t 2) (t 3) (t 7) [] (t 4) (grammars 4 (t 4) w.of_marks) marks (no_wrong_unit (t 1) (t 2) (t 3) (t 4) (t 7) none.units);
+      marks = under_from (start_in (t 0)) (t 1) (t 2) (t 3) (t 7) [] (t 4) (grammars 4 (t 4) w.of_marks) marks
+          (no_wrong_unit (t 1) (t 2) (t 3) (t 4) (t 7) none.units);
       legal = legal_from (start_in (t 0)) (t 1) (units_in records) [] (t 4) (no_second t w) marks;
       units = All-from_recursion IsUnit (units_in records) (units_fit t w (recorded (marks_in (t 4))) (recorded_known t));
       recorded = own_keys t (recorded (marks_in (t 4)));

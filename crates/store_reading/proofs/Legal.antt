@@ -27,15 +27,19 @@ Test = List Record → Record → Bool
 
 -- ---- no wrong record
 
-pub all_right : (is_right : Test) (table : ℕ) (before records : List Record) → first_wrong is_right table before records ≡ None → AreRight is_right before records
+pub all_right : (is_right : Test) (table : ℕ) (before records : List Record) → first_wrong is_right table before records ≡ None
+    → AreRight is_right before records
 all_right is_right table before [] h = tt
 all_right is_right table before (r ∷ records) h =
-    elim (is_right before r) as (λ b. is_right before r ≡ b → cond b (first_wrong is_right table (before ++ r ∷ []) records) (Some (record { table = table; row = length before + 1 })) ≡ None → AreRight is_right before (r ∷ records)) [
+    elim (is_right before r)
+    as (λ b. is_right before r ≡ b → cond b (first_wrong is_right table (before ++ r ∷ []) records)
+    (Some (record { table = table; row = length before + 1 })) ≡ None → AreRight is_right before (r ∷ records)) [
       | true ↦ λ is e. (is, all_right is_right table (before ++ r ∷ []) records e)
       | false ↦ λ is e. cc
     ] refl h
 
-pub none_wrong : (is_right : Test) (table : ℕ) (before records : List Record) → AreRight is_right before records → first_wrong is_right table before records ≡ None
+pub none_wrong : (is_right : Test) (table : ℕ) (before records : List Record) → AreRight is_right before records
+    → first_wrong is_right table before records ≡ None
 none_wrong is_right table before [] h = refl
 none_wrong is_right table before (r ∷ records) h =
     ap (λ b. cond b (first_wrong is_right table (before ++ r ∷ []) records) (Some (record { table = table; row = length before + 1 }))) h.0
@@ -43,7 +47,8 @@ none_wrong is_right table before (r ∷ records) h =
 
 -- ---- the first wrong record
 
-right_push : (is_right : Test) (before records : List Record) (r : Record) → AreRight is_right before records → is_right (before ++ records) r ≡ true → AreRight is_right before (records ++ r ∷ [])
+right_push : (is_right : Test) (before records : List Record) (r : Record) → AreRight is_right before records → is_right (before ++ records) r ≡ true
+    → AreRight is_right before (records ++ r ∷ [])
 right_push is_right before [] r h here = (subst (λ xs. is_right xs r ≡ true) (append-nil before) here, tt)
 right_push is_right before (x ∷ records) r h here =
     (h.0, right_push is_right (before ++ x ∷ []) records r h.1 (subst (λ xs. is_right xs r ≡ true) (sym (append_assoc before (x ∷ []) records)) here))
@@ -51,11 +56,14 @@ right_push is_right before (x ∷ records) r h here =
 some_is : (a b : Place) → Some a ≡ Some b → b ≡ a
 some_is a b h = cc
 
-pub is_first : (is_right : Test) (table : ℕ) (before records : List Record) (place : Place) → AreRight is_right [] before → first_wrong is_right table before records ≡ Some place
+pub is_first : (is_right : Test) (table : ℕ) (before records : List Record) (place : Place) → AreRight is_right [] before
+    → first_wrong is_right table before records ≡ Some place
     → IsFirstWrong is_right table (before ++ records) place
 is_first is_right table before [] place done h = cc
 is_first is_right table before (r ∷ records) place done h =
-    elim (is_right before r) as (λ b. is_right before r ≡ b → cond b (first_wrong is_right table (before ++ r ∷ []) records) (Some (record { table = table; row = length before + 1 })) ≡ Some place
+    elim (is_right before r)
+    as (λ b. is_right before r ≡ b → cond b (first_wrong is_right table (before ++ r ∷ []) records)
+    (Some (record { table = table; row = length before + 1 })) ≡ Some place
     → IsFirstWrong is_right table (before ++ r ∷ records) place) [
       | true ↦ λ is e. subst (λ xs. IsFirstWrong is_right table xs place) (append_assoc before (r ∷ []) records)
           (is_first is_right table (before ++ r ∷ []) records place (right_push is_right [] before r done is) e)
@@ -69,14 +77,16 @@ second_true true b h = h
 second_true false b h = cc
 
 -- where no mark is wrong, each is legal among units whose headers these are
-pub legal_from : (start : ℕ) (headers : List Record) (units : List UnitOfWork) (before records : List Record) → ((key : UnitKey) → has_no_v2 units key ≡ not (has_second headers key))
+pub legal_from : (start : ℕ) (headers : List Record) (units : List UnitOfWork) (before records : List Record)
+    → ((key : UnitKey) → has_no_v2 units key ≡ not (has_second headers key))
     → AreRight (is_right_mark start headers) before records → IsLegalAfter units (marks_in before) (marks_in records)
 legal_from start headers units before [] same h = tt
 legal_from start headers units before (rec.Mark m ∷ records) same h =
     let follows : may_follow (status_in headers (marks_in before) m.unit) m.kind ≡ true =
     second_true (nat_le m.unit.start start) _ (second_true (nat_le 1 m.unit.start) _ h.0) in (
       ap (λ b. may_follow (status_after b m.unit None (marks_in before)) m.kind) (same m.unit) ∙ follows,
-      subst (λ ms. IsLegalAfter units ms (marks_in records)) (marks_push before m) (legal_from start headers units (before ++ rec.Mark m ∷ []) records same h.1),
+      subst (λ ms. IsLegalAfter units ms (marks_in records)) (marks_push before m)
+          (legal_from start headers units (before ++ rec.Mark m ∷ []) records same h.1),
     )
 legal_from start headers units before (rec.Meta s n ∷ records) same h = let odd : false ≡ true = h.0 in cc
 legal_from start headers units before (rec.Header u user v1 v2 locks numbers ∷ records) same h = let odd : false ≡ true = h.0 in cc
@@ -125,11 +135,16 @@ pub first_true : (a b : Bool) → (a && b) ≡ true → a ≡ true
 first_true true b h = refl
 first_true false b h = cc
 
-kind_of : (headers modules steps locks : List Record) (m : Mark) (kind : MarkKind) → m.kind ≡ kind → HasFields kind → is_right_unit headers modules steps locks (rec.Mark m) ≡ true → IsKind kind
+kind_of : (headers modules steps locks : List Record) (m : Mark) (kind : MarkKind) → m.kind ≡ kind → HasFields kind
+    → is_right_unit headers modules steps locks (rec.Mark m) ≡ true → IsKind kind
 kind_of headers modules steps locks m (Num numbers) is has right =
     let few : (nat_le 1 (length numbers) && nat_le (length numbers) 64) ≡ true =
-    ap (λ (k : MarkKind). is_right_unit headers modules steps locks (rec.Mark (record m { kind = k }))) (sym is) ∙ right in
-    (leb-true 1 (length numbers) (first_true (nat_le 1 (length numbers)) _ few), leb-true (length numbers) 64 (second_true (nat_le 1 (length numbers)) _ few), has.each)
+    ap (λ (k : MarkKind). is_right_unit headers modules steps locks (rec.Mark (record m { kind = k }))) (sym is) ∙ right in (
+      leb-true 1 (length numbers) (first_true (nat_le 1 (length numbers)) _ few),
+      leb-true (length numbers) 64
+          (second_true (nat_le 1 (length numbers)) _ few),
+      has.each,
+    )
 kind_of headers modules steps locks m Rec is has right = tt
 kind_of headers modules steps locks m V1 is has right = tt
 kind_of headers modules steps locks m (Bad1 index reason) is has right = has
@@ -139,7 +154,8 @@ kind_of headers modules steps locks m (Bad2 index reason) is has right = has
 kind_of headers modules steps locks m Again2 is has right = tt
 kind_of headers modules steps locks m Gone is has right = tt
 
-under_one : (start : ℕ) (headers modules steps locks before : List Record) (m : Mark) → IsRecord (rec.Mark m) → is_right_mark start headers before (rec.Mark m) ≡ true
+under_one : (start : ℕ) (headers modules steps locks before : List Record) (m : Mark) → IsRecord (rec.Mark m)
+    → is_right_mark start headers before (rec.Mark m) ≡ true
     → is_right_unit headers modules steps locks (rec.Mark m) ≡ true → IsMarkUnder start m
 under_one start headers modules steps locks before m grammar right whole =
     let within = second_true (nat_le 1 m.unit.start) _ right in
@@ -151,11 +167,13 @@ under_one start headers modules steps locks before m grammar right whole =
       luw = grammar.1.luw;
     }
 
-pub under_from : (start : ℕ) (headers modules steps locks before records : List Record) → All IsRecord records → AreRight (is_right_mark start headers) before records
+pub under_from : (start : ℕ) (headers modules steps locks before records : List Record) → All IsRecord records
+    → AreRight (is_right_mark start headers) before records
     → AreRight (λ before. is_right_unit headers modules steps locks) before records → All (IsMarkUnder start) (marks_in records)
 under_from start headers modules steps locks before [] each h whole = All-from_recursion (IsMarkUnder start) [] tt
 under_from start headers modules steps locks before (rec.Mark m ∷ records) each h whole =
-    All-cons (IsMarkUnder start) m (marks_in records) (under_one start headers modules steps locks before m (All-head IsRecord (rec.Mark m) records each) h.0 whole.0)
+    All-cons (IsMarkUnder start) m (marks_in records)
+    (under_one start headers modules steps locks before m (All-head IsRecord (rec.Mark m) records each) h.0 whole.0)
     (under_from start headers modules steps locks (before ++ rec.Mark m ∷ []) records (All-tail IsRecord (rec.Mark m) records each) h.1 whole.1)
 under_from start headers modules steps locks before (rec.Meta s n ∷ records) each h whole = let odd : false ≡ true = h.0 in cc
 under_from start headers modules steps locks before (rec.Header u user v1 v2 c numbers ∷ records) each h whole = let odd : false ≡ true = h.0 in cc
@@ -169,6 +187,7 @@ pub first_none : (a b : Option Place) → option_or a b ≡ None → a ≡ None
 first_none None b h = refl
 first_none (Some place) b h = cc
 
-pub no_wrong_unit : (headers modules steps marks locks : List Record) → unit_fault headers modules steps marks locks ≡ None → AreRight (λ before. is_right_unit headers modules steps locks) [] marks
+pub no_wrong_unit : (headers modules steps marks locks : List Record) → unit_fault headers modules steps marks locks ≡ None
+    → AreRight (λ before. is_right_unit headers modules steps locks) [] marks
 no_wrong_unit headers modules steps marks locks h =
     all_right (λ before. is_right_unit headers modules steps locks) 4 [] marks (first_none _ _ (first_none _ _ (first_none _ _ (first_none _ _ h))))

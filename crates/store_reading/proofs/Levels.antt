@@ -27,13 +27,17 @@ none_equal n (x ∷ xs) h = (wrong_of (nat_eq n x) (first_true (not (nat_eq n x)
 distinct_of : (xs : List ℕ) → are_apart xs ≡ true → IsDistinct nat_eq xs
 unfolding IsDistinct
 distinct_of [] h = tt
-distinct_of (x ∷ xs) h = (none_equal x xs (first_true (list_all (λ m. not (nat_eq x m)) xs) _ h), distinct_of xs (second_true (list_all (λ m. not (nat_eq x m)) xs) _ h))
+distinct_of (x ∷ xs) h =
+    (none_equal x xs (first_true (list_all (λ m. not (nat_eq x m)) xs) _ h), distinct_of xs (second_true (list_all (λ m. not (nat_eq x m)) xs) _ h))
 
 within_of : (from level : ℕ) (xs : List ℕ) → list_all (λ n. nat_le from n && nat_le n level) xs ≡ true → AllByRecursion (λ n. (from ≤ n) × (n ≤ level)) xs
 within_of from level [] h = tt
 within_of from level (x ∷ xs) h =
-    let here = first_true (nat_le from x && nat_le x level) _ h in
-    ((leb-true from x (first_true (nat_le from x) _ here), leb-true x level (second_true (nat_le from x) _ here)), within_of from level xs (second_true (nat_le from x && nat_le x level) _ h))
+    let here = first_true (nat_le from x && nat_le x level) _ h in (
+      (leb-true from x (first_true (nat_le from x) _ here), leb-true x level (second_true (nat_le from x) _ here)),
+      within_of from level xs
+          (second_true (nat_le from x && nat_le x level) _ h),
+    )
 
 drawn_of : (buffered : Bool) (level : Level) (numbers : List ℕ) → are_drawn buffered level.from level.level numbers ≡ true → AreDrawn buffered level numbers
 drawn_of false level numbers h = bytes_eq-same numbers (range_with_len level.from (level.level + 1 - level.from)) h
@@ -69,7 +73,9 @@ right_one numbers (rec.Mark m) grammar h = let odd : false ≡ true = h in cc
 right_one numbers (rec.Business table key text) grammar h = let odd : false ≡ true = h in cc
 right_one numbers (rec.Lock u index table mode count pattern) grammar h = let odd : false ≡ true = h in cc
 
-pub right_rows : (numbers : List Number) (before levels : List Record) → All IsRecord levels → AreRight (λ before. is_right_level numbers) before levels → All (IsRightRow numbers) levels
+pub right_rows : (numbers : List Number) (before levels : List Record) → All IsRecord levels → AreRight (λ before. is_right_level numbers) before levels
+    → All (IsRightRow numbers) levels
 right_rows numbers before [] each h = All-from_recursion (IsRightRow numbers) [] tt
 right_rows numbers before (r ∷ levels) each h =
-    All-cons (IsRightRow numbers) r levels (right_one numbers r (All-head IsRecord r levels each) h.0) (right_rows numbers (before ++ r ∷ []) levels (All-tail IsRecord r levels each) h.1)
+    All-cons (IsRightRow numbers) r levels (right_one numbers r (All-head IsRecord r levels each) h.0)
+    (right_rows numbers (before ++ r ∷ []) levels (All-tail IsRecord r levels each) h.1)

@@ -27,10 +27,12 @@ record IsLevelRow (records : List Record) (name : RowName) (level : Level) : Typ
 later_level : (records : List Record) (name : RowName) (level : Level) (r : Record) → IsLevelRow records name level → IsLevelRow (r ∷ records) name level
 later_level records name level r at = record { one = at.one; there = contains_there r records at.one at.there; row = at.row }
 
-level_found : (records : List Record) (name : RowName) (level : Level) → find row_cmp name (flat_map level_entry records) ≡ Some level → IsLevelRow records name level
+level_found : (records : List Record) (name : RowName) (level : Level) → find row_cmp name (flat_map level_entry records) ≡ Some level
+    → IsLevelRow records name level
 level_found [] name level h = cc
 level_found (rec.Level object nr from to high buffered ∷ records) name level h =
-    elim (same_row name (object, nr)) as (λ b. same_row name (object, nr) ≡ b → cond b (Some (level_in from to high buffered)) (find row_cmp name (flat_map level_entry records)) ≡ Some level
+    elim (same_row name (object, nr))
+    as (λ b. same_row name (object, nr) ≡ b → cond b (Some (level_in from to high buffered)) (find row_cmp name (flat_map level_entry records)) ≡ Some level
     → IsLevelRow (rec.Level object nr from to high buffered ∷ records) name level) [
       | true ↦ λ is at.
           let same : name ≡ (object, nr) = (same_row-Decides name (object, nr)).0 is in
@@ -81,18 +83,21 @@ found_behind object nr (rec.Mark m) records at = record { level = at.level; foun
 found_behind object nr (rec.Business table key text) records at = record { level = at.level; found = at.found }
 found_behind object nr (rec.Lock u index table mode count pattern) records at = record { level = at.level; found = at.found }
 
-level_there : (object nr : List ℕ) (from to high : ℕ) (buffered : Bool) (records : List Record) → Contains records (rec.Level object nr from to high buffered) → IsFound records (object, nr)
+level_there : (object nr : List ℕ) (from to high : ℕ) (buffered : Bool) (records : List Record) → Contains records (rec.Level object nr from to high buffered)
+    → IsFound records (object, nr)
 level_there object nr from to high buffered [] h = absurd (contains_none _ h)
 level_there object nr from to high buffered (r ∷ records) h = ⊎_elim
     (λ same. subst (λ x. IsFound (x ∷ records) (object, nr)) (sym same) (record {
       level = level_in from to high buffered;
-      found = ap (λ b. cond b (Some (level_in from to high buffered)) (find row_cmp (object, nr) (flat_map level_entry records))) ((same_row-Decides (object, nr) (object, nr)).1 refl);
+      found = ap (λ b. cond b (Some (level_in from to high buffered)) (find row_cmp (object, nr) (flat_map level_entry records)))
+          ((same_row-Decides (object, nr) (object, nr)).1 refl);
     }))
     (λ there. found_behind object nr r records (level_there object nr from to high buffered records there))
     (contains_cases r records (rec.Level object nr from to high buffered) h)
 
 -- each row of an interval is that of one of the records
-pub level_mapped : (records : List Record) (object nr : List ℕ) (from to high : ℕ) (buffered : Bool) → Contains records (rec.Level object nr from to high buffered)
+pub level_mapped : (records : List Record) (object nr : List ℕ) (from to high : ℕ) (buffered : Bool)
+    → Contains records (rec.Level object nr from to high buffered)
     → IsMapped 5 (levels_in records) (5, row_name (object, nr))
 level_mapped records object nr from to high buffered h =
     let at = level_there object nr from to high buffered records h in

@@ -48,7 +48,8 @@ pub no_true : (b : Bool) → (b ≡ true → ⊥) → b ≡ false
 no_true true h = absurd (h refl)
 no_true false h = refl
 
-one_skipped : (b : Bool) (key : List ℕ) (row : Row) (rows : List Row) → (b ≡ true → bytes_eq key row.key ≡ false) → value_of key rows ≡ value_of key (cond b (row ∷ rows) rows)
+one_skipped : (b : Bool) (key : List ℕ) (row : Row) (rows : List Row) → (b ≡ true → bytes_eq key row.key ≡ false)
+    → value_of key rows ≡ value_of key (cond b (row ∷ rows) rows)
 one_skipped true key row rows h = sym (ap (λ c. cond c (Some row.value) (value_of key rows)) (h refl))
 one_skipped false key row rows h = refl
 
@@ -56,17 +57,21 @@ find_behind : (table : ℕ) (key : List ℕ) (es : Entries) → has_bytes key �
 find_behind table key [] h = refl
 find_behind table key (e ∷ es) h =
     elim (eq_by_cmp spot_cmp (table, key) e.0) as (λ b. eq_by_cmp spot_cmp (table, key) e.0 ≡ b
-    → cond b (Some e.1) (find spot_cmp (table, key) es) ≡ value_of key (map row_of (cond (is_behind table [] e) (e ∷ filter (is_behind table []) es) (filter (is_behind table []) es)))) [
+    → cond b (Some e.1) (find spot_cmp (table, key) es) ≡ value_of key
+    (map row_of (cond (is_behind table [] e) (e ∷ filter (is_behind table []) es) (filter (is_behind table []) es)))) [
       | true ↦ λ is.
           let same : (table, key) ≡ e.0 = same_spot (table, key) e.0 is in
           let at : nat_eq e.0.0 table ≡ true = eq-eqb e.0.0 table (ap (λ (s : Spot). s.0) (sym same)) in
           let spelt : key ≡ e.0.1 = ap (λ (s : Spot). s.1) same in
-          let in_table : is_behind table [] e ≡ true = and_from (nat_eq e.0.0 table) (is_below [] e.0.1) at (has_some e.0.1 (subst (λ k. has_bytes k ≡ true) spelt h)) in
+          let in_table : is_behind table [] e ≡ true = and_from (nat_eq e.0.0 table) (is_below [] e.0.1) at
+          (has_some e.0.1 (subst (λ k. has_bytes k ≡ true) spelt h)) in
           sym (ap (λ b. value_of key (map row_of (cond b (e ∷ filter (is_behind table []) es) (filter (is_behind table []) es)))) in_table
           ∙ ap (λ b. cond b (Some e.1) (value_of key (rows_behind table es))) (same_bytes key e.0.1 spelt))
       | false ↦ λ is.
           find_behind table key es h
-          ∙ elim (is_behind table [] e) as (λ b. is_behind table [] e ≡ b → value_of key (rows_behind table es) ≡ value_of key (map row_of (cond b (e ∷ filter (is_behind table []) es) (filter (is_behind table []) es)))) [
+          ∙ elim (is_behind table [] e)
+          as (λ b. is_behind table [] e ≡ b → value_of key (rows_behind table es) ≡ value_of key
+          (map row_of (cond b (e ∷ filter (is_behind table []) es) (filter (is_behind table []) es)))) [
             | true ↦ λ inside.
                 let other : bytes_eq key e.0.1 ≡ false = no_true (bytes_eq key e.0.1) (λ same.
                 let table_is : e.0.0 ≡ table = eqb-true e.0.0 table (first_true (nat_eq e.0.0 table) _ inside) in
@@ -100,7 +105,8 @@ above_first low (row ∷ rows) key value rise h =
       | false ↦ λ is at. below_trans low row.key key rise.0 (above_first row.key rows key value rise.1 at)
     ] refl h
 
-pub stands_among : (table : ℕ) (low : List ℕ) (rows : List Row) (records : List Record) (r : Record) → RiseFrom low rows → SpellEach table rows records → Contains records r → Stands table rows r
+pub stands_among : (table : ℕ) (low : List ℕ) (rows : List Row) (records : List Record) (r : Record) → RiseFrom low rows → SpellEach table rows records
+    → Contains records r → Stands table rows r
 stands_among table low [] [] r rise each h = absurd (contains_none r h)
 stands_among table low [] (x ∷ records) r rise each h = absurd each
 stands_among table low (row ∷ rows) [] r rise each h = absurd each
@@ -131,7 +137,9 @@ among_rows table [] [] key value each h = cc
 among_rows table [] (x ∷ records) key value each h = absurd each
 among_rows table (row ∷ rows) [] key value each h = absurd each
 among_rows table (row ∷ rows) (x ∷ records) key value each h =
-    elim (bytes_eq key row.key) as (λ b. bytes_eq key row.key ≡ b → cond b (Some row.value) (value_of key rows) ≡ Some value → (r : Record) × Contains (x ∷ records) r × Spells table key value r) [
+    elim (bytes_eq key row.key)
+    as (λ b. bytes_eq key row.key ≡ b → cond b (Some row.value) (value_of key rows) ≡ Some value → (r : Record) × Contains (x ∷ records) r
+    × Spells table key value r) [
       | true ↦ λ is at.
           let same : row.key ≡ key = sym (bytes_eq-same key row.key is) in
           let told : row.value ≡ value = cc in
@@ -147,18 +155,22 @@ pub are_read : (rows : Rows) (records : List (List Record)) → SpellAll rows re
 are_read rows records all table low = (rows_in rows table, rows_rise rows table, all table low)
 
 -- the row of a record
-pub stands_in : (rows : Rows) (records : List (List Record)) → SpellAll rows records → (table : ℕ) → table < 8 → (r : Record) → Contains (records_in records table) r → Stands table (rows_in rows table) r
+pub stands_in : (rows : Rows) (records : List (List Record)) → SpellAll rows records → (table : ℕ) → table < 8 → (r : Record)
+    → Contains (records_in records table) r → Stands table (rows_in rows table) r
 stands_in rows records all table low r h = stands_among table [] (rows_in rows table) (records_in records table) r (rows_rise rows table) (all table low) h
 
-pub grammar_of : (rows : Rows) (records : List (List Record)) → SpellAll rows records → (table : ℕ) → table < 8 → (r : Record) → Contains (records_in records table) r → IsRecord r
+pub grammar_of : (rows : Rows) (records : List (List Record)) → SpellAll rows records → (table : ℕ) → table < 8 → (r : Record)
+    → Contains (records_in records table) r → IsRecord r
 grammar_of rows records all table low r h = (stands_in rows records all table low r h).spells.grammar
 
 -- a record stands in the table of its row
-pub table_of : (rows : Rows) (records : List (List Record)) → SpellAll rows records → (table : ℕ) → table < 8 → (r : Record) → Contains (records_in records table) r → (spot_of (record_row r)).0 ≡ table
+pub table_of : (rows : Rows) (records : List (List Record)) → SpellAll rows records → (table : ℕ) → table < 8 → (r : Record)
+    → Contains (records_in records table) r → (spot_of (record_row r)).0 ≡ table
 table_of rows records all table low r h = ap (λ c. (spot_of c).0) (stands_in rows records all table low r h).spells.spelled
 
 -- the row of a record stands
-pub record_stands : (rows : Rows) (records : List (List Record)) → SpellAll rows records → (table : ℕ) → table < 8 → (r : Record) → Contains (records_in records table) r
+pub record_stands : (rows : Rows) (records : List (List Record)) → SpellAll rows records → (table : ℕ) → table < 8 → (r : Record)
+    → Contains (records_in records table) r
     → get (own rows) (spot_of (record_row r)) ≡ value_in (record_row r)
 record_stands rows records all table low r h =
     let s = stands_in rows records all table low r h in
@@ -179,13 +191,15 @@ pub record IsTold (records : List (List Record)) (spot : Spot) (value : List ℕ
   pub spells : Spells spot.0 spot.1 value one
 
 -- each row of the store is that of a record
-pub row_is_told : (rows : Rows) (records : List (List Record)) → SpellAll rows records → (spot : Spot) (value : List ℕ) → get (own rows) spot ≡ Some value → IsTold records spot value
+pub row_is_told : (rows : Rows) (records : List (List Record)) → SpellAll rows records → (spot : Spot) (value : List ℕ) → get (own rows) spot ≡ Some value
+    → IsTold records spot value
 row_is_told rows records all spot value h =
     elim (is_own spot) as (λ b. is_own spot ≡ b → cond b (get rows spot) None ≡ Some value → IsTold records spot value) [
       | true ↦ λ is at.
           let low : spot.0 < 8 = ltb-true spot.0 8 (first_true (nat_lt spot.0 8) _ is) in
           let bytes : has_bytes spot.1 ≡ true = second_true (nat_lt spot.0 8) _ is in
-          let s = among_rows spot.0 (rows_in rows spot.0) (records_in records spot.0) spot.1 value (all spot.0 low) (sym (get_in_table rows spot.0 spot.1 bytes) ∙ at) in
+          let s = among_rows spot.0 (rows_in rows spot.0) (records_in records spot.0) spot.1 value (all spot.0 low)
+          (sym (get_in_table rows spot.0 spot.1 bytes) ∙ at) in
           record { low = low; one = s.0; there = s.1; spells = s.2 }
       | false ↦ λ is at. cc
     ] refl (sym (get_own rows spot) ∙ h)

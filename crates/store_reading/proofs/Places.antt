@@ -28,13 +28,15 @@ Ups [] = Unit {0}
 Ups (n ∷ ns) = AllByRecursion (λ m. n < m) ns × Ups ns
 
 -- numbers that rise within these bounds, and are all there, are a run
-run_of : (ns : List ℕ) (k len : ℕ) → Ups ns → ((m : ℕ) → In ns m → (k ≤ m) × (m < k + len)) → ((m : ℕ) → k ≤ m → m < k + len → In ns m) → ns ≡ range_with_len k len
+run_of : (ns : List ℕ) (k len : ℕ) → Ups ns → ((m : ℕ) → In ns m → (k ≤ m) × (m < k + len)) → ((m : ℕ) → k ≤ m → m < k + len → In ns m)
+    → ns ≡ range_with_len k len
 run_of [] k zero ups within all = refl
 run_of [] k (suc len) ups within all = absurd (all k (omega arith) (omega arith))
 run_of (n ∷ ns) k zero ups within all = let bounds = within n (inl refl) in absurd (omega arith)
 run_of (n ∷ ns) k (suc len) ups within all =
     let bounds = within n (inl refl) in
-    let first : n ≡ k = elim (all k (omega arith) (omega arith)) as (λ _. n ≡ k) [ inl e ↦ e | inr h ↦ let low = in_all (λ m. n < m) ns k ups.0 h in absurd (omega arith) ] in
+    let first : n ≡ k = elim (all k (omega arith) (omega arith)) as (λ _. n ≡ k)
+    [ inl e ↦ e | inr h ↦ let low = in_all (λ m. n < m) ns k ups.0 h in absurd (omega arith) ] in
     let rest : ns ≡ range_with_len (k + 1) len = run_of ns (k + 1) len ups.1
     (λ m h. let low = in_all (λ m. n < m) ns m ups.0 h in let high = within m (inr h) in (omega arith, omega arith))
     (λ m low high. elim (all m (omega arith) (omega arith)) as (λ _. In ns m) [ inl e ↦ absurd (omega arith) | inr h ↦ h ]) in
@@ -46,7 +48,8 @@ range_all test k (suc len) m h low high =
     let parts = and_parts (test k) (list_all test (range_with_len (k + 1) len)) h in
     elim (nat_eq k m) as (λ b. nat_eq k m ≡ b → test m ≡ true) [
       | true ↦ λ e. subst (λ n. test n ≡ true) (eqb-true k m e) parts.0
-      | false ↦ λ e. range_all test (k + 1) len m parts.1 (let apart : (k ≡ m) → ⊥ = (λ s. let same : nat_eq k m ≡ true = eq-eqb k m s in cc) in omega arith) (omega arith)
+      | false ↦ λ e. range_all test (k + 1) len m parts.1 (let apart : (k ≡ m) → ⊥ = (λ s. let same : nat_eq k m ≡ true = eq-eqb k m s in cc) in omega arith)
+          (omega arith)
     ] refl
 
 pub in_map : {X Y : Type 0} (f : X → Y) (xs : List X) (x : X) → In xs x → In (map f xs) (f x)
@@ -85,7 +88,8 @@ row_is : (key : UnitKey) (part n : ℕ) (r : Record) → (table_of r ≡ 2 → �
 row_is key part n (rec.Module u p count) other = absurd (other refl)
 row_is key part n r other = refl
 
-step_rises : (u v : UnitKey) (p q i j : ℕ) (key : UnitKey) (part : ℕ) → i < 2 ^ 16 → j < 2 ^ 16 → (same_unit u key && nat_eq p part) ≡ true → (same_unit v key && nat_eq q part) ≡ true
+step_rises : (u v : UnitKey) (p q i j : ℕ) (key : UnitKey) (part : ℕ) → i < 2 ^ 16 → j < 2 ^ 16 → (same_unit u key && nat_eq p part) ≡ true
+    → (same_unit v key && nat_eq q part) ≡ true
     → is_below (unit_bytes u ++ p ∷ big_bytes 2 i) (unit_bytes v ++ q ∷ big_bytes 2 j) ≡ true → i < j
 step_rises u v p q i j key part fits_i fits_j own_i own_j above =
     let a = and_parts (same_unit u key) (nat_eq p part) own_i in
@@ -97,7 +101,8 @@ step_rises u v p q i j key part fits_i fits_j own_i own_j above =
     ∙ ap (λ n. is_below (unit_bytes u ++ n ∷ big_bytes 2 i) (unit_bytes v ++ q ∷ big_bytes 2 j)) (sym parts) ∙ above in
     number_rises 2 i j (omega arith) (omega arith) (sym (below_behind (unit_bytes v ++ q ∷ []) (big_bytes 2 i) (big_bytes 2 j)) ∙ same)
 
-lock_rises : (u v : UnitKey) (i j : ℕ) (key : UnitKey) (part : ℕ) → i < 2 ^ 32 → j < 2 ^ 32 → (same_unit u key && nat_eq 0 part) ≡ true → (same_unit v key && nat_eq 0 part) ≡ true
+lock_rises : (u v : UnitKey) (i j : ℕ) (key : UnitKey) (part : ℕ) → i < 2 ^ 32 → j < 2 ^ 32 → (same_unit u key && nat_eq 0 part) ≡ true
+    → (same_unit v key && nat_eq 0 part) ≡ true
     → is_below (unit_bytes u ++ big_bytes 4 i) (unit_bytes v ++ big_bytes 4 j) ≡ true → i < j
 lock_rises u v i j key part fits_i fits_j own_i own_j above =
     let a = and_parts (same_unit u key) (nat_eq 0 part) own_i in
@@ -108,9 +113,12 @@ lock_rises u v i j key part fits_i fits_j own_i own_j above =
     number_rises 4 i j (omega arith) (omega arith) (sym (below_behind (unit_bytes v) (big_bytes 4 i) (big_bytes 4 j)) ∙ same)
 
 -- a later row of a part has a later place
-place_rises : (key : UnitKey) (part : ℕ) (r s : Record) → IsRecord r → IsRecord s → table_of r ≡ table_of s → is_own key part r ≡ true → is_own key part s ≡ true → IsAbove (key_of r) s → place_of r < place_of s
-place_rises key part (rec.Step u p i e) (rec.Step v q j f) is_r is_s same own_r own_s above = step_rises u v p q i j key part is_r.2.1 is_s.2.1 own_r own_s above
-place_rises key part (rec.Lock u i t m c w) (rec.Lock v j t' m' c' w') is_r is_s same own_r own_s above = lock_rises u v i j key part is_r.1.1 is_s.1.1 own_r own_s above
+place_rises : (key : UnitKey) (part : ℕ) (r s : Record) → IsRecord r → IsRecord s → table_of r ≡ table_of s → is_own key part r ≡ true
+    → is_own key part s ≡ true → IsAbove (key_of r) s → place_of r < place_of s
+place_rises key part (rec.Step u p i e) (rec.Step v q j f) is_r is_s same own_r own_s above =
+    step_rises u v p q i j key part is_r.2.1 is_s.2.1 own_r own_s above
+place_rises key part (rec.Lock u i t m c w) (rec.Lock v j t' m' c' w') is_r is_s same own_r own_s above =
+    lock_rises u v i j key part is_r.1.1 is_s.1.1 own_r own_s above
 place_rises key part (rec.Step u p i e) (rec.Lock v j t' m' c' w') is_r is_s same own_r own_s above = cc
 place_rises key part (rec.Lock u i t m c w) (rec.Step v q j f) is_r is_s same own_r own_s above = cc
 place_rises key part (rec.Step u p i e) s is_r is_s same own_r own_s above = let odd : false ≡ true = own_s in cc
@@ -141,7 +149,8 @@ ups_own key part table (r ∷ records) own rise = (
   ups_own key part table records (λ s h. own s (inr h)) rise.1,
 )
 
-own_there : (key : UnitKey) (part table : ℕ) (records : List Record) (m : ℕ) → (table ≡ 2 → ⊥) → AreIn table records → has_row records key part m ≡ true → In (places key part records) m
+own_there : (key : UnitKey) (part table : ℕ) (records : List Record) (m : ℕ) → (table ≡ 2 → ⊥) → AreIn table records → has_row records key part m ≡ true
+    → In (places key part records) m
 own_there key part table records m other all h =
     let found = any_in (is_row key part m) records h in
     let here = in_all (λ r. IsRecord r × (table_of r ≡ table)) records found.0 all found.1 in
@@ -151,7 +160,8 @@ own_there key part table records m other all h =
 
 -- so many rows, of which each stands, have the places from 1 on
 pub run_own : (key : UnitKey) (part table : ℕ) (records : List Record) (n : ℕ) → (table ≡ 2 → ⊥) → AreIn table records → Rise records
-    → ((r : Record) → In records r → is_own key part r ≡ true → (1 ≤ place_of r) × (place_of r ≤ n)) → has_rows records key part n ≡ true → places key part records ≡ range_with_len 1 n
+    → ((r : Record) → In records r → is_own key part r ≡ true → (1 ≤ place_of r) × (place_of r ≤ n)) → has_rows records key part n ≡ true
+    → places key part records ≡ range_with_len 1 n
 run_own key part table records n other all rise within there =
     let own : AreOwn key part table (own_rows key part records) = (λ r h.
     let both = filter_in (is_own key part) records r h in
@@ -193,19 +203,23 @@ pub steps_are : (key : UnitKey) (part : ℕ) (records : List Record) (k len : �
 steps_are key part [] k zero all run = (refl, refl)
 steps_are key part [] k (suc len) all run = cc
 steps_are key part (rec.Step u p i e ∷ records) k len all run =
-    step_here (same_unit u key && nat_eq p part) u key p part i k len e (own_rows key part records) (effects_of records key part) refl (λ k' len' run'. steps_are key part records k' len' all.1 run') run
+    step_here (same_unit u key && nat_eq p part) u key p part i k len e (own_rows key part records) (effects_of records key part) refl
+    (λ k' len' run'. steps_are key part records k' len' all.1 run') run
 steps_are key part (r ∷ records) k len all run = let odd = all.0.1 in cc
 
 abbrev AreLocks : UnitKey → ℕ → ℕ → List Record → List Entry → Type 0
 AreLocks key k len own entries = (own ≡ locks_of key k entries) × (length entries ≡ len)
 
 abbrev pub entry_at : List ℕ → UnitKey → List ℕ → Mode → ℕ → List ℕ → Entry
-entry_at user unit table mode count pattern = record { owner = Upd unit; user = user; table = table; pattern = pattern; mode = mode; count = count; handed = true }
+entry_at user unit table mode count pattern =
+    record { owner = Upd unit; user = user; table = table; pattern = pattern; mode = mode; count = count; handed = true }
 
-lock_here : (b : Bool) (user : List ℕ) (u key : UnitKey) (i k len : ℕ) (table : List ℕ) (mode : Mode) (count : ℕ) (pattern : List ℕ) (own : List Record) (entries : List Entry) → same_unit u key ≡ b
+lock_here : (b : Bool) (user : List ℕ) (u key : UnitKey) (i k len : ℕ) (table : List ℕ) (mode : Mode) (count : ℕ) (pattern : List ℕ) (own : List Record)
+    (entries : List Entry) → same_unit u key ≡ b
     → ((k len : ℕ) → map place_of own ≡ range_with_len k len → AreLocks key k len own entries)
     → map place_of (cond (b && true) (rec.Lock u i table mode count pattern ∷ own) own) ≡ range_with_len k len
-    → AreLocks key k len (cond (b && true) (rec.Lock u i table mode count pattern ∷ own) own) ((if b then entry_at user u table mode count pattern ∷ [] else []) ++ entries)
+    → AreLocks key k len (cond (b && true) (rec.Lock u i table mode count pattern ∷ own) own)
+    ((if b then entry_at user u table mode count pattern ∷ [] else []) ++ entries)
 lock_here false user u key i k len table mode count pattern own entries is rest run = rest k len run
 lock_here true user u key i k zero table mode count pattern own entries is rest run = cc
 lock_here true user u key i k (suc len) table mode count pattern own entries is rest run =
@@ -222,5 +236,6 @@ pub locks_are : (user : List ℕ) (key : UnitKey) (records : List Record) (k len
 locks_are user key [] k zero all run = (refl, refl)
 locks_are user key [] k (suc len) all run = cc
 locks_are user key (rec.Lock u i table mode count pattern ∷ records) k len all run =
-    lock_here (same_unit u key) user u key i k len table mode count pattern (own_rows key 0 records) (flat_map (entry_in user key) records) refl (λ k' len' run'. locks_are user key records k' len' all.1 run') run
+    lock_here (same_unit u key) user u key i k len table mode count pattern (own_rows key 0 records) (flat_map (entry_in user key) records) refl
+    (λ k' len' run'. locks_are user key records k' len' all.1 run') run
 locks_are user key (r ∷ records) k len all run = let odd = all.0.1 in cc

@@ -54,19 +54,25 @@ module _ (steps : List Record) (units : List UnitOfWork) (give : GiveParts steps
   same_answer : (P : Result Tables EffectFault → Type 0) (xs ys : List Effect) (a b : Tables) → xs ≡ ys → a ≡ b → P (applied xs a) → P (applied ys b)
   same_answer P xs ys a b effects tables h = subst (λ t. P (applied ys t)) tables (subst (λ es. P (applied es a)) effects h)
 
-  right_kind : (m : Mark) (kind : MarkKind) (before : List Record) (tables : Tables) → tables_by steps before ≡ tables → is_right_post steps before (rec.Mark (record m { kind = kind })) ≡ true
+  right_kind : (m : Mark) (kind : MarkKind) (before : List Record) (tables : Tables) → tables_by steps before ≡ tables
+      → is_right_post steps before (rec.Mark (record m { kind = kind })) ≡ true
       → IsRightMark units tables (record m { kind = kind })
-  right_kind m V1 before tables same h = same_answer IsOk (effects_of steps m.unit 1) (v1_of units m.unit) (tables_by steps before) tables (give.first m.unit) same (done_of _ h)
-  right_kind m V2 before tables same h = same_answer IsOk (effects_of steps m.unit 2) (v2_of units m.unit) (tables_by steps before) tables (give.second m.unit) same (done_of _ h)
+  right_kind m V1 before tables same h = same_answer IsOk (effects_of steps m.unit 1) (v1_of units m.unit) (tables_by steps before) tables
+      (give.first m.unit) same (done_of _ h)
+  right_kind m V2 before tables same h = same_answer IsOk (effects_of steps m.unit 2) (v2_of units m.unit) (tables_by steps before) tables
+      (give.second m.unit) same (done_of _ h)
   right_kind m (Bad1 index reason) before tables same h =
-      same_answer (λ r. r ≡ Err (Refused index reason)) (effects_of steps m.unit 1) (v1_of units m.unit) (tables_by steps before) tables (give.first m.unit) same
+      same_answer (λ r. r ≡ Err (Refused index reason)) (effects_of steps m.unit 1) (v1_of units m.unit) (tables_by steps before) tables
+      (give.first m.unit) same
       (refused_of index reason (applied (effects_of steps m.unit 1) (tables_by steps before)) h)
   right_kind m (Bad2 index reason) before tables same h =
-      same_answer (λ r. r ≡ Err (Refused index reason)) (effects_of steps m.unit 2) (v2_of units m.unit) (tables_by steps before) tables (give.second m.unit) same
+      same_answer (λ r. r ≡ Err (Refused index reason)) (effects_of steps m.unit 2) (v2_of units m.unit) (tables_by steps before) tables
+      (give.second m.unit) same
       (refused_of index reason (applied (effects_of steps m.unit 2) (tables_by steps before)) h)
   right_kind m kind before tables same h = tt
 
-  tables_kind : (m : Mark) (kind : MarkKind) (tables : Tables) → tables_with steps tables (rec.Mark (record m { kind = kind })) ≡ posted (part_of units (record m { kind = kind })) tables
+  tables_kind : (m : Mark) (kind : MarkKind) (tables : Tables) → tables_with steps tables (rec.Mark (record m { kind = kind })) ≡ posted
+      (part_of units (record m { kind = kind })) tables
   tables_kind m V1 tables = ap (λ es. posted es tables) (give.first m.unit)
   tables_kind m V2 tables = ap (λ es. posted es tables) (give.second m.unit)
   tables_kind m kind tables = refl
@@ -74,7 +80,8 @@ module _ (steps : List Record) (units : List UnitOfWork) (give : GiveParts steps
   tables_on : (before : List Record) (r : Record) → tables_by steps (before ++ r ∷ []) ≡ tables_with steps (tables_by steps before) r
   tables_on before r = fold-append (tables_with steps) empty before (r ∷ [])
 
-  right_from : (before records : List Record) (tables : Tables) → tables_by steps before ≡ tables → EachRight (is_right_post steps) before records → AreRight units tables (marks_in records)
+  right_from : (before records : List Record) (tables : Tables) → tables_by steps before ≡ tables → EachRight (is_right_post steps) before records
+      → AreRight units tables (marks_in records)
   right_from before [] tables same h = tt
   right_from before (rec.Mark m ∷ records) tables same h = (
     right_kind m m.kind before tables same h.0,

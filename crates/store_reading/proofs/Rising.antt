@@ -95,7 +95,8 @@ in_filter test (y ∷ ys) x (inr h) is =
 pub all_filter : {X : Type 0} (P : X → Type 0) (test : X → Bool) (xs : List X) → AllByRecursion P xs → AllByRecursion P (filter test xs)
 all_filter P test [] all = tt
 all_filter P test (x ∷ xs) all =
-    elim (test x) as (λ b. AllByRecursion P (cond b (x ∷ filter test xs) (filter test xs))) [ true ↦ (all.0, all_filter P test xs all.1) | false ↦ all_filter P test xs all.1 ]
+    elim (test x) as (λ b. AllByRecursion P (cond b (x ∷ filter test xs) (filter test xs)))
+    [ true ↦ (all.0, all_filter P test xs all.1) | false ↦ all_filter P test xs all.1 ]
 
 -- ---- keys in order
 
@@ -128,7 +129,8 @@ first_byte n x =
     sym (big_from-bytes (suc n) x [])
     ∙ ap (λ r. byte_at n x * 256 ^ n + r) (big_from-cons 0 n (byte_at n x) (bytes_high_first n x ++ []) ∙ big_from-bytes n x [])
 
-bytes_step : (n x y a b : ℕ) (o : Ordering) → o ≡ nat_cmp a b → (slice_cmp nat_cmp (bytes_high_first n x) (bytes_high_first n y) ≡ Less → x % 256 ^ n < y % 256 ^ n)
+bytes_step : (n x y a b : ℕ) (o : Ordering) → o ≡ nat_cmp a b
+    → (slice_cmp nat_cmp (bytes_high_first n x) (bytes_high_first n y) ≡ Less → x % 256 ^ n < y % 256 ^ n)
     → ordering_then o (slice_cmp nat_cmp (bytes_high_first n x) (bytes_high_first n y)) ≡ Less → a * 256 ^ n + x % 256 ^ n < b * 256 ^ n + y % 256 ^ n
 bytes_step n x y a b Less is rest h =
     let low : a < b = ranked a b Less is in
@@ -183,7 +185,8 @@ abbrev RiseBehind : List ℕ → List Record → Type 0
 RiseBehind after [] = Unit {0}
 RiseBehind after (r ∷ records) = IsAbove after r × RiseBehind (key_of r) records
 
-rise_behind : (table : ℕ) (after : List ℕ) (rows : List Row) (records : List Record) → RiseFrom after rows → SpellEach table rows records → RiseBehind after records
+rise_behind : (table : ℕ) (after : List ℕ) (rows : List Row) (records : List Record) → RiseFrom after rows → SpellEach table rows records
+    → RiseBehind after records
 rise_behind table after [] [] rise each = tt
 rise_behind table after [] (r ∷ records) rise each = absurd each
 rise_behind table after (row ∷ rows) [] rise each = tt
@@ -193,8 +196,11 @@ rise_behind table after (row ∷ rows) (r ∷ records) rise each =
 
 all_above : (after : List ℕ) (records : List Record) → RiseBehind after records → AllByRecursion (IsAbove after) records
 all_above after [] rise = tt
-all_above after (r ∷ records) rise =
-    (rise.0, all_weaker (IsAbove (key_of r)) (IsAbove after) (λ s h. below_trans after (key_of r) (key_of s) rise.0 h) records (all_above (key_of r) records rise.1))
+all_above after (r ∷ records) rise = (
+  rise.0,
+  all_weaker (IsAbove (key_of r)) (IsAbove after) (λ s h. below_trans after (key_of r) (key_of s) rise.0 h) records
+      (all_above (key_of r) records rise.1),
+)
 
 rise_all : (after : List ℕ) (records : List Record) → RiseBehind after records → Rise records
 rise_all after [] rise = tt

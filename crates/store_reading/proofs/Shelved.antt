@@ -32,9 +32,11 @@ is_changed q batch = list_any (λ c. eq_by_cmp spot_cmp q (spot_of c)) batch
 pub any_contained : {X : Type 0} (p : X → Bool) (xs : List X) (x : X) → p x ≡ true → Contains xs x → list_any p xs ≡ true
 any_contained p [] x is h = absurd (contains_none x h)
 any_contained p (y ∷ xs) x is h =
-    ⊎_elim (λ e. or_left (p y) (list_any p xs) (ap p e ∙ is)) (λ there. or_right (p y) (list_any p xs) (any_contained p xs x is there)) (contains_cases y xs x h)
+    ⊎_elim (λ e. or_left (p y) (list_any p xs) (ap p e ∙ is)) (λ there. or_right (p y) (list_any p xs) (any_contained p xs x is there))
+    (contains_cases y xs x h)
 
-one_settled : (rows : Rows) (q : Spot) (c : Change) (base : Rows) (b : Bool) → Agrees rows c → (b ≡ false → eq_by_cmp spot_cmp q (spot_of c) ≡ false → get base q ≡ get rows q)
+one_settled : (rows : Rows) (q : Spot) (c : Change) (base : Rows) (b : Bool) → Agrees rows c
+    → (b ≡ false → eq_by_cmp spot_cmp q (spot_of c) ≡ false → get base q ≡ get rows q)
     → b ≡ false → get (changed_once c base) q ≡ get rows q
 one_settled rows q c base b agrees rest none =
     get_once c base q
@@ -44,7 +46,8 @@ one_settled rows q c base b agrees rest none =
     ] refl
 
 -- what a batch makes of other rows is what the rows have, where the others have it wherever the batch changes nothing
-pub batch_settled : (rows : Rows) (q : Spot) (batch : List Change) (base : Rows) → AllByRecursion (Agrees rows) batch → (is_changed q batch ≡ false → get base q ≡ get rows q)
+pub batch_settled : (rows : Rows) (q : Spot) (batch : List Change) (base : Rows) → AllByRecursion (Agrees rows) batch
+    → (is_changed q batch ≡ false → get base q ≡ get rows q)
     → get (changed batch base) q ≡ get rows q
 batch_settled rows q [] base agree rest = rest refl
 batch_settled rows q (c ∷ batch) base agree rest =
@@ -71,13 +74,15 @@ abbrev pub or_else : {A : Type 0} → Option A → Option A → Option A
 or_else None y = y
 or_else (Some x) y = Some x
 
-laid : {X : Type 0} (b : Bool) (write : X → List ℕ) (o : Option X) (base goal : Option (List ℕ)) → (b ≡ true → (x : X) → o ≡ Some x → goal ≡ Some (write x)) → ((b && is_some o) ≡ false → base ≡ goal)
+laid : {X : Type 0} (b : Bool) (write : X → List ℕ) (o : Option X) (base goal : Option (List ℕ)) → (b ≡ true → (x : X) → o ≡ Some x → goal ≡ Some (write x))
+    → ((b && is_some o) ≡ false → base ≡ goal)
     → cond b (or_else (option_map write o) base) base ≡ goal
 laid true write None base goal here there = there refl
 laid true write (Some x) base goal here there = sym (here refl x refl)
 laid false write o base goal here there = there refl
 
-pub map_settled : {X : Type 0} (rows : Rows) (q : Spot) (table : ℕ) (write : X → List ℕ) (xs : FinMap row_cmp X) (base : Rows) → AgreesMap rows table write xs → (is_mapped table xs q ≡ false → get base q ≡ get rows q)
+pub map_settled : {X : Type 0} (rows : Rows) (q : Spot) (table : ℕ) (write : X → List ℕ) (xs : FinMap row_cmp X) (base : Rows) → AgreesMap rows table write xs
+    → (is_mapped table xs q ≡ false → get base q ≡ get rows q)
     → get (with_map table write xs base) q ≡ get rows q
 map_settled rows q table write xs base agree rest =
     get_map table write xs base q
@@ -105,7 +110,8 @@ pub record AreShelved (rows : Rows) (ledger : Ledger) : Type 0 where
 
 booked : (batch : List Change) (q : Spot) → IsBooked batch q → is_changed q batch ≡ false → ⊥
 booked batch q at none =
-    let here : is_changed q batch ≡ true = any_contained (λ c. eq_by_cmp spot_cmp q (spot_of c)) batch at.0 ((spot-Decides q (spot_of at.0)).1 (sym at.2)) at.1 in
+    let here : is_changed q batch ≡ true = any_contained (λ c. eq_by_cmp spot_cmp q (spot_of c)) batch at.0
+    ((spot-Decides q (spot_of at.0)).1 (sym at.2)) at.1 in
     let odd : true ≡ false = sym here ∙ none in cc
 
 -- the spot of a name is named
@@ -118,7 +124,8 @@ mapped : {X : Type 0} (table : ℕ) (xs : FinMap row_cmp X) (q : Spot) → IsMap
 mapped table xs q at none =
     let spot : Spot = (table, row_name at.0) in
     let has : is_some (get xs (unname (row_name at.0))) ≡ true = ap (λ n. is_some (get xs n)) (unname_name at.0) ∙ ap is_some at.2 in
-    let here : is_mapped table xs q ≡ true = subst (λ s. is_mapped table xs s ≡ true) at.3 (and_from (is_named table spot) (is_some (get xs (unname (row_name at.0)))) (named_here table at.0) has) in
+    let here : is_mapped table xs q ≡ true = subst (λ s. is_mapped table xs s ≡ true) at.3
+    (and_from (is_named table spot) (is_some (get xs (unname (row_name at.0)))) (named_here table at.0) has) in
     let odd : true ≡ false = sym here ∙ none in cc
 
 nothing : (rows : Rows) (ledger : Ledger) → AreShelved rows ledger → (q : Spot) → is_changed q (book_rows ledger) ≡ false → is_mapped 5 ledger.levels q ≡ false

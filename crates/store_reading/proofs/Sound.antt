@@ -48,11 +48,14 @@ found_in p (x ∷ xs) r h is = elim (p x) as (λ b. p x ≡ b → IsSome (cond b
 found_head : (headers : List Record) (key : UnitKey) → HasHead headers key → IsSome (find (is_header key) headers)
 found_head headers key head = found_in (is_header key) headers (header_with key head.0) head.1.there (unit_refl key)
 
-pub headers_found : (records : List (List Record)) → AreRead records → store_fault records ≡ None → (key : UnitKey) → is_recorded (records_in records 4) key ≡ true → IsSome (find (is_header key) (records_in records 1))
+pub headers_found : (records : List (List Record)) → AreRead records → store_fault records ≡ None → (key : UnitKey)
+    → is_recorded (records_in records 4) key ≡ true → IsSome (find (is_header key) (records_in records 1))
 headers_found records read none key known =
-    elim (is_bare records) as (λ b. is_bare records ≡ b → (if b then None else rule_fault records) ≡ None → IsSome (find (is_header key) (records_in records 1))) [
+    elim (is_bare records)
+    as (λ b. is_bare records ≡ b → (if b then None else rule_fault records) ≡ None → IsSome (find (is_header key) (records_in records 1))) [
       | true ↦ λ is kept. (let odd : false ≡ true = ap (λ marks. is_recorded marks key) (sym (bare_table records 4 (omega arith) is)) ∙ known in cc)
-      | false ↦ λ is kept. found_head (records_in records 1) key (recorded_head (records_in records) (are_whole records read (breaks_none records kept)) key known)
+      | false ↦ λ is kept. found_head (records_in records 1) key
+          (recorded_head (records_in records) (are_whole records read (breaks_none records kept)) key known)
     ] refl none
 
 -- ---- the ledger is sound, and the rows stand for it
@@ -67,19 +70,23 @@ sound_ledger records read none =
       | false ↦ λ is kept. inr (ledger_lawful records read is kept)
     ] refl none
 
-pub read_sound : (records : List (List Record)) (r : Read) → AreRead records → IfOk r (λ stored. (store_fault records ≡ None) × (ledger_of stored ≡ ledger_in records)) → IfOk r (λ stored. IsSound (ledger_of stored))
+pub read_sound : (records : List (List Record)) (r : Read) → AreRead records
+    → IfOk r (λ stored. (store_fault records ≡ None) × (ledger_of stored ≡ ledger_in records)) → IfOk r (λ stored. IsSound (ledger_of stored))
 read_sound records (Err fault) read right = tt
 read_sound records (Ok stored) read right = subst IsSound (sym right.1) (sound_ledger records read right.0)
 
 pub read_stands : (held : Option Rows) (records : List (List Record)) (r : Read) → AreRead records → IfSome held (λ rows. SpellAll rows records)
-    → IfOk r (λ stored. (store_fault records ≡ None) × (ledger_of stored ≡ ledger_in records)) → IfOk r (λ stored. IfSome held (λ rows. StandFor rows (ledger_of stored)))
+    → IfOk r (λ stored. (store_fault records ≡ None) × (ledger_of stored ≡ ledger_in records))
+    → IfOk r (λ stored. IfSome held (λ rows. StandFor rows (ledger_of stored)))
 read_stands held records (Err fault) read all right = tt
 read_stands None records (Ok stored) read all right = tt
 read_stands (Some rows) records (Ok stored) read all right =
-    subst (StandFor rows) (sym right.1) (stand_for rows records all right.0 (λ some none. record { units = units_right records read none; lawful = ledger_lawful records read some none }))
+    subst (StandFor rows) (sym right.1)
+    (stand_for rows records all right.0 (λ some none. record { units = units_right records read none; lawful = ledger_lawful records read some none }))
 
 pub read_bad : (held : Option Rows) (records : List (List Record)) (r : Read) → IfSome held (λ rows. SpellAll rows records)
-    → IfErr r (λ fault. OnBad fault (λ table row. store_fault records ≡ Some (record { table = table; row = row }))) → IfErr r (λ fault. IfSome held (λ rows. OnBad fault (IsBadPlace rows)))
+    → IfErr r (λ fault. OnBad fault (λ table row. store_fault records ≡ Some (record { table = table; row = row })))
+    → IfErr r (λ fault. IfSome held (λ rows. OnBad fault (IsBadPlace rows)))
 read_bad held records (Ok stored) all bad = tt
 read_bad None records (Err fault) all bad = tt
 read_bad (Some rows) records (Err Failed) all bad = tt

@@ -8,7 +8,8 @@ use Rattle.update_records.specs.Spelling.{Spells}
 use Rattle.update_records.specs.declared.stored.Record.{Record}
 use Rattle.store_reading.specs.Told.{IsSpelled, IsFirstBad, SpellEach}
 
-spell_push : (table : ℕ) (rows : List Row) (records : List Record) (row : Row) (r : Record) → SpellEach table rows records → Spells table row.key row.value r → SpellEach table (rows ++ row ∷ []) (records ++ r ∷ [])
+spell_push : (table : ℕ) (rows : List Row) (records : List Record) (row : Row) (r : Record) → SpellEach table rows records → Spells table row.key row.value r
+    → SpellEach table (rows ++ row ∷ []) (records ++ r ∷ [])
 spell_push table [] [] row r each here = (here, tt)
 spell_push table [] (s ∷ records) row r each here = absurd each
 spell_push table (x ∷ rows) [] row r each here = absurd each
@@ -21,7 +22,8 @@ spell_more table rows i row records new r h is here pushed each =
     subst (λ xs. SpellEach table xs new) front
     (subst (SpellEach table (take i rows ++ row ∷ [])) (sym pushed) (spell_push table (take i rows) records row r each here))
 
-pub spell_all : (table : ℕ) (rows : List Row) (i : ℕ) (records : List Record) → length rows ≤ i → SpellEach table (take i rows) records → SpellEach table rows records
+pub spell_all : (table : ℕ) (rows : List Row) (i : ℕ) (records : List Record) → length rows ≤ i → SpellEach table (take i rows) records
+    → SpellEach table rows records
 spell_all table rows i records end each = subst (λ xs. SpellEach table xs records) (take_all i rows end) each
 
 pub all_spelled : (table : ℕ) (rows : List Row) (records : List Record) → SpellEach table rows records → AllByRecursion (IsSpelled table) rows

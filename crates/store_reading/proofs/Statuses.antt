@@ -28,7 +28,8 @@ marks_push marks m = flat_map-append mark_in marks (rec.Mark m ∷ [])
 given_here : (headers : List Record) (m : Mark) (other : UnitKey) (b : Bool) (s : Option Status) → b ≡ has_second headers m.unit
     → (if same_unit m.unit other then given (not b) m.kind s else s) ≡ (if same_unit m.unit other then given (not (has_second headers other)) m.kind s else s)
 given_here headers m other b s is =
-    elim (same_unit m.unit other) as (λ t. same_unit m.unit other ≡ t → (if t then given (not b) m.kind s else s) ≡ (if t then given (not (has_second headers other)) m.kind s else s)) [
+    elim (same_unit m.unit other)
+    as (λ t. same_unit m.unit other ≡ t → (if t then given (not b) m.kind s else s) ≡ (if t then given (not (has_second headers other)) m.kind s else s)) [
       | true ↦ λ e. ap (λ x. given (not x) m.kind s) (is ∙ ap (has_second headers) (one_unit m.unit other e))
       | false ↦ λ e. refl
     ] refl
@@ -36,7 +37,9 @@ given_here headers m other b s is =
 -- the statuses, once the unit of one mark more has its own
 pub statuses_more : {S T : Type 0} (second : HashSet UnitId S) (old new : HashMap UnitId Status T) (headers marks : List Record) (m : Mark) (b : Bool)
     → AreSecond second headers → AreStatuses old headers marks → b ≡ contains same_id second (id_of m.unit)
-    → ((other : UnitKey) → get same_id new (id_of other) ≡ (if same_unit m.unit other then given (not b) m.kind (get same_id old (id_of other)) else get same_id old (id_of other)))
+    → ((other : UnitKey)
+    → get same_id new
+    (id_of other) ≡ (if same_unit m.unit other then given (not b) m.kind (get same_id old (id_of other)) else get same_id old (id_of other)))
     → AreStatuses new headers (marks ++ rec.Mark m ∷ [])
 statuses_more second old new headers marks m b seconds known is sets other =
     sets other

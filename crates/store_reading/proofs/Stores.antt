@@ -27,15 +27,16 @@ get_before lists t records h = get_or_append_left lists (records ∷ []) [] t h
 
 below_more : (rows : Rows) (n : ℕ) (lists new : Lists) (records : List Record) → length lists ≡ n → new ≡ lists ++ records ∷ []
     → SpellBelow n rows lists → SpellEach n (rows_in rows n) records → SpellBelow (n + 1) rows new
-below_more rows n lists new records long pushed below here = λ table low. elim (cases_lt table n) as (λ _. SpellEach table (rows_in rows table) (get_or new table [])) [
-  | inl h ↦
-      let kept : get_or new table [] ≡ get_or lists table [] = ap (λ l. get_or l table []) pushed ∙ get_before lists table records (omega arith) in
-      subst (SpellEach table (rows_in rows table)) (sym kept) (below table h)
-  | inr h ↦
-      let same : n ≡ table = omega arith in
-      let last : get_or new n [] ≡ records = ap (λ l. get_or l n []) pushed ∙ get_last lists n records long in
-      subst (λ k. SpellEach k (rows_in rows k) (get_or new k [])) same (subst (SpellEach n (rows_in rows n)) (sym last) here)
-]
+below_more rows n lists new records long pushed below here = λ table low.
+    elim (cases_lt table n) as (λ _. SpellEach table (rows_in rows table) (get_or new table [])) [
+      | inl h ↦
+          let kept : get_or new table [] ≡ get_or lists table [] = ap (λ l. get_or l table []) pushed ∙ get_before lists table records (omega arith) in
+          subst (SpellEach table (rows_in rows table)) (sym kept) (below table h)
+      | inr h ↦
+          let same : n ≡ table = omega arith in
+          let last : get_or new n [] ≡ records = ap (λ l. get_or l n []) pushed ∙ get_last lists n records long in
+          subst (λ k. SpellEach k (rows_in rows k) (get_or new k [])) same (subst (SpellEach n (rows_in rows n)) (sym last) here)
+    ]
 
 -- the same of records of any rows
 pub read_more : (n : ℕ) (lists new : Lists) (records : List Record) → length lists ≡ n → new ≡ lists ++ records ∷ []
@@ -54,16 +55,19 @@ pub all_read : (n : ℕ) (lists : Lists) → 8 ≤ n → AreReadBelow n lists �
 all_read n lists h below = λ table low. below table (omega arith)
 
 pub tables_more : (held now : Option Rows) (n : ℕ) (lists new : Lists) (records : List Record) → now ≡ held → length lists ≡ n → new ≡ lists ++ records ∷ []
-    → IfSome held (λ rows. SpellBelow n rows lists) → IfSome now (λ rows. SpellEach n (rows_in rows n) records) → IfSome held (λ rows. SpellBelow (n + 1) rows new)
+    → IfSome held (λ rows. SpellBelow n rows lists) → IfSome now (λ rows. SpellEach n (rows_in rows n) records)
+    → IfSome held (λ rows. SpellBelow (n + 1) rows new)
 tables_more None now n lists new records same long pushed below here = tt
 tables_more (Some rows) now n lists new records same long pushed below here =
     below_more rows n lists new records long pushed below (subst (λ held. IfSome held (λ rows. SpellEach n (rows_in rows n) records)) same here)
 
-pub all_tables : (held : Option Rows) (n : ℕ) (lists : Lists) → 8 ≤ n → IfSome held (λ rows. SpellBelow n rows lists) → IfSome held (λ rows. SpellAll rows lists)
+pub all_tables : (held : Option Rows) (n : ℕ) (lists : Lists) → 8 ≤ n → IfSome held (λ rows. SpellBelow n rows lists)
+    → IfSome held (λ rows. SpellAll rows lists)
 all_tables None n lists h below = tt
 all_tables (Some rows) n lists h below = λ table low. below table (omega arith)
 
-bad_in : (rows : Rows) (n : ℕ) (lists : Lists) (fault : ReadingFault) → n < 8 → SpellBelow n rows lists → OnBad fault (λ t row. (t ≡ n) × IsFirstBad n (rows_in rows n) row) → IsReadingFault rows fault
+bad_in : (rows : Rows) (n : ℕ) (lists : Lists) (fault : ReadingFault) → n < 8 → SpellBelow n rows lists
+    → OnBad fault (λ t row. (t ≡ n) × IsFirstBad n (rows_in rows n) row) → IsReadingFault rows fault
 bad_in rows n lists Failed own below bad = tt
 bad_in rows n lists NoMemory own below bad = tt
 bad_in rows n lists (Bad t row) own below bad = record {
@@ -102,7 +106,8 @@ is_among P (x ∷ front) rest row all = is_among P front rest row all.1
 none_outside : (table : ℕ) (rows : List Row) (i : ℕ) → IsFirstBad table rows i → AllByRecursion (IsSpelled table) rows → ⊥
 none_outside table rows i bad all = bad.outside (is_among (IsSpelled table) bad.front bad.rest bad.bad (subst (AllByRecursion (IsSpelled table)) bad.whole all))
 
-same_front : (P : Row → Type 0) (f g : List Row) (x y : Row) (xs ys : List Row) → f ++ x ∷ xs ≡ g ++ y ∷ ys → AllByRecursion P f → AllByRecursion P g → (P x → ⊥) → (P y → ⊥) → length f ≡ length g
+same_front : (P : Row → Type 0) (f g : List Row) (x y : Row) (xs ys : List Row) → f ++ x ∷ xs ≡ g ++ y ∷ ys → AllByRecursion P f → AllByRecursion P g
+    → (P x → ⊥) → (P y → ⊥) → length f ≡ length g
 same_front P [] [] x y xs ys same in_f in_g not_x not_y = refl
 same_front P [] (b ∷ g) x y xs ys same in_f in_g not_x not_y = let e : b ≡ x = cc in absurd (not_x (subst P e in_g.0))
 same_front P (a ∷ f) [] x y xs ys same in_f in_g not_x not_y = let e : a ≡ y = cc in absurd (not_y (subst P e in_f.0))
@@ -112,7 +117,8 @@ same_front P (a ∷ f) (b ∷ g) x y xs ys same in_f in_g not_x not_y =
 
 same_place : (table : ℕ) (rows : List Row) (i j : ℕ) → IsFirstBad table rows i → IsFirstBad table rows j → i ≡ j
 same_place table rows i j a b =
-    let fronts : length a.front ≡ length b.front = same_front (IsSpelled table) a.front b.front a.bad b.bad a.rest b.rest (sym a.whole ∙ b.whole) a.spelled b.spelled a.outside b.outside in
+    let fronts : length a.front ≡ length b.front = same_front (IsSpelled table) a.front b.front a.bad b.bad a.rest b.rest
+    (sym a.whole ∙ b.whole) a.spelled b.spelled a.outside b.outside in
     a.counted ∙ ap (λ n. n + 1) fronts ∙ sym b.counted
 
 split : (s t : ℕ) → (s < t) ⊎ ((t < s) ⊎ (s ≡ t))

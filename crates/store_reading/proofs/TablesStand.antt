@@ -52,7 +52,8 @@ rows_for_only tables key text bytes h =
 
 -- ---- no difference
 
-same_business : (row other : Row) (table key text : List ℕ) → is_business row (rec.Business table key text) ≡ true → Spells 6 other.key other.value (rec.Business table key text) → row ≡ other
+same_business : (row other : Row) (table key text : List ℕ) → is_business row (rec.Business table key text) ≡ true
+    → Spells 6 other.key other.value (rec.Business table key text) → row ≡ other
 same_business row other table key text h spells =
     let spelled = spells.spelled in
     let key_is : row_name (table, key) ≡ other.key = cc in
@@ -80,7 +81,8 @@ same_rows n xs [] (r ∷ records) h each = absurd each
 same_rows n xs (y ∷ ys) [] h each = absurd each
 same_rows n [] (y ∷ ys) (r ∷ records) h each = cc
 same_rows n (x ∷ xs) (y ∷ ys) (r ∷ records) h each =
-    elim (is_business x r) as (λ b. is_business x r ≡ b → cond b (difference_from (n + 1) xs records) (Some (record { table = 6; row = n })) ≡ None → x ∷ xs ≡ y ∷ ys) [
+    elim (is_business x r)
+    as (λ b. is_business x r ≡ b → cond b (difference_from (n + 1) xs records) (Some (record { table = 6; row = n })) ≡ None → x ∷ xs ≡ y ∷ ys) [
       | true ↦ λ is at.
           let first = same_row x y r is each.0 in
           let rest = same_rows (n + 1) xs ys records at each.1 in
@@ -89,12 +91,14 @@ same_rows n (x ∷ xs) (y ∷ ys) (r ∷ records) h each =
     ] refl h
 
 -- where business records don't differ from tables, their rows are those of the tables
-pub business_rows : (rows : Rows) (records : List (List Record)) (tables : Tables) → SpellAll rows records → difference_from 1 (rows_for tables) (records_in records 6) ≡ None → rows_for tables ≡ rows_in rows 6
+pub business_rows : (rows : Rows) (records : List (List Record)) (tables : Tables) → SpellAll rows records
+    → difference_from 1 (rows_for tables) (records_in records 6) ≡ None → rows_for tables ≡ rows_in rows 6
 business_rows rows records tables all none = same_rows 1 (rows_for tables) (rows_in rows 6) (records_in records 6) none (all 6 (omega arith))
 
 -- ---- what stands
 
-pub tables_agree : (rows : Rows) (records : List (List Record)) (tables : Tables) → SpellAll rows records → difference_from 1 (rows_for tables) (records_in records 6) ≡ None
+pub tables_agree : (rows : Rows) (records : List (List Record)) (tables : Tables) → SpellAll rows records
+    → difference_from 1 (rows_for tables) (records_in records 6) ≡ None
     → AgreesMap (own rows) 6 (λ (text : List ℕ). text) tables
 tables_agree rows records tables all none name text has =
     get_own rows (6, row_name name)
@@ -103,7 +107,8 @@ tables_agree rows records tables all none name text has =
     ∙ rows_for_has tables name text has
 
 -- each business row is one of the tables
-pub business_mapped : (rows : Rows) (records : List (List Record)) (tables : Tables) → SpellAll rows records → difference_from 1 (rows_for tables) (records_in records 6) ≡ None
+pub business_mapped : (rows : Rows) (records : List (List Record)) (tables : Tables) → SpellAll rows records
+    → difference_from 1 (rows_for tables) (records_in records 6) ≡ None
     → (table key text : List ℕ) → Contains (records_in records 6) (rec.Business table key text) → IsMapped 6 tables (6, row_name (table, key))
 business_mapped rows records tables all none table key text h =
     let name : RowName = (table, key) in

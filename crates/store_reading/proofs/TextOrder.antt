@@ -29,7 +29,8 @@ then_assoc Less b c = refl
 then_assoc Equal b c = refl
 then_assoc Greater b c = refl
 
-cmp_behind : (xs ys k l : List ℕ) → length xs ≡ length ys → slice_cmp nat_cmp (xs ++ k) (ys ++ l) ≡ ordering_then (slice_cmp nat_cmp xs ys) (slice_cmp nat_cmp k l)
+cmp_behind : (xs ys k l : List ℕ) → length xs ≡ length ys → slice_cmp nat_cmp (xs ++ k) (ys ++ l) ≡ ordering_then (slice_cmp nat_cmp xs ys)
+    (slice_cmp nat_cmp k l)
 cmp_behind [] [] k l h = refl
 cmp_behind [] (y ∷ ys) k l h = absurd (omega arith)
 cmp_behind (x ∷ xs) [] k l h = absurd (omega arith)
@@ -37,9 +38,12 @@ cmp_behind (x ∷ xs) (y ∷ ys) k l h =
     ap (ordering_then (nat_cmp x y)) (cmp_behind xs ys k l (omega arith)) ∙ then_assoc (nat_cmp x y) (slice_cmp nat_cmp xs ys) (slice_cmp nat_cmp k l)
 
 pub name_cmp : (a b k l : List ℕ)
-    → ordering_then (ordering_then (nat_cmp (length a) (length b)) (slice_cmp nat_cmp a b)) (slice_cmp nat_cmp k l) ≡ ordering_then (nat_cmp (length a) (length b)) (slice_cmp nat_cmp (a ++ k) (b ++ l))
+    → ordering_then (ordering_then (nat_cmp (length a) (length b)) (slice_cmp nat_cmp a b)) (slice_cmp nat_cmp k l) ≡ ordering_then
+    (nat_cmp (length a) (length b)) (slice_cmp nat_cmp (a ++ k) (b ++ l))
 name_cmp a b k l =
-    elim (nat_cmp (length a) (length b)) as (λ o. nat_cmp (length a) (length b) ≡ o → ordering_then (ordering_then o (slice_cmp nat_cmp a b)) (slice_cmp nat_cmp k l) ≡ ordering_then o (slice_cmp nat_cmp (a ++ k) (b ++ l))) [
+    elim (nat_cmp (length a) (length b))
+    as (λ o. nat_cmp (length a) (length b) ≡ o → ordering_then (ordering_then o (slice_cmp nat_cmp a b)) (slice_cmp nat_cmp k l) ≡ ordering_then o
+    (slice_cmp nat_cmp (a ++ k) (b ++ l))) [
       | Less ↦ λ is. refl
       | Equal ↦ λ is. sym (cmp_behind a b k l (nat_cmp-IsAntisymmetric (length a) (length b) is))
       | Greater ↦ λ is. refl
@@ -75,10 +79,12 @@ is_text : (id : TextId) (text : List ℕ) (r : Record) (table key told : List �
     → is_business (text_row (id, text)) r ≡ (eq_by_cmp text_cmp id (text_id (table, key)) && bytes_eq text told)
 is_text id text r table key told is = ap (is_business (text_row (id, text))) is ∙ ap (λ b. b && bytes_eq text told) (same_names (id.table, id.key) (table, key))
 
-pub named_row : (id : TextId) (text : List ℕ) (r : Record) (table key told : List ℕ) (b : Bool) → r ≡ rec.Business table key told → b ≡ eq_by_cmp text_cmp id (text_id (table, key)) → b ≡ true
+pub named_row : (id : TextId) (text : List ℕ) (r : Record) (table key told : List ℕ) (b : Bool) → r ≡ rec.Business table key told
+    → b ≡ eq_by_cmp text_cmp id (text_id (table, key)) → b ≡ true
     → bytes_eq text told ≡ is_business (text_row (id, text)) r
 named_row id text r table key told b is named passes = sym (is_text id text r table key told is ∙ ap (λ t. t && bytes_eq text told) (sym named ∙ passes))
 
-pub other_row : (id : TextId) (text : List ℕ) (r : Record) (table key told : List ℕ) (b : Bool) → r ≡ rec.Business table key told → b ≡ eq_by_cmp text_cmp id (text_id (table, key)) → b ≡ false
+pub other_row : (id : TextId) (text : List ℕ) (r : Record) (table key told : List ℕ) (b : Bool) → r ≡ rec.Business table key told
+    → b ≡ eq_by_cmp text_cmp id (text_id (table, key)) → b ≡ false
     → b ≡ is_business (text_row (id, text)) r
 other_row id text r table key told b is named fails = fails ∙ sym (is_text id text r table key told is ∙ ap (λ t. t && bytes_eq text told) (sym named ∙ fails))

@@ -37,13 +37,15 @@ placed e = ((6, text_name e.0), e.1)
 
 -- ---- in order
 
-below_placed : (id : TextId) (es : Texts) → AllByRecursion (λ other. text_cmp id other ≡ Less) (keys_of es) → T (below_all spot_cmp (6, text_name id) (map placed es))
+below_placed : (id : TextId) (es : Texts) → AllByRecursion (λ other. text_cmp id other ≡ Less) (keys_of es)
+    → T (below_all spot_cmp (6, text_name id) (map placed es))
 below_placed id [] all = tt
 below_placed id (e ∷ es) all = both_T (is_lt (text_cmp id e.0)) _ (subst (λ o. T (is_lt o)) (sym all.0) tt) (below_placed id es all.1)
 
 sorted_placed : (es : Texts) → IsStrictlySortedBy text_cmp (keys_of es) → T (is_sorted spot_cmp (map placed es))
 sorted_placed [] h = tt
-sorted_placed (e ∷ es) h = both_T (below_all spot_cmp (6, text_name e.0) (map placed es)) _ (below_placed e.0 es (sorted_head text_cmp e.0 (keys_of es) h)) (sorted_placed es (sorted_tail text_cmp e.0 (keys_of es) h))
+sorted_placed (e ∷ es) h = both_T (below_all spot_cmp (6, text_name e.0) (map placed es)) _ (below_placed e.0 es (sorted_head text_cmp e.0 (keys_of es) h))
+    (sorted_placed es (sorted_tail text_cmp e.0 (keys_of es) h))
 
 -- ---- the same rows
 
@@ -63,7 +65,8 @@ found q (e ∷ es) is =
 unfound : (q : Spot) (es : Texts) → is_named 6 q ≡ false → find spot_cmp q (map placed es) ≡ None
 unfound q [] is = refl
 unfound q (e ∷ es) is =
-    elim (eq_by_cmp spot_cmp q (6, text_name e.0)) as (λ b. eq_by_cmp spot_cmp q (6, text_name e.0) ≡ b → cond b (Some e.1) (find spot_cmp q (map placed es)) ≡ None) [
+    elim (eq_by_cmp spot_cmp q (6, text_name e.0))
+    as (λ b. eq_by_cmp spot_cmp q (6, text_name e.0) ≡ b → cond b (Some e.1) (find spot_cmp q (map placed es)) ≡ None) [
       | true ↦ λ h. let wrong : false ≡ true = sym is ∙ ap (is_named 6) (same_spot q (6, text_name e.0) h) ∙ named_here 6 (e.0.table, e.0.key) in cc
       | false ↦ λ h. unfound q es is
     ] refl
@@ -90,7 +93,8 @@ all_behind [] = refl
 all_behind (e ∷ es) = ap (text_row e ∷◌) (all_behind es)
 
 -- the rows of the tables are those of the texts, in their order
-pub rows_of_texts : (texts : BTreeMap TextId (List ℕ)) (tables : Tables) → AreTexts texts tables → IsOrdered text_cmp texts → rows_for tables ≡ map text_row texts.entries
+pub rows_of_texts : (texts : BTreeMap TextId (List ℕ)) (tables : Tables) → AreTexts texts tables → IsOrdered text_cmp texts
+    → rows_for tables ≡ map text_row texts.entries
 rows_of_texts texts tables are ordered =
     sym (ap (λ es. map row_of (filter (is_behind 6 []) es)) (same_rows texts tables are (sorted_placed texts.entries ordered)))
     ∙ all_behind texts.entries
@@ -107,7 +111,8 @@ short_here row e es left [] all is none h = sym (ap (λ ts. difference_from row 
 short_here row e es left (r ∷ records) all is none h = absurd (omega arith)
 
 -- a text with another record
-pub other_here : (row : ℕ) (e : TextId × List ℕ) (es left : Texts) (r : Record) (rest records : List Record) (b : Bool) (all : Option Place) → left ≡ e ∷ es → records ≡ r ∷ rest
+pub other_here : (row : ℕ) (e : TextId × List ℕ) (es left : Texts) (r : Record) (rest records : List Record) (b : Bool) (all : Option Place) → left ≡ e ∷ es
+    → records ≡ r ∷ rest
     → b ≡ is_business (text_row e) r → b ≡ false → difference_from row (map text_row left) records ≡ all → at_row row ≡ all
 other_here row e es left r rest records b all is first test fails h =
     sym (ap (λ ts. difference_from row (map text_row ts) records) is
@@ -119,7 +124,8 @@ other_here row e es left r rest records b all is first test fails h =
 pub none_here : (row : ℕ) (left : Texts) (records : List Record) (b : Bool) (all : Option Place) → left ≡ [] → b ≡ nat_eq (length records) 0 → b ≡ true
     → difference_from row (map text_row left) records ≡ all → None ≡ all
 none_here row left [] b all is test passes h = sym (ap (λ ts. difference_from row (map text_row ts) []) is) ∙ h
-none_here row left (r ∷ records) b all is test passes h = let odd : length (r ∷ records) ≡ 0 = eqb-true (length (r ∷ records)) 0 (sym test ∙ passes) in absurd (omega arith)
+none_here row left (r ∷ records) b all is test passes h = let odd : length (r ∷ records) ≡ 0 = eqb-true (length (r ∷ records)) 0 (sym test ∙ passes) in
+    absurd (omega arith)
 
 -- more records than texts
 pub more_here : (row : ℕ) (left : Texts) (records : List Record) (b : Bool) (all : Option Place) → left ≡ [] → b ≡ nat_eq (length records) 0 → b ≡ false
@@ -128,6 +134,7 @@ more_here row left [] b all is test fails h = let odd : true ≡ false = sym tes
 more_here row left (r ∷ records) b all is test fails h = sym (ap (λ ts. difference_from row (map text_row ts) (r ∷ records)) is) ∙ h
 
 -- the same of the rows for tables
-pub for_tables : (texts : BTreeMap TextId (List ℕ)) (business : List Record) (place : Option Place) → IsOrdered text_cmp texts → place ≡ difference_from 1 (map text_row texts.entries) business
+pub for_tables : (texts : BTreeMap TextId (List ℕ)) (business : List Record) (place : Option Place) → IsOrdered text_cmp texts
+    → place ≡ difference_from 1 (map text_row texts.entries) business
     → (tables : Tables) → AreTexts texts tables → place ≡ difference_from 1 (rows_for tables) business
 for_tables texts business place ordered is tables are = is ∙ sym (ap (λ rows. difference_from 1 rows business) (rows_of_texts texts tables are ordered))

@@ -101,13 +101,15 @@ first_of true b h = refl
 first_of false b h = cc
 
 distinct_own : (key : UnitKey) (asked : Asked) (names : List LockName)
-    → all_pairs differ (filter (is_named_for key) names ++ name_for key asked ∷ []) ≡ (are_distinct key names && not (list_any (λ n. same_name n (name_for key asked)) names))
+    → all_pairs differ (filter (is_named_for key) names ++ name_for key asked ∷ [])
+    ≡ (are_distinct key names && not (list_any (λ n. same_name n (name_for key asked)) names))
 distinct_own key asked names =
     let own = filter (is_named_for key) names in
     let test = λ (n : LockName). same_name n (name_for key asked) in
     pairs_push differ own (name_for key asked)
     ∙ ap (λ b. all_pairs differ own && b) (none_passes test own)
-    ∙ ap (λ b. all_pairs differ own && not b) (any_in test (is_named_for key) names (λ n h. first_of (same_owner n.owner (Upd key)) (same_asked n.asked asked) h))
+    ∙ ap (λ b. all_pairs differ own && not b)
+    (any_in test (is_named_for key) names (λ n h. first_of (same_owner n.owner (Upd key)) (same_asked n.asked asked) h))
 
 twin_step : (d s : Bool) → (not d || (s && true)) ≡ not (d && not s)
 twin_step true true = refl
@@ -123,7 +125,8 @@ unit_itself : (u : UnitKey) (b : Bool) → same_unit u u ≡ b → same_unit u u
 unit_itself u b is h = sym is ∙ h
 
 twin_same : (u key : UnitKey) (asked : Asked) (names : List LockName) → same_unit u key ≡ true
-    → (not (are_distinct key names) || (list_any (λ n. same_name n (name_for u asked)) names && same_unit u key)) ≡ not (are_distinct key (names ++ name_for u asked ∷ []))
+    → (not (are_distinct key names) || (list_any (λ n. same_name n (name_for u asked)) names && same_unit u key)) ≡ not
+    (are_distinct key (names ++ name_for u asked ∷ []))
 twin_same u key asked names same =
     let one : u ≡ key = one_unit u key same in
     let seen = list_any (λ (n : LockName). same_name n (name_for u asked)) names in
@@ -136,7 +139,8 @@ twin_same u key asked names same =
     ∙ ap (λ xs. not (all_pairs differ xs)) (sym (filter-append (is_named_for key) names (name_for u asked ∷ [])))
 
 twin_other : (u key : UnitKey) (asked : Asked) (names : List LockName) → same_unit u key ≡ false
-    → (not (are_distinct key names) || (list_any (λ n. same_name n (name_for u asked)) names && same_unit u key)) ≡ not (are_distinct key (names ++ name_for u asked ∷ []))
+    → (not (are_distinct key names) || (list_any (λ n. same_name n (name_for u asked)) names && same_unit u key)) ≡ not
+    (are_distinct key (names ++ name_for u asked ∷ []))
 twin_other u key asked names other =
     let seen = list_any (λ (n : LockName). same_name n (name_for u asked)) names in
     ap (λ b. not (are_distinct key names) || (seen && b)) other
@@ -146,7 +150,8 @@ twin_other u key asked names other =
     ∙ ap (λ xs. not (all_pairs differ xs)) (sym (filter-append (is_named_for key) names (name_for u asked ∷ [])))
 
 twin_either : (b : Bool) (u key : UnitKey) (asked : Asked) (names : List LockName) → same_unit u key ≡ b
-    → (not (are_distinct key names) || (list_any (λ n. same_name n (name_for u asked)) names && same_unit u key)) ≡ not (are_distinct key (names ++ name_for u asked ∷ []))
+    → (not (are_distinct key names) || (list_any (λ n. same_name n (name_for u asked)) names && same_unit u key)) ≡ not
+    (are_distinct key (names ++ name_for u asked ∷ []))
 twin_either true u key asked names is = twin_same u key asked names is
 twin_either false u key asked names is = twin_other u key asked names is
 
@@ -155,7 +160,8 @@ or_end a true = refl
 or_end a false = refl
 
 pub names_more : {S : Type 0} (old new : HashSet LockId S) (u : UnitKey) (asked : Asked) (names : List LockName) (id : LockId) → id ≡ lock_id u asked
-    → AreNames old names → ((other : LockId) → contains same_lock new other ≡ (contains same_lock old other || same_lock id other)) → AreNames new (names ++ name_for u asked ∷ [])
+    → AreNames old names → ((other : LockId) → contains same_lock new other ≡ (contains same_lock old other || same_lock id other))
+    → AreNames new (names ++ name_for u asked ∷ [])
 names_more old new u asked names id is known adds key other =
     adds (lock_id key other)
     ∙ ap (λ b. b || same_lock id (lock_id key other)) (known key other)
@@ -164,9 +170,11 @@ names_more old new u asked names id is known adds key other =
     ∙ or_end (list_any (λ n. same_name n (name_for key other)) names) (same_name (name_for u asked) (name_for key other))
     ∙ sym (list_any-append (λ n. same_name n (name_for key other)) names (name_for u asked ∷ []))
 
-pub twins_more : {S T : Type 0} (seen : HashSet LockId S) (old new : HashSet UnitId T) (u : UnitKey) (asked : Asked) (names : List LockName) (id : LockId) → id ≡ lock_id u asked
+pub twins_more : {S T : Type 0} (seen : HashSet LockId S) (old new : HashSet UnitId T) (u : UnitKey) (asked : Asked) (names : List LockName) (id : LockId)
+    → id ≡ lock_id u asked
     → AreNames seen names → AreTwins old names
-    → ((other : UnitId) → contains same_id new other ≡ (contains same_id old other || (contains same_lock seen id && same_id id.unit other))) → AreTwins new (names ++ name_for u asked ∷ [])
+    → ((other : UnitId) → contains same_id new other ≡ (contains same_id old other || (contains same_lock seen id && same_id id.unit other)))
+    → AreTwins new (names ++ name_for u asked ∷ [])
 twins_more seen old new u asked names id is known twins adds key =
     adds (id_of key)
     ∙ ap (λ b. b || (contains same_lock seen id && same_id id.unit (id_of key))) (twins key)
@@ -179,17 +187,20 @@ twins_more seen old new u asked names id is known twins adds key =
 abbrev lock_at : UnitKey → ℕ → Asked → ℕ → Record
 lock_at unit index asked count = rec.Lock unit index asked.table asked.mode count asked.pattern
 
-pub one_name : (headers : List Record) (r : Record) (unit : UnitKey) (index count : ℕ) (asked : Asked) → r ≡ lock_at unit index asked count → is_counted headers r ≡ true
+pub one_name : (headers : List Record) (r : Record) (unit : UnitKey) (index count : ℕ) (asked : Asked) → r ≡ lock_at unit index asked count
+    → is_counted headers r ≡ true
     → names_in headers r ≡ name_for unit asked ∷ []
 one_name headers r unit index count asked is counted =
     ap (names_in headers) is ∙ ap (λ b. if b then name_for unit asked ∷ [] else []) (ap (is_counted headers) (sym is) ∙ counted)
 
-pub no_name : (headers : List Record) (r : Record) (unit : UnitKey) (index count : ℕ) (asked : Asked) → r ≡ lock_at unit index asked count → is_counted headers r ≡ false
+pub no_name : (headers : List Record) (r : Record) (unit : UnitKey) (index count : ℕ) (asked : Asked) → r ≡ lock_at unit index asked count
+    → is_counted headers r ≡ false
     → names_in headers r ≡ []
 no_name headers r unit index count asked is counted =
     ap (names_in headers) is ∙ ap (λ b. if b then name_for unit asked ∷ [] else []) (ap (is_counted headers) (sym is) ∙ counted)
 
-pub names_on : {X : Type 0} (f : Record → List X) (xs : List Record) (i : ℕ) (r : Record) → i < length xs → r ≡ get_or xs i r → flat_map f (take (i + 1) xs) ≡ flat_map f (take i xs) ++ f r
+pub names_on : {X : Type 0} (f : Record → List X) (xs : List Record) (i : ℕ) (r : Record) → i < length xs → r ≡ get_or xs i r
+    → flat_map f (take (i + 1) xs) ≡ flat_map f (take i xs) ++ f r
 names_on f xs i r h is =
     ap (flat_map f) (take_more xs i r h)
     ∙ flat_map-append f (take i xs) (get_or xs i r ∷ [])

@@ -51,7 +51,8 @@ whole_of headers modules steps locks m Rec is recs right =
     ap (λ (k : MarkKind). is_right_unit headers modules steps locks (rec.Mark (record m { kind = k }))) (sym is) ∙ right
 whole_of headers modules steps locks m kind is recs right = let odd : false ≡ true = recs in cc
 
-whole_mark : (headers modules steps locks : List Record) (key : UnitKey) (r : Record) → records_unit key r ≡ true → is_right_unit headers modules steps locks r ≡ true
+whole_mark : (headers modules steps locks : List Record) (key : UnitKey) (r : Record) → records_unit key r ≡ true
+    → is_right_unit headers modules steps locks r ≡ true
     → is_whole headers modules steps locks key ≡ true
 whole_mark headers modules steps locks key (rec.Mark m) is right =
     let both = and_parts (is_rec m.kind) (same_unit m.unit key) is in
@@ -92,7 +93,8 @@ rows_stand t w key = elim (head_or_none (t 1) key w.rise_headers) as (λ _. Stan
 pub cases_part : (part : ℕ) → IsPart part → (part ≡ 1) ⊎ (part ≡ 2)
 cases_part part is = elim (nat_eq part 1) as (λ b. nat_eq part 1 ≡ b → (part ≡ 1) ⊎ (part ≡ 2)) [
   | true ↦ λ e. inl (eqb-true part 1 e)
-  | false ↦ λ e. inr (elim (nat_eq part 2) as (λ b. nat_eq part 2 ≡ b → part ≡ 2) [ true ↦ λ f. eqb-true part 2 f | false ↦ λ f. absurd (neither part is e f) ] refl)
+  | false ↦ λ e. inr
+      (elim (nat_eq part 2) as (λ b. nat_eq part 2 ≡ b → part ≡ 2) [ true ↦ λ f. eqb-true part 2 f | false ↦ λ f. absurd (neither part is e f) ] refl)
 ] refl
   where
     neither : (part : ℕ) → IsPart part → nat_eq part 1 ≡ false → nat_eq part 2 ≡ false → ⊥
@@ -101,7 +103,8 @@ cases_part part is = elim (nat_eq part 1) as (λ b. nat_eq part 1 ≡ b → (par
     neither (suc (suc zero)) is e f = let odd : true ≡ false = f in cc
     neither (suc (suc (suc n))) is e f = omega arith
 
-pub part_stands : (t : ℕ → List Record) → AreWhole t → (key : UnitKey) (part : ℕ) → IsPart part → has_part (t 2) (t 3) key part (effects_in (counts_at (t 1) key) part) ≡ true
+pub part_stands : (t : ℕ → List Record) → AreWhole t → (key : UnitKey) (part : ℕ) → IsPart part
+    → has_part (t 2) (t 3) key part (effects_in (counts_at (t 1) key) part) ≡ true
 part_stands t w key part is =
     let both = and_parts (has_part (t 2) (t 3) key 1 (counts_at (t 1) key).v1) _ (rows_stand t w key).parts in
     elim (cases_part part is) as (λ _. has_part (t 2) (t 3) key part (effects_in (counts_at (t 1) key) part) ≡ true) [
@@ -123,12 +126,16 @@ part_module modules steps key part n low h =
       | inr e ↦ (and_parts (has_row modules key part n) (has_rows steps key part n) e).0
     ]
 
-step_within : (headers : List Record) (key : UnitKey) (part : ℕ) (r : Record) → IsRecord r → table_of r ≡ 3 → is_own key part r ≡ true → is_counted headers r ≡ true
+step_within : (headers : List Record) (key : UnitKey) (part : ℕ) (r : Record) → IsRecord r → table_of r ≡ 3 → is_own key part r ≡ true
+    → is_counted headers r ≡ true
     → (1 ≤ place_of r) × (place_of r ≤ effects_in (counts_at headers key) part)
 step_within headers key part (rec.Step u p i e) is table own counted =
     let both = and_parts (same_unit u key) (nat_eq p part) own in
-    let high : i ≤ effects_in (counts_at headers u) p = leb-true i (effects_in (counts_at headers u) p) counted in
-    (is.2.0, subst (λ n. i ≤ effects_in (counts_at headers key) n) (eqb-true p part both.1) (subst (λ k. i ≤ effects_in (counts_at headers k) p) (one_unit u key both.0) high))
+    let high : i ≤ effects_in (counts_at headers u) p = leb-true i (effects_in (counts_at headers u) p) counted in (
+      is.2.0,
+      subst (λ n. i ≤ effects_in (counts_at headers key) n) (eqb-true p part both.1)
+          (subst (λ k. i ≤ effects_in (counts_at headers k) p) (one_unit u key both.0) high),
+    )
 step_within headers key part r is table own counted = cc
 
 lock_within : (headers : List Record) (key : UnitKey) (r : Record) → IsRecord r → table_of r ≡ 7 → is_own key 0 r ≡ true → is_counted headers r ≡ true
@@ -239,7 +246,8 @@ part_there t w key part is (e ∷ es) same r (inr h) =
     let own : In (own_rows key part (t 3)) r = subst (λ xs. In xs r) (sym (read.rows ∙ ap (steps_of key part 1) same)) h in
     there_at t 3 r w.of_steps (filter_in (is_own key part) (t 3) r own).0
 
-pub unit_there : (t : ℕ → List Record) → AreWhole t → (key : UnitKey) → is_recorded (t 4) key ≡ true → (r : Record) → In (records_of (unit_at_key t key)) r → IsThere t r
+pub unit_there : (t : ℕ → List Record) → AreWhole t → (key : UnitKey) → is_recorded (t 4) key ≡ true → (r : Record) → In (records_of (unit_at_key t key)) r
+    → IsThere t r
 unit_there t w key h r (inl at) =
     let head = recorded_head t w key h in
     subst (IsThere t) (sym (header_is t key head.0 (unit_read t w key head)) ∙ at) head.1.there
@@ -270,7 +278,8 @@ header_back t w (rec.Header key user v1 v2 locks numbers) is at h =
 header_back t w r is at h = cc
 
 -- a unit that counts effects or locks has a header
-counting_head : (t : ℕ → List Record) → AreWhole t → (key : UnitKey) (count : Counts → ℕ) → count no_counts ≡ 0 → 1 ≤ count (counts_at (t 1) key) → HasHead (t 1) key
+counting_head : (t : ℕ → List Record) → AreWhole t → (key : UnitKey) (count : Counts → ℕ) → count no_counts ≡ 0 → 1 ≤ count (counts_at (t 1) key)
+    → HasHead (t 1) key
 counting_head t w key count none low = elim (head_or_none (t 1) key w.rise_headers) as (λ _. HasHead (t 1) key) [
   | inl head ↦ head
   | inr bare ↦ let nothing : count (counts_at (t 1) key) ≡ 0 = ap count bare.counts ∙ none in absurd (omega arith)
@@ -279,7 +288,8 @@ counting_head t w key count none low = elim (head_or_none (t 1) key w.rise_heade
 no_effects : (part : ℕ) → effects_in no_counts part ≡ 0
 no_effects part = elim (nat_eq part 1) as (λ b. cond b no_counts.v1 no_counts.v2 ≡ 0) [ true ↦ refl | false ↦ refl ]
 
-in_unit : (t : ℕ → List Record) (key : UnitKey) (part : ℕ) (r : Record) → IsPart part → In (part_of key part (effects_of (t 3) key part)) r → In (records_of (unit_at_key t key)) r
+in_unit : (t : ℕ → List Record) (key : UnitKey) (part : ℕ) (r : Record) → IsPart part → In (part_of key part (effects_of (t 3) key part)) r
+    → In (records_of (unit_at_key t key)) r
 in_unit t key part r is h =
     let v1 = part_of key 1 (effects_of (t 3) key 1) in
     let v2 = part_of key 2 (effects_of (t 3) key 2) in
@@ -315,9 +325,14 @@ step_back t w (rec.Step key part i e) is at h =
     let bounds = is.2 in
     let low : 1 ≤ n = omega (arith, bounds.0) in
     let has = counting_head t w key (λ c. effects_in c part) (no_effects part) low in
-    let own = in_filter (is_own key part) (t 3) (rec.Step key part i e) h (and_from (same_unit key key) (nat_eq part part) (unit_refl key) (eq-eqb part part refl)) in
-    let there = subst (λ xs. In xs (rec.Step key part i e)) (part_read t w key part is.1).rows own in
-    (key, head_recorded t w key has, in_unit t key part (rec.Step key part i e) is.1 (step_in key part (effects_of (t 3) key part) (rec.Step key part i e) there))
+    let own = in_filter (is_own key part) (t 3) (rec.Step key part i e) h
+    (and_from (same_unit key key) (nat_eq part part) (unit_refl key) (eq-eqb part part refl)) in
+    let there = subst (λ xs. In xs (rec.Step key part i e)) (part_read t w key part is.1).rows own in (
+      key,
+      head_recorded t w key has,
+      in_unit t key part (rec.Step key part i e) is.1
+          (step_in key part (effects_of (t 3) key part) (rec.Step key part i e) there),
+    )
 step_back t w r is at h = cc
 
 pub lock_back : (t : ℕ → List Record) → AreWhole t → (r : Record) → IsRecord r → table_of r ≡ 7 → In (t 7) r → IsOfUnit t r
@@ -345,7 +360,8 @@ recorded_step : (b : Bool) (key : UnitKey) (m : Mark) (keys : List UnitKey) (res
 recorded_step true key m keys rest same = ap (λ r. same_unit m.unit key || r) same
 recorded_step false key m keys rest same = same
 
-cond_map : (b : Bool) (m : Mark) (marks : List Mark) → map (λ (x : Mark). x.unit) (cond b (m ∷ marks) marks) ≡ cond b (m.unit ∷ map (λ (x : Mark). x.unit) marks) (map (λ (x : Mark). x.unit) marks)
+cond_map : (b : Bool) (m : Mark) (marks : List Mark) → map (λ (x : Mark). x.unit) (cond b (m ∷ marks) marks) ≡ cond b
+    (m.unit ∷ map (λ (x : Mark). x.unit) marks) (map (λ (x : Mark). x.unit) marks)
 cond_map true m marks = refl
 cond_map false m marks = refl
 
@@ -369,7 +385,8 @@ find_unit make own key (k ∷ keys) =
     ] refl
 
 pub unit_by : (t : ℕ → List Record) (key : UnitKey) → unit_at (units_by t) key ≡ (if is_recorded (t 4) key then Some (unit_at_key t key) else None)
-unit_by t key = find_unit (unit_at_key t) (λ k. refl) key (recorded (marks_in (t 4))) ∙ ap (λ b. if b then Some (unit_at_key t key) else None) (recorded_is key (t 4))
+unit_by t key = find_unit (unit_at_key t) (λ k. refl) key (recorded (marks_in (t 4)))
+    ∙ ap (λ b. if b then Some (unit_at_key t key) else None) (recorded_is key (t 4))
 
 none_of : {X : Type 0} (xs : List X) → length xs ≡ 0 → xs ≡ []
 none_of [] h = refl
@@ -382,7 +399,8 @@ unknown_bare t w key h = elim (head_or_none (t 1) key w.rise_headers) as (λ _. 
   | inr bare ↦ bare
 ]
 
-pub unknown_part : (t : ℕ → List Record) → AreWhole t → (key : UnitKey) (part : ℕ) → IsPart part → is_recorded (t 4) key ≡ false → effects_of (t 3) key part ≡ []
+pub unknown_part : (t : ℕ → List Record) → AreWhole t → (key : UnitKey) (part : ℕ) → IsPart part → is_recorded (t 4) key ≡ false
+    → effects_of (t 3) key part ≡ []
 unknown_part t w key part is h =
     let bare = unknown_bare t w key h in
     none_of (effects_of (t 3) key part) ((part_read t w key part is).many ∙ ap (λ c. effects_in c part) bare.counts ∙ no_effects part)
@@ -390,11 +408,13 @@ unknown_part t w key part is h =
 pub first_is : (t : ℕ → List Record) → AreWhole t → (key : UnitKey) → effects_of (t 3) key 1 ≡ v1_of (units_by t) key
 first_is t w key = elim (is_recorded (t 4) key) as (λ b. is_recorded (t 4) key ≡ b → effects_of (t 3) key 1 ≡ v1_of (units_by t) key) [
   | true ↦ λ e. sym (ap (λ u. option_map_or (λ (x : UnitOfWork). x.parts.v1) u []) (unit_by t key ∙ ap (λ b. if b then Some (unit_at_key t key) else None) e))
-  | false ↦ λ e. unknown_part t w key 1 one_is_part e ∙ sym (ap (λ u. option_map_or (λ (x : UnitOfWork). x.parts.v1) u []) (unit_by t key ∙ ap (λ b. if b then Some (unit_at_key t key) else None) e))
+  | false ↦ λ e. unknown_part t w key 1 one_is_part e
+      ∙ sym (ap (λ u. option_map_or (λ (x : UnitOfWork). x.parts.v1) u []) (unit_by t key ∙ ap (λ b. if b then Some (unit_at_key t key) else None) e))
 ] refl
 
 pub second_is : (t : ℕ → List Record) → AreWhole t → (key : UnitKey) → effects_of (t 3) key 2 ≡ v2_of (units_by t) key
 second_is t w key = elim (is_recorded (t 4) key) as (λ b. is_recorded (t 4) key ≡ b → effects_of (t 3) key 2 ≡ v2_of (units_by t) key) [
   | true ↦ λ e. sym (ap (λ u. option_map_or (λ (x : UnitOfWork). x.parts.v2) u []) (unit_by t key ∙ ap (λ b. if b then Some (unit_at_key t key) else None) e))
-  | false ↦ λ e. unknown_part t w key 2 two_is_part e ∙ sym (ap (λ u. option_map_or (λ (x : UnitOfWork). x.parts.v2) u []) (unit_by t key ∙ ap (λ b. if b then Some (unit_at_key t key) else None) e))
+  | false ↦ λ e. unknown_part t w key 2 two_is_part e
+      ∙ sym (ap (λ u. option_map_or (λ (x : UnitOfWork). x.parts.v2) u []) (unit_by t key ∙ ap (λ b. if b then Some (unit_at_key t key) else None) e))
 ] refl

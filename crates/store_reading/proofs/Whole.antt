@@ -12,7 +12,8 @@ use Rattle.store_reading.specs.declared.counts.Counts.{Counts}
 use Rattle.store_reading.specs.declared.row_id.RowId.{RowId}
 use Rattle.update_records.specs.declared.unit_id.UnitId.{UnitId}
 
-rows_same : {S : Type 0} (rows : HashSet RowId S) (records : List Record) → AreRows rows records → (key : UnitKey) (part n : ℕ) → lists_rows rows key part n ≡ has_rows records key part n
+rows_same : {S : Type 0} (rows : HashSet RowId S) (records : List Record) → AreRows rows records → (key : UnitKey) (part n : ℕ)
+    → lists_rows rows key part n ≡ has_rows records key part n
 rows_same rows records known key part n = ap (λ test. list_all test (range_with_len 1 n)) (λ i m. known key part m i)
 
 part_same : {S : Type 0} (modules steps : HashSet RowId S) (module_rows step_rows : List Record) → AreRows modules module_rows → AreRows steps step_rows
@@ -25,7 +26,8 @@ not_twice : (b c : Bool) → b ≡ not c → not b ≡ c
 not_twice b true is = ap not is
 not_twice b false is = ap not is
 
-pub whole_same : {S T U : Type 0} (counts : HashMap UnitId Counts S) (modules steps locks : HashSet RowId T) (twins : HashSet UnitId U) (headers module_rows step_rows lock_rows : List Record)
+pub whole_same : {S T U : Type 0} (counts : HashMap UnitId Counts S) (modules steps locks : HashSet RowId T) (twins : HashSet UnitId U)
+    (headers module_rows step_rows lock_rows : List Record)
     → IsIndex counts modules steps locks twins headers module_rows step_rows lock_rows → (key : UnitKey)
     → looks_whole counts modules steps locks twins key ≡ is_whole headers module_rows step_rows lock_rows key
 whole_same counts modules steps locks twins headers module_rows step_rows lock_rows index key =

@@ -1,5 +1,6 @@
 -- The first record of a table that breaks a rule.
-use Rattle.std.specs.Prelude.{ℕ, ◌≡◌, ◌+◌, Bool, true, false, List, [], ◌∷◌, ◌++◌, length, Option, Some, None, if◌then◌else◌}
+use Rattle.std.specs.Prelude.{ℕ, ◌≡◌, ◌+◌, Bool, true, false, List, [], ◌∷◌, ◌++◌, length, Option, Some, None}
+use Rattle.std.specs.Prelude.{if◌then◌else◌}
 use Rattle.std.specs.Option.{option_or}
 use Rattle.update_records.specs.declared.stored.Record.{Record}
 use Rattle.store_reading.specs.declared.rules.Place.{Place}
@@ -22,7 +23,8 @@ AreRight is_right before [] = Unit {0}
 AreRight is_right before (r ∷ records) = (is_right before r ≡ true) × AreRight is_right (before ++ r ∷ []) records
 
 -- the record at this place is wrong behind those before it, which are right
-pub record IsFirstWrong (is_right : List Record → Record → Bool) (table : ℕ) (records : List Record) (place : Place) : Type 0 where
+pub record IsFirstWrong (is_right : List Record → Record → Bool) (table : ℕ) (records : List Record)
+    (place : Place) : Type 0 where
   pub front : List Record
   pub wrong : Record
   pub rest : List Record

@@ -22,7 +22,8 @@ user_in key r = if is_header key r then Some (user_told r) else None
 
 -- the user of each unit that has a header
 abbrev pub AreUsers : {S : Type 0} → HashMap UnitId (List ℕ) S → List Record → Type 0
-AreUsers users headers = (key : UnitKey) → get same_id users (id_of key) ≡ option_map user_told (find (is_header key) headers)
+AreUsers users headers = (key : UnitKey) → get same_id users (id_of key) ≡ option_map user_told
+    (find (is_header key) headers)
 
 -- the locks of a unit, by its key
 abbrev pub entries_for : {S : Type 0} → HashMap UnitId (Vec Entry) S → UnitKey → List Entry
@@ -31,7 +32,8 @@ entries_for lists key = option_map_or (λ (list : Vec Entry). list.items) (get s
 -- the locks of each unit that has a header
 abbrev pub AreEntries : {S : Type 0} → HashMap UnitId (Vec Entry) S → List Record → List Record → Type 0
 AreEntries lists headers locks =
-    (key : UnitKey) → IsSome (find (is_header key) headers) → entries_for lists key ≡ flat_map (entry_in (user_at headers key) key) locks
+    (key : UnitKey) → IsSome (find (is_header key) headers)
+    → entries_for lists key ≡ flat_map (entry_in (user_at headers key) key) locks
 
 -- the unit that a mark records
 abbrev pub key_in : Record → Option UnitKey

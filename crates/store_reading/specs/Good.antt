@@ -10,7 +10,14 @@ use Rattle.store_reading.specs.declared.ledger.StoredLedger.{StoredLedger}
 
 -- the ledger that was read
 abbrev pub ledger_of : StoredLedger → Ledger
-ledger_of stored = record { start = stored.start; units = stored.units.items; marks = stored.marks.items; levels = levels_of stored.levels.items }
+ledger_of stored =
+    record {
+      start = stored.start;
+      units = stored.units.items;
+      marks = stored.marks.items;
+      levels =
+          levels_of stored.levels.items;
+    }
 
 -- a ledger that a store may stand for
 abbrev pub IsSound : Ledger → Type 0
@@ -18,7 +25,8 @@ IsSound ledger = (ledger ≡ no_ledger) ⊎ IsLawful ledger
 
 -- the rows spell records that break a rule, first of all at this place
 abbrev pub IsFirstFault : Rows → ℕ → ℕ → Type 0
-IsFirstFault rows table row = (records : List (List Record)) × SpellAll rows records × (store_fault records ≡ Some (record { table = table; row = row }))
+IsFirstFault rows table row = (records : List (List Record)) × SpellAll rows records
+    × (store_fault records ≡ Some (record { table = table; row = row }))
 
 -- the first row outside the grammar, and where there is none the first place that breaks a rule
 abbrev pub IsBadPlace : Rows → ℕ → ℕ → Type 0

@@ -21,7 +21,8 @@ abbrev pub row_id : UnitKey → ℕ → ℕ → RowId
 row_id key part n = record { start = key.start; session = key.session; luw = key.luw; part = part; number = n }
 
 abbrev pub same_row : RowId → RowId → Bool
-same_row a b = (((a.start == b.start && a.session == b.session) && a.luw == b.luw) && a.part == b.part) && a.number == b.number
+same_row a b = (((a.start == b.start && a.session == b.session) && a.luw == b.luw) && a.part == b.part)
+    && a.number == b.number
 
 -- the row of a unit that a record is
 abbrev pub row_in : Record → Option RowId
@@ -31,11 +32,13 @@ row_in (rec.Lock unit index table mode count pattern) = Some (row_id unit 0 inde
 row_in r = None
 
 abbrev pub same_lock : LockId → LockId → Bool
-same_lock a b = same_id a.unit b.unit && ((bytes_eq a.table b.table && bytes_eq a.pattern b.pattern) && a.mode == b.mode)
+same_lock a b = same_id a.unit b.unit
+    && ((bytes_eq a.table b.table && bytes_eq a.pattern b.pattern) && a.mode == b.mode)
 
 -- the name of a lock that a unit asked for
 abbrev pub lock_id : UnitKey → Asked → LockId
-lock_id key asked = record { unit = id_of key; table = asked.table; pattern = asked.pattern; mode = mode_number asked.mode }
+lock_id key asked =
+    record { unit = id_of key; table = asked.table; pattern = asked.pattern; mode = mode_number asked.mode }
 
 abbrev pub interval_id : RowName → IntervalId
 interval_id name = record { object = name.0; nr = name.1 }

@@ -1,5 +1,6 @@
 -- The rule on intervals: each stored interval has the numbers that the marks commit, and each committed number has one.
-use Rattle.std.specs.Prelude.{ℕ, ◌+◌, ◌-◌, Bool, true, false, not, ◌&&◌, nat_eq, nat_le, List, [], ◌∷◌, length, Option, Some, None, if◌then◌else◌}
+use Rattle.std.specs.Prelude.{ℕ, ◌+◌, ◌-◌, Bool, true, false, not, ◌&&◌, nat_eq, nat_le, List, [], ◌∷◌, length, Option}
+use Rattle.std.specs.Prelude.{Some, None, if◌then◌else◌}
 use Rattle.std.specs.Cmp.Lexicographic.{pointwise}
 use Rattle.std.specs.List.{flat_map, list_all, list_any, range_with_len}
 use Rattle.std.specs.Str.{bytes_eq}
@@ -76,9 +77,11 @@ has_level levels name = list_any (is_level name) levels
 -- where a number's interval has no row, that row is missing behind the last
 abbrev pub missing_level : List Record → List Number → Option Place
 missing_level levels numbers =
-    if list_all (λ num. has_level levels (interval_of num)) numbers then None else Some (record { table = 5; row = length levels + 1 })
+    if list_all (λ num. has_level levels (interval_of num)) numbers then None else Some
+    (record { table = 5; row = length levels + 1 })
 
 -- the first wrong row of table 5, else the first that is missing
 abbrev pub level_fault : (headers marks levels : List Record) → Option Place
 level_fault headers marks levels =
-    first_wrong (λ before. is_right_level (committed headers marks)) 5 [] levels else_at missing_level levels (committed headers marks)
+    first_wrong (λ before. is_right_level (committed headers marks)) 5 [] levels else_at missing_level levels
+    (committed headers marks)

@@ -11,5 +11,6 @@ level_in from to level buffered = record { from = from; to = to; level = level; 
 
 -- the row is of an interval that has these numbers, as a lawful ledger wants it
 abbrev pub IsRightRow : List Number → Record → Type 0
-IsRightRow numbers (rec.Level object nr from to level buffered) = IsRightLevel (object, nr) numbers (level_in from to level buffered)
+IsRightRow numbers (rec.Level object nr from to level buffered) =
+    IsRightLevel (object, nr) numbers (level_in from to level buffered)
 IsRightRow numbers r = ⊥

@@ -19,7 +19,8 @@ use Rattle.store_reading.specs.declared.text_id.TextId.{TextId}
 
 -- the effects of a unit's part, by its key
 abbrev pub effects_for : {S : Type 0} → HashMap PartId (Vec Effect) S → UnitKey → ℕ → List Effect
-effects_for parts key part = option_map_or (λ (list : Vec Effect). list.items) (get same_part parts (part_id key part)) []
+effects_for parts key part = option_map_or (λ (list : Vec Effect). list.items)
+    (get same_part parts (part_id key part)) []
 
 abbrev pub AreParts : {S : Type 0} → HashMap PartId (Vec Effect) S → List Record → Type 0
 AreParts parts steps = (key : UnitKey) (part : ℕ) → effects_for parts key part ≡ effects_of steps key part
@@ -30,7 +31,8 @@ AreTexts texts tables = (name : RowName) → tree.get text_cmp texts (text_id na
 
 -- the row of an effect, with its text
 abbrev pub spot_for : BTreeMap TextId (List ℕ) → Effect → Spot
-spot_for texts effect = record { table = effect.table; key = effect.key; text = tree.get text_cmp texts (text_id (row_of effect)) }
+spot_for texts effect =
+    record { table = effect.table; key = effect.key; text = tree.get text_cmp texts (text_id (row_of effect)) }
 
 -- the row of a text in table 6
 abbrev pub text_row : TextId × List ℕ → Row

@@ -1,5 +1,6 @@
 -- Keys that are one stand for each other, as sets want it of them.
-use Rattle.std.specs.Cmp.{IsEquivalence, IsPartialEquivalence, IsPartialOrder, IsTotalOrder, and_equiv, eq_by_cmp_equiv, nat_eq_equiv, on_equiv, on_total, partial_equiv_from_equiv, partial_order_from_total}
+use Rattle.std.specs.Cmp.{IsEquivalence, IsPartialEquivalence, IsPartialOrder, IsTotalOrder, and_equiv, eq_by_cmp_equiv}
+use Rattle.std.specs.Cmp.{nat_eq_equiv, on_equiv, on_total, partial_equiv_from_equiv, partial_order_from_total}
 use Rattle.std.specs.Cmp.Lexicographic.{nat_list_cmp_total, nat_list_eq_equiv}
 use Rattle.std.specs.Ordering.{as_partial_cmp}
 use Rattle.store_reading.specs.Ids.{same_interval, same_lock, same_part, same_text, text_cmp, text_name}
@@ -11,13 +12,15 @@ use Rattle.update_records.specs.declared.unit_id.UnitId.{UnitId}
 
 pub ids_equiv : IsEquivalence same_id
 ids_equiv =
-    and_equiv (and_equiv (on_equiv (λ (a : UnitId). a.start) nat_eq_equiv) (on_equiv (λ (a : UnitId). a.session) nat_eq_equiv))
+    and_equiv (and_equiv (on_equiv (λ (a : UnitId). a.start) nat_eq_equiv)
+    (on_equiv (λ (a : UnitId). a.session) nat_eq_equiv))
     (on_equiv (λ (a : UnitId). a.luw) nat_eq_equiv)
 
 pub locks_equiv : IsEquivalence same_lock
 locks_equiv =
     and_equiv (on_equiv (λ (a : LockId). a.unit) ids_equiv)
-    (and_equiv (and_equiv (on_equiv (λ (a : LockId). a.table) nat_list_eq_equiv) (on_equiv (λ (a : LockId). a.pattern) nat_list_eq_equiv))
+    (and_equiv (and_equiv (on_equiv (λ (a : LockId). a.table) nat_list_eq_equiv)
+    (on_equiv (λ (a : LockId). a.pattern) nat_list_eq_equiv))
     (on_equiv (λ (a : LockId). a.mode) nat_eq_equiv))
 
 pub locks_partial : IsPartialEquivalence same_lock
@@ -25,7 +28,8 @@ locks_partial = partial_equiv_from_equiv locks_equiv
 
 pub intervals_equiv : IsEquivalence same_interval
 intervals_equiv =
-    and_equiv (on_equiv (λ (a : IntervalId). a.object) nat_list_eq_equiv) (on_equiv (λ (a : IntervalId). a.nr) nat_list_eq_equiv)
+    and_equiv (on_equiv (λ (a : IntervalId). a.object) nat_list_eq_equiv)
+    (on_equiv (λ (a : IntervalId). a.nr) nat_list_eq_equiv)
 
 pub intervals_partial : IsPartialEquivalence same_interval
 intervals_partial = partial_equiv_from_equiv intervals_equiv

@@ -33,7 +33,8 @@ AreSecond second headers = (key : UnitKey) → contains same_id second (id_of ke
 
 -- the status of each unit, by the marks so far
 abbrev pub AreStatuses : {S : Type 0} → HashMap UnitId Status S → List Record → List Record → Type 0
-AreStatuses statuses headers marks = (key : UnitKey) → get same_id statuses (id_of key) ≡ status_in headers (marks_in marks) key
+AreStatuses statuses headers marks = (key : UnitKey) → get same_id statuses (id_of key) ≡ status_in headers
+    (marks_in marks) key
 
 -- what the headers count of each unit
 abbrev pub counts_for : {S : Type 0} → HashMap UnitId Counts S → UnitKey → Counts
@@ -44,7 +45,8 @@ AreCounts counts headers = (key : UnitKey) → counts_for counts key ≡ counts_
 
 -- the rows of a table, by unit, part and number
 abbrev pub AreRows : {S : Type 0} → HashSet RowId S → List Record → Type 0
-AreRows rows records = (key : UnitKey) (part n : ℕ) → contains same_row rows (row_id key part n) ≡ has_row records key part n
+AreRows rows records = (key : UnitKey) (part n : ℕ) → contains same_row rows
+    (row_id key part n) ≡ has_row records key part n
 
 -- the units that were recorded
 abbrev pub AreRecorded : {S : Type 0} → HashSet UnitId S → List Record → Type 0
@@ -61,25 +63,29 @@ abbrev pub lists_part : {S : Type 0} → HashSet RowId S → HashSet RowId S →
 lists_part modules steps key part n = nat_eq n 0 || (lists_row modules key part n && lists_rows steps key part n)
 
 abbrev pub lists_parts : {S : Type 0} → HashSet RowId S → HashSet RowId S → UnitKey → Counts → Bool
-lists_parts modules steps key counts = lists_part modules steps key 1 counts.v1 && lists_part modules steps key 2 counts.v2
+lists_parts modules steps key counts = lists_part modules steps key 1 counts.v1
+    && lists_part modules steps key 2 counts.v2
 
 -- the names of locks so far
 abbrev pub AreNames : {S : Type 0} → HashSet LockId S → List LockName → Type 0
-AreNames seen names = (key : UnitKey) (asked : Asked) → contains same_lock seen (lock_id key asked) ≡ list_any (λ name. same_name name (named (Upd key) asked)) names
+AreNames seen names = (key : UnitKey) (asked : Asked) → contains same_lock seen (lock_id key asked) ≡ list_any
+    (λ name. same_name name (named (Upd key) asked)) names
 
 -- the units with two locks of one name
 abbrev pub AreTwins : {S : Type 0} → HashSet UnitId S → List LockName → Type 0
 AreTwins twins names = (key : UnitKey) → contains same_id twins (id_of key) ≡ not (are_distinct key names)
 
 -- what is known of the units of a store, by their keys
-pub record IsIndex {S T U : Type 0} (counts : HashMap UnitId Counts S) (modules steps locks : HashSet RowId T) (twins : HashSet UnitId U) (headers module_rows step_rows lock_rows : List Record) : Type 0 where
+pub record IsIndex {S T U : Type 0} (counts : HashMap UnitId Counts S) (modules steps locks : HashSet RowId T)
+    (twins : HashSet UnitId U) (headers module_rows step_rows lock_rows : List Record) : Type 0 where
   pub counted : AreCounts counts headers
   pub in_modules : AreRows modules module_rows
   pub in_steps : AreRows steps step_rows
   pub in_locks : AreRows locks lock_rows
   pub doubled : AreTwins twins (flat_map (names_in headers) lock_rows)
 
-abbrev pub looks_whole : {S T U : Type 0} → HashMap UnitId Counts S → HashSet RowId T → HashSet RowId T → HashSet RowId T → HashSet UnitId U → UnitKey → Bool
+abbrev pub looks_whole : {S T U : Type 0} → HashMap UnitId Counts S → HashSet RowId T → HashSet RowId T
+    → HashSet RowId T → HashSet UnitId U → UnitKey → Bool
 looks_whole counts modules steps locks twins key =
     has_few (counts_for counts key)
     && (lists_parts modules steps key (counts_for counts key)
@@ -102,7 +108,8 @@ numbers_there headers place = option_map_or numbers_in_header (option_and_then (
 
 -- the place of each unit's header
 abbrev pub ArePlaces : {S : Type 0} → HashMap UnitId ℕ S → List Record → Type 0
-ArePlaces places headers = (key : UnitKey) → numbers_there headers (get same_id places (id_of key)) ≡ numbers_at headers key
+ArePlaces places headers = (key : UnitKey) → numbers_there headers
+    (get same_id places (id_of key)) ≡ numbers_at headers key
 
 -- the intervals that have a row
 abbrev pub AreStored : {S : Type 0} → HashSet IntervalId S → List Record → Type 0

@@ -48,7 +48,8 @@ rule_fault records =
     meta_fault (records_in records 0) (length (records_in records 4))
     else_at number_fault (records_in records 4)
     else_at mark_fault (start_in (records_in records 0)) (records_in records 1) (records_in records 4)
-    else_at unit_fault (records_in records 1) (records_in records 2) (records_in records 3) (records_in records 4) (records_in records 7)
+    else_at unit_fault (records_in records 1) (records_in records 2) (records_in records 3) (records_in records 4)
+    (records_in records 7)
     else_at post_fault (records_in records 3) (records_in records 4) (records_in records 6)
     else_at level_fault (records_in records 1) (records_in records 4) (records_in records 5)
 
@@ -73,7 +74,16 @@ user_at headers key = option_map_or user_told (find (is_header key) headers) []
 abbrev pub entry_in : List ℕ → UnitKey → Record → List Entry
 entry_in user key (rec.Lock unit index table mode count pattern) =
     if same_unit unit key
-    then (record { owner = Upd unit; user = user; table = table; pattern = pattern; mode = mode; count = count; handed = true } ∷ []) else []
+    then (record {
+      owner = Upd unit;
+      user = user;
+      table = table;
+      pattern = pattern;
+      mode = mode;
+      count = count;
+      handed =
+          true;
+    } ∷ []) else []
 entry_in user key r = []
 
 -- the unit that the rows of a key spell, its effects and locks in the order of their rows
@@ -89,7 +99,8 @@ unit_in headers steps locks key = record {
 -- the recorded units, in the order of their marks
 abbrev pub units_in : List (List Record) → List UnitOfWork
 units_in records =
-    map (unit_in (records_in records 1) (records_in records 3) (records_in records 7)) (recorded (marks_in (records_in records 4)))
+    map (unit_in (records_in records 1) (records_in records 3) (records_in records 7))
+    (recorded (marks_in (records_in records 4)))
 
 abbrev pub level_entry : Record → List (RowName × Level)
 level_entry (rec.Level object nr from to level buffered) = ((object, nr), level_in from to level buffered) ∷ []

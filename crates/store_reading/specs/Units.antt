@@ -1,5 +1,6 @@
 -- The rule on units: each recorded unit has a header and the rows that its header counts, and no other row stands.
-use Rattle.std.specs.Prelude.{ℕ, ◌+◌, Bool, true, false, ◌&&◌, ◌||◌, not, nat_eq, nat_le, List, [], ◌∷◌, length, Option, if◌then◌else◌}
+use Rattle.std.specs.Prelude.{ℕ, ◌+◌, Bool, true, false, ◌&&◌, ◌||◌, not, nat_eq, nat_le, List, [], ◌∷◌, length, Option}
+use Rattle.std.specs.Prelude.{if◌then◌else◌}
 use Rattle.std.specs.List.{filter, flat_map, list_all, list_any, range_with_len}
 use Rattle.enq_base.specs.Owners.{same_owner, same_unit}
 use Rattle.enq_base.specs.declared.owner.Owner.TheVariants.{Upd}
@@ -50,7 +51,8 @@ is_counted headers r = false
 abbrev pub is_row : UnitKey → ℕ → ℕ → Record → Bool
 is_row key part n (rec.Module unit p count) = (same_unit unit key && nat_eq p part) && nat_eq count n
 is_row key part n (rec.Step unit p index effect) = (same_unit unit key && nat_eq p part) && nat_eq index n
-is_row key part n (rec.Lock unit index table mode count pattern) = (same_unit unit key && nat_eq 0 part) && nat_eq index n
+is_row key part n (rec.Lock unit index table mode count pattern) =
+    (same_unit unit key && nat_eq 0 part) && nat_eq index n
 is_row key part n r = false
 
 abbrev pub has_row : List Record → UnitKey → ℕ → ℕ → Bool

@@ -26,7 +26,8 @@ const NO_COUNTS: Counts = Counts {
 };
 
 fn add_counts(counts: &mut HashMap<UnitId, Counts>, stored: &Record) -> Result<(), NoMemory>
-    ensures { OnOk result ((key : UnitKey) → counts_for counts.new key ≡ told key (counts_for counts.old key) stored.now) }
+    ensures { OnOk result
+        ((key : UnitKey) → counts_for counts.new key ≡ told key (counts_for counts.old key) stored.now) }
 {
     if let Record::Header {
         unit,

@@ -91,8 +91,10 @@ pub fn read_ledger<K: Keeper>(alloc: Global, keeper: &mut K) -> Result<StoredLed
 /// What records spell, where they break no rule.
 fn collect(alloc: Global, records: &StoredRecords) -> Result<StoredLedger, ReadingFault>
     requires read { AreRead records.now }
-    ensures right { IfOk result (λ stored. (store_fault records.now ≡ None) × (ledger_of stored ≡ ledger_in records.now)) }
-    ensures bad { IfErr result (λ fault. OnBad fault (λ table row. store_fault records.now ≡ Some (record { table = table; row = row }))) }
+    ensures right { IfOk result
+        (λ stored. (store_fault records.now ≡ None) × (ledger_of stored ≡ ledger_in records.now)) }
+    ensures bad { IfErr result
+        (λ fault. OnBad fault (λ table row. store_fault records.now ≡ Some (record { table = table; row = row }))) }
     ensures low { IfErr result MayBeFault }
     ensures quiet { OnFailed result ⊥ }
 {

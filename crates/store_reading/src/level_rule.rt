@@ -40,7 +40,8 @@ fn run_from(numbers: &[u64], from: u64, count: u64) -> bool
 /// Whether a number is new where all before it were.
 fn is_apart(seen: &mut HashSet<u64>, apart: bool, number: u64) -> Result<bool, NoMemory>
     ensures apart { IfOk result (λ now. now ≡ (apart && not (contains nat_eq seen.old number))) }
-    ensures seen { OnOk result ((other : ℕ) → contains nat_eq seen.new other ≡ (contains nat_eq seen.old other || nat_eq number other)) }
+    ensures seen { OnOk result
+        ((other : ℕ) → contains nat_eq seen.new other ≡ (contains nat_eq seen.old other || nat_eq number other)) }
 {
     let is_new = !seen.contains(&number);
     seen.insert(number)?;
@@ -93,7 +94,8 @@ fn is_right_level(
     lists: &HashMap<IntervalId, Vec<u64>>,
     stored: &Record,
 ) -> Result<bool, NoMemory>
-    ensures { (numbers : List Number) → AreNumbers lists.now numbers → IfOk result (λ right. right ≡ is_right_level numbers stored.now) }
+    ensures { (numbers : List Number) → AreNumbers lists.now numbers
+        → IfOk result (λ right. right ≡ is_right_level numbers stored.now) }
 {
     let Record::Level {
         object,
@@ -123,7 +125,8 @@ fn wrong_level(
     lists: &HashMap<IntervalId, Vec<u64>>,
     levels: &[Record],
 ) -> Result<Option<Place>, NoMemory>
-    ensures { (numbers : List Number) → AreNumbers lists.now numbers → IfOk result (λ fault. fault ≡ first_wrong (λ before. is_right_level numbers) 5 [] levels.now) }
+    ensures { (numbers : List Number) → AreNumbers lists.now numbers
+        → IfOk result (λ fault. fault ≡ first_wrong (λ before. is_right_level numbers) 5 [] levels.now) }
 {
     let mut row = 1;
     for stored in levels {

@@ -23,7 +23,9 @@ fn add_name(
     twins: &mut HashSet<UnitId>,
     name: LockId,
 ) -> Result<(), NoMemory>
-    ensures seen { OnOk result ((other : LockId) → contains same_lock seen.new other ≡ (contains same_lock seen.old other || same_lock name other)) }
+    ensures seen { OnOk result
+        ((other : LockId) → contains same_lock seen.new
+        other ≡ (contains same_lock seen.old other || same_lock name other)) }
     ensures twins { OnOk result ((other : UnitId) → contains same_id twins.new other
         ≡ (contains same_id twins.old other || (contains same_lock seen.old name && same_id name.unit other))) }
 {
@@ -40,8 +42,10 @@ fn add_lock(
     twins: &mut HashSet<UnitId>,
     stored: &Record,
 ) -> Result<(), NoMemory>
-    ensures { (headers : List Record) (names : List LockName) → AreCounts counts.now headers → AreNames seen.old names → AreTwins twins.old names
-        → OnOk result (AreNames seen.new (names ++ names_in headers stored.now) × AreTwins twins.new (names ++ names_in headers stored.now)) }
+    ensures { (headers : List Record) (names : List LockName) → AreCounts counts.now headers → AreNames seen.old names
+        → AreTwins twins.old names
+        → OnOk result (AreNames seen.new (names ++ names_in headers stored.now)
+        × AreTwins twins.new (names ++ names_in headers stored.now)) }
 {
     if let Record::Lock {
         unit,
@@ -64,7 +68,8 @@ pub fn twins_of(
     counts: &HashMap<UnitId, Counts>,
     locks: &[Record],
 ) -> Result<HashSet<UnitId>, NoMemory>
-    ensures { (headers : List Record) → AreCounts counts.now headers → IfOk result (λ twins. AreTwins twins (flat_map (names_in headers) locks.now)) }
+    ensures { (headers : List Record) → AreCounts counts.now headers
+        → IfOk result (λ twins. AreTwins twins (flat_map (names_in headers) locks.now)) }
 {
     let mut seen = HashSet::new(alloc);
     let mut twins = HashSet::new(alloc);

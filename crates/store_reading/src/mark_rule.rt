@@ -115,8 +115,10 @@ fn follow(
     statuses: &mut HashMap<UnitId, Status>,
     stored: &Record,
 ) -> Result<bool, NoMemory>
-    ensures { (headers marks : List Record) → AreSecond second.now headers → AreStatuses statuses.old headers marks → IfOk result (λ right.
-        (right ≡ is_right_mark start headers marks stored.now) × (right ≡ true → AreStatuses statuses.new headers (marks ++ stored.now ∷ []))) }
+    ensures { (headers marks : List Record) → AreSecond second.now headers → AreStatuses statuses.old headers marks
+        → IfOk result (λ right.
+        (right ≡ is_right_mark start headers marks stored.now)
+        × (right ≡ true → AreStatuses statuses.new headers (marks ++ stored.now ∷ []))) }
 {
     let Record::Mark(mark) = stored else {
         return Ok(false);

@@ -21,7 +21,8 @@ fn add_number(
     num: &Num,
 ) -> Result<(), NoMemory>
     ensures { OnOk result ((name : RowName) → numbers_for lists.new name
-        ≡ (if is_from name num.now then numbers_for lists.old name ++ num.now.number ∷ [] else numbers_for lists.old name)) }
+        ≡ (if is_from name num.now then numbers_for lists.old name ++ num.now.number ∷ [] else numbers_for lists.old
+        name)) }
 {
     let list = lists
         .entry(interval_id(&num.object, num.nr))?
@@ -59,7 +60,9 @@ fn add_place(
     stored: &Record,
     place: usize,
 ) -> Result<(), NoMemory>
-    ensures { OnOk result ((headers : List Record) → slice_get headers place ≡ Some stored.now → (key : UnitKey) → numbers_there headers (get same_id places.new (id_of key))
+    ensures { OnOk result
+        ((headers : List Record) → slice_get headers place ≡ Some stored.now → (key : UnitKey)
+        → numbers_there headers (get same_id places.new (id_of key))
         ≡ numbers_told key (numbers_there headers (get same_id places.old (id_of key))) stored.now) }
 {
     if let Record::Header { unit, .. } = stored {

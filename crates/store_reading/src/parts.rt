@@ -19,7 +19,8 @@ fn push_effect(
     effect: Effect,
 ) -> Result<(), NoMemory>
     ensures { OnOk result ((key : UnitKey) (n : ℕ) → effects_for parts.new key n
-        ≡ (if same_unit unit.now key && nat_eq part n then effects_for parts.old key n ++ effect ∷ [] else effects_for parts.old key n)) }
+        ≡ (if same_unit unit.now key && nat_eq part n then effects_for parts.old key n ++ effect ∷ [] else effects_for
+        parts.old key n)) }
 {
     let list = parts.entry(part_id(unit, part))?.or_insert(Vec::new(alloc));
     list.push(effect)?;
@@ -31,7 +32,9 @@ fn add_step(
     parts: &mut HashMap<PartId, Vec<Effect>>,
     stored: &Record,
 ) -> Result<(), NoMemory>
-    ensures { OnOk result ((key : UnitKey) (n : ℕ) → effects_for parts.new key n ≡ effects_for parts.old key n ++ effect_in key n stored.now) }
+    ensures { OnOk result
+        ((key : UnitKey) (n : ℕ)
+        → effects_for parts.new key n ≡ effects_for parts.old key n ++ effect_in key n stored.now) }
 {
     if let Record::Step {
         unit,

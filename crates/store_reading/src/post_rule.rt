@@ -24,8 +24,10 @@ fn follow_post(
     texts: &mut BTreeMap<TextId, Text>,
     stored: &Record,
 ) -> Result<bool, NoMemory>
-    ensures { (steps before : List Record) → AreParts parts.now steps → AreTexts texts.old (tables_by steps before) → IfOk result (λ right.
-        (right ≡ is_right_post steps before stored.now) × (right ≡ true → AreTexts texts.new (tables_by steps (before ++ stored.now ∷ [])))) }
+    ensures { (steps before : List Record) → AreParts parts.now steps → AreTexts texts.old (tables_by steps before)
+        → IfOk result (λ right.
+        (right ≡ is_right_post steps before stored.now)
+        × (right ≡ true → AreTexts texts.new (tables_by steps (before ++ stored.now ∷ [])))) }
 {
     let Record::Mark(mark) = stored else {
         return Ok(true);

@@ -75,7 +75,8 @@ fn records_of<K: Keeper>(
 ) -> Result<Vec<Record>, ReadingFault>
     requires opened { K.is_open keeper.old }
     requires own { table < 8 }
-    ensures records { IfOk result (λ records. IfSome (K.held keeper.old) (λ rows. SpellEach table (rows_in rows table) records.items)) }
+    ensures records { IfOk result
+        (λ records. IfSome (K.held keeper.old) (λ rows. SpellEach table (rows_in rows table) records.items)) }
     ensures read { IfOk result (λ records. IsTableRead table records.items) }
     ensures bad { IfErr result (λ fault. IfSome (K.held keeper.old)
         (λ rows. OnBad fault (λ t row. (t ≡ table) × IsFirstBad table (rows_in rows table) row))) }

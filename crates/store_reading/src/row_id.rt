@@ -17,7 +17,8 @@ pub struct RowId {
 }
 
 impl PartialEq for RowId {
-    ghost eq = { λ a b. (((a.start == b.start && a.session == b.session) && a.luw == b.luw) && a.part == b.part) && a.number == b.number };
+    ghost eq = { λ a b. (((a.start == b.start && a.session == b.session) && a.luw == b.luw) && a.part == b.part)
+        && a.number == b.number };
 
     ghost laws = { Prim.search (comparing, rules) };
 

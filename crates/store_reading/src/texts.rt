@@ -71,7 +71,8 @@ fn put_texts(
     texts: &mut BTreeMap<TextId, Text>,
     spots: &[Spot],
 ) -> Result<(), NoMemory>
-    ensures { OnOk result ((tables : Tables) → AreTexts texts.old tables → AreTexts texts.new (with_spots spots.now tables)) }
+    ensures { OnOk result
+        ((tables : Tables) → AreTexts texts.old tables → AreTexts texts.new (with_spots spots.now tables)) }
 {
     for done in 0..spots.len() {
         put_text(alloc, texts, &spots[spots.len() - 1 - done])?;
@@ -85,8 +86,11 @@ fn outcome(
     texts: &BTreeMap<TextId, Text>,
     effects: &[Effect],
 ) -> Result<Vec<Spot>, EffectFault>
-    ensures done { IfOk result (λ after. (tables : Tables) → AreTexts texts.now tables → applied effects.now tables ≡ Ok (with_spots after.items tables)) }
-    ensures refused { IfErr result (λ fault. (tables : Tables) → AreTexts texts.now tables → IsFaultOf (applied effects.now tables) fault) }
+    ensures done { IfOk result
+        (λ after. (tables : Tables) → AreTexts texts.now tables
+        → applied effects.now tables ≡ Ok (with_spots after.items tables)) }
+    ensures refused { IfErr result
+        (λ fault. (tables : Tables) → AreTexts texts.now tables → IsFaultOf (applied effects.now tables) fault) }
 {
     let spots = spots_for(alloc, texts, effects)?;
     apply(alloc, spots.as_slice(), effects)
@@ -98,7 +102,8 @@ pub fn post(
     texts: &mut BTreeMap<TextId, Text>,
     effects: &[Effect],
 ) -> Result<bool, NoMemory>
-    ensures { (tables : Tables) → AreTexts texts.old tables → IfOk result (λ done. (done ≡ is_done (applied effects.now tables))
+    ensures { (tables : Tables) → AreTexts texts.old tables
+        → IfOk result (λ done. (done ≡ is_done (applied effects.now tables))
         × (done ≡ true → AreTexts texts.new (posted effects.now tables))) }
 {
     match outcome(alloc, texts, effects) {
@@ -130,7 +135,8 @@ pub fn is_refused(
     index: u32,
     reason: Reason,
 ) -> Result<bool, NoMemory>
-    ensures { (tables : Tables) → AreTexts texts.now tables → IfOk result (λ refused. refused ≡ is_refused index reason (applied effects.now tables)) }
+    ensures { (tables : Tables) → AreTexts texts.now tables
+        → IfOk result (λ refused. refused ≡ is_refused index reason (applied effects.now tables)) }
 {
     match outcome(alloc, texts, effects) {
         Ok(_) => Ok(false),

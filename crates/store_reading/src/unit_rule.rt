@@ -36,7 +36,9 @@ impl UnitIndex {
         steps: &[Record],
         locks: &[Record],
     ) -> Result<UnitIndex, NoMemory>
-        ensures { IfOk result (λ index. IsIndex index.counts index.modules index.steps index.locks index.twins headers.now modules.now steps.now locks.now) }
+        ensures { IfOk result
+            (λ index. IsIndex index.counts index.modules index.steps index.locks index.twins headers.now modules.now
+            steps.now locks.now) }
     {
         let counts = counts_of(alloc, headers)?;
         let twins = twins_of(alloc, &counts, locks)?;
@@ -57,7 +59,8 @@ impl UnitIndex {
     }
 
     fn is_whole(&self, key: &UnitKey) -> bool
-        ensures { result ≡ looks_whole self.now.counts self.now.modules self.now.steps self.now.locks self.now.twins key.now }
+        ensures { result ≡ looks_whole self.now.counts self.now.modules self.now.steps self.now.locks self.now.twins
+            key.now }
     {
         let counts = counts_for(&self.counts, key);
         has_few(&counts)
@@ -67,7 +70,9 @@ impl UnitIndex {
     }
 
     fn is_right(&self, stored: &Record) -> bool
-        ensures { (headers modules steps locks : List Record) → IsIndex self.now.counts self.now.modules self.now.steps self.now.locks self.now.twins headers modules steps locks
+        ensures { (headers modules steps locks : List Record)
+            → IsIndex self.now.counts self.now.modules self.now.steps self.now.locks self.now.twins headers modules
+            steps locks
             → result ≡ is_right_unit headers modules steps locks stored.now }
     {
         match stored {
@@ -81,7 +86,9 @@ impl UnitIndex {
     }
 
     fn wrong_mark(&self, marks: &[Record]) -> Option<Place>
-        ensures { (headers modules steps locks : List Record) → IsIndex self.now.counts self.now.modules self.now.steps self.now.locks self.now.twins headers modules steps locks
+        ensures { (headers modules steps locks : List Record)
+            → IsIndex self.now.counts self.now.modules self.now.steps self.now.locks self.now.twins headers modules
+            steps locks
             → result ≡ first_wrong (λ before. is_right_unit headers modules steps locks) 4 [] marks.now }
     {
         let mut row = 1;
@@ -121,7 +128,8 @@ fn is_recorded_header(recorded: &HashSet<UnitId>, stored: &Record) -> bool
 }
 
 fn unrecorded_header(recorded: &HashSet<UnitId>, headers: &[Record]) -> Option<Place>
-    ensures { (marks : List Record) → AreRecorded recorded.now marks → result ≡ first_wrong (λ before. is_recorded_header marks) 1 [] headers.now }
+    ensures { (marks : List Record) → AreRecorded recorded.now marks
+        → result ≡ first_wrong (λ before. is_recorded_header marks) 1 [] headers.now }
 {
     let mut row = 1;
     for stored in headers {
@@ -137,7 +145,8 @@ fn unrecorded_header(recorded: &HashSet<UnitId>, headers: &[Record]) -> Option<P
 }
 
 fn uncounted_row(counts: &HashMap<UnitId, Counts>, table: u8, records: &[Record]) -> Option<Place>
-    ensures { (headers : List Record) → AreCounts counts.now headers → result ≡ first_wrong (λ before. is_counted headers) table [] records.now }
+    ensures { (headers : List Record) → AreCounts counts.now headers
+        → result ≡ first_wrong (λ before. is_counted headers) table [] records.now }
 {
     let mut row = 1;
     for stored in records {

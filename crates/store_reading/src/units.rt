@@ -34,7 +34,9 @@ struct UnitsTold {
 }
 
 fn add_user(users: &mut HashMap<UnitId, Name>, stored: &Record) -> Result<(), NoMemory>
-    ensures { OnOk result ((key : UnitKey) → get same_id users.new (id_of key) ≡ option_or (get same_id users.old (id_of key)) (user_in key stored.now)) }
+    ensures { OnOk result
+        ((key : UnitKey) → get same_id users.new (id_of key) ≡ option_or (get same_id users.old (id_of key))
+        (user_in key stored.now)) }
 {
     if let Record::Header { unit, user, .. } = stored {
         users.entry(id_of(unit))?.or_insert(*user);
@@ -72,7 +74,8 @@ fn add_lock(
     users: &HashMap<UnitId, Name>,
     stored: &Record,
 ) -> Result<(), NoMemory>
-    ensures { OnOk result ((headers : List Record) → AreUsers users.now headers → (key : UnitKey) → IsSome (find (is_header key) headers)
+    ensures { OnOk result
+        ((headers : List Record) → AreUsers users.now headers → (key : UnitKey) → IsSome (find (is_header key) headers)
         → entries_for locks.new key ≡ entries_for locks.old key ++ entry_in (user_at headers key) key stored.now) }
 {
     let Record::Lock {
@@ -107,7 +110,8 @@ fn locks_of(
     users: &HashMap<UnitId, Name>,
     locks: &[Record],
 ) -> Result<HashMap<UnitId, Vec<Entry>>, NoMemory>
-    ensures { IfOk result (λ lists. (headers : List Record) → AreUsers users.now headers → AreEntries lists headers locks.now) }
+    ensures { IfOk result
+        (λ lists. (headers : List Record) → AreUsers users.now headers → AreEntries lists headers locks.now) }
 {
     let mut lists = HashMap::new(alloc);
     for stored in locks {
@@ -154,7 +158,9 @@ fn unit_for(
     user: Name,
 ) -> Result<Unit, NoMemory>
     requires user { get same_id told.now.users (id_of key.now) ≡ Some user }
-    ensures { IfOk result (λ unit. (steps locks : List Record) → AreUnitsTold told.now headers.now steps locks → unit ≡ unit_in headers.now steps locks key.now) }
+    ensures { IfOk result
+        (λ unit. (steps locks : List Record) → AreUnitsTold told.now headers.now steps locks
+        → unit ≡ unit_in headers.now steps locks key.now) }
 {
     let numbers = numbers_there(headers, place_of(&told.places, key));
     Ok(Unit {
@@ -189,7 +195,8 @@ fn units_told(
 
 /// The units that the marks record, in order, each with what its rows tell.
 pub fn units_in(alloc: Global, records: &StoredRecords) -> Result<Vec<Unit>, NoMemory>
-    requires headers { (key : UnitKey) → is_recorded (records_in records.now 4) key ≡ true → IsSome (find (is_header key) (records_in records.now 1)) }
+    requires headers { (key : UnitKey) → is_recorded (records_in records.now 4) key ≡ true
+        → IsSome (find (is_header key) (records_in records.now 1)) }
     ensures { IfOk result (λ units. units.items ≡ units_in records.now) }
 {
     let headers = records.table(tables::HEADERS);

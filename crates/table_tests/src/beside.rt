@@ -96,32 +96,35 @@ fn any_act(chance: &mut Chance) -> Result<Act, Fail> {
     }
 }
 
-// Tests that both tables answer an act alike, and then show one name alike.
-fn answer_alike(
+/// Tests that both tables answer an act alike, and then show one name alike.
+fn answer_alike<A: LockStore, B: LockStore>(
     rt: &impl Abort,
     alloc: Global,
-    list: &mut ListTable,
-    index: &mut IndexTable,
+    one: &mut A,
+    other: &mut B,
     chance: &mut Chance,
 ) -> Result<(), Fail> {
     let act = any_act(chance)?;
-    assert_eq!(rt; take(alloc, list, act)?, take(alloc, index, act)?);
+    let (answer, other_answer) = (take(alloc, one, act)?, take(alloc, other, act)?);
+    assert_eq!(rt; answer, other_answer);
     let (who, place) = (anyone(chance), any_place(chance)?);
-    assert_eq!(rt; find(list, who, place)?, find(index, who, place)?);
-    assert_eq!(rt; list.len(), index.len());
+    let (found, other_found) = (find(one, who, place)?, find(other, who, place)?);
+    assert_eq!(rt; (found, one.len()), (other_found, other.len()));
     Ok(())
 }
 
-fn stay_alike(
+fn stay_alike<A: LockStore, B: LockStore>(
     rt: &impl Abort,
     alloc: Global,
-    list: &mut ListTable,
-    index: &mut IndexTable,
+    one: &mut A,
+    other: &mut B,
 ) -> Result<(), Fail> {
     let mut chance = Chance { seed: 1 };
     for _ in 0..CALLS {
-        answer_alike(rt, alloc, list, index, &mut chance)?;
+        answer_alike(rt, alloc, one, other, &mut chance)?;
     }
+    let (list, other_list) = (one.list(alloc)?, other.list(alloc)?);
+    assert_eq!(rt; list.as_slice(), other_list.as_slice());
     Ok(())
 }
 
@@ -130,7 +133,5 @@ fn the_index_answers_as_the_list(rt: HostRuntime) -> Result<(), Fail> {
     let alloc = rt.alloc();
     let mut list = ListTable::empty(alloc, LIMIT)?;
     let mut index = IndexTable::empty(alloc, LIMIT)?;
-    stay_alike(&rt, alloc, &mut list, &mut index)?;
-    assert_eq!(&rt; list.list(alloc)?.as_slice(), index.list(alloc)?.as_slice());
-    Ok(())
+    stay_alike(&rt, alloc, &mut list, &mut index)
 }

@@ -186,8 +186,9 @@ pub(crate) fn take<T: LockStore>(
 ) -> Result<Result<u32, AskFault>, Fail> {
     match act {
         Act::Ask(session, places) => {
+            let user = user()?;
             let requests = requests(alloc, places)?;
-            Ok(ask(alloc, table, session, &user()?, requests.as_slice()))
+            Ok(ask(alloc, table, session, &user, requests.as_slice()))
         }
         Act::Free(who, place) => Ok(Ok(u32::from(table.free_one(&owner(who), &asked(place)?)))),
         Act::FreeOwner(who) => Ok(Ok(table.free_owner(&owner(who)))),
@@ -288,6 +289,31 @@ fn first_table<T: LockStore>(alloc: Global, limit: u32, rows: &[Row]) -> Result<
     }
 }
 
+fn take_step<T: LockStore>(
+    rt: &impl Abort,
+    alloc: Global,
+    table: &mut T,
+    step: &Step,
+) -> Result<(), Fail> {
+    let (act, answer, rows) = step;
+    let got = take(alloc, table, *act)?;
+    assert!(rt; is_answer(&got, answer)?, "{answer:?}");
+    has_all(rt, alloc, table, rows)
+}
+
+fn take_steps<T: LockStore>(
+    rt: &impl Abort,
+    alloc: Global,
+    table: &mut T,
+    case: &Case,
+) -> Result<(), Fail> {
+    has_all(rt, alloc, table, case.loaded)?;
+    for step in case.steps {
+        take_step(rt, alloc, table, step)?;
+    }
+    Ok(())
+}
+
 /// Takes the steps of each case.
 pub(crate) fn take_all<T: LockStore>(
     rt: &impl Abort,
@@ -296,12 +322,7 @@ pub(crate) fn take_all<T: LockStore>(
 ) -> Result<(), Fail> {
     for case in cases {
         let mut table: T = first_table(alloc, case.limit, case.loaded)?;
-        has_all(rt, alloc, &table, case.loaded)?;
-        for (act, answer, rows) in case.steps {
-            let got = take(alloc, &mut table, *act)?;
-            assert!(rt; is_answer(&got, answer)?, "{answer:?}");
-            has_all(rt, alloc, &table, rows)?;
-        }
+        take_steps(rt, alloc, &mut table, case)?;
     }
     Ok(())
 }

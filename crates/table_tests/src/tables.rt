@@ -485,8 +485,9 @@ fn clash_of<T: LockStore>(alloc: Global, rows: &[Row]) -> Result<Option<(u32, u3
 #[test]
 fn entries_that_clash_are_no_table(rt: HostRuntime) -> Result<(), Fail> {
     for (rows, clash) in LOADED {
-        assert_eq!(rt; clash_of::<ListTable>(rt.alloc(), rows)?, clash);
-        assert_eq!(rt; clash_of::<IndexTable>(rt.alloc(), rows)?, clash);
+        let of_list = clash_of::<ListTable>(rt.alloc(), rows)?;
+        let of_index = clash_of::<IndexTable>(rt.alloc(), rows)?;
+        assert_eq!(rt; (of_list, of_index), (clash, clash));
     }
     Ok(())
 }

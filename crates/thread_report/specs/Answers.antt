@@ -19,7 +19,8 @@ is_full_line w n l = nat_eq n l.number
 abbrev pub full_said : List NumberedLine → Who → Option ℕ → List Said
 full_said lines w None = []
 full_said lines w (Some n) =
-    map (λ (l : NumberedLine). saying l.number (reply.Refused refusal.LogFull)) (filter (is_full_line w n) (lines_of_actor w lines))
+    map (λ (l : NumberedLine). saying l.number (reply.Refused refusal.LogFull))
+    (filter (is_full_line w n) (lines_of_actor w lines))
 
 abbrev pub said_in : Option (List Said) → List Said
 said_in None = []

@@ -30,7 +30,8 @@ abbrev pub found_full : List Deed → Bool
 found_full deeds = list_any (λ (d : Deed). is_some d.full_at) deeds
 
 -- the whole report was written
-pub record IsReported (lines : List NumberedLine) (s : State) (deeds : List Deed) (old new : Option (List ℕ)) (faults now : ℕ) : Type 0 where
+pub record IsReported (lines : List NumberedLine) (s : State) (deeds : List Deed) (old new : Option (List ℕ))
+    (faults now : ℕ) : Type 0 where
   pub said : List Said
   pub order : AreInOrder (answers_in lines deeds) said
   pub text : Appends old new (report_text lines s said)
@@ -57,6 +58,8 @@ pub record HadMemory (s : State) (deeds : List Deed) : Type 0 where
 abbrev pub IsWritten : List NumberedLine → State → List Deed → Option (List ℕ) → Option (List ℕ) → ℕ → ℕ → Why → Type 0
 IsWritten lines s deeds old new faults now SinkFault = IsCut s old new faults now
 IsWritten lines s deeds old new faults now NoMemory = IsBegun s old new faults now
-IsWritten lines s deeds old new faults now LogFull = IsReported lines s deeds old new faults now × HadMemory s deeds × (found_full deeds ≡ true)
+IsWritten lines s deeds old new faults now LogFull = IsReported lines s deeds old new faults now × HadMemory s deeds
+    × (found_full deeds ≡ true)
 IsWritten lines s deeds old new faults now why =
-    IsReported lines s deeds old new faults now × HadMemory s deeds × (found_full deeds ≡ false) × (why ≡ end_of s.condition s.past)
+    IsReported lines s deeds old new faults now × HadMemory s deeds × (found_full deeds ≡ false)
+    × (why ≡ end_of s.condition s.past)

@@ -77,7 +77,8 @@ module _ {S : Type 0} (past : S → List PastEntry) (each : EachLaw past) (all_a
   done_at s v deeds theirs seen own g =
       let order : IsPermutation s.past (entries_of g.threads) =
       IsPermutation-trans s.past (own_entries v) (entries_of g.threads) own (IsPermutation-sym (entries_of g.threads) (own_entries v) g.entries) in
-      let stand : AllByRecursion (IsThread past objects lines s.past) g.threads = subst (λ l. AllByRecursion (IsThread past objects lines l) g.threads) seen g.each in
+      let stand : AllByRecursion (IsThread past objects lines s.past) g.threads =
+      subst (λ l. AllByRecursion (IsThread past objects lines l) g.threads) seen g.each in
       let kept : AreKept s.past g.threads deeds = subst (λ l. AreKept l g.threads deeds) seen g.kept in
       let did = each objects lines s.past g.threads theirs (subst AreDistinct g.who distinct) order stand in (
         subst (λ ws. AreDone objects lines ws s.past deeds) (sym g.who) (done_by objects lines s.past g.threads deeds kept did),
@@ -120,7 +121,8 @@ module _ {S : Type 0} (past : S → List PastEntry) (each : EachLaw past) (all_a
   both s t at_s at_t a b = ∥∥₁_map₂ a b (λ x y. (x, y))
 
   pub acted_merely : (s t : State) (at_s at_t : Counts) (v : View PastEntry) (deeds now : List Deed) → ∥ LedTo s at_s ∥₁ → ∥ LedTo t at_t ∥₁ → v.seen ≡ s.past
-      → IsPermutation s.past (own_entries v) → LooksLast s t deeds now → ∥ HasGathered past objects lines callers v deeds ∥₁ → ∥ HasActed objects lines callers t now ∥₁
+      → IsPermutation s.past (own_entries v) → LooksLast s t deeds now → ∥ HasGathered past objects lines callers v deeds ∥₁
+      → ∥ HasActed objects lines callers t now ∥₁
   acted_merely s t at_s at_t v deeds now a b seen own looks h =
       ∥∥₁_map₂ h (both s t at_s at_t a b) (λ g l. acted_by s t at_s at_t v deeds now l.0 l.1 seen own looks g)
 

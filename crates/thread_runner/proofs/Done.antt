@@ -21,7 +21,8 @@ theirs_from first earlier (m ∷ later) answers = (
   theirs_from first (earlier ++ m ∷ []) later (subst (AreModelAnswers first) (sym (append_assoc earlier (m ∷ []) later)) answers),
 )
 
-pub led_theirs : (told tells linked : Bool) (first : State) (before : Counts) (s : State) (now : Counts) → IsLed told tells linked first before s now → AreTheirs s.past
+pub led_theirs : (told tells linked : Bool) (first : State) (before : Counts) (s : State) (now : Counts) → IsLed told tells linked first before s now
+    → AreTheirs s.past
 led_theirs told tells linked first before s now led = subst AreTheirs (sym led.calls) (theirs_from first [] led.made led.answers)
 
 -- ---- lists

@@ -66,7 +66,8 @@ IsApart w d = is_same (caller.Worker w) d.who ≡ false
 abbrev who_in : List Deed → List Who
 who_in deeds = map (λ (d : Deed). d.who) deeds
 
-apart_behind : (w : ℕ) (x : Who) (ds : List Deed) → x ≡ caller.Worker w → AllByRecursion (λ (y : Who). is_same x y ≡ false) (who_in ds) → AllByRecursion (IsApart w) ds
+apart_behind : (w : ℕ) (x : Who) (ds : List Deed) → x ≡ caller.Worker w → AllByRecursion (λ (y : Who). is_same x y ≡ false) (who_in ds)
+    → AllByRecursion (IsApart w) ds
 apart_behind w x [] e h = tt
 apart_behind w x (d ∷ ds) e h = (subst (λ z. is_same z d.who ≡ false) e h.0, apart_behind w x ds e h.1)
 
@@ -79,18 +80,21 @@ head_apart : (w : ℕ) (x : Who) (front back : List Deed) (d : Deed) → d.who �
 head_apart w x [] back d e h = turned w x (subst (λ z. is_same x z ≡ false) e h.0)
 head_apart w x (y ∷ front) back d e h = head_apart w x front back d e h.1
 
-apart_front : (w : ℕ) (front back : List Deed) (d : Deed) → d.who ≡ caller.Worker w → AreDistinct (who_in (front ++ d ∷ back)) → AllByRecursion (IsApart w) front
+apart_front : (w : ℕ) (front back : List Deed) (d : Deed) → d.who ≡ caller.Worker w → AreDistinct (who_in (front ++ d ∷ back))
+    → AllByRecursion (IsApart w) front
 apart_front w [] back d e h = tt
 apart_front w (x ∷ front) back d e h = (head_apart w x.who front back d e h.0, apart_front w front back d e h.1)
 
 -- ---- what the laws of a worker that goes on say
 
 abbrev pub Goes : Type 0
-Goes = (w : ℕ) (rests : Bool) (k l : Looked) → AreTheirs l.past → WorkerDid k.past w true k.full_at → DidWork LeadsAlone w rests k l → WorkerDid l.past w rests l.full_at
+Goes = (w : ℕ) (rests : Bool) (k l : Looked) → AreTheirs l.past → WorkerDid k.past w true k.full_at → DidWork LeadsAlone w rests k l
+    → WorkerDid l.past w rests l.full_at
 
 abbrev pub OthersStay : Type 0
 OthersStay = (objects : List Object) (lines : List NumberedLine) (w : ℕ) (rests : Bool) (k l : Looked) (who : Who) (left : Left) (full_at : Option ℕ)
-    → AreTheirs l.past → DidWork LeadsAlone w rests k l → is_same (caller.Worker w) who ≡ false → Did objects lines k.past who left full_at → Did objects lines l.past who left full_at
+    → AreTheirs l.past → DidWork LeadsAlone w rests k l → is_same (caller.Worker w) who ≡ false → Did objects lines k.past who left full_at
+    → Did objects lines l.past who left full_at
 
 and_right : (a b : Bool) → (a && b) ≡ true → b ≡ true
 and_right true b h = h
@@ -127,7 +131,8 @@ module _ (goes : Goes) (others : OthersStay) (objects : List Object) (lines : Li
       let d : Deed = o.deed in
       let l : LooksOnce s t o.deed o.deed_now = o.looks in
       let apart : AreDistinct (who_in (o.front ++ o.deed ∷ o.back)) = subst AreDistinct (sym done.who ∙ ap who_in o.was) distinct in
-      let all : AllByRecursion (DidDeed objects lines s.past) (o.front ++ o.deed ∷ o.back) = subst (AllByRecursion (DidDeed objects lines s.past)) o.was done.did in
+      let all : AllByRecursion (DidDeed objects lines s.past) (o.front ++ o.deed ∷ o.back) =
+      subst (AllByRecursion (DidDeed objects lines s.past)) o.was done.did in
       let behind : AllByRecursion (DidDeed objects lines s.past) (o.deed ∷ o.back) = all_back (DidDeed objects lines s.past) o.front (o.deed ∷ o.back) all in
       record {
         who =
@@ -137,6 +142,10 @@ module _ (goes : Goes) (others : OthersStay) (objects : List Object) (lines : Li
         did =
             subst (AllByRecursion (DidDeed objects lines t.past)) (sym o.is)
             (all_append (DidDeed objects lines t.past) o.front (o.deed_now ∷ o.back)
-            (all_stay o.deed o.deed_now l o.front (apart_front l.worker o.front o.back o.deed l.who apart) (all_front (DidDeed objects lines s.past) o.front (o.deed ∷ o.back) all))
-            (looked_did o.deed o.deed_now l o.rested behind.0, all_stay o.deed o.deed_now l o.back (apart_back l.worker o.front o.back o.deed l.who apart) behind.1));
+            (all_stay o.deed o.deed_now l o.front (apart_front l.worker o.front o.back o.deed l.who apart)
+            (all_front (DidDeed objects lines s.past) o.front (o.deed ∷ o.back) all)) (
+              looked_did o.deed o.deed_now l o.rested behind.0,
+              all_stay o.deed o.deed_now l o.back
+                  (apart_back l.worker o.front o.back o.deed l.who apart) behind.1,
+            ));
       }

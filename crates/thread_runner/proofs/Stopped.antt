@@ -95,5 +95,6 @@ all_lines_done objects lines past w said calm h =
     record {
       sides = h.0;
       said = said;
-      does = subst (λ b. DoesLines objects (lines_of_actor w lines) (no_deeds nothing_asked) (record { sides = h.0; desk = view_by w past None; said = said; stopped = b })) off h.2;
+      does = subst (λ b. DoesLines objects (lines_of_actor w lines) (no_deeds nothing_asked)
+          (record { sides = h.0; desk = view_by w past None; said = said; stopped = b })) off h.2;
     }

@@ -151,7 +151,8 @@ module _ (rest_law : RestsLaw) (objects : List Object) (lines : List NumberedLin
       (full : found_full now ≡ false) where
     by_look : OneLooks s t deeds now → NoneWaits t
     by_look o =
-        let all : AllByRecursion (DidDeed objects lines past) (o.front ++ o.deed_now ∷ o.back) = subst (AllByRecursion (DidDeed objects lines past)) o.is done.did in
+        let all : AllByRecursion (DidDeed objects lines past) (o.front ++ o.deed_now ∷ o.back) =
+        subst (AllByRecursion (DidDeed objects lines past)) o.is done.did in
         let who : o.deed_now.who ≡ caller.Worker o.looks.worker = o.looks.same ∙ o.looks.who in
         let few : found_full (o.front ++ o.deed_now ∷ o.back) ≡ false = ap found_full (sym o.is) ∙ full in
         let rests : o.deed_now.rests ≡ true =
@@ -182,11 +183,13 @@ module _ (rest_law : RestsLaw) (objects : List Object) (lines : List NumberedLin
         (ap (list_any is_worker) done.who ∙ some))
 
 -- behind the last look
-pub leaves_none : (rest_law : RestsLaw) (none_law : NoneLaw) (objects : List Object) (lines : List NumberedLine) (told tells linked : Bool) (first : State) (before : Counts)
+pub leaves_none : (rest_law : RestsLaw) (none_law : NoneLaw) (objects : List Object) (lines : List NumberedLine) (told tells linked : Bool) (first : State)
+    (before : Counts)
     (s t : State) (at_s at_t : Counts) (callers : List Who) (deeds now : List Deed) → IsFresh first → first.past ≡ []
     → IsLed told tells linked first before s at_s → (led : IsLed told tells linked first before t at_t) → AreTheirs t.past
     → AreAmong callers t.past → AreDone objects lines callers t.past now → HasWorker callers → AreSmall callers → LooksLast s t deeds now → LeavesNone t now
-leaves_none rest_law none_law objects lines told tells linked first before s t at_s at_t callers deeds now fresh none led_s led theirs among done some small looks calm memory full =
+leaves_none rest_law none_law objects lines told tells linked first before s t at_s at_t callers deeds now fresh none led_s led theirs among done some small
+    looks calm memory full =
     let well : WentWell first led.made = record {
       fresh = fresh;
       none = none;
@@ -194,5 +197,6 @@ leaves_none rest_law none_law objects lines told tells linked first before s t a
       calm = subst HasNoTrouble led.calls calm;
       memory = subst (λ p. list_any wants p ≡ false) led.calls memory;
     } in
-    waits_none rest_law objects lines first led.made t.past led.calls well theirs none_law s t led.state (led_s.made, led_s.answers, led_s.state) callers deeds now
+    waits_none rest_law objects lines first led.made t.past led.calls well theirs none_law s t led.state
+    (led_s.made, led_s.answers, led_s.state) callers deeds now
     among done some small full looks

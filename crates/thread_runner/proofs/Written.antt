@@ -93,7 +93,8 @@ module _ (objects : List Object) (lines : List NumberedLine) (s : State) where
   deed_done d h some off calm = go d.who refl
     where
       did : (w : Who) → d.who ≡ w → Did objects lines s.past w (left_of d) None
-      did w e = subst (λ f. Did objects lines s.past w (left_of d) f) (none_of d.full_at off) (subst (λ x. Did objects lines s.past x (left_of d) d.full_at) e h.did)
+      did w e = subst (λ f. Did objects lines s.past w (left_of d) f) (none_of d.full_at off)
+          (subst (λ x. Did objects lines s.past x (left_of d) d.full_at) e h.did)
 
       go : (w : Who) → d.who ≡ w → DoneLines d.who
       go (caller.Worker w) e = subst DoneLines (sym e) tt
@@ -164,13 +165,15 @@ module _ (objects : List Object) (lines : List NumberedLine) (s : State) where
     end_by NoStart w = told NoStart w
 
 -- what was done and written
-pub have_done : (objects : List Object) (lines : List NumberedLine) (workers : ℕ) (s : State) (ds : List DeedOf) (old new : Option (List ℕ)) (f n : ℕ) (why : Why)
+pub have_done : (objects : List Object) (lines : List NumberedLine) (workers : ℕ) (s : State) (ds : List DeedOf) (old new : Option (List ℕ)) (f n : ℕ)
+    (why : Why)
     → length s.past ≤ 262144 → IsWritten lines s ds old new f n why → HasActed objects lines (threads_of lines workers) s ds
     → HaveDone objects lines workers s (output old f) (output new n) why
 have_done objects lines workers s ds old new f n why within written acted =
     let who : who_in ds ≡ threads_of lines workers = acted.done.who in
     let by = subst
-    (λ (ws : List Who). (did : Deeds objects lines s.past ws) × IsEndOfRun objects lines s (all_answers objects lines s.past ws did) (output old f) (output new n) why)
+    (λ (ws : List Who). (did : Deeds objects lines s.past ws) × IsEndOfRun objects lines s (all_answers objects lines s.past ws did) (output old f)
+    (output new n) why)
     who
     (deeds_by objects lines s ds acted.done.did, end_by objects lines s workers ds who acted.done.did acted.worked within old new f n why written) in
     record { callers = acted.among; did = by.0; end = by.1 }

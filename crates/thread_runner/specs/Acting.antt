@@ -28,7 +28,8 @@ abbrev pub AreSmall : List Who → Type 0
 AreSmall callers = AllByRecursion IsSmall callers
 
 -- all these callers did their work, and these are their deeds
-pub record HasActed (objects : List Object) (lines : List NumberedLine) (callers : List Who) (s : State) (deeds : List Deed) : Type 0 where
+pub record HasActed (objects : List Object) (lines : List NumberedLine) (callers : List Who) (s : State)
+    (deeds : List Deed) : Type 0 where
   pub among : AreAmong callers s.past
   pub done : AreDone objects lines callers s.past deeds
   pub worked : LeavesNone s deeds
@@ -40,4 +41,5 @@ pub record IsUnbegun (s t : State) (old new : Output) (why : Why) : Type 0 where
   pub still : new ≡ old
 
 abbrev pub DoesScript : List Object → List NumberedLine → ℕ → State → State → Output → Output → Why → Type 0
-DoesScript objects lines workers s t old new why = IsUnbegun s t old new why ⊎ HaveDone objects lines workers t old new why
+DoesScript objects lines workers s t old new why = IsUnbegun s t old new why
+    ⊎ HaveDone objects lines workers t old new why

@@ -57,7 +57,8 @@ abbrev pub callers_in : List Thread → List Who
 callers_in threads = map (λ (t : Thread). t.who) threads
 
 -- The pass has the calls of all these callers' threads, and has seen what each of them has.
-pub record HasGathered {S : Type 0} (past : S → List PastEntry) (objects : List Object) (lines : List NumberedLine) (callers : List Who)
+pub record HasGathered {S : Type 0} (past : S → List PastEntry) (objects : List Object) (lines : List NumberedLine)
+    (callers : List Who)
     (v : View PastEntry) (deeds : List Deed) : Type 0 where
   pub threads : List Thread
   pub who : callers ≡ callers_in threads
@@ -73,6 +74,7 @@ pub record DidDeed (objects : List Object) (lines : List NumberedLine) (past : L
   pub long : IsLong past d
 
 -- what each of these callers has done, in their order
-pub record AreDone (objects : List Object) (lines : List NumberedLine) (callers : List Who) (past : List PastEntry) (deeds : List Deed) : Type 0 where
+pub record AreDone (objects : List Object) (lines : List NumberedLine) (callers : List Who) (past : List PastEntry)
+    (deeds : List Deed) : Type 0 where
   pub who : map (λ (d : Deed). d.who) deeds ≡ callers
   pub did : AllByRecursion (DidDeed objects lines past) deeds

@@ -21,7 +21,8 @@ use Rattle.script_actors.specs.declared.line.NumberedLine.{NumberedLine}
 use Rattle.script_runner.specs.Faults.{answer_at, tells_other}
 use Rattle.script_runner.specs.Replay.{IsDoubted, IsDoubtedBy, Seen, doubt_of}
 use Rattle.script_runner.specs.declared.runner.Why.{Why}
-use Rattle.script_runner.specs.declared.runner.Why.TheVariants.{Done, SinkFault, StoreFault, BackupFault, BadStore, BadBackup, NoMemory, LogFull}
+use Rattle.script_runner.specs.declared.runner.Why.TheVariants.{Done, SinkFault, StoreFault, BackupFault, BadStore}
+use Rattle.script_runner.specs.declared.runner.Why.TheVariants.{BadBackup, NoMemory, LogFull}
 use Rattle.thread_report.specs.Answers.{AreInOrder, answers_of}
 use Rattle.whole_script.specs.Reading.{IsRead, IsReadingEnd}
 use Rattle.caller_laws.specs.Callers.{AreAmong, actors_of, threads_of, view_by}
@@ -40,12 +41,14 @@ pub record Deed (objects : List Object) (lines : List NumberedLine) (past : List
 abbrev pub Deeds : List Object → List NumberedLine → List PastEntry → List Who → Type 0
 Deeds objects lines past callers = AllByRecursion (Deed objects lines past) callers
 
--- All of an actor's lines were done: its calls are those that they come to, one behind the other, with the replies of the history, and of
--- those that come to no call these are the answers.
-pub record AllLinesDone (objects : List Object) (lines : List NumberedLine) (past : List PastEntry) (w : Who) : Type 0 where
+-- All of an actor's lines were done: its calls are those that they come to, one behind the other, with the replies of
+-- the history, and of those that come to no call these are the answers.
+pub record AllLinesDone (objects : List Object) (lines : List NumberedLine) (past : List PastEntry)
+    (w : Who) : Type 0 where
   pub sides : List Private
   pub said : List Said
-  pub does : DoesLines objects (lines_of_actor w lines) (no_deeds nothing_asked) (deeds sides (view_by w past None) said false)
+  pub does : DoesLines objects (lines_of_actor w lines) (no_deeds nothing_asked)
+      (deeds sides (view_by w past None) said false)
 
 abbrev pub AreAllDone : List Object → List NumberedLine → List PastEntry → Type 0
 AreAllDone objects lines past = AllByRecursion (AllLinesDone objects lines past) (actors_of lines)
@@ -53,7 +56,8 @@ AreAllDone objects lines past = AllByRecursion (AllLinesDone objects lines past)
 -- ---- what is answered beside the history
 
 -- of all threads, one behind the other
-abbrev pub all_answers : (objects : List Object) (lines : List NumberedLine) (past : List PastEntry) (callers : List Who)
+abbrev pub all_answers : (objects : List Object) (lines : List NumberedLine) (past : List PastEntry)
+    (callers : List Who)
     → Deeds objects lines past callers → List Said
 all_answers objects lines past [] all = []
 all_answers objects lines past (w ∷ ws) all =
@@ -92,16 +96,20 @@ pub record IsReportCut (s : State) (old new : Output) : Type 0 where
   pub text : AppendsFirst old.written new.written (past_text 0 s.past ++ rest)
   pub cause : Rose old.faults new.faults
 
--- Where no device failed, the lock server wasn't ended and no order was left for want of room, no unit waits in the end.
+-- Where no device failed, the lock server wasn't ended and no order was left for want of room, no unit waits in the
+-- end.
 abbrev pub EndsWorked : State → Type 0
 EndsWorked s = HasNoTrouble s.past → NoneWaits s
 
 -- Why a run ended whose script was read to its end, where these are the answers beside the history.
 abbrev pub IsEndOfRun : List Object → List NumberedLine → State → List Said → Output → Output → Why → Type 0
-IsEndOfRun objects lines s all old new Done = IsDoneWhole objects lines s all old new × (doubt_of s ≡ None) × EndsWorked s
+IsEndOfRun objects lines s all old new Done = IsDoneWhole objects lines s all old new × (doubt_of s ≡ None)
+    × EndsWorked s
 IsEndOfRun objects lines s all old new (StoreFault k) =
-    IsDoneWhole objects lines s all old new × (doubt_of s ≡ Some k) × (option_map_or tells_other (answer_at s.past k) false ≡ false)
-IsEndOfRun objects lines s all old new (BackupFault k) = IsDoneWhole objects lines s all old new × IsDoubted s k refusal.BackupFault
+    IsDoneWhole objects lines s all old new × (doubt_of s ≡ Some k)
+    × (option_map_or tells_other (answer_at s.past k) false ≡ false)
+IsEndOfRun objects lines s all old new (BackupFault k) =
+    IsDoneWhole objects lines s all old new × IsDoubted s k refusal.BackupFault
 IsEndOfRun objects lines s all old new (BadStore table row) =
     IsDoneWhole objects lines s all old new × IsDoubtedBy s (refusal.Unsound (bad.Store table row))
 IsEndOfRun objects lines s all old new (BadBackup place) =
@@ -112,13 +120,14 @@ IsEndOfRun objects lines s all old new LogFull = IsReported lines s all old new 
 IsEndOfRun objects lines s all old new why = ⊥
 
 -- what threads have done with these lines, and how it ended
-pub record HaveDone (objects : List Object) (lines : List NumberedLine) (workers : ℕ) (s : State) (old new : Output) (why : Why) : Type 0 where
+pub record HaveDone (objects : List Object) (lines : List NumberedLine) (workers : ℕ) (s : State) (old new : Output)
+    (why : Why) : Type 0 where
   pub callers : AreAmong (threads_of lines workers) s.past
   pub did : Deeds objects lines s.past (threads_of lines workers)
   pub end : IsEndOfRun objects lines s (all_answers objects lines s.past (threads_of lines workers) did) old new why
 
--- The script wasn't read to its end, or memory was wanting before its first call: no call was made, and nothing was written. Of its bytes
--- these were read.
+-- The script wasn't read to its end, or memory was wanting before its first call: no call was made, and nothing was
+-- written. Of its bytes these were read.
 pub record EndsReading (before after : State) (old new : Seen) (why : Why) : Type 0 where
   pub bytes : List ℕ
   pub read : Consumes old.left new.left bytes
@@ -127,18 +136,21 @@ pub record EndsReading (before after : State) (old new : Seen) (why : Why) : Typ
   pub written : new.written ≡ old.written
   pub quiet : new.sink_faults ≡ old.sink_faults
 
--- The script was read, and done by threads. The calls of each session and of the administrator are those that its own lines make of its
--- private side, in order, with the replies of the history; each worker's are those of its loop; and there are no others.
+-- The script was read, and done by threads. The calls of each session and of the administrator are those that its own
+-- lines make of its private side, in order, with the replies of the history; each worker's are those of its loop; and
+-- there are no others.
 pub record EndsRun (objects : List Object) (workers : ℕ) (after : State) (old new : Seen) (why : Why) : Type 0 where
   pub bytes : List ℕ
   pub read : Consumes old.left new.left bytes
   pub lines : List NumberedLine
   pub known : IsRead bytes new.left lines
   pub quiet : new.source_faults ≡ old.source_faults
-  pub done : HaveDone objects lines workers after (output old.written old.sink_faults) (output new.written new.sink_faults) why
+  pub done : HaveDone objects lines workers after (output old.written old.sink_faults)
+      (output new.written new.sink_faults) why
 
 abbrev pub RunsThreads : List Object → ℕ → State → State → Seen → Seen → Why → Type 0
-RunsThreads objects workers before after old new why = EndsReading before after old new why ⊎ EndsRun objects workers after old new why
+RunsThreads objects workers before after old new why =
+    EndsReading before after old new why ⊎ EndsRun objects workers after old new why
 
 -- the script was done to its end, or memory was wanting, or the history is full
 abbrev pub EndsWhole : Why → Type 0

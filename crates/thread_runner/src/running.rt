@@ -42,9 +42,10 @@ use turn_desks::{Gate, LockName, Origin, ServedHall, Serving};
 use turn_lock::{Pass, TurnLock};
 use whole_script::{Script, read_script};
 
-/// Reads a whole script, and then has its sessions, the administrator and so many workers do their work as threads, each
-/// call of theirs in a turn of its own. Then it writes the history, what the lines were answered that came to no call,
-/// and what the monitors show. The calls of each session and of the administrator are those of its lines, in order.
+/// Reads a whole script, and then has its sessions, the administrator and so many workers do their work as threads,
+/// each call of theirs in a turn of its own. Then it writes the history, what the lines were answered that came to no
+/// call, and what the monitors show. The calls of each session and of the administrator are those of its lines, in
+/// order.
 pub fn run<
     R: Threads + Wait + Sync,
     S: Source,
@@ -194,7 +195,8 @@ fn do_script<
     requires parts { AllByRecursion (λ l. has_part l.line ≡ true) script.now.lines.items }
     requires workers { (1 ≤ workers) × (workers ≤ 16) }
     ensures does { ∥ DoesScript objects.now script.now.lines.items workers served.hall.state result.0.hall.state
-        (output (W.written sink.old) (W.faults sink.old)) (output (W.written sink.new) (W.faults sink.new)) result.1 ∥₁ }
+        (output (W.written sink.old) (W.faults sink.old)) (output (W.written sink.new) (W.faults sink.new)) result.1
+        ∥₁ }
     ensures sink { W.faults sink.old ≤ W.faults sink.new }
 {
     match act_all(rt, alloc, gate, script, served, objects, workers) {

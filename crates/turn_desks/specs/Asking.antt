@@ -18,14 +18,15 @@ abbrev pub table_of : {S E : Type 0} → TurnLock S E → TableId
 table_of lock = lock.table.shared.table_id
 
 module _ {S : Type 0} (past : S → List PastEntry) where
-  -- The server was asked this in this line and answered so, and it is up behind the call or isn't. A history that was found full is as
-  -- long as it may be, and a post isn't answered that there is no unit to take.
+  -- The server was asked this in this line and answered so, and it is up behind the call or isn't. A history that was
+  -- found full is as long as it may be, and a post isn't answered that there is no unit to take.
   abbrev pub Asks : ℕ → Command → Reply → Bool → S → S → Type 0
-  Asks line c r up s t = (map desk_call (past t) ≡ with_call (map desk_call (past s)) line c r) × (up ≡ up_after (past t))
+  Asks line c r up s t = (map desk_call (past t) ≡ with_call (map desk_call (past s)) line c r)
+      × (up ≡ up_after (past t))
       × (is_full r ≡ true → 262144 ≤ length (past t)) × ((is_post (call_of c) && is_idle r) ≡ false)
 
-  -- A pass asked it in a turn of its own: its own calls have this one more, unless none is kept that is answered so. What it has
-  -- seen then is the history behind the call.
+  -- A pass asked it in a turn of its own: its own calls have this one more, unless none is kept that is answered so.
+  -- What it has seen then is the history behind the call.
   pub record IsAsked (line : ℕ) (c : Command) (r : Reply) (up : Bool) (v w : View PastEntry) : Type 0 where
     pub turn : IsTurn past (Asks line c r up) v w
     pub own : map desk_call (own_entries w) ≡ with_call (map desk_call (own_entries v)) line c r

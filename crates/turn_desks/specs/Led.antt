@@ -13,9 +13,15 @@ pub record Counts : Type 0 where
   pub file : ℕ
   pub link : LinkCounts
 
-abbrev pub counts_of : {K D L : Type 0} → (faults : K → ℕ) (file_faults : D → ℕ) (link_faults refusals : L → ℕ) → K → D → L → Counts
+abbrev pub counts_of : {K D L : Type 0} → (faults : K → ℕ) (file_faults : D → ℕ) (link_faults refusals : L → ℕ) → K → D
+    → L → Counts
 counts_of faults file_faults link_faults refusals keeper disk link =
-    record { store = faults keeper; file = file_faults disk; link = record { faults = link_faults link; refusals = refusals link } }
+    record {
+      store = faults keeper;
+      file = file_faults disk;
+      link =
+          record { faults = link_faults link; refusals = refusals link };
+    }
 
 abbrev pub store_fails_in_call : Made → Bool
 store_fails_in_call m = is_store_failure m.outcome.event
@@ -23,13 +29,16 @@ store_fails_in_call m = is_store_failure m.outcome.event
 abbrev pub file_fails_in_call : Made → Bool
 file_fails_in_call m = is_file_failure m.outcome.event
 
--- over these calls a device's count of faults has risen in each in which the device failed, and stood still in each other
+-- over these calls a device's count of faults has risen in each in which the device failed, and stood still in each
+-- other
 abbrev pub CountsCalls : (Made → Bool) → List Made → ℕ → ℕ → Type 0
 CountsCalls fails [] before now = now ≡ before
-CountsCalls fails (m ∷ ms) before now = (between : ℕ) × (HasCounted (fails m) before between × CountsCalls fails ms between now)
+CountsCalls fails (m ∷ ms) before now = (between : ℕ) ×
+    (HasCounted (fails m) before between × CountsCalls fails ms between now)
 
--- The calls of the history led from the first state to this one, each answered as the model answers it. A device's count rose in each
--- of them in which the device failed. None found a device bad that tells what it holds: the store, the backup file, the replica.
+-- The calls of the history led from the first state to this one, each answered as the model answers it. A device's
+-- count rose in each of them in which the device failed. None found a device bad that tells what it holds: the store,
+-- the backup file, the replica.
 pub record IsLed (told tells linked : Bool) (first : State) (before : Counts) (s : State) (now : Counts) : Type 0 where
   pub made : List Made
   pub calls : s.past ≡ calls_of made

@@ -18,7 +18,8 @@ end_up : (level block : ℕ) → end_of (suc level) block ≡ end_of level block
 end_up level block =
     let e : suc level ≡ level + 1 = omega arith in
     let one : end_of (suc level) block ≡ end_of (level + 1) block = ap (λ l. end_of l block) e in
-    let other : end_of (level + 1) block ≡ block * (2 ^ (level + 1) + 2 ^ (level + 1)) + 2 ^ (level + 1) = ap (λ w. block * w + 2 ^ (level + 1)) (width_up (level + 1)) in
+    let other : end_of (level + 1) block ≡ block * (2 ^ (level + 1) + 2 ^ (level + 1)) + 2 ^ (level + 1) =
+    ap (λ w. block * w + 2 ^ (level + 1)) (width_up (level + 1)) in
     let w = width_up level in
     omega arith
 

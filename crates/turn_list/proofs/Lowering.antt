@@ -63,7 +63,8 @@ lowered_here turns counts turn unit level block e from to within len was _ =
 
 away : (level block turn : ℕ) → (start_of level block ≤ turn → turn < end_of level block → ⊥) → (turn < start_of level block) ⊎ (end_of level block ≤ turn)
 away level block turn h = go (cases_lt turn (start_of level block)) (cases_lt turn (end_of level block)) where
-  go : (turn < start_of level block) ⊎ (start_of level block ≤ turn) → (turn < end_of level block) ⊎ (end_of level block ≤ turn) → (turn < start_of level block) ⊎ (end_of level block ≤ turn)
+  go : (turn < start_of level block) ⊎ (start_of level block ≤ turn) → (turn < end_of level block) ⊎ (end_of level block ≤ turn) → (turn < start_of level block)
+      ⊎ (end_of level block ≤ turn)
   go (inl a) _ = inl a
   go (inr a) (inr b) = inr b
   go (inr a) (inl b) = absurd (h a b)
@@ -123,7 +124,8 @@ lowered_none turns counts turn unit level e none was = record {
 } where
   here : (b : ℕ) → IsBlockCounted (set turns turn None) counts level b
   here b within =
-      apart turns counts turn unit level b e (away level b turn (λ a c. none b a c (omega (arith, length-set turns turn None)))) (was.left level b (omega arith)) within
+      apart turns counts turn unit level b e (away level b turn (λ a c. none b a c (omega (arith, length-set turns turn None))))
+      (was.left level b (omega arith)) within
 
   pick : (l b : ℕ) → l < level + 1 → (l ≡ level) ⊎ (l ≡ level → ⊥) → IsBlockCounted (set turns turn None) counts l b
   pick l b h (inr other) = was.done l b (omega arith)

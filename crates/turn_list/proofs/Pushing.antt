@@ -12,31 +12,34 @@ pub counted_push : (turns : List (Option UnitKey)) (unit : Option UnitKey) (coun
     → IsCounted turns counts → end_of level block ≡ length turns + 1
     → count + before turns (start_of level block) ≡ before (turns ++ unit ∷ []) (length turns + 1)
     → IsCounted (turns ++ unit ∷ []) (counts ++ count ∷ [])
-counted_push turns unit counts count level block was ends sum =
-    (length_push counts count ∙ ap (λ n. n + 1) was.0 ∙ sym (length_push turns unit), λ l b within. pick l b within (cases_lt (end_of l b) (length turns + 1))) where
-      pick : (l b : ℕ) → end_of l b ≤ length (turns ++ unit ∷ []) → (end_of l b < length turns + 1) ⊎ (length turns + 1 ≤ end_of l b)
-          → get_or (counts ++ count ∷ []) (end_of l b - 1) 0 + before (turns ++ unit ∷ []) (start_of l b) ≡ before (turns ++ unit ∷ []) (end_of l b)
-      pick l b within (inl h) =
-          let some = pow_pos l in
-          let old = was.1 l b (omega arith) in
-          let len : length counts ≡ length turns = was.0 in
-          let same = get_or_append_left counts (count ∷ []) 0 (end_of l b - 1) (omega arith) in
-          let start = before_push turns unit (start_of l b) (omega arith) in
-          let end = before_push turns unit (end_of l b) (omega arith) in
-          omega arith
-      pick l b within (inr h) =
-          let longer = length_push turns unit in
-          let end : end_of l b ≡ length turns + 1 = omega arith in
-          let len : length counts ≡ length turns = was.0 in
-          let this = get_or_push counts count 0 (end_of l b - 1) (omega arith) in
-          let same_level : l ≡ level = one_level l level b block (omega arith) in
-          let width : 2 ^ l ≡ 2 ^ level = ap (λ x. 2 ^ x) same_level in
-          let some = pow_pos l in
-          let at : start_of l b ≡ start_of level block = omega arith in
-          let start = before_push turns unit (start_of l b) (omega arith) in
-          let moved : before turns (start_of l b) ≡ before turns (start_of level block) = ap (before turns) at in
-          let there : before (turns ++ unit ∷ []) (end_of l b) ≡ before (turns ++ unit ∷ []) (length turns + 1) = ap (before (turns ++ unit ∷ [])) end in
-          omega arith
+counted_push turns unit counts count level block was ends sum = (
+  length_push counts count ∙ ap (λ n. n + 1) was.0 ∙ sym (length_push turns unit),
+  λ l b within. pick l b within
+      (cases_lt (end_of l b) (length turns + 1)),
+) where
+  pick : (l b : ℕ) → end_of l b ≤ length (turns ++ unit ∷ []) → (end_of l b < length turns + 1) ⊎ (length turns + 1 ≤ end_of l b)
+      → get_or (counts ++ count ∷ []) (end_of l b - 1) 0 + before (turns ++ unit ∷ []) (start_of l b) ≡ before (turns ++ unit ∷ []) (end_of l b)
+  pick l b within (inl h) =
+      let some = pow_pos l in
+      let old = was.1 l b (omega arith) in
+      let len : length counts ≡ length turns = was.0 in
+      let same = get_or_append_left counts (count ∷ []) 0 (end_of l b - 1) (omega arith) in
+      let start = before_push turns unit (start_of l b) (omega arith) in
+      let end = before_push turns unit (end_of l b) (omega arith) in
+      omega arith
+  pick l b within (inr h) =
+      let longer = length_push turns unit in
+      let end : end_of l b ≡ length turns + 1 = omega arith in
+      let len : length counts ≡ length turns = was.0 in
+      let this = get_or_push counts count 0 (end_of l b - 1) (omega arith) in
+      let same_level : l ≡ level = one_level l level b block (omega arith) in
+      let width : 2 ^ l ≡ 2 ^ level = ap (λ x. 2 ^ x) same_level in
+      let some = pow_pos l in
+      let at : start_of l b ≡ start_of level block = omega arith in
+      let start = before_push turns unit (start_of l b) (omega arith) in
+      let moved : before turns (start_of l b) ≡ before turns (start_of level block) = ap (before turns) at in
+      let there : before (turns ++ unit ∷ []) (end_of l b) ≡ before (turns ++ unit ∷ []) (length turns + 1) = ap (before (turns ++ unit ∷ [])) end in
+      omega arith
 
 -- the blocks before a further turn that end where the later one begins
 pub record IsSummed (turns : List (Option UnitKey)) (unit : Option UnitKey) (start width count : ℕ) : Type 0 where

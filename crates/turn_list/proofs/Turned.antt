@@ -30,7 +30,8 @@ one_less turns turn unit e h =
     let len = ap (before (set turns turn None)) (length-set turns turn None) in
     omega arith
 
-pub turned_clear : (turns : List (Option UnitKey)) (counts lowered : List ℕ) (waiting turn : ℕ) (unit : UnitKey) → get_or turns turn None ≡ Some unit → turn < length turns
+pub turned_clear : (turns : List (Option UnitKey)) (counts lowered : List ℕ) (waiting turn : ℕ) (unit : UnitKey) → get_or turns turn None ≡ Some unit
+    → turn < length turns
     → IsTurns turns counts waiting → IsCounted (set turns turn None) lowered
     → IsTurns (set turns turn None) lowered (waiting - 1)
 turned_clear turns counts lowered waiting turn unit e h was counted = record {

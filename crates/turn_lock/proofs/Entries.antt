@@ -49,7 +49,9 @@ same_times (x ∷ xs) ys e =
 pub each_number : (n : ℕ) (own : List ℕ) → ((q : ℕ) → times q own ≡ one_if (ltb q n)) → IsPermutation (numbers 0 n) own
 each_number n own each_once =
     let none_below : (q : ℕ) → one_if (ltb q 0) ≡ 0 = λ q. grind (arith, nat_tests) in
-    same_times (numbers 0 n) own (λ q. let a = numbers_times q 0 n in let b = each_once q in let c = none_below q in let all_of : one_if (ltb q (0 + n)) ≡ one_if (ltb q n) = ap (λ (m : ℕ). one_if (ltb q m)) (omega arith) in omega arith)
+    same_times (numbers 0 n) own
+    (λ q. let a = numbers_times q 0 n in let b = each_once q in let c = none_below q in let all_of : one_if (ltb q (0 + n)) ≡ one_if (ltb q n) =
+    ap (λ (m : ℕ). one_if (ltb q m)) (omega arith) in omega arith)
 
 module _ {E : Type 0} where
   entry_get : (log : List E) (d : E) (k : ℕ) → k < length log → entry_of (slice_get log k) ≡ get_or log k d ∷ []
@@ -70,7 +72,8 @@ module _ {E : Type 0} where
 
   pub entries_from : (log : List E) (first n : ℕ) → first + n ≡ length log → entries_at log (numbers first n) ≡ drop first log
   entries_from log first zero e = sym (drop_all log first (omega arith))
-  entries_from log first (suc n) e = ap (λ (l : List E). entry_of (slice_get log first) ++ l) (entries_from log (suc first) n (omega arith)) ∙ at_drop log first (omega arith)
+  entries_from log first (suc n) e = ap (λ (l : List E). entry_of (slice_get log first) ++ l) (entries_from log (suc first) n (omega arith))
+      ∙ at_drop log first (omega arith)
 
   -- a call adds to the pass's own entries what it added to the history
   pub own_called : (seen before after : List E) (own : List ℕ) → All (λ k. k < length seen) own → IsPrefix seen before → IsPrefix before after
@@ -96,18 +99,22 @@ module _ {E : Type 0} where
       let later = entries_map log d ks (λ j e lt. all (suc j) e (omega arith)) in
       λ i. here i ++ later i
 
-  permuted : (log : List E) (ks ls : List ℕ) → All (λ k. k < length log) ks → All (λ k. k < length log) ls → IsPermutation ks ls → IsPermutation (entries_at log ks) (entries_at log ls)
+  permuted : (log : List E) (ks ls : List ℕ) → All (λ k. k < length log) ks → All (λ k. k < length log) ls → IsPermutation ks ls
+      → IsPermutation (entries_at log ks) (entries_at log ls)
   permuted [] [] [] a b p = IsPermutation-refl []
   permuted [] (k ∷ ks) ls a b p = absurd (let h = a 0 k (omega arith) in omega arith)
   permuted [] [] (l ∷ ls) a b p = absurd (let h = b 0 l (omega arith) in omega arith)
-  permuted (x ∷ xs) ks ls a b p = subst (λ (u : List E × List E). IsPermutation u.0 u.1) (λ i. (sym (entries_map (x ∷ xs) x ks a) i, sym (entries_map (x ∷ xs) x ls b) i))
+  permuted (x ∷ xs) ks ls a b p = subst (λ (u : List E × List E). IsPermutation u.0 u.1)
+      (λ i. (sym (entries_map (x ∷ xs) x ks a) i, sym (entries_map (x ∷ xs) x ls b) i))
       (IsPermutation-map (λ (k : ℕ). get_or (x ∷ xs) k x) ks ls p)
 
   -- who has each place once has the whole history
-  pub whole_own : (log : List E) (own : List ℕ) → All (λ k. k < length log) own → IsPermutation (numbers 0 (length log)) own → IsPermutation log (entries_at log own)
+  pub whole_own : (log : List E) (own : List ℕ) → All (λ k. k < length log) own → IsPermutation (numbers 0 (length log)) own
+      → IsPermutation log (entries_at log own)
   whole_own log own below whole =
       let n = length log in
-      subst (λ (l : List E). IsPermutation l (entries_at log own)) (entries_from log 0 n (omega arith)) (permuted log (numbers 0 n) own (numbers_below 0 n n (omega arith)) below whole)
+      subst (λ (l : List E). IsPermutation l (entries_at log own)) (entries_from log 0 n (omega arith))
+      (permuted log (numbers 0 n) own (numbers_below 0 n n (omega arith)) below whole)
 
   stands_there : (o : Option E) (x : E) → o ≡ Some x → (os : List (Option E)) (xs : List E) → os ≡ map Some xs → (o ∷ os) ≡ map Some (entry_of o ++ xs)
   stands_there None x is os xs h = absurd (none-some x is)
@@ -133,7 +140,8 @@ module _ {E : Type 0} where
   still_there : (front log : List E) (k : ℕ) (x : E) → IsPrefix front log → slice_get front k ≡ Some x → slice_get log k ≡ Some x
   still_there front log k x p there = same_there front log k p (slice_get_within front k x there) ∙ there
 
-  stay_there : (front log : List E) (ks : List ℕ) (xs : List E) → IsPrefix front log → map (slice_get front) ks ≡ map Some xs → map (slice_get log) ks ≡ map Some xs
+  stay_there : (front log : List E) (ks : List ℕ) (xs : List E) → IsPrefix front log → map (slice_get front) ks ≡ map Some xs
+      → map (slice_get log) ks ≡ map Some xs
   stay_there front log [] xs p h = h
   stay_there front log (k ∷ ks) [] p h = absurd (cc (h))
   stay_there front log (k ∷ ks) (x ∷ xs) p h =
@@ -146,7 +154,8 @@ module _ {E : Type 0} where
   pub stands_longer : (v : View E) (front log : List E) → IsPrefix front log → Stands front v → Stands log v
   stands_longer v front log p h = stay_there front log v.own (own_entries v) p h
 
-  longer_begins_if : (xs ys : List E) (b : Bool) → IsPrefix (if b then xs else ys) (if b then ys else xs) → IsPrefix xs (if b then ys else xs) × IsPrefix ys (if b then ys else xs)
+  longer_begins_if : (xs ys : List E) (b : Bool) → IsPrefix (if b then xs else ys) (if b then ys else xs) → IsPrefix xs (if b then ys else xs)
+      × IsPrefix ys (if b then ys else xs)
   longer_begins_if xs ys true p = (p, whole_is_front ys)
   longer_begins_if xs ys false p = (whole_is_front xs, p)
 
@@ -155,11 +164,13 @@ module _ {E : Type 0} where
   longer_begins xs ys p = longer_begins_if xs ys (ltb (length xs) (length ys)) p
 
   -- of two that are joined, the entries of each stand where they stood
-  pub both_stand : (v w : View E) → All (λ k. k < length v.seen) v.own → All (λ k. k < length w.seen) w.own → IsPrefix (shorter_of v.seen w.seen) (longer_of v.seen w.seen)
+  pub both_stand : (v w : View E) → All (λ k. k < length v.seen) v.own → All (λ k. k < length w.seen) w.own
+      → IsPrefix (shorter_of v.seen w.seen) (longer_of v.seen w.seen)
       → Stands (longer_of v.seen w.seen) v × Stands (longer_of v.seen w.seen) w
   both_stand v w a b p = let q = longer_begins v.seen w.seen p in (own_stands v (longer_of v.seen w.seen) a q.0, own_stands w (longer_of v.seen w.seen) b q.1)
 
-  pub both_entries : (v w : View E) → All (λ k. k < length v.seen) v.own → All (λ k. k < length w.seen) w.own → IsPrefix (shorter_of v.seen w.seen) (longer_of v.seen w.seen)
+  pub both_entries : (v w : View E) → All (λ k. k < length v.seen) v.own → All (λ k. k < length w.seen) w.own
+      → IsPrefix (shorter_of v.seen w.seen) (longer_of v.seen w.seen)
       → own_entries (both_of v w) ≡ own_entries v ++ own_entries w
   both_entries v w a b p =
       let seen : List E = longer_of v.seen w.seen in

@@ -33,11 +33,13 @@ module _ {E : Type 0} where
   waits_fits : (serving : ℕ) (log : List E) (t : ℕ) (v : View E) → 0 < v.parts → Fits serving log v → Fits serving log (waits t v)
   waits_fits serving log t v some_part f = record { seen = f.seen; shorter = f.shorter; own = f.own; turn = tt; spent = λ z. absurd (omega arith) }
 
-  took_fits : (serving : ℕ) (log now : List E) (t : ℕ) (v : View E) → 0 < v.parts → t ≡ serving → now ≡ log → Fits serving log v → Fits serving log (took t now v)
+  took_fits : (serving : ℕ) (log now : List E) (t : ℕ) (v : View E) → 0 < v.parts → t ≡ serving → now ≡ log → Fits serving log v
+      → Fits serving log (took t now v)
   took_fits serving log now t v some_part served same f = record {
     seen = subst (λ (l : List E). IsPrefix l log) (sym same) (whole_is_front log);
     shorter = subst (λ (l : List E). IsPrefix v.shorter l) (sym same) (front_of_front v.shorter v.seen log f.shorter f.seen);
-    own = below_higher (length v.seen) (length now) v.own (let le = front_is_short v.seen log f.seen in let e : length now ≡ length log = ap length same in omega arith) f.own;
+    own = below_higher (length v.seen) (length now) v.own
+        (let le = front_is_short v.seen log f.seen in let e : length now ≡ length log = ap length same in omega arith) f.own;
     turn = (served, same);
     spent = λ z. absurd (omega arith);
   }
@@ -80,27 +82,33 @@ module _ {E : Type 0} where
   spent_fits serving log = record { seen = (log, refl); shorter = ([], refl); own = below_none 0; turn = tt; spent = λ _. (refl, refl) }
 
   longer_if : (xs ys log : List E) (b : Bool) → ltb (length xs) (length ys) ≡ b → IsPrefix xs log → IsPrefix ys log
-      → IsPrefix (if b then ys else xs) log × IsPrefix (if b then xs else ys) (if b then ys else xs) × (length xs ≤ length (if b then ys else xs)) × (length ys ≤ length (if b then ys else xs))
+      → IsPrefix (if b then ys else xs) log × IsPrefix (if b then xs else ys) (if b then ys else xs) × (length xs ≤ length (if b then ys else xs))
+      × (length ys ≤ length (if b then ys else xs))
   longer_if xs ys log true is p q = let lt = ltb-true (length xs) (length ys) is in (q, fronts_agree xs ys log p q (omega arith), omega arith, omega arith)
   longer_if xs ys log false is p q = let le = ltb-false (length xs) (length ys) is in (p, fronts_agree ys xs log q p (omega arith), omega arith, omega arith)
 
-  both_fits : (serving : ℕ) (log : List E) (v w : View E) → 0 < v.parts → v.turn ≡ Rests → Fits serving log v → Fits serving log w → Fits serving log (both_of v w)
+  both_fits : (serving : ℕ) (log : List E) (v w : View E) → 0 < v.parts → v.turn ≡ Rests → Fits serving log v → Fits serving log w
+      → Fits serving log (both_of v w)
   both_fits serving log v w some_part rests f g =
       let l = longer_if v.seen w.seen log (ltb (length v.seen) (length w.seen)) refl f.seen g.seen in
       let seen : List E = longer_of v.seen w.seen in record {
         seen = l.0;
         shorter = l.1;
-        own = All-append (λ k. k < length seen) v.own w.own (below_higher (length v.seen) (length seen) v.own l.2 f.own) (below_higher (length w.seen) (length seen) w.own l.3 g.own);
+        own = All-append (λ k. k < length seen) v.own w.own (below_higher (length v.seen) (length seen) v.own l.2 f.own)
+            (below_higher (length w.seen) (length seen) w.own l.3 g.own);
         turn = rests_fits serving log seen v.turn rests;
         spent = λ z. absurd (omega arith);
       }
 
 module _ {S E : Type 0} (past : S → List E) (all : ℕ) where
   -- the rule reads the state's lists alone
-  unchanged : (s : State (Option S) (View E)) (ws : List ℕ) (vs : List (View E)) → ws ≡ s.words → vs ≡ s.views → Kept past all s → Kept past all record { words = ws; homes = s.homes; views = vs }
-  unchanged s ws vs w v k = subst (λ (x : List ℕ × List (View E)). Kept past all record { words = x.0; homes = s.homes; views = x.1 }) (λ i. (sym w i, sym v i)) k
+  unchanged : (s : State (Option S) (View E)) (ws : List ℕ) (vs : List (View E)) → ws ≡ s.words → vs ≡ s.views → Kept past all s
+      → Kept past all record { words = ws; homes = s.homes; views = vs }
+  unchanged s ws vs w v k = subst (λ (x : List ℕ × List (View E)). Kept past all record { words = x.0; homes = s.homes; views = x.1 })
+      (λ i. (sym w i, sym v i)) k
 
-  same_place : (log : List E) (s : State (Option S) (View E)) (ws : List ℕ) (vs : List (View E)) → sum_by holds_one vs ≡ sum_by holds_one s.views → IsHome past log s ⊎ IsOut s
+  same_place : (log : List E) (s : State (Option S) (View E)) (ws : List ℕ) (vs : List (View E)) → sum_by holds_one vs ≡ sum_by holds_one s.views
+      → IsHome past log s ⊎ IsOut s
       → IsHome past log record { words = ws; homes = s.homes; views = vs } ⊎ IsOut record { words = ws; homes = s.homes; views = vs }
   same_place log s ws vs e p = ⊎_elim (λ (h : IsHome past log s). inl (h.0, h.1, h.2, e ∙ h.3)) (λ (o : IsOut s). inr (o.0, e ∙ o.1)) p
 
@@ -135,7 +143,8 @@ module _ {S E : Type 0} (past : S → List E) (all : ℕ) where
           place = same_place k.log s (set s.words 0 word) (set s.views id w) (let change = total_set holds_one s.views id v w at in omega arith) k.place;
           parts = let was = k.parts in let change = total_set (λ (u : View E). u.parts) s.views id v w at in omega arith;
           own = λ q. let was = k.own q in let change = total_set (λ (u : View E). times q u.own) s.views id v w at in omega arith;
-          each = each_set (λ _. Fits k.serving k.log) s.views id w (waits_fits k.serving k.log found v some_part (k.each id v at)) (λ j u _ there. k.each j u there);
+          each = each_set (λ _. Fits k.serving k.log) s.views id w (waits_fits k.serving k.log found v some_part (k.each id v at))
+              (λ j u _ there. k.each j u there);
         },
         ((λ _. refl), λ ne. absurd (ne hit)),
       ))
@@ -181,10 +190,14 @@ module _ {S E : Type 0} (past : S → List E) (all : ℕ) where
               let before : one_if (has_ticket q v.turn) ≡ one_if (q == t) = ap (λ (z : Turn). one_if (has_ticket q z)) is in
               let after : one_if (q == found) ≡ one_if (q == t) = ap (λ (n : ℕ). one_if (q == n)) (hit ∙ mine) in
               omega arith;
-          place = inr (ap (λ (hs : List (mathlib.Core.Option.Option (Option S))). set hs 0 none) h.1, (let change = total_set holds_one s.views id v w at in let none_held = h.3 in omega arith));
+          place = inr (
+            ap (λ (hs : List (mathlib.Core.Option.Option (Option S))). set hs 0 none) h.1,
+            (let change = total_set holds_one s.views id v w at in let none_held = h.3 in omega arith),
+          );
           parts = let was = k.parts in let change = total_set (λ (u : View E). u.parts) s.views id v w at in omega arith;
           own = λ q. let was = k.own q in let change = total_set (λ (u : View E). times q u.own) s.views id v w at in omega arith;
-          each = each_set (λ _. Fits k.serving k.log) s.views id w (took_fits k.serving k.log (past x) found v some_part here h.2 fits) (λ j u _ there. k.each j u there);
+          each = each_set (λ _. Fits k.serving k.log) s.views id w (took_fits k.serving k.log (past x) found v some_part here h.2 fits)
+              (λ j u _ there. k.each j u there);
         },
         ((λ _. (x, refl, subst (λ (l : List E). IsPrefix v.seen l) (sym h.2) fits.seen)), λ ne. absurd (ne hit)),
       ))
@@ -193,7 +206,8 @@ module _ {S E : Type 0} (past : S → List E) (all : ℕ) where
       let same : k.serving ≡ t = sym here ∙ (hit ∙ mine) in
       let one : one_if (k.serving == t) ≡ 1 = grind (arith, nat_tests) in
       let fewer : sum_by holds_one s.views < sum_by (λ (u : View E). one_if (has_ticket k.serving u.turn)) s.views =
-      total_lt holds_one (λ (u : View E). one_if (has_ticket k.serving u.turn)) s.views id v at (omega arith) (λ j u there. holds_ticket k.serving k.log u.seen u.turn (k.each j u there).turn) in
+      total_lt holds_one (λ (u : View E). one_if (has_ticket k.serving u.turn)) s.views id v at (omega arith)
+      (λ j u there. holds_ticket k.serving k.log u.seen u.turn (k.each j u there).turn) in
       let most = one_if_le (ltb k.serving k.next) in
       let all_once = k.tickets k.serving in
       let held = o.1 in
@@ -207,7 +221,8 @@ module _ {S E : Type 0} (past : S → List E) (all : ℕ) where
         ((λ e. absurd (miss e)), λ _. refl),
       ))
 
-  pub gives_allowed : (slots id t : ℕ) (x : S) (me : SeatState S E) → me.0.turn ≡ Holds t → me.1 ≡ (0, Some x) ∷ [] → 0 < me.0.parts → IsPrefix me.0.seen (past x)
+  pub gives_allowed : (slots id t : ℕ) (x : S) (me : SeatState S E) → me.0.turn ≡ Holds t → me.1 ≡ (0, Some x) ∷ [] → 0 < me.0.parts
+      → IsPrefix me.0.seen (past x)
       → Allows (Kept past all) slots id me 1 (λ n. (n + 1) % 18446744073709551616) (Gives past (step slots 1 1 0 none) me)
   gives_allowed slots id t x me is has some_part grows s k _ at _ =
       let v = me.0 in
@@ -218,7 +233,8 @@ module _ {S E : Type 0} (past : S → List E) (all : ℕ) where
       let served : t ≡ k.serving = mine.0 in
       let whole : v.seen ≡ k.log = mine.1 in
       let held : holds_one v ≡ 1 = ap (λ (z : Turn). one_if (is_holding z)) is in
-      let asked : (q : ℕ) → one_if (has_ticket q v.turn) ≡ one_if (q == k.serving) = λ q. ap (λ (z : Turn). one_if (has_ticket q z)) is ∙ ap (λ (n : ℕ). one_if (q == n)) served in
+      let asked : (q : ℕ) → one_if (has_ticket q v.turn) ≡ one_if (q == k.serving) =
+      λ q. ap (λ (z : Turn). one_if (has_ticket q z)) is ∙ ap (λ (n : ℕ). one_if (q == n)) served in
       let here_open : k.serving < k.next =
       one_if_below k.serving k.next
       (let one : one_if (k.serving == k.serving) ≡ 1 = grind (arith, nat_tests) in
@@ -266,7 +282,8 @@ module _ {S E : Type 0} (past : S → List E) (all : ℕ) where
               let after : one_if (ltb q (length v.seen + one_more)) ≡ one_if (ltb q (length (past x))) = ap (λ (n : ℕ). one_if (ltb q n)) longer in
               omega arith;
           each = each_set (λ _. Fits (k.serving + 1) (past x)) s.views id w (gave_fits k.serving (k.serving + 1) k.log (past x) v some_part grows fits)
-              (λ j u ne there. other_fits k.serving (k.serving + 1) k.log (past x) u (total_whole holds_one s.views id v at alone j u ne there) grown (k.each j u there));
+              (λ j u ne there. other_fits k.serving (k.serving + 1) k.log (past x) u (total_whole holds_one s.views id v at alone j u ne there) grown
+              (k.each j u there));
         },
         (λ y has'.
             let pair : (0, Some x) ≡ (0, Some y) = cc (sym has ∙ has') in
@@ -292,7 +309,8 @@ module _ {S E : Type 0} (past : S → List E) (all : ℕ) where
             let was = k.tickets t in
             let change = total_set (λ (u : View E). one_if (has_ticket t u.turn)) s.views id v l at in
             let more = sum_by_push (λ (u : View E). one_if (has_ticket t u.turn)) views r in omega arith;
-        place = same_place k.log s s.words (views ++ r ∷ []) (let change = total_set holds_one s.views id v l at in let more = sum_by_push holds_one views r in omega arith) k.place;
+        place = same_place k.log s s.words (views ++ r ∷ [])
+            (let change = total_set holds_one s.views id v l at in let more = sum_by_push holds_one views r in omega arith) k.place;
         parts =
             let was = k.parts in
             let change = total_set (λ (u : View E). u.parts) s.views id v l at in
@@ -308,7 +326,8 @@ module _ {S E : Type 0} (past : S → List E) (all : ℕ) where
             (λ j u _ there. k.each j u there));
       }
 
-  pub glues_allowed : (id : ℕ) (v : View E) (other : ℕ) (w : View E) → 0 < v.parts → v.turn ≡ Rests → w.turn ≡ Rests → Joins {S = Option S} (Kept past all) id v other w (both_of v w) spent
+  pub glues_allowed : (id : ℕ) (v : View E) (other : ℕ) (w : View E) → 0 < v.parts → v.turn ≡ Rests → w.turn ≡ Rests
+      → Joins {S = Option S} (Kept past all) id v other w (both_of v w) spent
   glues_allowed id v other w some_part rests rests' s k at ne there =
       let b = both_of v w in
       let views = set s.views id b in
@@ -325,7 +344,8 @@ module _ {S E : Type 0} (past : S → List E) (all : ℕ) where
             let one = total_set (λ (u : View E). one_if (has_ticket t u.turn)) s.views id v b at in
             let two = total_set (λ (u : View E). one_if (has_ticket t u.turn)) views other w spent there in
             let none_there = idle t in omega arith;
-        place = same_place k.log s s.words (set views other spent) (let one = total_set holds_one s.views id v b at in let two = total_set holds_one views other w spent there in omega arith) k.place;
+        place = same_place k.log s s.words (set views other spent)
+            (let one = total_set holds_one s.views id v b at in let two = total_set holds_one views other w spent there in omega arith) k.place;
         parts =
             let was = k.parts in
             let one = total_set (λ (u : View E). u.parts) s.views id v b at in
@@ -336,10 +356,12 @@ module _ {S E : Type 0} (past : S → List E) (all : ℕ) where
             let two = total_set (λ (u : View E). times q u.own) views other w spent there in
             omega (arith, times_append q v.own w.own);
         each = each_set (λ _. Fits k.serving k.log) views other spent (spent_fits k.serving k.log)
-            (λ j u _ e. each_set (λ _. Fits k.serving k.log) s.views id b (both_fits k.serving k.log v w some_part rests (k.each id v at) (k.each other w was_at)) (λ i y _ e'. k.each i y e') j u e);
+            (λ j u _ e. each_set (λ _. Fits k.serving k.log) s.views id b
+            (both_fits k.serving k.log v w some_part rests (k.each id v at) (k.each other w was_at)) (λ i y _ e'. k.each i y e') j u e);
       }
 
-  pub learns_allowed : (slots id said : ℕ) (me : SeatState S E) → said ≡ all → Allows (Kept past all) slots id me 0 (λ n. n) (Learns said (step slots 0 0 0 none) me)
+  pub learns_allowed : (slots id said : ℕ) (me : SeatState S E) → said ≡ all
+      → Allows (Kept past all) slots id me 0 (λ n. n) (Learns said (step slots 0 0 0 none) me)
   learns_allowed slots id said me told s k _ at _ =
       let v = me.0 in
       let mine = k.each id v at in (
@@ -350,9 +372,11 @@ module _ {S E : Type 0} (past : S → List E) (all : ℕ) where
             (ap (λ (ws : List ℕ). set ws 0 (slice_index ws 0)) k.words ∙ sym k.words) (set_again s.views id v at) k,
         (
           refl,
-          (let low : v.parts ≤ sum_by (λ (u : View E). u.parts) s.views = total_at (λ (u : View E). u.parts) s.views id v at in let sum = k.parts in omega arith),
+          (let low : v.parts ≤ sum_by (λ (u : View E). u.parts) s.views = total_at (λ (u : View E). u.parts) s.views id v at in let sum = k.parts in
+              omega arith),
           mine.shorter,
-          (λ q. let low = total_at (λ (u : View E). times q u.own) s.views id v at in let once = k.own q in let few = one_if_le (ltb q (length k.log)) in omega arith),
+          (λ q. let low = total_at (λ (u : View E). times q u.own) s.views id v at in let once = k.own q in let few = one_if_le (ltb q (length k.log)) in
+              omega arith),
           mine.own,
         ),
       )
@@ -379,7 +403,14 @@ module _ {S E : Type 0} (past : S → List E) (all : ℕ) where
     where
       one : (j : ℕ) (u : View E) → get_elem? (opener all (past x) ∷ []) j ≡ some u → Fits 0 (past x) u
       one zero u there = subst (Fits 0 (past x)) (some-injective (opener all (past x)) u there)
-          record { seen = whole_is_front (past x); shorter = (past x, refl); own = numbers_below 0 (length (past x)) (length (past x)) (omega arith); turn = tt; spent = λ z. absurd (omega arith) }
+          record {
+            seen = whole_is_front (past x);
+            shorter = (past x, refl);
+            own = numbers_below 0 (length (past x)) (length (past x)) (omega arith);
+            turn =
+                tt;
+            spent = λ z. absurd (omega arith);
+          }
       one (suc j) u there = absurd (some-ne-none u (sym there))
 
   -- who has all parts knows the state that is left: it saw the whole history, and each place of it is its own, once
@@ -412,11 +443,14 @@ module _ {S E : Type 0} (past : S → List E) (all : ℕ) where
     where
       reaches : (n high : ℕ) (own : List ℕ) → All (λ q. q < high) own → ((q : ℕ) → times q own ≡ one_if (ltb q n)) → n ≤ high
       reaches zero high own below each_once = omega arith
-      reaches (suc n) high own below each_once = let h = stands_below n high own below (let e = each_once n in let one = below_one_if n (suc n) (omega arith) in omega arith) in omega arith
+      reaches (suc n) high own below each_once = let h = stands_below n high own below
+          (let e = each_once n in let one = below_one_if n (suc n) (omega arith) in omega arith) in omega arith
 
   -- the same, where the number of parts was told
-  pub cuts_told : (given said id : ℕ) (v : View E) → said ≡ given → 0 < given → given < v.parts → Splits {S = Option S} (Kept past all) id v (kept_of said v) (given_of said v)
-  cuts_told given said id v told some_part fewer = subst (λ (n : ℕ). Splits {S = Option S} (Kept past all) id v (kept_of n v) (given_of n v)) (sym told) (cuts_allowed given id v some_part fewer)
+  pub cuts_told : (given said id : ℕ) (v : View E) → said ≡ given → 0 < given → given < v.parts
+      → Splits {S = Option S} (Kept past all) id v (kept_of said v) (given_of said v)
+  cuts_told given said id v told some_part fewer = subst (λ (n : ℕ). Splits {S = Option S} (Kept past all) id v (kept_of n v) (given_of n v)) (sym told)
+      (cuts_allowed given id v some_part fewer)
 
   -- what is found in the slot at the end is the state
   pub closes_some : (id : ℕ) (v : View E) (ws : List ℕ) (xs : List (Option S)) → v.turn ≡ Rests → v.parts ≡ all → Final (Seen (Kept past all) id v) ws xs
@@ -443,7 +477,8 @@ module _ {S E : Type 0} (past : S → List E) (all : ℕ) where
       )
 
 -- the steps of one call
-pub call_steps : {S E : Type 0} (t : ℕ) (before after : List E) (m₀ m₁ m₂ m₃ : SeatState S E) → m₁ ≡ (waits t m₀.0, m₀.1) → m₂ ≡ (took t before m₁.0, (0, None) ∷ []) → m₃ ≡ (gave after m₂.0, [])
+pub call_steps : {S E : Type 0} (t : ℕ) (before after : List E) (m₀ m₁ m₂ m₃ : SeatState S E) → m₁ ≡ (waits t m₀.0, m₀.1)
+    → m₂ ≡ (took t before m₁.0, (0, None) ∷ []) → m₃ ≡ (gave after m₂.0, [])
     → m₃.0 ≡ called before after m₀.0
 call_steps {S} {E} t before after m₀ m₁ m₂ m₃ a b c =
     ap (λ (m : SeatState S E). m.0) c ∙ (ap (λ (m : SeatState S E). gave after m.0) b ∙ ap (λ (m : SeatState S E). gave after (took t before m.0)) a)

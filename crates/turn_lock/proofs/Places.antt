@@ -33,4 +33,5 @@ first_or_rest k high x xs false e lt later some = later (let c = times_cons k x 
 -- what stands in a list that lies below a bound lies below it
 pub stands_below : (k high : ℕ) (xs : List ℕ) → All (λ x. x < high) xs → 0 < times k xs → k < high
 stands_below k high [] all some = absurd (omega arith)
-stands_below k high (x ∷ xs) all some = first_or_rest k high x xs (k == x) refl (all 0 x (omega arith)) (λ h. stands_below k high xs (λ j d lt. all (suc j) d (omega arith)) h) some
+stands_below k high (x ∷ xs) all some = first_or_rest k high x xs (k == x) refl (all 0 x (omega arith))
+    (λ h. stands_below k high xs (λ j d lt. all (suc j) d (omega arith)) h) some

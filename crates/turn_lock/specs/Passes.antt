@@ -19,7 +19,9 @@ module _ {S E : Type 0} {g : Ghosts S E} where
 abbrev pub all_parts : {S E : Type 0} → TurnLock S E → ℕ
 all_parts lock = lock.table.shared.key.0
 
--- One turn: the act ran once, on a state whose history begins with what the pass had seen. The pass has then seen the whole history of the state that the act left, and what the act added to it is the pass's own, behind all that was its own
+-- One turn: the act ran once, on a state whose history begins with what the pass had seen. The pass has then seen the
+-- whole history of the state that the act left, and what the act added to it is the pass's own, behind all that was its
+-- own
 pub record IsTurn {S E : Type 0} (past : S → List E) (does : S → S → Type 0) (v w : View E) : Type 0 where
   pub before : S
   pub after : S

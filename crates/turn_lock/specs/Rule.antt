@@ -1,5 +1,6 @@
 -- The rule of a lock that serves in turn, and what each step tells.
-use Rattle.std.specs.Prelude.{◌≡◌, ◌≢◌, ◌⊎◌, ℕ, zero, suc, ◌+◌, ◌-◌, ◌^◌, ◌<◌, ◌≤◌, ◌==◌, Bool, true, false, ltb, List, [], ◌∷◌, ◌++◌, length, map, slice_get, if◌then◌else◌, All, Option, Some}
+use Rattle.std.specs.Prelude.{◌≡◌, ◌≢◌, ◌⊎◌, ℕ, zero, suc, ◌+◌, ◌-◌, ◌^◌, ◌<◌, ◌≤◌, ◌==◌, Bool, true, false, ltb, List}
+use Rattle.std.specs.Prelude.{[], ◌∷◌, ◌++◌, length, map, slice_get, if◌then◌else◌, All, Option, Some}
 use Rattle.std.specs.List.{sum_by}
 use mathlib.Core.Option.{some, none}
 use mathlib.Core.List.{IsPrefix}
@@ -54,20 +55,23 @@ module _ {E : Type 0} where
 module _ {S E : Type 0} where
   -- the state is at home, with the history, and no pass holds it
   abbrev pub IsHome : (S → List E) → List E → State (Option S) (View E) → Type 0
-  IsHome past log s = (x : S) × (s.homes ≡ some (Some x) ∷ []) × (past x ≡ log) × (sum_by (λ v. one_if (is_holding v.turn)) s.views ≡ 0)
+  IsHome past log s = (x : S) × (s.homes ≡ some (Some x) ∷ []) × (past x ≡ log)
+      × (sum_by (λ v. one_if (is_holding v.turn)) s.views ≡ 0)
 
   -- one pass holds it
   abbrev pub IsOut : State (Option S) (View E) → Type 0
   IsOut s = (s.homes ≡ none ∷ []) × (sum_by (λ v. one_if (is_holding v.turn)) s.views ≡ 1)
 
--- The tickets below the next one were served, or stand in the views, each once. Each place of the history is one pass's own, once. The passes have all parts
+-- The tickets below the next one were served, or stand in the views, each once. Each place of the history is one pass's
+-- own, once. The passes have all parts
 pub record Kept {S E : Type 0} (past : S → List E) (all : ℕ) (s : State (Option S) (View E)) : Type 0 where
   pub next : ℕ
   pub serving : ℕ
   pub log : List E
   pub words : s.words ≡ next ∷ serving ∷ []
   pub room : next < 2 ^ 64
-  pub tickets : (t : ℕ) → one_if (ltb t serving) + sum_by (λ v. one_if (has_ticket t v.turn)) s.views ≡ one_if (ltb t next)
+  pub tickets : (t : ℕ) → one_if (ltb t serving) + sum_by (λ v. one_if (has_ticket t v.turn)) s.views ≡ one_if
+      (ltb t next)
   pub place : IsHome past log s ⊎ IsOut s
   pub parts : sum_by (λ v. v.parts) s.views ≡ all
   pub own : (k : ℕ) → sum_by (λ v. times k v.own) s.views ≡ one_if (ltb k (length log))
@@ -89,11 +93,27 @@ module _ {E : Type 0} where
 
   -- it was given back, with this history, in which what was added is the pass's own
   abbrev pub gave : List E → View E → View E
-  gave log v = record { parts = v.parts; turn = Rests; seen = log; shorter = v.shorter; own = v.own ++ places_from v.seen log }
+  gave log v = record {
+    parts = v.parts;
+    turn = Rests;
+    seen = log;
+    shorter = v.shorter;
+    own =
+        v.own ++ places_from v.seen log;
+  }
 
-  -- after a call that found the one history and left the other: the latter was seen, and what was added is the pass's own
+  -- after a call that found the one history and left the other: the latter was seen, and what was added is the pass's
+  -- own
   abbrev pub called : List E → List E → View E → View E
-  called before after v = record { parts = v.parts; turn = Rests; seen = after; shorter = v.shorter; own = v.own ++ places_from before after }
+  called before after v =
+      record {
+        parts = v.parts;
+        turn = Rests;
+        seen = after;
+        shorter = v.shorter;
+        own =
+            v.own ++ places_from before after;
+      }
 
   -- the pass's own entries
   abbrev pub own_entries : View E → List E
@@ -117,7 +137,14 @@ module _ {E : Type 0} where
   shorter_of xs ys = if ltb (length xs) (length ys) then xs else ys
 
   abbrev pub both_of : View E → View E → View E
-  both_of v w = record { parts = v.parts + w.parts; turn = v.turn; seen = longer_of v.seen w.seen; shorter = shorter_of v.seen w.seen; own = v.own ++ w.own }
+  both_of v w = record {
+    parts = v.parts + w.parts;
+    turn = v.turn;
+    seen = longer_of v.seen w.seen;
+    shorter =
+        shorter_of v.seen w.seen;
+    own = v.own ++ w.own;
+  }
 
   -- what each view keeps
   abbrev pub IsSound : ℕ → View E → Type 0
@@ -139,7 +166,8 @@ module _ {S E : Type 0} where
   -- the state was taken, if the pass's ticket is served
   abbrev pub Looks : (S → List E) → Step (Option S) → SeatState S E → ℕ → SeatState S E → Type 0
   Looks past st m found w =
-      (found ≡ ticket_of m.0.turn → (x : S) × (w ≡ (took found (past x) m.0, (0, Some x) ∷ m.1)) × IsPrefix m.0.seen (past x))
+      (found ≡ ticket_of m.0.turn → (x : S) × (w ≡ (took found (past x) m.0, (0, Some x) ∷ m.1))
+      × IsPrefix m.0.seen (past x))
       × (found ≢ ticket_of m.0.turn → w ≡ m)
 
   -- the state was given back
@@ -148,4 +176,5 @@ module _ {S E : Type 0} where
 
   -- what a pass knows of itself
   abbrev pub Learns : ℕ → Step (Option S) → SeatState S E → ℕ → SeatState S E → Type 0
-  Learns all st m found w = (w ≡ m) × (w.0.parts ≤ all) × IsPrefix w.0.shorter w.0.seen × IsDistinct w.0.own × All (λ k. k < length w.0.seen) w.0.own
+  Learns all st m found w = (w ≡ m) × (w.0.parts ≤ all) × IsPrefix w.0.shorter w.0.seen × IsDistinct w.0.own
+      × All (λ k. k < length w.0.seen) w.0.own

@@ -3,24 +3,23 @@
 #![tactic(auto)]
 
 mod actor;
+#[cfg(test)]
 mod actors;
+#[cfg(test)]
 mod drawing;
+#[cfg(test)]
 mod held;
 mod notes;
+#[cfg(test)]
 mod opened;
+#[cfg(test)]
 mod pair;
+#[cfg(test)]
 mod readings;
+#[cfg(test)]
 mod rising;
-
-pub use actor::Actor;
-pub use actors::{gather, note_by_actors, run_actors};
-pub use drawing::{Drawn, draw_and_look};
-pub use held::{Held, draw_under_turn};
-pub use notes::{NoteNumber, Notes, note};
-pub use opened::{Opened, Origin, Put, opened_number};
-pub use pair::{join_either, note_both};
-pub use readings::readings_of;
-pub use rising::readings_rise;
-
 #[cfg(test)]
 mod tests;
+
+pub use actor::Actor;
+pub use notes::{NoteNumber, Notes, note};

@@ -1,6 +1,9 @@
-use crate::{
-    draw_under_turn, note_both, note_by_actors, opened_number, readings_of, readings_rise,
-};
+use crate::actors::note_by_actors;
+use crate::held::draw_under_turn;
+use crate::opened::opened_number;
+use crate::pair::note_both;
+use crate::readings::readings_of;
+use crate::rising::readings_rise;
 use enq_base::Readings;
 use gauges::Gauges;
 use number_stock::Stock;

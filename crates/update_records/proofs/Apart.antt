@@ -20,9 +20,11 @@ use Rattle.update_records.specs.RecordRows.{header_row, unit_rows, step_rows, pa
 use Rattle.update_records.proofs.Books.{is_unit_table, is_mark_table, is_meta_table, units_and_meta, units_and_marks, marks_and_meta, unit_in}
 use Rattle.update_records.proofs.Own.{AreOwn}
 
-table_apart : (p q : ℕ → Bool) → AreApart p q → (x : Change) → p (spot_of x).0 ≡ true → (ys : List Change) → InTables q ys → AllByRecursion (λ y. is_same_spot (spot_of x) y ≡ false) (spots ys)
+table_apart : (p q : ℕ → Bool) → AreApart p q → (x : Change) → p (spot_of x).0 ≡ true → (ys : List Change) → InTables q ys
+    → AllByRecursion (λ y. is_same_spot (spot_of x) y ≡ false) (spots ys)
 table_apart p q apart x in_p [] in_q = tt
-table_apart p q apart x in_p (y ∷ ys) in_q = (not_same (spot_of x) (spot_of y) (λ e. apart (spot_of x).0 in_p (ap (λ (s : Spot). q s.0) e ∙ in_q.0)), table_apart p q apart x in_p ys in_q.1)
+table_apart p q apart x in_p (y ∷ ys) in_q =
+    (not_same (spot_of x) (spot_of y) (λ e. apart (spot_of x).0 in_p (ap (λ (s : Spot). q s.0) e ∙ in_q.0)), table_apart p q apart x in_p ys in_q.1)
 
 pub tables_apart : (p q : ℕ → Bool) → AreApart p q → (xs ys : List Change) → InTables p xs → InTables q ys → AllApart xs ys
 tables_apart p q apart [] ys in_p in_q = tt
@@ -33,7 +35,8 @@ at_number p k n is h = subst (λ m. p m ≡ true) (eqb-true n k is) h
 
 pub closing_distinct : (start n : ℕ) (m : Mark) → AreDistinct (mark_row m ∷ meta_row start n ∷ [])
 closing_distinct start n m =
-    IsDistinct-cons is_same_spot (spot_of (mark_row m)) (spots (meta_row start n ∷ [])) (table_apart is_mark_table is_meta_table marks_and_meta (mark_row m) refl (meta_row start n ∷ []) (refl, tt))
+    IsDistinct-cons is_same_spot (spot_of (mark_row m)) (spots (meta_row start n ∷ []))
+    (table_apart is_mark_table is_meta_table marks_and_meta (mark_row m) refl (meta_row start n ∷ []) (refl, tt))
     (IsDistinct-cons is_same_spot (spot_of (meta_row start n)) [] tt none_distinct)
 
 abbrev pub is_closing_table : ℕ → Bool
@@ -64,7 +67,8 @@ pub unit_own : (unit : UnitOfWork) (start n : ℕ) (m : Mark) → AreOwn (unit_r
 unit_own unit start n m =
     own_append (unit_rows unit) (mark_row m ∷ meta_row start n ∷ [])
     (own_append (header_row unit ∷ part_rows unit.key 1 unit.parts.v1 ++ part_rows unit.key 2 unit.parts.v2) (lock_rows unit.key 1 unit.entries)
-    (own_append (header_row unit ∷ part_rows unit.key 1 unit.parts.v1) (part_rows unit.key 2 unit.parts.v2) (refl, part_own unit.key 1 unit.parts.v1) (part_own unit.key 2 unit.parts.v2)) (locks_own unit.key 1 unit.entries))
+    (own_append (header_row unit ∷ part_rows unit.key 1 unit.parts.v1) (part_rows unit.key 2 unit.parts.v2) (refl, part_own unit.key 1 unit.parts.v1)
+    (part_own unit.key 2 unit.parts.v2)) (locks_own unit.key 1 unit.entries))
     (refl, (refl, tt))
 
 key_of : (a : Bool) (key : List ℕ) → (a && has_bytes key) ≡ true → 1 ≤ length key
@@ -77,9 +81,11 @@ own_keys [] h = tt
 own_keys (c ∷ batch) h = (key_of (nat_lt (spot_of c).0 8) (spot_of c).1 h.0, own_keys batch h.1)
 
 -- the changes that record a unit change no row twice
-pub unit_changes : (unit : UnitOfWork) → length unit.entries < 2 ^ 32 → length unit.parts.v1 + length unit.parts.v2 ≤ 200 → (start n : ℕ) (m : Mark) → IsBatch (unit_rows unit ++ mark_row m ∷ meta_row start n ∷ [])
+pub unit_changes : (unit : UnitOfWork) → length unit.entries < 2 ^ 32 → length unit.parts.v1 + length unit.parts.v2 ≤ 200 → (start n : ℕ) (m : Mark)
+    → IsBatch (unit_rows unit ++ mark_row m ∷ meta_row start n ∷ [])
 unit_changes unit few_locks few start n m = record {
   keys = own_keys (unit_rows unit ++ mark_row m ∷ meta_row start n ∷ []) (unit_own unit start n m);
   distinct = distinct_append (unit_rows unit) (mark_row m ∷ meta_row start n ∷ []) (rows_distinct unit few few_locks) (closing_distinct start n m)
-      (tables_apart is_unit_table is_closing_table units_and_closing (unit_rows unit) (mark_row m ∷ meta_row start n ∷ []) (unit_in is_unit_table refl refl refl refl unit) (refl, (refl, tt)));
+      (tables_apart is_unit_table is_closing_table units_and_closing (unit_rows unit) (mark_row m ∷ meta_row start n ∷ [])
+      (unit_in is_unit_table refl refl refl refl unit) (refl, (refl, tt)));
 }

@@ -70,7 +70,8 @@ locks_in p seven key index (entry ∷ entries) = (seven, locks_in p seven key (i
 pub unit_in : (p : ℕ → Bool) → p 1 ≡ true → p 2 ≡ true → p 3 ≡ true → p 7 ≡ true → (unit : UnitOfWork) → InTables p (unit_rows unit)
 unit_in p one two three seven unit =
     tables_append p (header_row unit ∷ part_rows unit.key 1 unit.parts.v1 ++ part_rows unit.key 2 unit.parts.v2) (lock_rows unit.key 1 unit.entries)
-    (tables_append p (header_row unit ∷ part_rows unit.key 1 unit.parts.v1) (part_rows unit.key 2 unit.parts.v2) (one, part_in p two three unit.key 1 unit.parts.v1) (part_in p two three unit.key 2 unit.parts.v2))
+    (tables_append p (header_row unit ∷ part_rows unit.key 1 unit.parts.v1) (part_rows unit.key 2 unit.parts.v2)
+    (one, part_in p two three unit.key 1 unit.parts.v1) (part_in p two three unit.key 2 unit.parts.v2))
     (locks_in p seven unit.key 1 unit.entries)
 
 units_in : (p : ℕ → Bool) → p 1 ≡ true → p 2 ≡ true → p 3 ≡ true → p 7 ≡ true → (units : List UnitOfWork) → InTables p (flat_map unit_rows units)
@@ -87,7 +88,8 @@ meta_in p zero_in start n =
 
 pub books_in : (p : ℕ → Bool) → p 0 ≡ true → p 1 ≡ true → p 2 ≡ true → p 3 ≡ true → p 4 ≡ true → p 7 ≡ true → (ledger : Ledger) → InTables p (book_rows ledger)
 books_in p meta one two three four seven ledger =
-    tables_append p _ _ (tables_append p _ _ (units_in p one two three seven ledger.units) (marks_in p four ledger.marks)) (meta_in p meta ledger.start (length ledger.marks))
+    tables_append p _ _ (tables_append p _ _ (units_in p one two three seven ledger.units) (marks_in p four ledger.marks))
+    (meta_in p meta ledger.start (length ledger.marks))
 
 units_push : (units : List UnitOfWork) (unit : UnitOfWork) → flat_map unit_rows (units ++ unit ∷ []) ≡ flat_map unit_rows units ++ unit_rows unit
 units_push [] unit = append-nil (unit_rows unit)
@@ -97,7 +99,8 @@ marks_push : (marks : List Mark) (m : Mark) → map mark_row (marks ++ m ∷ [])
 marks_push [] m = refl
 marks_push (x ∷ marks) m = ap (λ r. mark_row x ∷ r) (marks_push marks m)
 
-pub tables_push : (units : List UnitOfWork) (tables : Tables) (marks : List Mark) (m : Mark) → tables_after units tables (marks ++ m ∷ []) ≡ posted (part_of units m) (tables_after units tables marks)
+pub tables_push : (units : List UnitOfWork) (tables : Tables) (marks : List Mark) (m : Mark)
+    → tables_after units tables (marks ++ m ∷ []) ≡ posted (part_of units m) (tables_after units tables marks)
 tables_push units tables [] m = refl
 tables_push units tables (x ∷ marks) m = tables_push units (posted (part_of units x) tables) marks m
 
@@ -105,10 +108,13 @@ pub plain : (b : Bool) → (b && true) ≡ false → b ≡ false
 plain true h = cc
 plain false h = refl
 
-pub other_part : (units : List UnitOfWork) (u : UnitOfWork) (seq : ℕ) (key : UnitKey) (kind : MarkKind) → (same_unit key u.key && not (draws_alone kind)) ≡ false
+pub other_part : (units : List UnitOfWork) (u : UnitOfWork) (seq : ℕ) (key : UnitKey) (kind : MarkKind)
+    → (same_unit key u.key && not (draws_alone kind)) ≡ false
     → part_of (units ++ u ∷ []) (record { seq = seq; unit = key; kind = kind }) ≡ part_of units (record { seq = seq; unit = key; kind = kind })
-other_part units u seq key V1 h = ap (λ o. option_map_or (λ (x : UnitOfWork). x.parts.v1) o []) (unit_other units u key (flip u.key key (plain (same_unit key u.key) h)))
-other_part units u seq key V2 h = ap (λ o. option_map_or (λ (x : UnitOfWork). x.parts.v2) o []) (unit_other units u key (flip u.key key (plain (same_unit key u.key) h)))
+other_part units u seq key V1 h = ap (λ o. option_map_or (λ (x : UnitOfWork). x.parts.v1) o [])
+    (unit_other units u key (flip u.key key (plain (same_unit key u.key) h)))
+other_part units u seq key V2 h = ap (λ o. option_map_or (λ (x : UnitOfWork). x.parts.v2) o [])
+    (unit_other units u key (flip u.key key (plain (same_unit key u.key) h)))
 other_part units u seq key (Num numbers) h = refl
 other_part units u seq key Rec h = refl
 other_part units u seq key (Bad1 i r) h = refl
@@ -118,7 +124,8 @@ other_part units u seq key Again2 h = refl
 other_part units u seq key Gone h = refl
 
 -- a unit of which no mark tells changes no table
-pub tables_grow : (units : List UnitOfWork) (u : UnitOfWork) (tables : Tables) (marks : List Mark) → NoneOf u.key marks → tables_after (units ++ u ∷ []) tables marks ≡ tables_after units tables marks
+pub tables_grow : (units : List UnitOfWork) (u : UnitOfWork) (tables : Tables) (marks : List Mark) → NoneOf u.key marks
+    → tables_after (units ++ u ∷ []) tables marks ≡ tables_after units tables marks
 tables_grow units u tables [] none = refl
 tables_grow units u tables (m ∷ marks) none =
     ap (λ part. tables_after (units ++ u ∷ []) (posted part tables) marks) (other_part units u m.seq m.unit m.kind none.0)
@@ -142,44 +149,55 @@ meta_over start n k rows h =
     ∙ sym (ap (λ cs. changed cs rows) (meta_is start k h))
 
 -- what a batch does that ends with a mark and the meta row
-marked : (start n k : ℕ) (m : Mark) (rows : Rows) → 1 ≤ start → changed (mark_row m ∷ meta_row start k ∷ []) (changed (meta_rows start n) rows) ≡ changed (meta_rows start k) (changed (mark_row m ∷ []) rows)
+marked : (start n k : ℕ) (m : Mark) (rows : Rows) → 1 ≤ start → changed (mark_row m ∷ meta_row start k ∷ []) (changed (meta_rows start n) rows) ≡ changed
+    (meta_rows start k) (changed (mark_row m ∷ []) rows)
 marked start n k m rows h =
-    ap (changed_once (meta_row start k)) (changed_swapped is_meta_table is_mark_table (λ i a b. marks_and_meta i b a) (meta_rows start n) (mark_row m ∷ []) (meta_in is_meta_table refl start n) (refl, tt) rows)
+    ap (changed_once (meta_row start k))
+    (changed_swapped is_meta_table is_mark_table (λ i a b. marks_and_meta i b a) (meta_rows start n) (mark_row m ∷ []) (meta_in is_meta_table refl start n)
+    (refl, tt) rows)
     ∙ meta_over start n k _ h
 
 -- the rows of the books, part by part
 abbrev stack : List UnitOfWork → List Mark → ℕ → ℕ → Rows → Rows
 stack units marks start n rows = changed (meta_rows start n) (changed (map mark_row marks) (changed (flat_map unit_rows units) rows))
 
-pub parts_of : (units : List UnitOfWork) (marks : List Mark) (start n : ℕ) (rows : Rows) → changed (flat_map unit_rows units ++ map mark_row marks ++ meta_rows start n) rows ≡ stack units marks start n rows
+pub parts_of : (units : List UnitOfWork) (marks : List Mark) (start n : ℕ) (rows : Rows)
+    → changed (flat_map unit_rows units ++ map mark_row marks ++ meta_rows start n) rows ≡ stack units marks start n rows
 parts_of units marks start n rows =
     changed_append (flat_map unit_rows units ++ map mark_row marks) (meta_rows start n) rows
     ∙ ap (changed (meta_rows start n)) (changed_append (flat_map unit_rows units) (map mark_row marks) rows)
 
 -- one more mark on top
 stack_mark : (units : List UnitOfWork) (marks : List Mark) (start : ℕ) (m : Mark) (rows : Rows) → 1 ≤ start
-    → changed (mark_row m ∷ meta_row start (length marks + 1) ∷ []) (stack units marks start (length marks) rows) ≡ stack units (marks ++ m ∷ []) start (length (marks ++ m ∷ [])) rows
+    → changed (mark_row m ∷ meta_row start (length marks + 1) ∷ []) (stack units marks start (length marks) rows) ≡ stack units (marks ++ m ∷ []) start
+    (length (marks ++ m ∷ [])) rows
 stack_mark units marks start m rows h =
     let below = changed (flat_map unit_rows units) rows in
     marked start (length marks) (length marks + 1) m (changed (map mark_row marks) below) h
-    ∙ ap (changed (meta_rows start (length marks + 1))) (sym (ap (λ cs. changed cs below) (marks_push marks m) ∙ changed_append (map mark_row marks) (mark_row m ∷ []) below))
+    ∙ ap (changed (meta_rows start (length marks + 1)))
+    (sym (ap (λ cs. changed cs below) (marks_push marks m) ∙ changed_append (map mark_row marks) (mark_row m ∷ []) below))
     ∙ ap (λ k. changed (meta_rows start k) (changed (map mark_row (marks ++ m ∷ [])) below)) (sym (length_push marks m))
 
 -- one more unit below the marks
-stack_unit : (units : List UnitOfWork) (marks : List Mark) (start n : ℕ) (unit : UnitOfWork) (rows : Rows) → changed (unit_rows unit) (stack units marks start n rows) ≡ stack (units ++ unit ∷ []) marks start n rows
+stack_unit : (units : List UnitOfWork) (marks : List Mark) (start n : ℕ) (unit : UnitOfWork) (rows : Rows)
+    → changed (unit_rows unit) (stack units marks start n rows) ≡ stack (units ++ unit ∷ []) marks start n rows
 stack_unit units marks start n unit rows =
     let below = changed (flat_map unit_rows units) rows in
     let in_units = unit_in is_unit_table refl refl refl refl unit in
-    changed_swapped is_meta_table is_unit_table (λ k a b. units_and_meta k b a) (meta_rows start n) (unit_rows unit) (meta_in is_meta_table refl start n) in_units (changed (map mark_row marks) below)
+    changed_swapped is_meta_table is_unit_table (λ k a b. units_and_meta k b a) (meta_rows start n) (unit_rows unit)
+    (meta_in is_meta_table refl start n) in_units (changed (map mark_row marks) below)
     ∙ ap (changed (meta_rows start n)) (
-    changed_swapped is_mark_table is_unit_table (λ k a b. units_and_marks k b a) (map mark_row marks) (unit_rows unit) (marks_in is_mark_table refl marks) in_units below
-    ∙ ap (changed (map mark_row marks)) (sym (ap (λ cs. changed cs rows) (units_push units unit) ∙ changed_append (flat_map unit_rows units) (unit_rows unit) rows)))
+    changed_swapped is_mark_table is_unit_table (λ k a b. units_and_marks k b a) (map mark_row marks) (unit_rows unit)
+    (marks_in is_mark_table refl marks) in_units below
+    ∙ ap (changed (map mark_row marks))
+    (sym (ap (λ cs. changed cs rows) (units_push units unit) ∙ changed_append (flat_map unit_rows units) (unit_rows unit) rows)))
 
 -- the changes that record a unit
 abbrev pub unit_batch : Ledger → UnitOfWork → List Change
 unit_batch ledger unit = unit_rows unit ++ mark_row (next_mark ledger unit.key Rec) ∷ meta_row ledger.start (length ledger.marks + 1) ∷ []
 
-pub unit_written : (ledger : Ledger) (unit : UnitOfWork) → 1 ≤ ledger.start → NoneOf unit.key ledger.marks → changed (unit_batch ledger unit) (rows_of ledger) ≡ rows_of (with_unit ledger unit)
+pub unit_written : (ledger : Ledger) (unit : UnitOfWork) → 1 ≤ ledger.start → NoneOf unit.key ledger.marks
+    → changed (unit_batch ledger unit) (rows_of ledger) ≡ rows_of (with_unit ledger unit)
 unit_written ledger unit h none =
     let base = map_rows ledger.levels (tables_of ledger.units ledger.marks) in
     let n = length ledger.marks in
@@ -190,13 +208,16 @@ unit_written ledger unit h none =
     ∙ ap (changed close) (stack_unit ledger.units ledger.marks ledger.start n unit base)
     ∙ stack_mark (ledger.units ++ unit ∷ []) ledger.marks ledger.start new base h
     ∙ sym (
-    ap (λ t. changed (book_rows (with_unit ledger unit)) (map_rows ledger.levels t)) (tables_push (ledger.units ++ unit ∷ []) empty ledger.marks new ∙ tables_grow ledger.units unit empty ledger.marks none)
+    ap (λ t. changed (book_rows (with_unit ledger unit)) (map_rows ledger.levels t))
+    (tables_push (ledger.units ++ unit ∷ []) empty ledger.marks new ∙ tables_grow ledger.units unit empty ledger.marks none)
     ∙ parts_of (ledger.units ++ unit ∷ []) (ledger.marks ++ new ∷ []) ledger.start (length (ledger.marks ++ new ∷ [])) base)
 
 -- changes of business rows, and a mark of whatever kind that makes them
 pub mark_written : (ledger : Ledger) (key : UnitKey) (kind : MarkKind) (posts : List Change) → 1 ≤ ledger.start → InTables is_business_table posts
-    → changed posts (map_rows ledger.levels (tables_of ledger.units ledger.marks)) ≡ map_rows ledger.levels (posted (part_of ledger.units (next_mark ledger key kind)) (tables_of ledger.units ledger.marks))
-    → changed (posts ++ mark_row (next_mark ledger key kind) ∷ meta_row ledger.start (length ledger.marks + 1) ∷ []) (rows_of ledger) ≡ rows_of (with_mark ledger key kind)
+    → changed posts (map_rows ledger.levels (tables_of ledger.units ledger.marks)) ≡ map_rows ledger.levels
+    (posted (part_of ledger.units (next_mark ledger key kind)) (tables_of ledger.units ledger.marks))
+    → changed (posts ++ mark_row (next_mark ledger key kind) ∷ meta_row ledger.start (length ledger.marks + 1) ∷ []) (rows_of ledger) ≡ rows_of
+    (with_mark ledger key kind)
 mark_written ledger key kind posts h in_six made =
     let m = next_mark ledger key kind in
     let base = map_rows ledger.levels (tables_of ledger.units ledger.marks) in
@@ -205,7 +226,8 @@ mark_written ledger key kind posts h in_six made =
     let close = mark_row m ∷ meta_row ledger.start (n + 1) ∷ [] in
     changed_append posts close (rows_of ledger)
     ∙ ap (changed close) (
-    changed_swapped is_book_table is_business_table books_and_business (book_rows ledger) posts (books_in is_book_table refl refl refl refl refl refl ledger) in_six base
+    changed_swapped is_book_table is_business_table books_and_business (book_rows ledger) posts
+    (books_in is_book_table refl refl refl refl refl refl ledger) in_six base
     ∙ ap (changed (book_rows ledger)) made
     ∙ parts_of ledger.units ledger.marks ledger.start n after)
     ∙ stack_mark ledger.units ledger.marks ledger.start m after h

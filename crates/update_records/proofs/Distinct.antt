@@ -54,7 +54,8 @@ distinct_append [] ys dx dy apart = dy
 distinct_append (x ∷ xs) ys dx dy apart =
     let head = IsDistinct-head is_same_spot (spot_of x) (spots xs) dx in
     IsDistinct-cons is_same_spot (spot_of x) (spots (xs ++ ys))
-    (subst (λ ss. AllByRecursion (λ y. is_same_spot (spot_of x) y ≡ false) ss) (sym (spots_append xs ys)) (all_append (λ y. is_same_spot (spot_of x) y ≡ false) (spots xs) (spots ys) head apart.0))
+    (subst (λ ss. AllByRecursion (λ y. is_same_spot (spot_of x) y ≡ false) ss) (sym (spots_append xs ys))
+    (all_append (λ y. is_same_spot (spot_of x) y ≡ false) (spots xs) (spots ys) head apart.0))
     (distinct_append xs ys (IsDistinct-tail is_same_spot (spot_of x) (spots xs) dx) dy apart.1)
 
 -- ---- a number that a spot shows
@@ -120,10 +121,12 @@ step_place : (key : UnitKey) (part index : ℕ) (effect : Effect) → index < 65
 step_place key part index effect h = step_at key part index h
 
 -- all later steps have later places
-later_steps : (key : UnitKey) (part low index : ℕ) (effects : List Effect) → low < index → index + length effects ≤ 65536 → (x : Spot) → step_tag x ≡ low → IsApart x (step_rows key part index effects)
+later_steps : (key : UnitKey) (part low index : ℕ) (effects : List Effect) → low < index → index + length effects ≤ 65536 → (x : Spot) → step_tag x ≡ low
+    → IsApart x (step_rows key part index effects)
 later_steps key part low index [] h fits x is = tt
 later_steps key part low index (effect ∷ effects) h fits x is = (
-  not_same x (spot_of (step_row key part index effect)) (λ e. let same : low ≡ index = sym is ∙ ap step_tag e ∙ step_place key part index effect (omega arith) in omega arith),
+  not_same x (spot_of (step_row key part index effect))
+      (λ e. let same : low ≡ index = sym is ∙ ap step_tag e ∙ step_place key part index effect (omega arith) in omega arith),
   later_steps key part low (index + 1) effects (omega arith) (omega arith) x is,
 )
 
@@ -132,14 +135,16 @@ steps_distinct key part index [] fits = none_distinct
 steps_distinct key part index (effect ∷ effects) fits =
     let place : index < 65536 = omega arith in
     IsDistinct-cons is_same_spot (spot_of (step_row key part index effect)) (spots (step_rows key part (index + 1) effects))
-    (later_steps key part index (index + 1) effects (omega arith) (omega arith) (spot_of (step_row key part index effect)) (step_place key part index effect place))
+    (later_steps key part index (index + 1) effects (omega arith) (omega arith) (spot_of (step_row key part index effect))
+    (step_place key part index effect place))
     (steps_distinct key part (index + 1) effects (omega arith))
 
 part_distinct : (key : UnitKey) (part : ℕ) (effects : List Effect) → length effects ≤ 200 → AreDistinct (part_rows key part effects)
 part_distinct key part [] few = none_distinct
 part_distinct key part (effect ∷ effects) few =
     IsDistinct-cons is_same_spot (spot_of (module_row key part (effect ∷ effects))) (spots (step_rows key part 1 (effect ∷ effects)))
-    (tag_apart table_tag 2 3 (λ e. cc) (spot_of (module_row key part (effect ∷ effects))) refl (step_rows key part 1 (effect ∷ effects)) (steps_in key part 1 (effect ∷ effects)))
+    (tag_apart table_tag 2 3 (λ e. cc) (spot_of (module_row key part (effect ∷ effects))) refl (step_rows key part 1 (effect ∷ effects))
+    (steps_in key part 1 (effect ∷ effects)))
     (steps_distinct key part 1 (effect ∷ effects) (omega arith))
 
 -- ---- locks
@@ -158,10 +163,12 @@ lock_at key index h = big_number-reads_back 4 index [] h
 lock_place : (key : UnitKey) (index : ℕ) (lock : Lock) → index < 4294967296 → lock_tag (spot_of (lock_row key index lock)) ≡ index
 lock_place key index lock h = lock_at key index h
 
-later_locks : (key : UnitKey) (low index : ℕ) (locks : List Lock) → low < index → index + length locks ≤ 4294967296 → (x : Spot) → lock_tag x ≡ low → IsApart x (lock_rows key index locks)
+later_locks : (key : UnitKey) (low index : ℕ) (locks : List Lock) → low < index → index + length locks ≤ 4294967296 → (x : Spot) → lock_tag x ≡ low
+    → IsApart x (lock_rows key index locks)
 later_locks key low index [] h fits x is = tt
 later_locks key low index (lock ∷ locks) h fits x is = (
-  not_same x (spot_of (lock_row key index lock)) (λ e. let same : low ≡ index = sym is ∙ ap lock_tag e ∙ lock_place key index lock (omega arith) in omega arith),
+  not_same x (spot_of (lock_row key index lock))
+      (λ e. let same : low ≡ index = sym is ∙ ap lock_tag e ∙ lock_place key index lock (omega arith) in omega arith),
   later_locks key low (index + 1) locks (omega arith) (omega arith) x is,
 )
 
@@ -184,9 +191,13 @@ unit_distinct unit few few_locks =
     (tags_apart part_tag 1 2 (λ e. cc) v1 v2 (part_part unit.key 1 unit.parts.v1) (part_part unit.key 2 unit.parts.v2)) in
     let parts_kind : HasTag kind_tag 2 (v1 ++ v2) = tag_append kind_tag 2 v1 v2 (part_kind unit.key 1 unit.parts.v1) (part_kind unit.key 2 unit.parts.v2) in
     let front : AreDistinct (header_row unit ∷ v1 ++ v2) =
-    IsDistinct-cons is_same_spot (spot_of (header_row unit)) (spots (v1 ++ v2)) (tag_apart kind_tag 1 2 (λ e. cc) (spot_of (header_row unit)) refl (v1 ++ v2) parts_kind) parts in
-    distinct_append (header_row unit ∷ v1 ++ v2) locks front (locks_distinct unit.key 1 unit.entries (omega arith))
-    (tag_apart kind_tag 1 7 (λ e. cc) (spot_of (header_row unit)) refl locks (locks_kind unit.key 1 unit.entries), tags_apart kind_tag 2 7 (λ e. cc) (v1 ++ v2) locks parts_kind (locks_kind unit.key 1 unit.entries))
+    IsDistinct-cons is_same_spot (spot_of (header_row unit)) (spots (v1 ++ v2))
+    (tag_apart kind_tag 1 2 (λ e. cc) (spot_of (header_row unit)) refl (v1 ++ v2) parts_kind) parts in
+    distinct_append (header_row unit ∷ v1 ++ v2) locks front (locks_distinct unit.key 1 unit.entries (omega arith)) (
+      tag_apart kind_tag 1 7 (λ e. cc) (spot_of (header_row unit)) refl locks (locks_kind unit.key 1 unit.entries),
+      tags_apart kind_tag 2 7 (λ e. cc)
+          (v1 ++ v2) locks parts_kind (locks_kind unit.key 1 unit.entries),
+    )
 
 abbrev HasKey : Change → Type 0
 HasKey c = 1 ≤ length (spot_of c).1
@@ -210,7 +221,11 @@ unit_batch unit few few_locks =
     let v2 = part_rows unit.key 2 unit.parts.v2 in
     let locks = lock_rows unit.key 1 unit.entries in
     record {
-      keys = (omega arith, all_append HasKey (v1 ++ v2) locks (all_append HasKey v1 v2 (part_keyed unit.key 1 unit.parts.v1) (part_keyed unit.key 2 unit.parts.v2)) (locks_keyed unit.key 1 unit.entries));
+      keys = (
+        omega arith,
+        all_append HasKey (v1 ++ v2) locks
+            (all_append HasKey v1 v2 (part_keyed unit.key 1 unit.parts.v1) (part_keyed unit.key 2 unit.parts.v2)) (locks_keyed unit.key 1 unit.entries),
+      );
       distinct = unit_distinct unit few few_locks;
     }
 
@@ -242,8 +257,12 @@ unit_begins : (unit : UnitOfWork) → AllByRecursion (IsRowOf unit.key) (unit_ro
 unit_begins unit =
     let v1 = part_rows unit.key 1 unit.parts.v1 in
     let v2 = part_rows unit.key 2 unit.parts.v2 in
-    let locks = lock_rows unit.key 1 unit.entries in
-    (whole_key unit.key, all_append (IsRowOf unit.key) (v1 ++ v2) locks (all_append (IsRowOf unit.key) v1 v2 (part_begins unit.key 1 unit.parts.v1) (part_begins unit.key 2 unit.parts.v2)) (locks_begin unit.key 1 unit.entries))
+    let locks = lock_rows unit.key 1 unit.entries in (
+      whole_key unit.key,
+      all_append (IsRowOf unit.key) (v1 ++ v2) locks
+          (all_append (IsRowOf unit.key) v1 v2 (part_begins unit.key 1 unit.parts.v1) (part_begins unit.key 2 unit.parts.v2))
+          (locks_begin unit.key 1 unit.entries),
+    )
 
 one_key : (a b : UnitKey) → IsUnitKey a → IsUnitKey b → unit_bytes a ≡ unit_bytes b → a ≡ b
 one_key a b is_a is_b same =
@@ -251,7 +270,8 @@ one_key a b is_a is_b same =
     ap (λ (p : UnitKey × List ℕ). p.0) (some_is (a, []) (b, []) both)
 
 -- rows of two units stand in two places
-pub units_apart : (u v : UnitOfWork) → IsUnitKey u.key → IsUnitKey v.key → (u.key ≡ v.key → ⊥) → (c d : Change) → Contains (unit_rows u) c → Contains (unit_rows v) d → spot_of c ≡ spot_of d → ⊥
+pub units_apart : (u v : UnitOfWork) → IsUnitKey u.key → IsUnitKey v.key → (u.key ≡ v.key → ⊥) → (c d : Change) → Contains (unit_rows u) c
+    → Contains (unit_rows v) d → spot_of c ≡ spot_of d → ⊥
 units_apart u v is_u is_v differ c d in_u in_v same =
     let a : IsRowOf u.key c = All-contains (IsRowOf u.key) (unit_rows u) c (All-from_recursion (IsRowOf u.key) (unit_rows u) (unit_begins u)) in_u in
     let b : IsRowOf v.key d = All-contains (IsRowOf v.key) (unit_rows v) d (All-from_recursion (IsRowOf v.key) (unit_rows v) (unit_begins v)) in_v in

@@ -192,7 +192,8 @@ is_number w limit wide = record {
       let front : List ℕ = take (byte_len w) bytes in
       let front_fits : IsBytes front = IsBytes-take (byte_len w) bytes fits in
       let len : length front ≡ byte_len w = omega (arith, length-take (byte_len w) bytes) in
-      let parts : bytes ≡ to_be_bytes w (from_be_bytes w front) ++ drop (byte_len w) bytes = sym (take-append-drop (byte_len w) bytes) ∙ ap (λ (t : List ℕ). t ++ drop (byte_len w) bytes) (sym (wide.back front len front_fits)) in
+      let parts : bytes ≡ to_be_bytes w (from_be_bytes w front) ++ drop (byte_len w) bytes =
+      sym (take-append-drop (byte_len w) bytes) ∙ ap (λ (t : List ℕ). t ++ drop (byte_len w) bytes) (sym (wide.back front len front_fits)) in
       let first : Takes bytes (to_be_bytes w (from_be_bytes w front)) (drop (byte_len w) bytes) × (from_be_bytes w front < limit) =
       (record { parts = parts; rest_fits = IsBytes-drop (byte_len w) bytes fits }, wide.below front front_fits) in
       let second = subst (λ (y : List ℕ × List ℕ). Takes bytes (to_be_bytes w (from_be_bytes w y.0)) y.1 × (from_be_bytes w y.0 < limit)) g.1 first in
@@ -208,7 +209,8 @@ pub record IsCode {A : Type 0} (Is : A → Type 0) (code : A → ℕ) (meaning :
   pub takes : (b : ℕ) (a : A) → b < 256 → meaning b ≡ Some a → (b ≡ code a) × Is a
   pub again : (a : A) → Is a → meaning (code a) ≡ Some a
 
-pub is_code : {A : Type 0} {Is : A → Type 0} {code : A → ℕ} {meaning : ℕ → Option A} → IsCode Is code meaning → IsField Is (λ (a : A). code a ∷ []) (code_at meaning)
+pub is_code : {A : Type 0} {Is : A → Type 0} {code : A → ℕ} {meaning : ℕ → Option A} → IsCode Is code meaning
+    → IsField Is (λ (a : A). code a ∷ []) (code_at meaning)
 is_code {A = A} {Is = Is} {code = code} {meaning = meaning} p = record {
   takes = λ bytes x fits e. elim bytes as (λ (bs : List ℕ). IsBytes bs → code_at meaning bs ≡ Some x → Takes bs (code x.0 ∷ []) x.1 × Is x.0) [
     | [] ↦ λ fits e. absurd cc
@@ -222,7 +224,8 @@ is_code {A = A} {Is = Is} {code = code} {meaning = meaning} p = record {
 }
 
 -- one more byte that stands for a value
-pub code_first : {A : Type 0} (P : A → Type 0) (k n : ℕ) (a x : A) (other : Option A) → (k ≡ n → P a) → (other ≡ Some x → P x) → cond (eqb k n) (Some a) other ≡ Some x → P x
+pub code_first : {A : Type 0} (P : A → Type 0) (k n : ℕ) (a x : A) (other : Option A) → (k ≡ n → P a) → (other ≡ Some x → P x)
+    → cond (eqb k n) (Some a) other ≡ Some x → P x
 code_first P k n a x other here there e =
     elim (eqb k n) as (λ (b : Bool). eqb k n ≡ b → cond b (Some a) other ≡ Some x → P x) [
       | true ↦ λ is e. subst P (some_is a x e) (here (eqb-true k n is))
@@ -235,7 +238,8 @@ many_takes : {A : Type 0} {Is : A → Type 0} {spell : A → List ℕ} {field : 
     → IsBytes bytes → many field n bytes ≡ Some x → Takes bytes (flat_map spell x.0) x.1 × ((length x.0 ≡ n) × AllByRecursion Is x.0)
 unfolding many
 many_takes {A = A} {Is = Is} {spell = spell} {field = field} p zero bytes x fits e =
-    subst (λ (y : List A × List ℕ). Takes bytes (flat_map spell y.0) y.1 × ((length y.0 ≡ 0) × AllByRecursion Is y.0)) (some_is ([], bytes) x e) (record { parts = refl; rest_fits = fits }, (refl, tt))
+    subst (λ (y : List A × List ℕ). Takes bytes (flat_map spell y.0) y.1 × ((length y.0 ≡ 0) × AllByRecursion Is y.0)) (some_is ([], bytes) x e)
+    (record { parts = refl; rest_fits = fits }, (refl, tt))
 many_takes {A = A} {Is = Is} {spell = spell} {field = field} p (suc n) bytes x fits e =
     let a = bind_some (field bytes) (λ first. many field n first.1 >>= λ others. Some (first.0 ∷ others.0, others.1)) x e in
     let b = bind_some (many field n a.0.1) (λ others. Some (a.0.0 ∷ others.0, others.1)) x a.2 in
@@ -243,14 +247,16 @@ many_takes {A = A} {Is = Is} {spell = spell} {field = field} p (suc n) bytes x f
     let second = many_takes p n a.0.1 b.0 first.0.rest_fits b.1 in
     let both = Takes-then bytes (spell a.0.0) a.0.1 (flat_map spell b.0.0) b.0.1 first.0 second.0 in
     let made : List A × List ℕ = (a.0.0 ∷ b.0.0, b.0.1) in
-    subst (λ (y : List A × List ℕ). Takes bytes (flat_map spell y.0) y.1 × ((length y.0 ≡ suc n) × AllByRecursion Is y.0)) (some_is made x b.2) (rw flat_map-cons both, (ap suc second.1.0, (first.1, second.1.1)))
+    subst (λ (y : List A × List ℕ). Takes bytes (flat_map spell y.0) y.1 × ((length y.0 ≡ suc n) × AllByRecursion Is y.0)) (some_is made x b.2)
+    (rw flat_map-cons both, (ap suc second.1.0, (first.1, second.1.1)))
 
 many_again : {A : Type 0} {Is : A → Type 0} {spell : A → List ℕ} {field : Field A} → IsField Is spell field → (xs : List A) (rest : List ℕ)
     → AllByRecursion Is xs → many field (length xs) (flat_map spell xs ++ rest) ≡ Some (xs, rest)
 unfolding many
 many_again p [] rest all = refl
 many_again {A = A} {Is = Is} {spell = spell} {field = field} p (x ∷ xs) rest all =
-    let regrouped : flat_map spell (x ∷ xs) ++ rest ≡ spell x ++ (flat_map spell xs ++ rest) = ap (λ (l : List ℕ). l ++ rest) (flat_map-cons spell x xs) ∙ append_assoc (spell x) (flat_map spell xs) rest in
+    let regrouped : flat_map spell (x ∷ xs) ++ rest ≡ spell x ++ (flat_map spell xs ++ rest) =
+    ap (λ (l : List ℕ). l ++ rest) (flat_map-cons spell x xs) ∙ append_assoc (spell x) (flat_map spell xs) rest in
     ap (many field (suc (length xs))) regrouped ∙ rw (p.again x (flat_map spell xs ++ rest) all.0, many_again p xs rest all.1) refl
 
 pub is_many : {A : Type 0} {Is : A → Type 0} {spell : A → List ℕ} {field : Field A} → IsField Is spell field → (n : ℕ)

@@ -63,7 +63,8 @@ named-Decides t r q = (
   λ h.
       let named = first_of (is_named t q) (same_row (unname q.1) r) h in
       let table : q.0 ≡ t = eqb-true q.0 t (first_of (nat_eq q.0 t) (bytes_eq q.1 (row_name (unname q.1))) named) in
-      let spelt : q.1 ≡ row_name (unname q.1) = bytes_eq-same q.1 (row_name (unname q.1)) (second_of (nat_eq q.0 t) (bytes_eq q.1 (row_name (unname q.1))) named) in
+      let spelt : q.1 ≡ row_name (unname q.1) = bytes_eq-same q.1 (row_name (unname q.1))
+      (second_of (nat_eq q.0 t) (bytes_eq q.1 (row_name (unname q.1))) named) in
       let same : unname q.1 ≡ r = (same_row-Decides (unname q.1) r).0 (second_of (is_named t q) (same_row (unname q.1) r) h) in
       let key = spelt ∙ ap row_name same in
       λ i. (table i, key i),
@@ -81,7 +82,9 @@ same_both : {A : Type 0} (b : Bool) (x : A) → x ≡ cond b x x
 same_both true x = refl
 same_both false x = refl
 
-one_found : {X : Type 0} (b a : Bool) (write : X → List ℕ) (x : X) (found : Option X) (rest : Option (List ℕ)) → cond (b && a) (Some (write x)) (cond b (or_else (option_map write found) rest) rest) ≡ cond b (or_else (option_map write (cond a (Some x) found)) rest) rest
+one_found : {X : Type 0} (b a : Bool) (write : X → List ℕ) (x : X) (found : Option X) (rest : Option (List ℕ))
+    → cond (b && a) (Some (write x)) (cond b (or_else (option_map write found) rest) rest) ≡ cond b
+    (or_else (option_map write (cond a (Some x) found)) rest) rest
 one_found true true write x found rest = refl
 one_found true false write x found rest = refl
 one_found false a write x found rest = refl
@@ -98,31 +101,36 @@ get_with t write (e ∷ es) rows q =
 -- what stands at a spot
 pub get_map : {X : Type 0} (t : ℕ) (write : X → List ℕ) (xs : FinMap row_cmp X) (rows : Rows) (q : Spot)
     → get (with_map t write xs rows) q ≡ cond (is_named t q) (or_else (option_map write (get xs (unname q.1))) (get rows q)) (get rows q)
-get_map t write xs rows q = get_with t write (entries xs) rows q ∙ ap (λ x. cond (is_named t q) (or_else (option_map write x) (get rows q)) (get rows q)) (sym (get-entries xs (unname q.1)))
+get_map t write xs rows q = get_with t write (entries xs) rows q ∙ ap (λ x. cond (is_named t q) (or_else (option_map write x) (get rows q)) (get rows q))
+    (sym (get-entries xs (unname q.1)))
 
 -- where a change leaves what it leaves
 pub left_spot : (r : RowName) (text : Option (List ℕ)) → spot_of (row_left r text) ≡ (6, row_name r)
 left_spot r None = refl
 left_spot r (Some text) = refl
 
-pub get_left : (r : RowName) (text : Option (List ℕ)) (rows : Rows) (q : Spot) → get (changed_once (row_left r text) rows) q ≡ cond (eq_by_cmp spot_cmp q (6, row_name r)) text (get rows q)
+pub get_left : (r : RowName) (text : Option (List ℕ)) (rows : Rows) (q : Spot)
+    → get (changed_once (row_left r text) rows) q ≡ cond (eq_by_cmp spot_cmp q (6, row_name r)) text (get rows q)
 get_left r None rows q = get_once (row_left r None) rows q
 get_left r (Some text) rows q = get_once (row_left r (Some text)) rows q
 
-inner_left : (b c : Bool) (v x : Option (List ℕ)) → cond b (or_else (option_map (λ (text : List ℕ). text) (cond c v x)) None) None ≡ cond (b && c) v (cond b (or_else (option_map (λ (text : List ℕ). text) x) None) None)
+inner_left : (b c : Bool) (v x : Option (List ℕ)) → cond b (or_else (option_map (λ (text : List ℕ). text) (cond c v x)) None) None ≡ cond (b && c) v
+    (cond b (or_else (option_map (λ (text : List ℕ). text) x) None) None)
 inner_left true true None x = refl
 inner_left true true (Some v) x = refl
 inner_left true false v x = refl
 inner_left false c v x = refl
 
 -- a business row that a part leaves is a row of table 6
-inside_left : (tables : Tables) (r : RowName) (text : Option (List ℕ)) → with_map 6 (λ (t : List ℕ). t) (with_row tables r text) empty ≡ changed_once (row_left r text) (with_map 6 (λ (t : List ℕ). t) tables empty)
+inside_left : (tables : Tables) (r : RowName) (text : Option (List ℕ)) → with_map 6 (λ (t : List ℕ). t) (with_row tables r text) empty ≡ changed_once
+    (row_left r text) (with_map 6 (λ (t : List ℕ). t) tables empty)
 inside_left tables r text = same_map spots_total exact_spots _ _ (λ q.
     get_map 6 (λ (t : List ℕ). t) (with_row tables r text) empty q
     ∙ ap (λ x. cond (is_named 6 q) (or_else (option_map (λ (t : List ℕ). t) (get (with_row tables r text) (unname q.1))) x) x) (get-empty spot_cmp q)
     ∙ ap (λ x. cond (is_named 6 q) (or_else (option_map (λ (t : List ℕ). t) x) None) None) (get-with_row tables r text (unname q.1))
     ∙ inner_left (is_named 6 q) (same_row (unname q.1) r) text (get tables (unname q.1))
-    ∙ ap (λ x. cond (is_named 6 q && same_row (unname q.1) r) text (cond (is_named 6 q) (or_else (option_map (λ (t : List ℕ). t) (get tables (unname q.1))) x) x)) (sym (get-empty spot_cmp q))
+    ∙ ap (λ x. cond (is_named 6 q && same_row (unname q.1) r) text
+    (cond (is_named 6 q) (or_else (option_map (λ (t : List ℕ). t) (get tables (unname q.1))) x) x)) (sym (get-empty spot_cmp q))
     ∙ ap (cond (is_named 6 q && same_row (unname q.1) r) text) (sym (get_map 6 (λ (t : List ℕ). t) tables empty q))
     ∙ ap (λ b. cond b text (get (with_map 6 (λ (t : List ℕ). t) tables empty) q)) (sym (named_is 6 r q))
     ∙ sym (get_left r text (with_map 6 (λ (t : List ℕ). t) tables empty) q))
@@ -139,7 +147,8 @@ five_or_six q r five six =
     let b : q.0 ≡ 6 = ap (λ (s : Spot). s.0) (same_spot q (6, row_name r) six) in
     let wrong : 5 ≡ 6 = sym a ∙ b in cc
 
-pub business_left : (levels : Levels) (tables : Tables) (r : RowName) (text : Option (List ℕ)) → map_rows levels (with_row tables r text) ≡ changed_once (row_left r text) (map_rows levels tables)
+pub business_left : (levels : Levels) (tables : Tables) (r : RowName) (text : Option (List ℕ))
+    → map_rows levels (with_row tables r text) ≡ changed_once (row_left r text) (map_rows levels tables)
 business_left levels tables r text =
     let inside = with_map 6 (λ (t : List ℕ). t) tables empty in
     ap (with_map 5 level_value levels) (inside_left tables r text)
@@ -161,13 +170,15 @@ get_business levels tables name =
     let here : is_named 6 q ≡ true = first_of (is_named 6 q) (same_row (unname (row_name name)) name) (here_named 6 name) in
     get_map 5 level_value levels (with_map 6 (λ (t : List ℕ). t) tables empty) q
     ∙ get_map 6 (λ (t : List ℕ). t) tables empty q
-    ∙ ap (λ b. cond b (or_else (option_map (λ (t : List ℕ). t) (get tables (unname (row_name name)))) (get {R = spot_cmp} empty q)) (get {R = spot_cmp} empty q)) here
+    ∙ ap (λ b. cond b (or_else (option_map (λ (t : List ℕ). t) (get tables (unname (row_name name)))) (get {R = spot_cmp} empty q))
+    (get {R = spot_cmp} empty q)) here
     ∙ ap (λ n. or_else (option_map (λ (t : List ℕ). t) (get tables n)) (get {R = spot_cmp} empty q)) (unname_name name)
     ∙ ap (or_else (option_map (λ (t : List ℕ). t) (get tables name))) (get-empty spot_cmp q)
     ∙ or_id (get tables name)
 
 -- an interval that is stored is a row of table 5
-pub level_left : (levels : Levels) (tables : Tables) (r : RowName) (level : Level) → map_rows (insert levels r level) tables ≡ changed_once (level_row r level) (map_rows levels tables)
+pub level_left : (levels : Levels) (tables : Tables) (r : RowName) (level : Level)
+    → map_rows (insert levels r level) tables ≡ changed_once (level_row r level) (map_rows levels tables)
 level_left levels tables r level =
     let inside = with_map 6 (λ (t : List ℕ). t) tables empty in
     same_map spots_total exact_spots _ _ (λ q.

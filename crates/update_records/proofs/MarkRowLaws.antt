@@ -27,7 +27,9 @@ is_reason : IsCode (λ (r : Reason). Unit {0}) reason_number reason_of
 is_reason = record {
   takes = λ b a lt e.
       let P : Reason → Type 0 = λ r. (b ≡ reason_number r) × Unit {0} in
-      code_first P b 1 Duplicate a _ (λ is. (is, tt)) (code_first P b 2 Missing a _ (λ is. (is, tt)) (code_first P b 3 NotNumber a _ (λ is. (is, tt)) (code_first P b 4 Overflow a None (λ is. (is, tt)) (λ e. absurd cc)))) e;
+      code_first P b 1 Duplicate a _ (λ is. (is, tt))
+      (code_first P b 2 Missing a _ (λ is. (is, tt))
+      (code_first P b 3 NotNumber a _ (λ is. (is, tt)) (code_first P b 4 Overflow a None (λ is. (is, tt)) (λ e. absurd cc)))) e;
   again = λ a is. elim a as (λ (r : Reason). reason_of (reason_number r) ≡ Some r) [ Duplicate ↦ refl | Missing ↦ refl | NotNumber ↦ refl | Overflow ↦ refl ];
 }
 
@@ -96,7 +98,8 @@ bare_takes : (b : ℕ) (kind : MarkKind) → bare_kind b ≡ Some kind → IsBar
 bare_takes b kind e =
     code_first (IsBare b) b 2 Rec kind _ (λ is. (tt, sym is, refl)) (code_first (IsBare b) b 3 V1 kind _ (λ is. (tt, sym is, refl))
     (code_first (IsBare b) b 5 Again1 kind _ (λ is. (tt, sym is, refl)) (code_first (IsBare b) b 6 V2 kind _ (λ is. (tt, sym is, refl))
-    (code_first (IsBare b) b 8 Again2 kind _ (λ is. (tt, sym is, refl)) (code_first (IsBare b) b 9 Gone kind None (λ is. (tt, sym is, refl)) (λ e. absurd cc)))))) e
+    (code_first (IsBare b) b 8 Again2 kind _ (λ is. (tt, sym is, refl))
+    (code_first (IsBare b) b 9 Gone kind None (λ is. (tt, sym is, refl)) (λ e. absurd cc)))))) e
 
 is_bare : (b : ℕ) → (b ≡ 1 → ⊥) → (b ≡ 4 → ⊥) → (b ≡ 7 → ⊥) → IsField (IsKindOf b) mark_tail (λ bytes. bare_kind b >>= λ kind. Some (kind, bytes))
 is_bare b not1 not4 not7 = record {
@@ -105,17 +108,19 @@ is_bare b not1 not4 not7 = record {
       let t = bare_takes b k.0 k.1 in
       subst (λ (y : MarkKind × List ℕ). Takes bytes (mark_tail y.0) y.1 × IsKindOf b y.0) (some_is (k.0, bytes) x k.2)
       (record { parts = ap (λ (l : List ℕ). l ++ bytes) (sym t.2); rest_fits = fits }, (t.0, t.1));
-  again = λ kind rest. elim kind as (λ (k : MarkKind). IsKindOf b k → ◌≡◌ {A = Option (MarkKind × List ℕ)} (bare_kind b >>= λ kind. Some (kind, mark_tail k ++ rest)) (Some (k, rest))) [
-    | Num numbers ↦ λ is. absurd (not1 (sym is.1))
-    | Rec ↦ λ is. rw (← is.1) refl
-    | V1 ↦ λ is. rw (← is.1) refl
-    | Bad1 index reason ↦ λ is. absurd (not4 (sym is.1))
-    | Again1 ↦ λ is. rw (← is.1) refl
-    | V2 ↦ λ is. rw (← is.1) refl
-    | Bad2 index reason ↦ λ is. absurd (not7 (sym is.1))
-    | Again2 ↦ λ is. rw (← is.1) refl
-    | Gone ↦ λ is. rw (← is.1) refl
-  ];
+  again = λ kind rest.
+      elim kind as (λ (k : MarkKind). IsKindOf b k → ◌≡◌ {A = Option (MarkKind × List ℕ)} (bare_kind b >>= λ kind. Some (kind, mark_tail k ++ rest))
+      (Some (k, rest))) [
+        | Num numbers ↦ λ is. absurd (not1 (sym is.1))
+        | Rec ↦ λ is. rw (← is.1) refl
+        | V1 ↦ λ is. rw (← is.1) refl
+        | Bad1 index reason ↦ λ is. absurd (not4 (sym is.1))
+        | Again1 ↦ λ is. rw (← is.1) refl
+        | V2 ↦ λ is. rw (← is.1) refl
+        | Bad2 index reason ↦ λ is. absurd (not7 (sym is.1))
+        | Again2 ↦ λ is. rw (← is.1) refl
+        | Gone ↦ λ is. rw (← is.1) refl
+      ];
 }
 
 is_kind : (b : ℕ) → IsField (IsKindOf b) mark_tail (kind_at b)

@@ -93,7 +93,8 @@ is_part = is_tested IsPart (λ (b : ℕ). leb 1 b && leb b 2) is_byte
 pub row_takes : {A B : Type 0} {IsA : A → Type 0} {IsB : B → Type 0} {sa : A → List ℕ} {sb : B → List ℕ} {pa : List ℕ → Option A} {pb : List ℕ → Option B}
     → IsWhole IsA sa pa → IsWhole IsB sb pb → (make : A → B → Record) (table : ℕ)
     → ((a : A) (b : B) → IsA a → IsB b → IsRecord (make a b) × (record_row (make a b) ≡ PutRow table (sa a) (sb b)))
-    → (key value : List ℕ) (r : Record) → IsBytes key → IsBytes value → (pa key >>= λ a. pb value >>= λ b. Some (make a b)) ≡ Some r → IsRecord r × (record_row r ≡ PutRow table key value)
+    → (key value : List ℕ) (r : Record) → IsBytes key → IsBytes value → (pa key >>= λ a. pb value >>= λ b. Some (make a b)) ≡ Some r → IsRecord r
+    × (record_row r ≡ PutRow table key value)
 row_takes {sb = sb} {pa = pa} {pb = pb} p q make table forth key value r key_fits value_fits e =
     let a = bind_some (pa key) (λ a. pb value >>= λ b. Some (make a b)) r e in
     let b = bind_some (pb value) (λ b. Some (make a.0 b)) r a.2 in
@@ -120,7 +121,8 @@ is_meta_value = is_whole (is_both is_32 is_64)
 
 pub meta_takes : (key value : List ℕ) (r : Record) → IsBytes key → IsBytes value → meta_at key value ≡ Some r → IsRecord r × (record_row r ≡ PutRow 0 key value)
 unfolding meta_at
-meta_takes = row_takes is_meta_key is_meta_value (λ k v. rec.Meta v.0 v.1) 0 (λ k v is_k is_v. (is_v, ap (λ (k : ℕ). PutRow 0 (k ∷ []) (big_bytes 4 v.0 ++ big_bytes 8 v.1)) (sym is_k)))
+meta_takes = row_takes is_meta_key is_meta_value (λ k v. rec.Meta v.0 v.1) 0
+    (λ k v is_k is_v. (is_v, ap (λ (k : ℕ). PutRow 0 (k ∷ []) (big_bytes 4 v.0 ++ big_bytes 8 v.1)) (sym is_k)))
 
 pub meta_again : (start marks : ℕ) → IsRecord (rec.Meta start marks) → meta_at (83 ∷ []) (big_bytes 4 start ++ big_bytes 8 marks) ≡ Some (rec.Meta start marks)
 unfolding meta_at
@@ -144,15 +146,19 @@ is_level_tail : IsWhole (λ (v : ((ℕ × ℕ) × ℕ) × Bool). (((v.0.0.0 < 2 
 unfolding level_tail
 is_level_tail = is_whole (is_both (is_both (is_both is_64 is_64) is_64) (is_code is_flag))
 
-pub level_takes : (key value : List ℕ) (r : Record) → IsBytes key → IsBytes value → level_at key value ≡ Some r → IsRecord r × (record_row r ≡ PutRow 5 key value)
+pub level_takes : (key value : List ℕ) (r : Record) → IsBytes key → IsBytes value → level_at key value ≡ Some r → IsRecord r
+    × (record_row r ≡ PutRow 5 key value)
 unfolding level_at
-level_takes = row_takes is_level_key is_level_tail (λ k v. rec.Level k.0 k.1 v.0.0.0 v.0.0.1 v.0.1 v.1) 5 (λ k v is_k is_v. ((is_k.0, is_k.1, is_v.0.0.0, is_v.0.0.1, is_v.0.1), refl))
+level_takes = row_takes is_level_key is_level_tail (λ k v. rec.Level k.0 k.1 v.0.0.0 v.0.0.1 v.0.1 v.1) 5
+    (λ k v is_k is_v. ((is_k.0, is_k.1, is_v.0.0.0, is_v.0.0.1, is_v.0.1), refl))
 
 pub level_again : (object nr : List ℕ) (from to level : ℕ) (buffered : Bool) → IsRecord (rec.Level object nr from to level buffered)
-    → level_at (row_name (object, nr)) (level_value (record { from = from; to = to; level = level; buffered = buffered })) ≡ Some (rec.Level object nr from to level buffered)
+    → level_at (row_name (object, nr)) (level_value (record { from = from; to = to; level = level; buffered = buffered })) ≡ Some
+    (rec.Level object nr from to level buffered)
 unfolding level_at
 level_again object nr from to level buffered is =
-    row_again is_level_key is_level_tail (λ (k : List ℕ × List ℕ) (v : ((ℕ × ℕ) × ℕ) × Bool). rec.Level k.0 k.1 v.0.0.0 v.0.0.1 v.0.1 v.1) (object, nr) (((from, to), level), buffered)
+    row_again is_level_key is_level_tail (λ (k : List ℕ × List ℕ) (v : ((ℕ × ℕ) × ℕ) × Bool). rec.Level k.0 k.1 v.0.0.0 v.0.0.1 v.0.1 v.1) (object, nr)
+    (((from, to), level), buffered)
     (is.0, is.1) (((is.2, is.3), is.4), tt)
 
 -- ---- table 6
@@ -170,10 +176,13 @@ is_business_key = record {
   again = λ k is. rw (is_name_field.again k.0 k.1 is.0, is.1) refl;
 }
 
-pub business_takes : (key value : List ℕ) (r : Record) → IsBytes key → IsBytes value → business_at key value ≡ Some r → IsRecord r × (record_row r ≡ PutRow 6 key value)
+pub business_takes : (key value : List ℕ) (r : Record) → IsBytes key → IsBytes value → business_at key value ≡ Some r → IsRecord r
+    × (record_row r ≡ PutRow 6 key value)
 unfolding business_at
 business_takes = row_takes is_business_key (is_all is_text) (λ k text. rec.Business k.0 k.1 text) 6 (λ k text is_k is_text. ((is_k.0, is_k.1, is_text), refl))
 
-pub business_again : (table key text : List ℕ) → IsRecord (rec.Business table key text) → business_at (row_name (table, key)) text ≡ Some (rec.Business table key text)
+pub business_again : (table key text : List ℕ) → IsRecord (rec.Business table key text)
+    → business_at (row_name (table, key)) text ≡ Some (rec.Business table key text)
 unfolding business_at
-business_again table key text is = row_again is_business_key (is_all is_text) (λ (k : List ℕ × List ℕ) (text : List ℕ). rec.Business k.0 k.1 text) (table, key) text (is.0, is.1) is.2
+business_again table key text is = row_again is_business_key (is_all is_text) (λ (k : List ℕ × List ℕ) (text : List ℕ). rec.Business k.0 k.1 text)
+    (table, key) text (is.0, is.1) is.2

@@ -136,7 +136,8 @@ none_or (Some t) h s e = cc
 pub none_of : (b : Bool) (key : UnitKey) (marks : List Mark) → status_after b key None marks ≡ None → NoneOf key marks
 none_of b key [] h = tt
 none_of b key (m ∷ marks) h =
-    elim (same_unit m.unit key) as (λ t. same_unit m.unit key ≡ t → status_after b key (if t then given b m.kind None else None) marks ≡ None → NoneOf key (m ∷ marks)) [
+    elim (same_unit m.unit key)
+    as (λ t. same_unit m.unit key ≡ t → status_after b key (if t then given b m.kind None else None) marks ≡ None → NoneOf key (m ∷ marks)) [
       | true ↦ λ is e.
           elim (given b m.kind None) as (λ o. given b m.kind None ≡ o → status_after b key o marks ≡ None → NoneOf key (m ∷ marks)) [
             | None ↦ λ g r. ((ap (λ t. t && not (draws_alone m.kind)) is ∙ ap not (given_fresh b m.kind g)), none_of b key marks r)
@@ -161,7 +162,8 @@ no_status b key (m ∷ marks) h =
     ] refl
 
 -- the unit of a key, with one unit more
-unit_push : (units : List UnitOfWork) (u : UnitOfWork) (key : UnitKey) → unit_at (units ++ u ∷ []) key ≡ option_or (unit_at units key) (if same_unit u.key key then Some u else None)
+unit_push : (units : List UnitOfWork) (u : UnitOfWork) (key : UnitKey) → unit_at (units ++ u ∷ []) key ≡ option_or (unit_at units key)
+    (if same_unit u.key key then Some u else None)
 unit_push units u key = find-append (λ (x : UnitOfWork). same_unit x.key key) units (u ∷ [])
 
 or_none : {X : Type 0} (o : Option X) → option_or o None ≡ o
@@ -172,13 +174,15 @@ pub unit_other : (units : List UnitOfWork) (u : UnitOfWork) (key : UnitKey) → 
 unit_other units u key other = unit_push units u key ∙ ap (λ b. option_or (unit_at units key) (if b then Some u else None)) other ∙ or_none (unit_at units key)
 
 pub unit_new : (units : List UnitOfWork) (u : UnitOfWork) → unit_at units u.key ≡ None → unit_at (units ++ u ∷ []) u.key ≡ Some u
-unit_new units u none = unit_push units u u.key ∙ ap (λ o. option_or o (if same_unit u.key u.key then Some u else None)) none ∙ ap (λ b. if b then Some u else None) (unit_refl u.key)
+unit_new units u none = unit_push units u u.key ∙ ap (λ o. option_or o (if same_unit u.key u.key then Some u else None)) none
+    ∙ ap (λ b. if b then Some u else None) (unit_refl u.key)
 
 pub v2_other : (units : List UnitOfWork) (u : UnitOfWork) (key : UnitKey) → same_unit u.key key ≡ false → has_no_v2 (units ++ u ∷ []) key ≡ has_no_v2 units key
 v2_other units u key other = ap (λ o. is_empty_part (option_map_or (λ (x : UnitOfWork). x.parts.v2) o [])) (unit_other units u key other)
 
 -- a unit of which no mark tells changes no status
-pub status_grows : (units : List UnitOfWork) (u : UnitOfWork) (marks : List Mark) (key : UnitKey) → NoneOf u.key marks → status_of (units ++ u ∷ []) marks key ≡ status_of units marks key
+pub status_grows : (units : List UnitOfWork) (u : UnitOfWork) (marks : List Mark) (key : UnitKey) → NoneOf u.key marks
+    → status_of (units ++ u ∷ []) marks key ≡ status_of units marks key
 status_grows units u marks key none =
     elim (same_unit u.key key) as (λ b. same_unit u.key key ≡ b → status_of (units ++ u ∷ []) marks key ≡ status_of units marks key) [
       | true ↦ λ is.
@@ -192,16 +196,22 @@ none_push key [] ys a b = b
 none_push key (x ∷ xs) ys a b = (a.0, none_push key xs ys a.1 b)
 
 -- the marks stay legal where a unit comes of which none tells
-pub legal_grows : (units : List UnitOfWork) (u : UnitOfWork) (before marks : List Mark) → NoneOf u.key before → NoneOf u.key marks → IsLegalAfter units before marks → IsLegalAfter (units ++ u ∷ []) before marks
+pub legal_grows : (units : List UnitOfWork) (u : UnitOfWork) (before marks : List Mark) → NoneOf u.key before → NoneOf u.key marks
+    → IsLegalAfter units before marks → IsLegalAfter (units ++ u ∷ []) before marks
 legal_grows units u before [] a b h = tt
 legal_grows units u before (m ∷ marks) a b h = (
   ap (λ s. may_follow s m.kind) (status_grows units u before m.unit a) ∙ h.0,
   legal_grows units u (before ++ m ∷ []) marks (none_push u.key before (m ∷ []) a (b.0, tt)) b.1 h.1,
 )
 
-pub legal_push : (units : List UnitOfWork) (before marks : List Mark) (m : Mark) → IsLegalAfter units before marks → may_follow (status_of units (before ++ marks) m.unit) m.kind ≡ true → IsLegalAfter units before (marks ++ m ∷ [])
+pub legal_push : (units : List UnitOfWork) (before marks : List Mark) (m : Mark) → IsLegalAfter units before marks
+    → may_follow (status_of units (before ++ marks) m.unit) m.kind ≡ true → IsLegalAfter units before (marks ++ m ∷ [])
 legal_push units before [] m h last = (subst (λ ms. may_follow (status_of units ms m.unit) m.kind ≡ true) (append-nil before) last, tt)
-legal_push units before (x ∷ marks) m h last = (h.0, legal_push units (before ++ x ∷ []) marks m h.1 (subst (λ ms. may_follow (status_of units ms m.unit) m.kind ≡ true) (sym (append_assoc before (x ∷ []) marks)) last))
+legal_push units before (x ∷ marks) m h last = (
+  h.0,
+  legal_push units (before ++ x ∷ []) marks m h.1
+      (subst (λ ms. may_follow (status_of units ms m.unit) m.kind ≡ true) (sym (append_assoc before (x ∷ []) marks)) last),
+)
 
 -- those with a status, with one mark more
 or_false : (b : Bool) → (b || false) ≡ b
@@ -237,7 +247,8 @@ units_push status units (x ∷ marks) m =
     let a = has_status status (given (has_no_v2 units x.unit) x.kind None) in
     ap (λ b. if a && not b then x.unit ∷ units_with status units (marks ++ m ∷ []) else units_with status units (marks ++ m ∷ [])) (any_push x.unit marks m)
     ∙ ap (λ rest. if a && not (list_any (decides x.unit) marks || decides x.unit m) then x.unit ∷ rest else rest) (units_push status units marks m)
-    ∙ kept_more a (list_any (decides x.unit) marks) (decides x.unit m) x.unit (λ key. not (decides key m)) (units_with status units marks) (last_of status units m) refl
+    ∙ kept_more a (list_any (decides x.unit) marks) (decides x.unit m) x.unit (λ key. not (decides key m)) (units_with status units marks)
+    (last_of status units m) refl
 
 -- whether two keys are one, either way round
 pub flip : (u v : UnitKey) → same_unit v u ≡ false → same_unit u v ≡ false
@@ -246,17 +257,22 @@ flip u v h = elim (same_unit u v) as (λ b. same_unit u v ≡ b → b ≡ false)
   | false ↦ λ e. refl
 ] refl
 
-given_grows : (units : List UnitOfWork) (u : UnitOfWork) (m : Mark) → decides u.key m ≡ false → given (has_no_v2 (units ++ u ∷ []) m.unit) m.kind None ≡ given (has_no_v2 units m.unit) m.kind None
+given_grows : (units : List UnitOfWork) (u : UnitOfWork) (m : Mark) → decides u.key m ≡ false
+    → given (has_no_v2 (units ++ u ∷ []) m.unit) m.kind None ≡ given (has_no_v2 units m.unit) m.kind None
 given_grows units u m none =
-    elim (same_unit m.unit u.key) as (λ b. same_unit m.unit u.key ≡ b → given (has_no_v2 (units ++ u ∷ []) m.unit) m.kind None ≡ given (has_no_v2 units m.unit) m.kind None) [
+    elim (same_unit m.unit u.key)
+    as (λ b. same_unit m.unit u.key ≡ b → given (has_no_v2 (units ++ u ∷ []) m.unit) m.kind None ≡ given (has_no_v2 units m.unit) m.kind None) [
       | true ↦ λ is.
           let alone : draws_alone m.kind ≡ true = alone_of (draws_alone m.kind) (sym (ap (λ t. t && not (draws_alone m.kind)) is) ∙ none) in
           given_alone _ m.kind None alone ∙ sym (given_alone _ m.kind None alone)
       | false ↦ λ is. ap (λ b. given b m.kind None) (v2_other units u m.unit (flip u.key m.unit is))
     ] refl
 
-pub units_grow : (status : Status) (units : List UnitOfWork) (u : UnitOfWork) (marks : List Mark) → NoneOf u.key marks → units_with status (units ++ u ∷ []) marks ≡ units_with status units marks
+pub units_grow : (status : Status) (units : List UnitOfWork) (u : UnitOfWork) (marks : List Mark) → NoneOf u.key marks
+    → units_with status (units ++ u ∷ []) marks ≡ units_with status units marks
 units_grow status units u [] none = refl
 units_grow status units u (m ∷ marks) none =
-    ap (λ g. if has_status status g && not (list_any (decides m.unit) marks) then m.unit ∷ units_with status (units ++ u ∷ []) marks else units_with status (units ++ u ∷ []) marks) (given_grows units u m none.0)
-    ∙ ap (λ rest. if has_status status (given (has_no_v2 units m.unit) m.kind None) && not (list_any (decides m.unit) marks) then m.unit ∷ rest else rest) (units_grow status units u marks none.1)
+    ap (λ g. if has_status status g && not (list_any (decides m.unit) marks) then m.unit ∷ units_with status (units ++ u ∷ []) marks else units_with status
+    (units ++ u ∷ []) marks) (given_grows units u m none.0)
+    ∙ ap (λ rest. if has_status status (given (has_no_v2 units m.unit) m.kind None) && not (list_any (decides m.unit) marks) then m.unit ∷ rest else rest)
+    (units_grow status units u marks none.1)

@@ -74,7 +74,8 @@ abbrev IsDeedOf : ℕ → Deed → Type 0
 IsDeedOf v deed = IsDeed deed × (verb deed ≡ v)
 
 -- a choice by a number
-pub is_choice : {A : Type 0} {P : A → Type 0} {spell : A → List ℕ} {f g : Field A} (v n : ℕ) → (v ≡ n → IsField P spell f) → ((v ≡ n → ⊥) → IsField P spell g) → IsField P spell (λ bytes. cond (eqb v n) (f bytes) (g bytes))
+pub is_choice : {A : Type 0} {P : A → Type 0} {spell : A → List ℕ} {f g : Field A} (v n : ℕ) → (v ≡ n → IsField P spell f) → ((v ≡ n → ⊥) → IsField P spell g)
+    → IsField P spell (λ bytes. cond (eqb v n) (f bytes) (g bytes))
 is_choice {A = A} {P = P} {spell = spell} {f = f} {g = g} v n here there =
     elim (eqb v n) as (λ (b : Bool). eqb v n ≡ b → IsField P spell (λ bytes. cond b (f bytes) (g bytes))) [
       | true ↦ λ is. let h = here (eqb-true v n is) in record { takes = h.takes; again = h.again }
@@ -111,7 +112,8 @@ is_add v is-v = is_giving (IsDeedOf v) operand Add is_signed (λ z is. (refl, (i
 is_del : (v : ℕ) → v ≡ 3 → IsField (IsDeedOf v) operand (λ bytes. Some (Del, bytes))
 is_del v is-v = record {
   takes = λ bytes x fits e.
-      subst (λ (y : Deed × List ℕ). Takes bytes (operand y.0) y.1 × IsDeedOf v y.0) (some_is (Del, bytes) x e) (record { parts = refl; rest_fits = fits }, (tt, sym is-v));
+      subst (λ (y : Deed × List ℕ). Takes bytes (operand y.0) y.1 × IsDeedOf v y.0) (some_is (Del, bytes) x e)
+      (record { parts = refl; rest_fits = fits }, (tt, sym is-v));
   again = λ deed rest. elim deed as (λ (d : Deed). IsDeedOf v d → ◌≡◌ {A = Option (Deed × List ℕ)} (Some (Del, operand d ++ rest)) (Some (d, rest))) [
     | Put t ↦ λ is. absurd (omega (arith, is.1))
     | Ins t ↦ λ is. absurd (omega (arith, is.1))
@@ -133,11 +135,13 @@ is_no_deed v not1 not2 not3 not4 = record {
 
 is_deed : (v : ℕ) → IsField (IsDeedOf v) operand (deed_at v)
 unfolding deed_at
-is_deed v = is_choice v 1 (is_put v) (λ not1. is_choice v 2 (is_ins v) (λ not2. is_choice v 3 (is_del v) (λ not3. is_choice v 4 (is_add v) (λ not4. is_no_deed v not1 not2 not3 not4))))
+is_deed v = is_choice v 1 (is_put v)
+    (λ not1. is_choice v 2 (is_ins v) (λ not2. is_choice v 3 (is_del v) (λ not3. is_choice v 4 (is_add v) (λ not4. is_no_deed v not1 not2 not3 not4))))
 
 -- ---- table 3
 
-pub is_step_key : IsWhole (λ (k : (UnitKey × ℕ) × ℕ). (IsUnitKey k.0.0 × IsPart k.0.1) × IsPlace (2 ^ 16) k.1) (λ (k : (UnitKey × ℕ) × ℕ). (unit_bytes k.0.0 ++ k.0.1 ∷ []) ++ big_bytes 2 k.1) step_key
+pub is_step_key : IsWhole (λ (k : (UnitKey × ℕ) × ℕ). (IsUnitKey k.0.0 × IsPart k.0.1) × IsPlace (2 ^ 16) k.1)
+    (λ (k : (UnitKey × ℕ) × ℕ). (unit_bytes k.0.0 ++ k.0.1 ∷ []) ++ big_bytes 2 k.1) step_key
 unfolding step_key
 is_step_key = is_whole (is_both (is_both is_unit is_part) (is_place (2 ^ 16) is_16))
 

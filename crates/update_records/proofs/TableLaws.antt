@@ -39,7 +39,8 @@ table_takes table key value r kf vf =
     (of_table Q table 6 (business_at key value) _ (one 6 (business_at key value) (business_takes key value r kf vf))
     (of_table Q table 7 (lock_at key value) None (one 7 (lock_at key value) (lock_takes key value r kf vf)) (λ e. absurd cc))))))))
 
-same_row : (t : ℕ) (k v : List ℕ) (table : ℕ) (key value : List ℕ) (r : Record) → row_at t k v ≡ Some r → PutRow t k v ≡ PutRow table key value → row_at table key value ≡ Some r
+same_row : (t : ℕ) (k v : List ℕ) (table : ℕ) (key value : List ℕ) (r : Record) → row_at t k v ≡ Some r → PutRow t k v ≡ PutRow table key value
+    → row_at table key value ≡ Some r
 same_row t k v table key value r h e =
     let table-is : t ≡ table = cc in
     let key-is : k ≡ key = cc in
@@ -53,25 +54,30 @@ read_again (rec.Header unit user v1 v2 locks numbers) table key value is e = sam
 read_again (rec.Module unit part count) table key value is e = same_row _ _ _ table key value _ (module_again unit part count is) e
 read_again (rec.Step unit part index effect) table key value is e = same_row _ _ _ table key value _ (step_again unit part index effect is) e
 read_again (rec.Mark m) table key value is e = same_row _ _ _ table key value _ (mark_again m is) e
-read_again (rec.Level object nr from to level buffered) table key value is e = same_row _ _ _ table key value _ (level_again object nr from to level buffered is) e
+read_again (rec.Level object nr from to level buffered) table key value is e =
+    same_row _ _ _ table key value _ (level_again object nr from to level buffered is) e
 read_again (rec.Business name k text) table key value is e = same_row _ _ _ table key value _ (business_again name k text is) e
-read_again (rec.Lock unit index name mode count pattern) table key value is e = same_row _ _ _ table key value _ (lock_again unit index name mode count pattern is) e
+read_again (rec.Lock unit index name mode count pattern) table key value is e =
+    same_row _ _ _ table key value _ (lock_again unit index name mode count pattern is) e
 
 pub table_again : (table : ℕ) (key value : List ℕ) (r : Record) → Spells table key value r → row_at table key value ≡ Some r
 table_again table key value r is = read_again r table key value is.grammar is.spelled
 
 -- ---- what a reading says
 
-pub is_read : (table : ℕ) (key value : List ℕ) (result : Result Record RowFault) → IsBytes key → IsBytes value → Gives (λ r. r) result (row_at table key value) → IfOk result (Spells table key value)
+pub is_read : (table : ℕ) (key value : List ℕ) (result : Result Record RowFault) → IsBytes key → IsBytes value → Gives (λ r. r) result (row_at table key value)
+    → IfOk result (Spells table key value)
 is_read table key value (Ok r) kf vf e = table_takes table key value r kf vf e
 is_read table key value (Err fault) kf vf e = tt
 
-pub is_bad : (table : ℕ) (key value : List ℕ) (result : Result Record RowFault) → Gives (λ r. r) result (row_at table key value) → result ≡ Err faults.Bad → (r : Record) → Spells table key value r → ⊥
+pub is_bad : (table : ℕ) (key value : List ℕ) (result : Result Record RowFault) → Gives (λ r. r) result (row_at table key value) → result ≡ Err faults.Bad
+    → (r : Record) → Spells table key value r → ⊥
 is_bad table key value (Ok read) e bad r is = absurd cc
 is_bad table key value (Err faults.Bad) e bad r is = let again = table_again table key value r is in absurd cc
 is_bad table key value (Err faults.NoMemory) e bad r is = absurd cc
 
-pub is_exact : (table : ℕ) (key value : List ℕ) (result : Result Record RowFault) → Gives (λ r. r) result (row_at table key value) → (r : Record) → Spells table key value r → IfOk result (λ read. read ≡ r)
+pub is_exact : (table : ℕ) (key value : List ℕ) (result : Result Record RowFault) → Gives (λ r. r) result (row_at table key value) → (r : Record)
+    → Spells table key value r → IfOk result (λ read. read ≡ r)
 is_exact table key value (Ok read) e r is = let again = table_again table key value r is in some_is read r (sym e ∙ again)
 is_exact table key value (Err fault) e r is = tt
 

@@ -51,25 +51,35 @@ all_append : (xs ys : List Record) → AllByRecursion IsRecord xs → AllByRecur
 all_append [] ys a b = b
 all_append (x ∷ xs) ys a b = (a.0, all_append xs ys a.1 b)
 
-steps_fit : (key : UnitKey) (part index : ℕ) (effects : List Effect) → IsUnitKey key → IsPart part → 1 ≤ index → index + length effects ≤ 2 ^ 16 → AllByRecursion IsEffect effects
+steps_fit : (key : UnitKey) (part index : ℕ) (effects : List Effect) → IsUnitKey key → IsPart part → 1 ≤ index → index + length effects ≤ 2 ^ 16
+    → AllByRecursion IsEffect effects
     → AllByRecursion IsRecord (steps_of key part index effects)
 steps_fit key part index [] is_key is_part low high all = tt
 steps_fit key part index (effect ∷ effects) is_key is_part low high all =
     ((is_key, is_part, (low, omega arith), all.0), steps_fit key part (index + 1) effects is_key is_part (omega arith) (omega arith) all.1)
 
-part_fits : (key : UnitKey) (part : ℕ) (effects : List Effect) → IsUnitKey key → IsPart part → length effects ≤ 200 → All IsEffect effects → AllByRecursion IsRecord (part_of key part effects)
+part_fits : (key : UnitKey) (part : ℕ) (effects : List Effect) → IsUnitKey key → IsPart part → length effects ≤ 200 → All IsEffect effects
+    → AllByRecursion IsRecord (part_of key part effects)
 part_fits key part [] is_key is_part few all = tt
-part_fits key part (effect ∷ effects) is_key is_part few all =
-    ((is_key, is_part, omega arith), steps_fit key part 1 (effect ∷ effects) is_key is_part (omega arith) (omega arith) (recursion_from_All IsEffect (effect ∷ effects) all))
+part_fits key part (effect ∷ effects) is_key is_part few all = (
+  (is_key, is_part, omega arith),
+  steps_fit key part 1 (effect ∷ effects) is_key is_part (omega arith) (omega arith)
+      (recursion_from_All IsEffect (effect ∷ effects) all),
+)
 
-locks_fit : (unit : UnitOfWork) (index : ℕ) (locks : List Lock) → IsUnitKey unit.key → 1 ≤ index → index + length locks ≤ 2 ^ 32 → AllByRecursion (IsEntryOf unit) locks
+locks_fit : (unit : UnitOfWork) (index : ℕ) (locks : List Lock) → IsUnitKey unit.key → 1 ≤ index → index + length locks ≤ 2 ^ 32
+    → AllByRecursion (IsEntryOf unit) locks
     → AllByRecursion IsRecord (locks_of unit.key index locks)
 locks_fit unit index [] is_key low high all = tt
 locks_fit unit index (lock ∷ locks) is_key low high all =
-    let first : IsEntryOf unit lock = all.0 in
-    ((is_key, (low, omega arith), first.table, first.mode, (first.low, omega arith), first.pattern), locks_fit unit (index + 1) locks is_key (omega arith) (omega arith) all.1)
+    let first : IsEntryOf unit lock = all.0 in (
+      (is_key, (low, omega arith), first.table, first.mode, (first.low, omega arith), first.pattern),
+      locks_fit unit (index + 1) locks is_key (omega arith)
+          (omega arith) all.1,
+    )
 
-pub unit_fits : (unit : UnitOfWork) → IsUnitKey unit.key → IsTrue (is_name unit.user) → length unit.parts.v1 + length unit.parts.v2 ≤ 200 → All IsEffect unit.parts.v1 → All IsEffect unit.parts.v2
+pub unit_fits : (unit : UnitOfWork) → IsUnitKey unit.key → IsTrue (is_name unit.user) → length unit.parts.v1 + length unit.parts.v2 ≤ 200
+    → All IsEffect unit.parts.v1 → All IsEffect unit.parts.v2
     → length unit.numbers ≤ 64 → All IsNumber unit.numbers → length unit.entries < 2 ^ 32 → All (IsEntryOf unit) unit.entries → All IsRecord (records_of unit)
 unit_fits unit key user few first second few_numbers numbers few_entries entries =
     let v1 = part_of unit.key 1 unit.parts.v1 in

@@ -26,15 +26,21 @@ use Rattle.update_records.proofs.RowLaws.{IsName, both_true, is_name_field, is_p
 
 is_num : IsField IsNumber number_bytes num_at
 unfolding num_at
-is_num = is_giving IsNumber number_bytes (λ (x : (List ℕ × List ℕ) × ℕ). record { object = x.0.0; nr = x.0.1; number = x.1 }) (is_both (is_both is_name_field is_nr) is_64)
+is_num = is_giving IsNumber number_bytes (λ (x : (List ℕ × List ℕ) × ℕ). record { object = x.0.0; nr = x.0.1; number = x.1 })
+    (is_both (is_both is_name_field is_nr) is_64)
     (λ x is. (refl, record { object = is.0.0; nr = is.0.1; number = is.1 }))
     (λ n is. (((n.object, n.nr), n.number), refl, ((is.object, is.nr), is.number)))
 
 pub is_nums : IsField AreNumbers numbers_bytes nums_at
 unfolding nums_at
 is_nums = is_giving AreNumbers numbers_bytes (λ (x : ℕ × List Number). x.1)
-    (is_then (λ (n : ℕ). n < 2 ^ 16) (λ (n : ℕ) (xs : List Number). (length xs ≡ n) × AllByRecursion IsNumber xs) (big_bytes 2) (λ (xs : List Number). flat_map number_bytes xs) (number_at w16) (many num_at) is_16 (is_many is_num))
-    (λ x is. (ap (λ (n : ℕ). big_bytes 2 n ++ flat_map number_bytes x.1) (sym is.1.0), record { few = subst (λ (n : ℕ). n < 2 ^ 16) (sym is.1.0) is.0; each = All-from_recursion IsNumber x.1 is.1.1 }))
+    (is_then (λ (n : ℕ). n < 2 ^ 16) (λ (n : ℕ) (xs : List Number). (length xs ≡ n) × AllByRecursion IsNumber xs) (big_bytes 2)
+    (λ (xs : List Number). flat_map number_bytes xs) (number_at w16) (many num_at) is_16 (is_many is_num))
+    (λ x is. (
+      ap (λ (n : ℕ). big_bytes 2 n ++ flat_map number_bytes x.1)
+          (sym is.1.0),
+      record { few = subst (λ (n : ℕ). n < 2 ^ 16) (sym is.1.0) is.0; each = All-from_recursion IsNumber x.1 is.1.1 },
+    ))
     (λ xs is. ((length xs, xs), refl, (is.few, (refl, recursion_from_All IsNumber xs is.each))))
 
 -- ---- table 1
@@ -59,7 +65,8 @@ is_header_tail = is_whole (is_both (is_both (is_both (is_both is_name_field is_1
 abbrev header_made : UnitKey → HeaderTail → Record
 header_made unit v = rec.Header unit v.0.0.0.0 v.0.0.0.1 v.0.0.1 v.0.1 v.1
 
-pub header_takes : (key value : List ℕ) (r : Record) → IsBytes key → IsBytes value → header_at key value ≡ Some r → IsRecord r × (record_row r ≡ PutRow 1 key value)
+pub header_takes : (key value : List ℕ) (r : Record) → IsBytes key → IsBytes value → header_at key value ≡ Some r → IsRecord r
+    × (record_row r ≡ PutRow 1 key value)
 unfolding header_at
 header_takes = row_takes is_unit_key is_header_tail header_made 1 (λ k v is_k is_v. ((is_k, is_v.0.0.0.0, is_v.0.0.0.1, is_v.0.0.1, is_v.0.1, is_v.1), refl))
 
@@ -82,7 +89,8 @@ is_module_tail = is_whole is_16
 abbrev module_made : UnitKey × ℕ → ℕ → Record
 module_made k count = rec.Module k.0 k.1 count
 
-pub module_takes : (key value : List ℕ) (r : Record) → IsBytes key → IsBytes value → module_at key value ≡ Some r → IsRecord r × (record_row r ≡ PutRow 2 key value)
+pub module_takes : (key value : List ℕ) (r : Record) → IsBytes key → IsBytes value → module_at key value ≡ Some r → IsRecord r
+    × (record_row r ≡ PutRow 2 key value)
 unfolding module_at
 module_takes = row_takes is_module_key is_module_tail module_made 2 (λ k v is_k is_v. ((is_k.0, is_k.1, is_v), refl))
 
@@ -93,7 +101,8 @@ module_again unit part count is = row_again is_module_key is_module_tail module_
 
 -- ---- table 7
 
-pub is_place : {field : Field ℕ} {spell : ℕ → List ℕ} (limit : ℕ) → IsField (λ (n : ℕ). n < limit) spell field → IsField (IsPlace limit) spell (field if_it leb 1)
+pub is_place : {field : Field ℕ} {spell : ℕ → List ℕ} (limit : ℕ) → IsField (λ (n : ℕ). n < limit) spell field
+    → IsField (IsPlace limit) spell (field if_it leb 1)
 is_place limit p = is_tested (IsPlace limit) (leb 1) p (λ a is e. (leb-true 1 a e, is)) (λ a is. (is.1, le-leb 1 a is.0))
 
 pub is_lock_key : IsWhole (λ (k : UnitKey × ℕ). IsUnitKey k.0 × IsPlace (2 ^ 32) k.1) (λ (k : UnitKey × ℕ). unit_bytes k.0 ++ big_bytes 4 k.1) lock_key
@@ -114,7 +123,8 @@ is_mode = record {
 is_count : IsField (IsPlace 10000) (big_bytes 2) count_at
 unfolding count_at
 is_count = is_tested (IsPlace 10000) (λ (n : ℕ). leb 1 n && leb n 9999) is_16
-    (λ a is e. let h = both_true (leb 1 a) (leb a 9999) e in let low : 1 ≤ a = leb-true 1 a h.0 in let high : a ≤ 9999 = leb-true a 9999 h.1 in (low, omega arith))
+    (λ a is e. let h = both_true (leb 1 a) (leb a 9999) e in let low : 1 ≤ a = leb-true 1 a h.0 in let high : a ≤ 9999 = leb-true a 9999 h.1 in
+    (low, omega arith))
     (λ a is. let low : 1 ≤ a = is.0 in let high : a < 10000 = is.1 in (omega arith, rw (le-leb 1 a low, le-leb a 9999 (omega arith)) refl))
 
 abbrev LockTail : Type 0
@@ -141,7 +151,8 @@ unfolding lock_at
 lock_takes = row_takes is_lock_key is_lock_tail lock_made 7
     (λ k v is_k is_v. ((is_k.0, is_k.1, is_v.0.0.0, is_v.0.0.1, is_v.0.1, is_v.1), ap (PutRow 7 (unit_bytes k.0 ++ big_bytes 4 k.1)) (lock_bytes-value v)))
 
-pub lock_again : (unit : UnitKey) (index : ℕ) (table : List ℕ) (mode : Mode) (count : ℕ) (pattern : List ℕ) → IsRecord (rec.Lock unit index table mode count pattern)
+pub lock_again : (unit : UnitKey) (index : ℕ) (table : List ℕ) (mode : Mode) (count : ℕ) (pattern : List ℕ)
+    → IsRecord (rec.Lock unit index table mode count pattern)
     → lock_at (unit_bytes unit ++ big_bytes 4 index) (lock_value table mode count pattern) ≡ Some (rec.Lock unit index table mode count pattern)
 unfolding lock_at
 lock_again unit index table mode count pattern is =

@@ -11,7 +11,8 @@ abbrev pub named : StoredInterval → RowName
 named interval = (interval.object, interval.nr)
 
 abbrev pub level_of : StoredInterval → Level
-level_of interval = record { from = interval.from; to = interval.to; level = interval.level; buffered = interval.buffered }
+level_of interval =
+    record { from = interval.from; to = interval.to; level = interval.level; buffered = interval.buffered }
 
 abbrev pub entry_of : StoredInterval → RowName × Level
 entry_of interval = (named interval, level_of interval)

@@ -1,5 +1,6 @@
 -- The ledger that a store stands for, and when a store is good.
-use Rattle.std.specs.Prelude.{ℕ, ◌≡◌, ◌⊎◌, ◌≤◌, ◌<◌, ◌^◌, ◌+◌, ◌-◌, nat_eq, nat_lt, Bool, true, false, ◌&&◌, IsTrue, List, [], ◌∷◌, ◌++◌, map, length, if◌then◌else◌, IfSome, IsSome}
+use Rattle.std.specs.Prelude.{ℕ, ◌≡◌, ◌⊎◌, ◌≤◌, ◌<◌, ◌^◌, ◌+◌, ◌-◌, nat_eq, nat_lt, Bool, true, false, ◌&&◌, IsTrue}
+use Rattle.std.specs.Prelude.{List, [], ◌∷◌, ◌++◌, map, length, if◌then◌else◌, IfSome, IsSome}
 use Rattle.std.specs.List.{All, filter, flat_map, range_with_len, IsDistinct}
 use Rattle.std.specs.FinMap.{FinMap, empty, entries, get, insert, retain_keys}
 use Rattle.keeper_api.specs.declared.rows.Change.{Change}
@@ -50,7 +51,8 @@ meta_rows start marks = if nat_eq start 0 then [] else (meta_row start marks ∷
 
 -- the rows of the units, of the marks, and of the start number
 abbrev pub book_rows : Ledger → List Change
-book_rows ledger = flat_map unit_rows ledger.units ++ map mark_row ledger.marks ++ meta_rows ledger.start (length ledger.marks)
+book_rows ledger = flat_map unit_rows ledger.units ++ map mark_row ledger.marks ++ meta_rows ledger.start
+    (length ledger.marks)
 
 -- the rows that stand for a ledger
 abbrev pub rows_of : Ledger → Rows

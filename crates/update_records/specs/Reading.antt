@@ -13,10 +13,12 @@ use Rattle.enq_base.specs.declared.unit.Reason.TheVariants.{Duplicate, Missing, 
 use Rattle.mode_rules.specs.declared.Mode.{Mode}
 use Rattle.mode_rules.specs.declared.Mode.TheVariants.{S, E, X}
 use Rattle.update_records.specs.declared.records.MarkKind.{MarkKind}
-use Rattle.update_records.specs.declared.records.MarkKind.TheVariants.{Num, Rec, V1, Bad1, Again1, V2, Bad2, Again2, Gone}
+use Rattle.update_records.specs.declared.records.MarkKind.TheVariants.{Num, Rec, V1, Bad1, Again1, V2, Bad2, Again2}
+use Rattle.update_records.specs.declared.records.MarkKind.TheVariants.{Gone}
 use Rattle.update_records.specs.declared.stored.Record.{Record}
 use Rattle.update_records.specs.declared.stored.Record.TheVariants as rec
-use Rattle.update_records.specs.Fields.{◌>>=◌, Field, ◌then◌, ◌&◌, ◌giving◌, ◌if_it◌, whole, all_if, bytes_at, number_at, code_at, many}
+use Rattle.update_records.specs.Fields.{◌>>=◌, Field, ◌then◌, ◌&◌, ◌giving◌, ◌if_it◌, whole, all_if, bytes_at}
+use Rattle.update_records.specs.Fields.{number_at, code_at, many}
 
 -- ---- fields
 

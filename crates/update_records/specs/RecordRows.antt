@@ -18,7 +18,8 @@ use Rattle.mode_rules.specs.declared.Mode.TheVariants.{S, E, X, O}
 use Rattle.module_effects.specs.Rows.{RowName}
 use Rattle.update_records.specs.declared.records.Mark.{Mark}
 use Rattle.update_records.specs.declared.records.MarkKind.{MarkKind}
-use Rattle.update_records.specs.declared.records.MarkKind.TheVariants.{Num, Rec, V1, Bad1, Again1, V2, Bad2, Again2, Gone}
+use Rattle.update_records.specs.declared.records.MarkKind.TheVariants.{Num, Rec, V1, Bad1, Again1, V2, Bad2, Again2}
+use Rattle.update_records.specs.declared.records.MarkKind.TheVariants.{Gone}
 use Rattle.update_records.specs.declared.records.Unit.{Unit as UnitOfWork}
 
 -- a text with its length in front
@@ -75,7 +76,8 @@ operand (Add n) = big_bytes 8 (cast_unsigned w64 n)
 
 -- table 3: an effect of a part, at its place from 1
 abbrev pub step_row : UnitKey → ℕ → ℕ → Effect → Change
-step_row key part index effect = row.Put 3 (unit_bytes key ++ part ∷ big_bytes 2 index) (verb effect.deed ∷ short effect.table ++ short effect.key ++ operand effect.deed)
+step_row key part index effect = row.Put 3 (unit_bytes key ++ part ∷ big_bytes 2 index)
+    (verb effect.deed ∷ short effect.table ++ short effect.key ++ operand effect.deed)
 
 abbrev pub step_rows : UnitKey → ℕ → ℕ → List Effect → List Change
 step_rows key part index [] = []
@@ -107,7 +109,8 @@ lock_rows key index (entry ∷ entries) = lock_row key index entry ∷ lock_rows
 
 -- all rows of a unit but those of its marks
 abbrev pub unit_rows : UnitOfWork → List Change
-unit_rows unit = header_row unit ∷ part_rows unit.key 1 unit.parts.v1 ++ part_rows unit.key 2 unit.parts.v2 ++ lock_rows unit.key 1 unit.entries
+unit_rows unit = header_row unit ∷ part_rows unit.key 1 unit.parts.v1 ++ part_rows unit.key 2 unit.parts.v2 ++ lock_rows
+    unit.key 1 unit.entries
 
 abbrev pub kind_number : MarkKind → ℕ
 kind_number (Num numbers) = 1
@@ -150,7 +153,8 @@ flag false = 0
 
 -- table 5: an interval
 abbrev pub level_value : Level → List ℕ
-level_value level = big_bytes 8 level.from ++ big_bytes 8 level.to ++ big_bytes 8 level.level ++ flag level.buffered ∷ []
+level_value level = big_bytes 8 level.from ++ big_bytes 8 level.to ++ big_bytes 8 level.level ++ flag
+    level.buffered ∷ []
 
 abbrev pub level_row : RowName → Level → Change
 level_row name level = row.Put 5 (row_name name) (level_value level)

@@ -1,5 +1,6 @@
 -- The records of the store: which there are, and the row that each of them is spelled by.
-use Rattle.std.specs.Prelude.{ℕ, ◌≡◌, ◌+◌, ◌≤◌, ◌<◌, ◌^◌, Bool, false, ◌||◌, nat_eq, List, [], ◌∷◌, ◌++◌, length, IsTrue}
+use Rattle.std.specs.Prelude.{ℕ, ◌≡◌, ◌+◌, ◌≤◌, ◌<◌, ◌^◌, Bool, false, ◌||◌, nat_eq, List, [], ◌∷◌, ◌++◌, length}
+use Rattle.std.specs.Prelude.{IsTrue}
 use Rattle.std.specs.List.{All}
 use Rattle.byteorder.specs.Endian.{big_bytes}
 use Rattle.keeper_api.specs.declared.rows.Change.{Change}
@@ -15,7 +16,8 @@ use Rattle.update_records.specs.declared.records.Unit.{Unit as UnitOfWork}
 use Rattle.update_records.specs.declared.stored.Record.{Record}
 use Rattle.update_records.specs.declared.stored.Record.TheVariants as rec
 use Rattle.update_records.specs.Grammar.{IsWord, IsUnitKey, IsEffect, IsNr, IsNumber, is_optimistic}
-use Rattle.update_records.specs.RecordRows.{unit_bytes, meta_row, header_value, step_row, mark_row, level_row, business_row, lock_value}
+use Rattle.update_records.specs.RecordRows.{unit_bytes, meta_row, header_value, step_row, mark_row, level_row}
+use Rattle.update_records.specs.RecordRows.{business_row, lock_value}
 
 -- ---- the grammar of a record
 

@@ -13,8 +13,10 @@ ghost use Rattle.update_records.specs.declared.stored.Record.TheVariants as rec;
 
 /// A row spells one record at most, and its key tells what the record is named by.
 pub fn rows_tell_records()
-    ensures one { (table : ℕ) (key value : List ℕ) (r s : Record) → Spells table key value r → Spells table key value s → r ≡ s }
-    ensures place { (r s : Record) → IsRecord r → IsRecord s → spot_of (record_row r) ≡ spot_of (record_row s) → place_of r ≡ place_of s }
+    ensures one { (table : ℕ) (key value : List ℕ) (r s : Record) → Spells table key value r → Spells table key value s
+        → r ≡ s }
+    ensures place { (r s : Record) → IsRecord r → IsRecord s → spot_of (record_row r) ≡ spot_of (record_row s)
+        → place_of r ≡ place_of s }
 {}
 
 /// The rows of a unit spell its records, and a keeper may take them in one batch. No row of another unit stands in the

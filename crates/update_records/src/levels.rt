@@ -26,7 +26,12 @@ pub fn encode_level(
 ) -> Result<Change, NoMemory>
     requires { IsNr nr }
     ensures row { IfOk result (λ change. change ≡ level_row (object.now, nr)
-        (record { from = interval.now.from; to = interval.now.to; level = interval.now.level; buffered = interval.now.buffered })) }
+        (record {
+          from = interval.now.from;
+          to = interval.now.to;
+          level = interval.now.level;
+          buffered = interval.now.buffered;
+        })) }
     ensures grammar { OnOk result (IsRecord
         (rec.Level object.now nr interval.now.from interval.now.to interval.now.level interval.now.buffered)) }
 {

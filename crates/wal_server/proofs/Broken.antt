@@ -13,7 +13,8 @@ only_row n = insert empty (0, 7 ∷ []) (n ∷ [])
 
 shown : (n : ℕ) → get (own (only_row n)) (0, 7 ∷ []) ≡ Some (n ∷ [])
 unfolding only_row
-shown n = get-retain_keys (only_row n) is_own (0, 7 ∷ []) (λ x e. ap is_own (sym (exact_spots (0, 7 ∷ []) x e))) ∙ get-insert spots_total empty (0, 7 ∷ []) (n ∷ []) (0, 7 ∷ [])
+shown n = get-retain_keys (only_row n) is_own (0, 7 ∷ []) (λ x e. ap is_own (sym (exact_spots (0, 7 ∷ []) x e)))
+    ∙ get-insert spots_total empty (0, 7 ∷ []) (n ∷ []) (0, 7 ∷ [])
 
 row_is : (m n : ℕ) → own (only_row m) ≡ own (only_row n) → m ≡ n
 row_is m n e =
@@ -38,7 +39,8 @@ is_known s n h = elim (known_of s.found s h.ledger h.known) [
 some_ledger : (a b : Ledger) → Some a ≡ Some b → a ≡ b
 some_ledger a b e = cc
 
-both_pending : (s : State) (m n : ℕ) (a : (l : Ledger) × (s.pending ≡ Some l) × (own (only_row m) ≡ rows_of l)) (b : (l : Ledger) × (s.pending ≡ Some l) × (own (only_row n) ≡ rows_of l)) → m ≡ n
+both_pending : (s : State) (m n : ℕ) (a : (l : Ledger) × (s.pending ≡ Some l) × (own (only_row m) ≡ rows_of l))
+    (b : (l : Ledger) × (s.pending ≡ Some l) × (own (only_row n) ≡ rows_of l)) → m ≡ n
 both_pending s m n a b = row_is m n (a.2 ∙ ap rows_of (some_ledger a.0 b.0 (sym a.1 ∙ b.1)) ∙ sym b.2)
 
 three : (s : State) → IsKnown s 0 → IsKnown s 1 → IsKnown s 2 → ⊥

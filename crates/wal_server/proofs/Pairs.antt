@@ -2,7 +2,7 @@
 use Rattle.std.proofs.Common.{ℕ, Bool, true, false, List, Option, refl, inl, inr}
 use Rattle.std.specs.Prelude.{IsTrue, is_some}
 use Rattle.enq_cmd.specs.Loading.{HasLoaded}
-use Rattle.enq_cmd.specs.Main.{AreServed, HasLandscape, IsUnopened, first_state}
+use Rattle.enq_cmd.specs.Main.{AreServed, HasLandscape, IsUnopened, SiteFound, SiteLeft, first_state}
 use Rattle.enq_cmd.specs.Running.{HasThreads}
 use Rattle.gate_log.specs.Grammars.{IsBytes}
 use Rattle.hall_model.specs.Recall.{Made, state_after}
@@ -12,7 +12,6 @@ use Rattle.keeper_wal.specs.Journal.{Stands, IsBad}
 use Rattle.keeper_wal.specs.Wal.{told}
 use Rattle.keeper_wal.proofs.Meaning.{meaning}
 use Rattle.landscape.specs.declared.landscape.Landscape.{Landscape}
-use Rattle.lock_entry.specs.declared.entry.Entry.{Entry}
 use Rattle.posting.specs.Reopening.{HasStood}
 use Rattle.script_runner.specs.Replay.{Seen}
 use Rattle.script_runner.specs.declared.runner.Why.{Why}
@@ -33,13 +32,15 @@ whole_bytes bytes unbroken fits = elim (meaning bytes fits) [
 ]
 
 -- what a journal stands for could be left
-stood : {after : Rows → Type 0} (journal : List ℕ) → ((rows : Rows) → Stands journal rows → after rows) → (ledger : Ledger) → HasStood (Stands journal) ledger → HasStood after ledger
+stood : {after : Rows → Type 0} (journal : List ℕ) → ((rows : Rows) → Stands journal rows → after rows) → (ledger : Ledger) → HasStood (Stands journal) ledger
+    → HasStood after ledger
 stood journal stands ledger h = (h.0, stands h.0 h.1, h.2)
 
-module _ {told : Bool} {before after : Rows → Type 0} {tells : Bool} {past : List PastEntry} (is_told : IsTrue told) (is_tells : IsTrue tells) (journals : List ℕ → Type 0)
-    (stands : (journal : List ℕ) → journals journal → (rows : Rows) → Stands journal rows → after rows) (breaks : (journal : List ℕ) → journals journal → (at : ℕ) → IsBad journal at → (rows : Rows) → after rows) where
-  of_served : {land : Landscape} {linked : Bool} {bytes : List ℕ} {images : List ℕ → Type 0} {copy : Option (List Entry)} {stored : Ledger} {made : List Made}
-      → AreServed land told linked before after tells bytes images copy stored made past → SurviveAll journals images (state_after (first_state land told linked stored) made)
+module _ {site : SiteFound} {site_now : SiteLeft} {past : List PastEntry} (is_told : IsTrue site.told) (is_tells : IsTrue site.tells)
+    (journals : List ℕ → Type 0) (stands : (journal : List ℕ) → journals journal → (rows : Rows) → Stands journal rows → site_now.rows rows)
+    (breaks : (journal : List ℕ) → journals journal → (at : ℕ) → IsBad journal at → (rows : Rows) → site_now.rows rows) where
+  of_served : {land : Landscape} {stored : Ledger} {made : List Made} → AreServed land site site_now stored made past
+      → SurviveAll journals site_now.images (state_after (first_state land site.told site.linked stored) made)
   of_served s journal backup left filed =
       let unbroken : (at : ℕ) → IsBad journal at → ⊥ = λ at bad. not_all _ (λ rows. s.left is_told rows (breaks journal left at bad rows)) in
       record {
@@ -51,12 +52,14 @@ module _ {told : Bool} {before after : Rows → Type 0} {tells : Bool} {past : L
         next = λ ledger h. s.next is_told ledger (h.0, stood journal (stands journal left) h.0 h.1, h.2);
       }
 
-  of_unopened : {D : Type 0} {may_leave : D → List ℕ → Type 0} {disk disk_now : D} {old new : Seen} {why : Why}
-      → IsUnopened told before after tells may_leave disk disk_now old new past why → RemainsUnopened told before after tells may_leave disk disk_now old new past why journals
+  of_unopened : {D L : Type 0} {disk disk_now : D} {link link_now : L} {old new : Seen} {why : Why}
+      → IsUnopened site site_now disk disk_now link link_now old new past why
+      → RemainsUnopened site site_now disk disk_now link link_now old new past why journals
   of_unopened u = record { unopened = u; rows = λ journal left rows is. u.left is_told rows (stands journal left rows is) }
 
-  pub of_landscape : {D : Type 0} {left : Option (List ℕ)} {linked : Bool} {bytes : List ℕ} {may_leave : D → List ℕ → Type 0} {disk disk_now : D} {copy : Option (List Entry)} {old new : Seen} {why : Why}
-      → HasLandscape left told linked before after tells bytes may_leave disk disk_now copy old new past why → HasPairs left told linked before after tells bytes may_leave disk disk_now copy old new past why journals
+  pub of_landscape : {D L : Type 0} {left : Option (List ℕ)} {disk disk_now : D} {link link_now : L} {old new : Seen} {why : Why}
+      → HasLandscape left site site_now disk disk_now link link_now old new past why
+      → HasPairs left site site_now disk disk_now link link_now old new past why journals
   of_landscape h = record {
     land = h.land;
     read = h.read;
@@ -66,8 +69,9 @@ module _ {told : Bool} {before after : Rows → Type 0} {tells : Bool} {past : L
     ];
   }
 
-  pub of_load : {D : Type 0} {n : ℕ} {left : Option (List ℕ)} {linked : Bool} {bytes : List ℕ} {may_leave : D → List ℕ → Type 0} {disk disk_now : D} {copy : Option (List Entry)} {old new : Seen} {why : Why}
-      → HasLoaded n left told linked before after tells bytes may_leave disk disk_now copy old new past why → HasLoadedPairs n left told linked before after tells bytes may_leave disk disk_now copy old new past why journals
+  pub of_load : {D L : Type 0} {n : ℕ} {left : Option (List ℕ)} {disk disk_now : D} {link link_now : L} {old new : Seen} {why : Why}
+      → HasLoaded n left site site_now disk disk_now link link_now old new past why
+      → HasLoadedPairs n left site site_now disk disk_now link link_now old new past why journals
   of_load h = record {
     land = h.land;
     read = h.read;
@@ -77,9 +81,9 @@ module _ {told : Bool} {before after : Rows → Type 0} {tells : Bool} {past : L
     ];
   }
 
-  pub of_threads : {D : Type 0} {workers : ℕ} {left : Option (List ℕ)} {linked : Bool} {bytes : List ℕ} {may_leave : D → List ℕ → Type 0} {disk disk_now : D} {copy : Option (List Entry)} {old new : Seen}
-      {counts counts_now : Counts} {why : Why} → HasThreads workers left told linked before after tells bytes may_leave disk disk_now copy old new counts counts_now past why
-      → HasThreadPairs workers left told linked before after tells bytes may_leave disk disk_now copy old new counts counts_now past why journals
+  pub of_threads : {D L : Type 0} {workers : ℕ} {left : Option (List ℕ)} {disk disk_now : D} {link link_now : L} {old new : Seen} {counts counts_now : Counts}
+      {why : Why} → HasThreads workers left site site_now disk disk_now link link_now old new counts counts_now past why
+      → HasThreadPairs workers left site site_now disk disk_now link link_now old new counts counts_now past why journals
   of_threads h = record {
     land = h.land;
     read = h.read;

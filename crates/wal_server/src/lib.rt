@@ -1,14 +1,14 @@
 //! The server with its store in a journal, and what a stop leaves on its disk and on that of the backup file.
 #![tactic(auto)]
 
-ghost use Rattle.std.specs.Prelude.{◌≡◌, ◌⊎◌, ℕ, None, IsTrue, is_some};
+ghost use Rattle.std.specs.Prelude.{◌≡◌, ◌⊎◌, ℕ, None, IsTrue};
 ghost use Rattle.enq_cmd.specs.Main.{IsLandEnd, IsUntouched};
 ghost use Rattle.enq_cmd.specs.Words.{NamesWork, replay_words};
 ghost use Rattle.enq_cmd.specs.declared.words.Work.TheVariants.{Loads, Runs};
-ghost use Rattle.keeper_wal.specs.Wal.{told, all_faults, Leaves};
+ghost use Rattle.keeper_wal.specs.Wal.{all_faults};
 ghost use Rattle.script_runner.specs.Replay.{seen};
 ghost use Rattle.turn_desks.specs.Led.{counts_of};
-ghost use Rattle.wal_server.specs.Pairs.{HasLoadedPairs, HasPairs, HasThreadPairs};
+ghost use Rattle.wal_server.specs.Pairs.{HasLoadedPairs, HasPairs, HasThreadPairs, journal_found, journal_left};
 
 use bk_disk::Disk;
 use enq_base::Items;
@@ -41,9 +41,10 @@ pub fn journal_main<
     // The whole is one history, and each pair of images that a stop may leave on the two disks is kept for the state to
     // which its calls led. Where the store isn't opened what stood before remains on both.
     ensures served { words.now ≡ replay_words → IsTrue E.tells → IsTrue D.tells
-        → HasPairs (A.left landscape.old) (is_some (told E.tells site.keeper.rows)) (is_some (L.applied site.link))
-        (Leaves E.tells E.may_leave site.keeper) (Leaves E.tells E.may_leave result.site.keeper)
-        D.tells (D.reads site.disk) D.may_leave site.disk result.site.disk (L.applied result.site.link)
+        → HasPairs (A.left landscape.old)
+        (journal_found E.tells E.may_leave D.tells D.reads D.may_leave L.applied site.keeper site.disk site.link)
+        (journal_left E.tells E.may_leave D.may_leave L.applied result.site.keeper result.site.disk result.site.link)
+        site.disk result.site.disk site.link result.site.link
         (seen (S.left script.old) (T.written sink.old) (S.faults script.old) (T.faults sink.old)
         (all_faults E.faults site.keeper) (D.faults site.disk))
         (seen (S.left script.new) (T.written sink.new) (S.faults script.new) (T.faults sink.new)
@@ -53,9 +54,10 @@ pub fn journal_main<
         × IsUntouched script.old script.new sink.old sink.new site.keeper result.site.keeper site.disk result.site.disk
         site.link result.site.link result.past) }
     ensures loaded { (n : ℕ) → NamesWork words.now (Loads n) → IsTrue E.tells → IsTrue D.tells
-        → HasLoadedPairs n (A.left landscape.old) (is_some (told E.tells site.keeper.rows)) (is_some (L.applied site.link))
-        (Leaves E.tells E.may_leave site.keeper) (Leaves E.tells E.may_leave result.site.keeper)
-        D.tells (D.reads site.disk) D.may_leave site.disk result.site.disk (L.applied result.site.link)
+        → HasLoadedPairs n (A.left landscape.old)
+        (journal_found E.tells E.may_leave D.tells D.reads D.may_leave L.applied site.keeper site.disk site.link)
+        (journal_left E.tells E.may_leave D.may_leave L.applied result.site.keeper result.site.disk result.site.link)
+        site.disk result.site.disk site.link result.site.link
         (seen None (T.written sink.old) 0 (T.faults sink.old) (all_faults E.faults site.keeper) (D.faults site.disk))
         (seen None (T.written sink.new) 0 (T.faults sink.new) (all_faults E.faults result.site.keeper)
         (D.faults result.site.disk))
@@ -64,10 +66,10 @@ pub fn journal_main<
         × IsUntouched script.old script.new sink.old sink.new site.keeper result.site.keeper site.disk result.site.disk
         site.link result.site.link result.past) }
     ensures threads { (n : ℕ) → NamesWork words.now (Runs n) → IsTrue E.tells → IsTrue D.tells
-        → ∥ HasThreadPairs n (A.left landscape.old) (is_some (told E.tells site.keeper.rows))
-        (is_some (L.applied site.link)) (Leaves E.tells E.may_leave site.keeper)
-        (Leaves E.tells E.may_leave result.site.keeper)
-        D.tells (D.reads site.disk) D.may_leave site.disk result.site.disk (L.applied result.site.link)
+        → ∥ HasThreadPairs n (A.left landscape.old)
+        (journal_found E.tells E.may_leave D.tells D.reads D.may_leave L.applied site.keeper site.disk site.link)
+        (journal_left E.tells E.may_leave D.may_leave L.applied result.site.keeper result.site.disk result.site.link)
+        site.disk result.site.disk site.link result.site.link
         (seen (S.left script.old) (T.written sink.old) (S.faults script.old) (T.faults sink.old)
         (all_faults E.faults site.keeper) (D.faults site.disk))
         (seen (S.left script.new) (T.written sink.new) (S.faults script.new) (T.faults sink.new)

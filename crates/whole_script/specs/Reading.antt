@@ -51,10 +51,11 @@ BlamesFirst bytes (LongLine n) = IsFirstTooLong n bytes
 BlamesFirst bytes ManyLines = 200000 < length (lines_of bytes)
 BlamesFirst bytes why = Unit {0}
 
--- Of a source some bytes were read: all there are, and then these are the script's lines, and the sessions that they name, each
--- once, or as many as it took to see why not.
+-- Of a source some bytes were read: all there are, and then these are the script's lines, and the sessions that they
+-- name, each once, or as many as it took to see why not.
 abbrev pub IsOutcome : List ℕ → Option (List ℕ) → ℕ → ℕ → Result Script Why → Type 0
-IsOutcome bytes left old new (Ok script) = IsRead bytes left script.lines.items × (script.names.items ≡ names_in script.lines.items) × (new ≡ old)
+IsOutcome bytes left old new (Ok script) = IsRead bytes left script.lines.items
+    × (script.names.items ≡ names_in script.lines.items) × (new ≡ old)
 IsOutcome bytes left old new (Err why) = IsReadingEnd bytes left old new why
 
 abbrev pub ReadsAll : Option (List ℕ) → Option (List ℕ) → ℕ → ℕ → Result Script Why → Type 0

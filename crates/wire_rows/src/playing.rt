@@ -12,6 +12,15 @@ use std::thread::Threads;
 /// What outlives the program.
 type Place = Site<MemKeeper, MemDisk, LossyLink<MemWire>>;
 
+/// What a script is played with, beside its place.
+#[derive(Drop)]
+struct Given {
+    words: Vec<Items<u8>>,
+    landscape: SureSource,
+    script: SureSource,
+    sink: MemSink,
+}
+
 /// Plays a case, from its headline on, and tells what it shows.
 pub(crate) fn play_case<R: Threads + Wait + Sync>(
     rt: &R,
@@ -26,7 +35,7 @@ pub(crate) fn play_case<R: Threads + Wait + Sync>(
         return Err(CaseFault::NoForm);
     };
     let plans = read_plans(alloc, wire)?;
-    Ok(play_plans(rt, alloc, landscape, script, headline, plans)?)
+    Ok(play_plans(rt, alloc, landscape, script, headline, &plans)?)
 }
 
 /// Plays a script over each of these plans, and tells what is shown of them below the headline.
@@ -36,21 +45,42 @@ fn play_plans<R: Threads + Wait + Sync>(
     landscape: &str,
     script: &str,
     headline: &str,
-    plans: Vec<Vec<Fate>>,
+    plans: &[Vec<Fate>],
 ) -> Result<Vec<u8>, NoMemory> {
     let count = plans.len();
     let mut shown = format!(in alloc; "== {headline}\nplans {count}\n")?.into_bytes();
     let mut last = Vec::new(alloc);
     for plan in plans {
-        let name = format!(in alloc; "{plan:?}\n")?;
-        let answers = play(rt, alloc, landscape, script, plan)?;
-        if answers.as_slice() != last.as_slice() {
-            shown.extend_from_slice(name.as_bytes())?;
-            shown.extend_from_slice(answers.as_slice())?;
-            last = answers;
-        }
+        let answers = play(rt, alloc, landscape, script, plan.as_slice())?;
+        last = show_plan(alloc, &mut shown, plan.as_slice(), last, answers)?;
     }
     Ok(shown)
+}
+
+/// Shows a plan and what was answered, unless that is what was answered last. Gives back what was answered.
+fn show_plan(
+    alloc: Global,
+    shown: &mut Vec<u8>,
+    plan: &[Fate],
+    last: Vec<u8>,
+    answers: Vec<u8>,
+) -> Result<Vec<u8>, NoMemory> {
+    if answers.as_slice() != last.as_slice() {
+        put_plan(alloc, shown, plan, answers.as_slice())?;
+    }
+    Ok(answers)
+}
+
+fn put_plan(
+    alloc: Global,
+    shown: &mut Vec<u8>,
+    plan: &[Fate],
+    answers: &[u8],
+) -> Result<(), NoMemory> {
+    let name = format!(in alloc; "{plan:?}\n")?;
+    shown.extend_from_slice(name.as_bytes())?;
+    shown.extend_from_slice(answers)?;
+    Ok(())
 }
 
 /// What a script is answered over a wire whose first turns have these fates, and the status.
@@ -59,23 +89,24 @@ fn play<R: Threads + Wait + Sync>(
     alloc: Global,
     landscape: &str,
     script: &str,
-    plan: Vec<Fate>,
+    plan: &[Fate],
 ) -> Result<Vec<u8>, NoMemory> {
-    let mut landscape = source_of(alloc, landscape)?;
-    let mut script = source_of(alloc, script)?;
-    let mut sink = MemSink::new(alloc, Vec::new(alloc))?;
-    let words = replay_words(alloc)?;
+    let given = make_given(alloc, landscape, script)?;
     let place = fresh_place(alloc, plan)?;
-    let status = status_after(
-        rt,
-        alloc,
-        words.as_slice(),
-        &mut landscape,
-        &mut script,
-        &mut sink,
-        place,
-    );
-    answers_of(alloc, sink.bytes(), status)
+    answers_at(rt, alloc, given, place)
+}
+
+fn make_given(alloc: Global, landscape: &str, script: &str) -> Result<Given, NoMemory> {
+    let landscape = source_of(alloc, landscape)?;
+    let script = source_of(alloc, script)?;
+    let sink = MemSink::new(alloc, Vec::new(alloc))?;
+    let words = replay_words(alloc)?;
+    Ok(Given {
+        words,
+        landscape,
+        script,
+        sink,
+    })
 }
 
 fn source_of(alloc: Global, text: &str) -> Result<SureSource, NoMemory> {
@@ -87,24 +118,36 @@ fn replay_words(alloc: Global) -> Result<Vec<Items<u8>>, NoMemory> {
     Ok(vec![in alloc; word]?)
 }
 
-fn fresh_place(alloc: Global, plan: Vec<Fate>) -> Result<Place, NoMemory> {
-    Ok(Site {
-        keeper: MemKeeper::new(alloc, Vec::new(alloc), Vec::new(alloc))?,
-        disk: MemDisk::new(alloc, Vec::new(alloc), Vec::new(alloc))?,
-        link: LossyLink::new(MemWire::new(alloc, plan)),
-    })
+fn fresh_place(alloc: Global, plan: &[Fate]) -> Result<Place, NoMemory> {
+    let keeper = MemKeeper::new(alloc, Vec::new(alloc), Vec::new(alloc))?;
+    let disk = MemDisk::new(alloc, Vec::new(alloc), Vec::new(alloc))?;
+    let link = LossyLink::new(MemWire::new(alloc, Vec::from_slice(alloc, plan)?));
+    Ok(Site { keeper, disk, link })
 }
 
-fn status_after<R: Threads + Wait + Sync>(
+fn answers_at<R: Threads + Wait + Sync>(
     rt: &R,
     alloc: Global,
-    words: &[Items<u8>],
-    landscape: &mut SureSource,
-    script: &mut SureSource,
-    sink: &mut MemSink,
+    given: Given,
     place: Place,
-) -> u8 {
-    enqueue_main(rt, alloc, words, landscape, script, sink, place).status
+) -> Result<Vec<u8>, NoMemory> {
+    let Given {
+        words,
+        mut landscape,
+        mut script,
+        mut sink,
+    } = given;
+    let status = enqueue_main(
+        rt,
+        alloc,
+        &words,
+        &mut landscape,
+        &mut script,
+        &mut sink,
+        place,
+    )
+    .status;
+    answers_of(alloc, sink.bytes(), status)
 }
 
 fn answers_of(alloc: Global, replies: &[u8], status: u8) -> Result<Vec<u8>, NoMemory> {

@@ -1,11 +1,11 @@
 ghost use Rattle.std.specs.Prelude.{◌<◌};
 ghost use Rattle.lock_entry.specs.Pairs.{IsPair};
 
-use crate::rounds::given_after;
+use crate::rounds::given_over;
 use enq_base::{Owner, Pattern, UnitKey, read_name};
-use lock_entry::{Asked, Asker, LockStore, Mode, Request};
+use lock_entry::{Asked, Asker, Entry, LockStore, Mode, Request};
 use lock_index::IndexTable;
-use lossy_link::{Fate, LossyLink, MemWire};
+use lossy_link::Fate;
 use replica_link::TableOp;
 use std::alloc::Global;
 use std::test::*;
@@ -71,22 +71,21 @@ fn lock_on(order: u32) -> Result<Asked, Fail> {
 }
 
 /// Asks for a lock, and gives what is shipped then.
-fn ask(alloc: Global, table: &mut IndexTable, asked: &Asked) -> Result<TableOp, Fail> {
+fn ask<T: LockStore>(alloc: Global, table: &mut T, asked: &Asked) -> Result<TableOp, Fail> {
     let user = read_name(b"MILLER").ok_or("a name")?;
+    let asker = asker();
     let request = Request {
         asked: *asked,
         dialogue: true,
         update: false,
     };
-    let Ok(()) = table.ask(alloc, &asker(), &user, &[request]) else {
-        return Err(Fail::from("not granted"));
-    };
-    let entry = table.find(&asker().dialogue, asked).ok_or("an entry")?;
+    table.ask(alloc, &asker, &user, &[request])?;
+    let entry = table.find(&asker.dialogue, asked).ok_or("an entry")?;
     Ok(TableOp::Put(entry))
 }
 
 /// Frees a lock, if it stands, and gives what is shipped then.
-fn free(table: &mut IndexTable, asked: &Asked) -> TableOp {
+fn free<T: LockStore>(table: &mut T, asked: &Asked) -> TableOp {
     let owner = asker().dialogue;
     let _ = table.free_one(&owner, asked);
     TableOp::Drop {
@@ -96,7 +95,7 @@ fn free(table: &mut IndexTable, asked: &Asked) -> TableOp {
 }
 
 /// Asks for all locks, one after the other, and behind each fourth of them frees one by lot.
-fn ask_all(alloc: Global, table: &mut IndexTable) -> Result<Vec<TableOp>, Fail> {
+fn ask_all<T: LockStore>(alloc: Global, table: &mut T) -> Result<Vec<TableOp>, Fail> {
     let mut ops = Vec::new(alloc);
     let mut lot = 2;
     for order in 0..LOCKS {
@@ -109,15 +108,27 @@ fn ask_all(alloc: Global, table: &mut IndexTable) -> Result<Vec<TableOp>, Fail> 
     Ok(ops)
 }
 
+/// What is shipped, and the table's list behind it.
+fn ask_and_list<T: LockStore>(
+    alloc: Global,
+    table: &mut T,
+) -> Result<(Vec<TableOp>, Vec<Entry>), Fail> {
+    let ops = ask_all(alloc, table)?;
+    let list = table.list(alloc)?;
+    Ok((ops, list))
+}
+
+fn shipped(alloc: Global) -> Result<(Vec<TableOp>, Vec<Entry>), Fail> {
+    let mut table = IndexTable::empty(alloc, LOCKS)?;
+    ask_and_list(alloc, &mut table)
+}
+
 #[test]
 fn a_replica_of_many_locks_has_those_of_the_table(rt: HostRuntime) -> Result<(), Fail> {
     let alloc = rt.alloc();
-    let mut table = IndexTable::empty(alloc, LOCKS)?;
-    let ops = ask_all(alloc, &mut table)?;
-    let mut link = LossyLink::new(MemWire::new(alloc, plan_by_lot(alloc)?));
-    let Ok(given) = given_after(alloc, &mut link, &[], ops.as_slice()) else {
-        return Err(Fail::from("the link failed"));
-    };
-    assert!(&rt; given.as_slice() == table.list(alloc)?.as_slice());
+    let plan = plan_by_lot(alloc)?;
+    let (ops, list) = shipped(alloc)?;
+    let given = given_over(alloc, plan, &[], ops.as_slice())?;
+    assert!(rt; given.as_slice() == list.as_slice());
     Ok(())
 }

@@ -10,7 +10,7 @@ use std::process::Abort;
 use std::test::Fail;
 
 /// What a link gives after a snapshot and operations.
-pub(crate) fn given_after<L: Link>(
+fn given_after<L: Link>(
     alloc: Global,
     link: &mut L,
     snapshot: &[Entry],
@@ -25,6 +25,17 @@ pub(crate) fn given_after<L: Link>(
         seq += 1;
     }
     link.hand_over(alloc)
+}
+
+/// What a link gives over a wire whose turns have these fates.
+pub(crate) fn given_over(
+    alloc: Global,
+    plan: Vec<Fate>,
+    snapshot: &[Entry],
+    ops: &[TableOp],
+) -> Result<Vec<Entry>, LinkFault> {
+    let mut link = LossyLink::new(MemWire::new(alloc, plan));
+    given_after(alloc, &mut link, snapshot, ops)
 }
 
 /// A lock at an order, by the last digit of its number, and how often it is held.
@@ -67,24 +78,60 @@ fn puts_of(alloc: Global, rows: &[Row]) -> Result<Vec<TableOp>, Fail> {
     Ok(ops)
 }
 
-/// Tests what the link comes to in one round.
-fn check_round(
+/// Tests that these are the entries, in order.
+pub(crate) fn check_list(
     rt: &impl Abort,
     alloc: Global,
-    link: &mut LossyLink<MemWire>,
-    round: &Round,
+    list: &[Entry],
+    rows: &[Row],
 ) -> Result<(), Fail> {
-    let (snapshot, puts, wanted) = *round;
+    let wanted = list_of(alloc, rows)?;
+    assert_eq!(rt; list, wanted.as_slice());
+    Ok(())
+}
+
+/// What the link comes to in one round.
+fn given_in<L: Link>(
+    alloc: Global,
+    link: &mut L,
+    round: &Round,
+) -> Result<Result<Vec<Entry>, LinkFault>, Fail> {
+    let (snapshot, puts, _) = *round;
     let snapshot = list_of(alloc, snapshot)?;
     let puts = puts_of(alloc, puts)?;
-    let given = given_after(alloc, link, snapshot.as_slice(), puts.as_slice());
-    match (given, wanted) {
-        (Ok(list), Some(rows)) => {
-            let wanted = list_of(alloc, rows)?;
-            assert_eq!(rt; list.as_slice(), wanted.as_slice());
+    Ok(given_after(alloc, link, snapshot.as_slice(), puts.as_slice()))
+}
+
+/// Tests what the link comes to in one round.
+fn check_round<L: Link>(
+    rt: &impl Abort,
+    alloc: Global,
+    link: &mut L,
+    round: &Round,
+) -> Result<(), Fail> {
+    let (_, _, wanted) = *round;
+    match given_in(alloc, link, round)? {
+        Ok(list) => check_list(
+            rt,
+            alloc,
+            list.as_slice(),
+            wanted.ok_or("the link gave a list")?,
+        ),
+        Err(fault) => {
+            assert_eq!(rt; (fault, wanted), (LinkFault::Failed, None));
+            Ok(())
         }
-        (Err(fault), None) => assert_eq!(rt; fault, LinkFault::Failed),
-        _ => return Err(Fail::from("another answer")),
+    }
+}
+
+fn check_rounds<L: Link>(
+    rt: &impl Abort,
+    alloc: Global,
+    link: &mut L,
+    rounds: &[Round],
+) -> Result<(), Fail> {
+    for round in rounds {
+        check_round(rt, alloc, link, round)?;
     }
     Ok(())
 }
@@ -96,9 +143,7 @@ pub(crate) fn check(
     plan: &[Fate],
     rounds: &[Round],
 ) -> Result<(), Fail> {
-    let mut link = LossyLink::new(MemWire::new(alloc, Vec::from_slice(alloc, plan)?));
-    for round in rounds {
-        check_round(rt, alloc, &mut link, round)?;
-    }
-    Ok(())
+    let plan = Vec::from_slice(alloc, plan)?;
+    let mut link = LossyLink::new(MemWire::new(alloc, plan));
+    check_rounds(rt, alloc, &mut link, rounds)
 }

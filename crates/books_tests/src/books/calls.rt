@@ -26,15 +26,15 @@ pub fn opened(alloc: Global, keeper: MemKeeper, raise: bool) -> Result<Books<Mem
     Ok(books)
 }
 
-/// The books of the store as it is read anew.
-pub fn reopened(alloc: Global, books: Books<MemKeeper>) -> Result<Books<MemKeeper>, Fail>
-    ensures { IfOk result (IsUsable held_rows IsSettled) }
+/// Reads the store anew.
+pub fn reopen(alloc: Global, books: &mut Books<MemKeeper>) -> Result<(), Fail>
+    requires usable { IsUsable held_rows IsSettled books.old }
+    ensures { OnOk result (IsUsable held_rows IsSettled books.new) }
 {
-    let mut books = books;
     let Ok(()) = books.reopen(alloc) else {
         return Err(Fail::from("refused anew"));
     };
-    Ok(books)
+    Ok(())
 }
 
 /// Writes what was prepared.

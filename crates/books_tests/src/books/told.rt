@@ -4,48 +4,23 @@ use super::drawing::{interval_at, lock_of};
 use super::units::unit_key;
 use enq_base::{Reason, Status, UnitKey};
 use keeper_mem::MemKeeper;
-use lock_entry::Entry;
+use lock_entry::{Entry, UnitLocks};
 use posting::Books;
 use std::alloc::Global;
 use std::test::Fail;
 use update_records::UnitView;
 
-/// What is told of a unit, and the numbers of the units that wait for either part.
-#[derive(Clone, Copy)]
-pub struct Told<'a> {
-    status: Option<Status>,
-    error: Option<(u32, Reason)>,
-    queue1: &'a [u32],
-    queue2: &'a [u32],
-}
+/// What is told of a unit: its status, and its error; and the numbers of the units that wait for either part.
+pub type Told = (
+    Option<Status>,
+    Option<(u32, Reason)>,
+    &'static [u32],
+    &'static [u32],
+);
 
-impl<'a> Told<'a> {
-    pub fn new(status: Status, queue1: &'a [u32], queue2: &'a [u32]) -> Told<'a> {
-        Told {
-            status: Some(status),
-            error: None,
-            queue1,
-            queue2,
-        }
-    }
-
-    /// It was never recorded, and no unit waits.
-    pub fn nothing() -> Told<'a> {
-        Told {
-            status: None,
-            error: None,
-            queue1: &[],
-            queue2: &[],
-        }
-    }
-
-    pub fn with_error(self, index: u32, reason: Reason) -> Told<'a> {
-        Told {
-            error: Some((index, reason)),
-            ..self
-        }
-    }
-}
+/// What is told of a recorded unit of MILLER without an error: its number, its status, how many effects its parts have,
+/// its locks and its numbers.
+pub type Seen = (u32, Status, [u32; 2], u32, u32);
 
 /// Whether these units wait for a part, each by its number, in the order in which they are taken.
 fn is_queue(books: &Books<MemKeeper>, part: u8, numbers: &[u32]) -> bool
@@ -66,10 +41,11 @@ fn is_queue(books: &Books<MemKeeper>, part: u8, numbers: &[u32]) -> bool
 
 /// Whether this is told of a unit.
 pub fn is_told(books: &Books<MemKeeper>, unit: &UnitKey, told: &Told) -> bool {
-    books.status(unit) == told.status
-        && books.error(unit) == told.error
-        && is_queue(books, 1, told.queue1)
-        && is_queue(books, 2, told.queue2)
+    let (status, error, queue1, queue2) = *told;
+    books.status(unit) == status
+        && books.error(unit) == error
+        && is_queue(books, 1, queue1)
+        && is_queue(books, 2, queue2)
 }
 
 /// Whether so many numbers are committed, and STAT 01 alone is stored, at this level.
@@ -98,14 +74,40 @@ pub fn has_lock(
     Ok(locks.as_slice() == wanted)
 }
 
+fn is_seen(view: &UnitView, seen: &Seen) -> bool {
+    let (luw, status, [v1, v2], locks, numbers) = *seen;
+    view.key == unit_key(luw)
+        && view.user.bytes() == b"MILLER".as_slice()
+        && view.status == status
+        && view.v1 == v1
+        && view.v2 == v2
+        && view.locks == locks
+        && view.numbers == numbers
+        && view.error.is_none()
+}
+
+fn are_seen(views: &[UnitView], wanted: &[Seen]) -> bool {
+    for (view, seen) in views.iter().zip(wanted) {
+        if !is_seen(view, seen) {
+            return false;
+        }
+    }
+    views.len() == wanted.len()
+}
+
 /// Whether these are the recorded units.
-pub fn are_views(
-    alloc: Global,
-    books: &Books<MemKeeper>,
-    wanted: &[UnitView],
-) -> Result<bool, Fail> {
+pub fn are_views(alloc: Global, books: &Books<MemKeeper>, wanted: &[Seen]) -> Result<bool, Fail> {
     let views = books.views(alloc)?;
-    Ok(views.as_slice() == wanted && books.units().len() == wanted.len())
+    Ok(are_seen(views.as_slice(), wanted) && books.units().len() == wanted.len())
+}
+
+fn are_waiting(units: &[UnitLocks], wanted: &[(u32, usize)]) -> bool {
+    for (unit, (luw, locks)) in units.iter().zip(wanted) {
+        if unit.unit.luw != *luw || unit.entries.as_slice().len() != *locks {
+            return false;
+        }
+    }
+    units.len() == wanted.len()
 }
 
 /// Whether these units, by their numbers, wait for their V1 part, each with so many locks.
@@ -114,9 +116,6 @@ pub fn are_open(
     books: &Books<MemKeeper>,
     wanted: &[(u32, usize)],
 ) -> Result<bool, Fail> {
-    let mut units = Vec::new(alloc);
-    for locks in books.open_units(alloc)?.as_slice() {
-        units.push((locks.unit.luw, locks.entries.as_slice().len()))?;
-    }
-    Ok(units.as_slice() == wanted)
+    let units = books.open_units(alloc)?;
+    Ok(are_waiting(units.as_slice(), wanted))
 }

@@ -33,11 +33,14 @@ use Rattle.hall_model.proofs.OutsideDoubt.{outside_any}
 -- ---- a call that writes the store
 
 -- while calls are allowed, what may be left stands for the ledger
-settled_stands : (held : Option Rows) (may_leave : Rows → Type 0) (ledger : Ledger) → IfSome held (λ rows. IsOnly rows may_leave) → IfSome held (λ rows. StandFor rows ledger) → IfSome held (λ _. (left : Rows) → may_leave left → StandFor left ledger)
+settled_stands : (held : Option Rows) (may_leave : Rows → Type 0) (ledger : Ledger) → IfSome held (λ rows. IsOnly rows may_leave)
+    → IfSome held (λ rows. StandFor rows ledger) → IfSome held (λ _. (left : Rows) → may_leave left → StandFor left ledger)
 settled_stands None may_leave ledger only stands = tt
 settled_stands (Some rows) may_leave ledger only stands = λ left may. subst (λ r. StandFor r ledger) (sym (only.alone left may)) stands
 
-pub answered_leaves : {K : Type 0} (held : K → Option Rows) (is_open : K → Type 0) (may_leave : K → Rows → Type 0) (shelf : BooksView K) → ((keeper : K) → is_open keeper → IfSome (held keeper) (λ rows. IsOnly rows (may_leave keeper))) → IsUsable held is_open shelf → IfSome (held shelf.keeper) (λ _. (left : Rows) → may_leave shelf.keeper left → StandFor left shelf.ledger)
+pub answered_leaves : {K : Type 0} (held : K → Option Rows) (is_open : K → Type 0) (may_leave : K → Rows → Type 0) (shelf : BooksView K)
+    → ((keeper : K) → is_open keeper → IfSome (held keeper) (λ rows. IsOnly rows (may_leave keeper))) → IsUsable held is_open shelf
+    → IfSome (held shelf.keeper) (λ _. (left : Rows) → may_leave shelf.keeper left → StandFor left shelf.ledger)
 answered_leaves held is_open may_leave shelf settled usable =
     settled_stands (held shelf.keeper) (may_leave shelf.keeper) shelf.ledger (settled shelf.keeper usable.opened) usable.stands
 
@@ -47,7 +50,8 @@ told_too None before P e h = tt
 told_too (Some rows) None P e h = cc
 told_too (Some rows) (Some other) P e h = h
 
-lands : (before : Option Rows) (may_leave : Rows → Type 0) (old : Ledger) (said : Step) (change : Step) → IfSome before (λ _. after_step old said ≡ after_step old change)
+lands : (before : Option Rows) (may_leave : Rows → Type 0) (old : Ledger) (said : Step) (change : Step)
+    → IfSome before (λ _. after_step old said ≡ after_step old change)
     → IfSome before (λ _. (left : Rows) → may_leave left → StandForEither left old said)
     → IfSome before (λ _. (left : Rows) → may_leave left → StandForLanded left old (Some change))
 lands None may_leave old said change is h = tt
@@ -58,12 +62,14 @@ where_told None P h = tt
 where_told (Some rows) P h = h
 
 -- a write that failed
-pub failed_leaves : (held before : Option Rows) (may_leave : Rows → Type 0) (ledger old : Ledger) (said : Step) (change : Step) → is_some held ≡ is_some before → ledger ≡ old → IfSome before (λ _. after_step old said ≡ after_step old change)
+pub failed_leaves : (held before : Option Rows) (may_leave : Rows → Type 0) (ledger old : Ledger) (said : Step) (change : Step) → is_some held ≡ is_some before
+    → ledger ≡ old → IfSome before (λ _. after_step old said ≡ after_step old change)
     → IfSome before (λ _. (left : Rows) → may_leave left → StandForEither left old said)
     → IfSome held (λ _. (left : Rows) → may_leave left → StandForLanded left ledger (Some change))
 failed_leaves held before may_leave ledger old said change told kept is h =
     told_too held before ((left : Rows) → may_leave left → StandForLanded left ledger (Some change)) told
-    (subst (λ l. IfSome before (λ _. (left : Rows) → may_leave left → StandForLanded left l (Some change))) (sym kept) (lands before may_leave old said change is h))
+    (subst (λ l. IfSome before (λ _. (left : Rows) → may_leave left → StandForLanded left l (Some change))) (sym kept)
+    (lands before may_leave old said change is h))
 
 before_change : (before : Option Rows) (may_leave was : Rows → Type 0) (ledger old : Ledger) (change : Option Step) → ledger ≡ old → IsWithin may_leave was
     → IfSome before (λ _. (left : Rows) → was left → StandFor left old)
@@ -73,11 +79,13 @@ before_change (Some rows) may_leave was ledger old change kept within h =
     λ left may. inl (subst (StandFor left) (sym kept) (h left (within left may)))
 
 -- a read that failed, before the write or without one
-pub unread_leaves : (held before : Option Rows) (may_leave was : Rows → Type 0) (ledger old : Ledger) (change : Option Step) → is_some held ≡ is_some before → ledger ≡ old → IsWithin may_leave was
+pub unread_leaves : (held before : Option Rows) (may_leave was : Rows → Type 0) (ledger old : Ledger) (change : Option Step) → is_some held ≡ is_some before
+    → ledger ≡ old → IsWithin may_leave was
     → IfSome before (λ _. (left : Rows) → was left → StandFor left old)
     → IfSome held (λ _. (left : Rows) → may_leave left → StandForLanded left ledger change)
 unread_leaves held before may_leave was ledger old change told kept within h =
-    told_too held before ((left : Rows) → may_leave left → StandForLanded left ledger change) told (before_change before may_leave was ledger old change kept within h)
+    told_too held before ((left : Rows) → may_leave left → StandForLanded left ledger change) told
+    (before_change before may_leave was ledger old change kept within h)
 
 pub posted_quiet : (part : ℕ) (unit : UnitKey) (o : Outcome) (n m : ℕ) → m ≡ n → HasStoreCause n m (posted_reply part unit o)
 posted_quiet part unit outcome.Done n m h =
@@ -91,29 +99,36 @@ plain_quiet refusal.StoreFault n m h plain = absurd (cc)
 plain_quiet _ n m h plain = h
 
 -- a refusal before anything was written
-pub refused_keeps : {K : Type 0} (held : K → Option Rows) (may_leave : K → Rows → Type 0) (old new : K) (r : Refusal) → held new ≡ held old → IsWithin (may_leave new) (may_leave old) → KeepsStore held may_leave old new (reply.Refused r)
+pub refused_keeps : {K : Type 0} (held : K → Option Rows) (may_leave : K → Rows → Type 0) (old new : K) (r : Refusal) → held new ≡ held old
+    → IsWithin (may_leave new) (may_leave old) → KeepsStore held may_leave old new (reply.Refused r)
 refused_keeps held may_leave old new refusal.StoreFault rows crash = tt
 refused_keeps held may_leave old new refusal.BackupFault rows crash = tt
 refused_keeps held may_leave old new _ rows crash = (rows, crash)
 
-pub untouched_keeps : {K : Type 0} (held : K → Option Rows) (may_leave : K → Rows → Type 0) (k : K) (r : Refusal) → KeepsStore held may_leave k k (reply.Refused r)
+pub untouched_keeps : {K : Type 0} (held : K → Option Rows) (may_leave : K → Rows → Type 0) (k : K) (r : Refusal)
+    → KeepsStore held may_leave k k (reply.Refused r)
 untouched_keeps held may_leave k r = refused_keeps held may_leave k k r refl (λ rows may. may)
 
-pub same_keeps : {K : Type 0} (held : K → Option Rows) (may_leave : K → Rows → Type 0) (old new : K) (r : Reply) → new ≡ old → KeepsStore held may_leave old new r
-same_keeps held may_leave old new (reply.Refused r) is = subst (λ k. KeepsStore held may_leave old k (reply.Refused r)) (sym is) (untouched_keeps held may_leave old r)
+pub same_keeps : {K : Type 0} (held : K → Option Rows) (may_leave : K → Rows → Type 0) (old new : K) (r : Reply) → new ≡ old
+    → KeepsStore held may_leave old new r
+same_keeps held may_leave old new (reply.Refused r) is = subst (λ k. KeepsStore held may_leave old k (reply.Refused r)) (sym is)
+    (untouched_keeps held may_leave old r)
 same_keeps held may_leave old new (reply.Row text) is = subst (λ k. KeepsStore held may_leave old k (reply.Row text)) (sym is) (refl, λ rows may. may)
 same_keeps held may_leave old new _ is = tt
 
 -- a part that was tried isn't refused by the call
-pub posted_keeps : {K : Type 0} (held : K → Option Rows) (may_leave : K → Rows → Type 0) (old new : K) (part : ℕ) (unit : UnitKey) (o : Outcome) → KeepsStore held may_leave old new (posted_reply part unit o)
+pub posted_keeps : {K : Type 0} (held : K → Option Rows) (may_leave : K → Rows → Type 0) (old new : K) (part : ℕ) (unit : UnitKey) (o : Outcome)
+    → KeepsStore held may_leave old new (posted_reply part unit o)
 posted_keeps held may_leave old new part unit outcome.Done =
     elim (nat_eq part 1) as (λ b. KeepsStore held may_leave old new (if b then reply.Posted unit else reply.Closed unit)) [ true ↦ tt | false ↦ tt ]
 posted_keeps held may_leave old new part unit (outcome.Refused index reason) =
-    elim (nat_eq part 1) as (λ b. KeepsStore held may_leave old new (if b then reply.Bad unit index reason else reply.Bad2 unit index reason)) [ true ↦ tt | false ↦ tt ]
+    elim (nat_eq part 1) as (λ b. KeepsStore held may_leave old new (if b then reply.Bad unit index reason else reply.Bad2 unit index reason))
+    [ true ↦ tt | false ↦ tt ]
 
 -- ---- the hall behind it
 
-stands_after : (left : Rows) (ledger : Ledger) (f : Failure) (caller : Option (List ℕ)) (w : Written) → f.pending ≡ None → f.found ≡ None → StandForWritten left ledger w
+stands_after : (left : Rows) (ledger : Ledger) (f : Failure) (caller : Option (List ℕ)) (w : Written) → f.pending ≡ None → f.found ≡ None
+    → StandForWritten left ledger w
     → StandForKnown (written_failure f caller w).found left ledger (flight_over ledger (written_failure f caller w))
 stands_after left ledger f caller (Answered r) none unknown h =
     subst (λ k. StandForKnown k left ledger (flight_over ledger f)) (sym unknown) (inl h)
@@ -122,14 +137,17 @@ stands_after left ledger f caller (Failed step) none unknown h =
 stands_after left ledger f caller Unfiled none unknown h =
     subst (λ k. StandForKnown k left ledger (flight_over ledger f)) (sym unknown) (inl h)
 
-leaves_for : (held : Option Rows) (may_leave : Rows → Type 0) (ledger : Ledger) (f : Failure) (caller : Option (List ℕ)) (w : Written) → f.pending ≡ None → f.found ≡ None
+leaves_for : (held : Option Rows) (may_leave : Rows → Type 0) (ledger : Ledger) (f : Failure) (caller : Option (List ℕ)) (w : Written) → f.pending ≡ None
+    → f.found ≡ None
     → IfSome held (λ _. (left : Rows) → may_leave left → StandForWritten left ledger w)
-    → IfSome held (λ _. (left : Rows) → may_leave left → StandForKnown (written_failure f caller w).found left ledger (flight_over ledger (written_failure f caller w)))
+    → IfSome held (λ _. (left : Rows) → may_leave left → StandForKnown (written_failure f caller w).found left ledger
+    (flight_over ledger (written_failure f caller w)))
 leaves_for None may_leave ledger f caller w none unknown h = tt
 leaves_for (Some rows) may_leave ledger f caller w none unknown h = λ left may. stands_after left ledger f caller w none unknown (h left may)
 
 -- behind a call of a server that wasn't in doubt
-pub leaves_after : {K : Type 0} (held : K → Option Rows) (may_leave : K → Rows → Type 0) (shelf : BooksView K) (f now : Failure) (caller : Option (List ℕ)) (w : Written)
+pub leaves_after : {K : Type 0} (held : K → Option Rows) (may_leave : K → Rows → Type 0) (shelf : BooksView K) (f now : Failure) (caller : Option (List ℕ))
+    (w : Written)
     → now ≡ written_failure f caller w → f.pending ≡ None → f.found ≡ None → LeavesWritten held may_leave shelf w
     → LeavesKnown held may_leave shelf.keeper now.found shelf.ledger (flight_over shelf.ledger now)
 leaves_after held may_leave shelf f now caller w is none unknown h =
@@ -161,18 +179,23 @@ also_answered P Unfiled h = tt
 
 -- ---- a lock server that is made anew, or isn't
 
-pub remade_usable : {K : Type 0} (held : K → Option Rows) (is_open : K → Type 0) (remade : Remade) (k after : Condition) (calls : ℕ) (old new : BooksView K) → after ≡ remade_condition k calls remade
-    → OnRemade remade (IsUsable held is_open new) → OnRefusedFirst remade (new ≡ old) → OutsideDoubt k (IsUsable held is_open old) → OutsideDoubt after (IsUsable held is_open new)
+pub remade_usable : {K : Type 0} (held : K → Option Rows) (is_open : K → Type 0) (remade : Remade) (k after : Condition) (calls : ℕ) (old new : BooksView K)
+    → after ≡ remade_condition k calls remade
+    → OnRemade remade (IsUsable held is_open new) → OnRefusedFirst remade (new ≡ old) → OutsideDoubt k (IsUsable held is_open old)
+    → OutsideDoubt after (IsUsable held is_open new)
 remade_usable held is_open remade k after calls old new is made kept was =
     subst (λ q. OutsideDoubt q (IsUsable held is_open new)) (sym is) (by_case remade made kept)
   where
-    by_case : (r : Remade) → OnRemade r (IsUsable held is_open new) → OnRefusedFirst r (new ≡ old) → OutsideDoubt (remade_condition k calls r) (IsUsable held is_open new)
+    by_case : (r : Remade) → OnRemade r (IsUsable held is_open new) → OnRefusedFirst r (new ≡ old)
+        → OutsideDoubt (remade_condition k calls r) (IsUsable held is_open new)
     by_case (Done taken) h same = h
     by_case (Refused r) h same = subst (λ b. OutsideDoubt k (IsUsable held is_open b)) (sym same) was
     by_case (InDoubt r read) h same = tt
 
-pub remade_leaves : {K : Type 0} (held : K → Option Rows) (may_leave : K → Rows → Type 0) (remade : Remade) (before now : Ledger) (f failure : Failure) (keeper : K) → failure ≡ remade_failure f remade
-    → OnNotRemade remade (now ≡ before) → LeavesRemade held may_leave keeper before now f remade → LeavesKnown held may_leave keeper failure.found now (flight_over now failure)
+pub remade_leaves : {K : Type 0} (held : K → Option Rows) (may_leave : K → Rows → Type 0) (remade : Remade) (before now : Ledger) (f failure : Failure)
+    (keeper : K) → failure ≡ remade_failure f remade
+    → OnNotRemade remade (now ≡ before) → LeavesRemade held may_leave keeper before now f remade
+    → LeavesKnown held may_leave keeper failure.found now (flight_over now failure)
 remade_leaves held may_leave remade before now f failure keeper is kept left =
     subst (λ (q : Failure). LeavesKnown held may_leave keeper q.found now (flight_over now q)) (sym is) (by_case remade kept left)
   where

@@ -81,7 +81,8 @@ module _ {D : Type 0} (tells : Bool) (reads : D → List ℕ) (may_leave : D →
   Ends ledger old new w = FilesAs tells reads may_leave faults ledger old new w
 
   -- each image of a file that is ready stands for its lists
-  pub ready_stands : (file : BackupView D) (lists : List Handed) (image : List ℕ) → IsReady reads may_leave file lists → may_leave file.disk image → Stands image lists
+  pub ready_stands : (file : BackupView D) (lists : List Handed) (image : List ℕ) → IsReady reads may_leave file lists → may_leave file.disk image
+      → Stands image lists
   ready_stands file lists image ready may = subst (λ b. Stands b lists) (sym (ready.at_rest.durable image may)) ready.stands
 
   -- but for its room it is the same
@@ -99,7 +100,8 @@ module _ {D : Type 0} (tells : Bool) (reads : D → List ℕ) (may_leave : D →
   }
 
   -- refused before anything was written
-  pub refused_files : (ledger now : Ledger) (old new : BackupView D) (r : Refusal) → Has ledger old → IsSame old new → now ≡ ledger → (IsPlain r ⊎ (r ≡ refusal.NoMemory)) → Ends now old new (Answered (reply.Refused r))
+  pub refused_files : (ledger now : Ledger) (old new : BackupView D) (r : Refusal) → Has ledger old → IsSame old new → now ≡ ledger
+      → (IsPlain r ⊎ (r ≡ refusal.NoMemory)) → Ends now old new (Answered (reply.Refused r))
   refused_files ledger now old new r has same is why =
       subst (λ l. Ends l old new (Answered (reply.Refused r))) (sym is)
       (answered_files ledger old new (reply.Refused r) (has_same ledger old new has same) (record {
@@ -114,9 +116,11 @@ module _ {D : Type 0} (tells : Bool) (reads : D → List ℕ) (may_leave : D →
   -- the store failed, and with these lists the open units agree, with the change in flight and without it
   abbrev pub AgreesBoth : Ledger → Option Step → BackupView D → Type 0
   AgreesBoth ledger change file =
-      IsTrue tells → (lists : List Handed) × IsReady reads may_leave file lists × AgreeAll ledger lists × OfPending (option_map (after_step ledger) change) (λ l. AgreeAll l lists)
+      IsTrue tells → (lists : List Handed) × IsReady reads may_leave file lists × AgreeAll ledger lists
+      × OfPending (option_map (after_step ledger) change) (λ l. AgreeAll l lists)
 
-  pub failed_files : (ledger : Ledger) (old new : BackupView D) (change : Option Step) → AgreesBoth ledger change new → faults new.disk ≡ faults old.disk → Ends ledger old new (Failed change)
+  pub failed_files : (ledger : Ledger) (old new : BackupView D) (change : Option Step) → AgreesBoth ledger change new → faults new.disk ≡ faults old.disk
+      → Ends ledger old new (Failed change)
   failed_files ledger old new change h same = record {
     lists = tt;
     images = λ t image may. let k = h t in (k.0, ready_stands new k.0 image k.1 may, (k.2, k.3));
@@ -125,13 +129,15 @@ module _ {D : Type 0} (tells : Bool) (reads : D → List ℕ) (may_leave : D →
 
   -- the store failed before anything was written into the file
   pub failed_before : (ledger now : Ledger) (file : BackupView D) (change : Option Step) → Has ledger file → now ≡ ledger
-      → ((lists : List Handed) → AreOpenLists ledger lists → OfPending (option_map (after_step ledger) change) (λ l. AgreeAll l lists)) → Ends now file file (Failed change)
+      → ((lists : List Handed) → AreOpenLists ledger lists → OfPending (option_map (after_step ledger) change) (λ l. AgreeAll l lists))
+      → Ends now file file (Failed change)
   failed_before ledger now file change has is lands =
       subst (λ l. Ends l file file (Failed change)) (sym is)
       (failed_files ledger file file change (λ t. let h = has.ready t in (h.lists, h.ready, h.just.agree, lands h.lists h.just)) refl)
 
   -- the disk failed
-  pub unfiled_files : (ledger : Ledger) (old new : BackupView D) → (IsTrue tells → (image : List ℕ) → may_leave new.disk image → (lists : List Handed) × Stands image lists × AgreeAll ledger lists)
+  pub unfiled_files : (ledger : Ledger) (old new : BackupView D)
+      → (IsTrue tells → (image : List ℕ) → may_leave new.disk image → (lists : List Handed) × Stands image lists × AgreeAll ledger lists)
       → (faults old.disk ≤ faults new.disk) × Rose (faults old.disk) (faults new.disk) → Ends ledger old new Unfiled
   unfiled_files ledger old new h cause = record {
     lists = tt;
@@ -152,23 +158,27 @@ module _ {D : Type 0} (tells : Bool) (reads : D → List ℕ) (may_leave : D →
         ready = λ t. let h = has.ready t in record { lists = become h.lists; ready = ready t h.lists h.ready; just = just h.lists h.just };
       }) (record { cause = quiet (faults old.disk) (faults new.disk) same; kept = keeps })
 
-  either_agrees : (ledger : Ledger) (a b : List Handed) (image : List ℕ) → Stands image a ⊎ Stands image b → AgreeAll ledger a → AgreeAll ledger b → (lists : List Handed) × Stands image lists × AgreeAll ledger lists
+  either_agrees : (ledger : Ledger) (a b : List Handed) (image : List ℕ) → Stands image a ⊎ Stands image b → AgreeAll ledger a → AgreeAll ledger b
+      → (lists : List Handed) × Stands image lists × AgreeAll ledger lists
   either_agrees ledger a b image (inl x) h k = (a, x, h)
   either_agrees ledger a b image (inr y) h k = (b, y, k)
 
   -- the disk failed in writing it: each image stands for the lists before or after, and with both the open units agree
   pub half_written_files : (ledger now : Ledger) (become : List Handed → List Handed) (old new : BackupView D) → Has ledger old
-      → (IsTrue tells → (lists : List Handed) → IsReady reads may_leave old lists → (image : List ℕ) → may_leave new.disk image → Stands image lists ⊎ Stands image (become lists))
+      → (IsTrue tells → (lists : List Handed) → IsReady reads may_leave old lists → (image : List ℕ) → may_leave new.disk image → Stands image lists
+      ⊎ Stands image (become lists))
       → ((lists : List Handed) → AreOpenLists ledger lists → AgreeAll now lists × AgreeAll now (become lists))
       → (faults old.disk ≤ faults new.disk) × Rose (faults old.disk) (faults new.disk) → Ends now old new Unfiled
   half_written_files ledger now become old new has images agree cause =
       unfiled_files now old new
-      (λ t image may. let h = has.ready t in let both = agree h.lists h.just in either_agrees now h.lists (become h.lists) image (images t h.lists h.ready image may) both.0 both.1)
+      (λ t image may. let h = has.ready t in let both = agree h.lists h.just in
+      either_agrees now h.lists (become h.lists) image (images t h.lists h.ready image may) both.0 both.1)
       cause
 
   -- ---- a file that was written before
 
-  kept_before : (old mid new : BackupView D) (w : Written) → IsUnrefused w → faults mid.disk ≡ faults old.disk → MayFile faults mid new (written_reply w) → MayFile faults old new (written_reply w)
+  kept_before : (old mid new : BackupView D) (w : Written) → IsUnrefused w → faults mid.disk ≡ faults old.disk → MayFile faults mid new (written_reply w)
+      → MayFile faults old new (written_reply w)
   kept_before old mid new (Answered (reply.Refused r)) on same h = absurd on
   kept_before old mid new (Answered (reply.Row text)) on same h = absurd on
   kept_before old mid new (Answered reply.Done) on same h = record { cause = h.cause ∙ same; kept = tt }
@@ -176,7 +186,8 @@ module _ {D : Type 0} (tells : Bool) (reads : D → List ℕ) (may_leave : D →
   kept_before old mid new (Failed change) on same h = record { cause = h.cause ∙ same; kept = tt }
   kept_before old mid new Unfiled on same h = absurd on
 
-  pub before_files : (ledger : Ledger) (old mid new : BackupView D) (w : Written) → IsUnrefused w → faults mid.disk ≡ faults old.disk → Ends ledger mid new w → Ends ledger old new w
+  pub before_files : (ledger : Ledger) (old mid new : BackupView D) (w : Written) → IsUnrefused w → faults mid.disk ≡ faults old.disk → Ends ledger mid new w
+      → Ends ledger old new w
   before_files ledger old mid new w on same h = record { lists = h.lists; images = h.images; does = kept_before old mid new w on same h.does }
 
   -- ---- a list that is freed, or is not
@@ -186,7 +197,8 @@ module _ {D : Type 0} (tells : Bool) (reads : D → List ℕ) (may_leave : D →
 
   pub freed_all : {E : Type 0} (ends : Bool) (unit : UnitKey) (old new : BackupView D) → ends ≡ true → new.failed ≡ false
       → (IsTrue tells → (lists : List Handed) → IsReady reads may_leave old lists → IsReady reads may_leave new (without unit lists))
-      → (IsTrue tells → (lists : List Handed) → IsReady reads may_leave old lists → (image : List ℕ) → may_leave new.disk image → Stands image lists ⊎ Stands image (without unit lists))
+      → (IsTrue tells → (lists : List Handed) → IsReady reads may_leave old lists → (image : List ℕ) → may_leave new.disk image → Stands image lists
+      ⊎ Stands image (without unit lists))
       → faults new.disk ≡ faults old.disk → FreesList {E = E} tells reads may_leave faults ends unit old new (Ok tt)
   freed_all ends unit old new is usable freed images same = record {
     usable = usable;
@@ -198,8 +210,10 @@ module _ {D : Type 0} (tells : Bool) (reads : D → List ℕ) (may_leave : D →
   }
 
   pub not_freed : {E : Type 0} (ends : Bool) (unit : UnitKey) (old new : BackupView D) (fault : E) → ends ≡ true
-      → (IsTrue tells → (lists : List Handed) → IsReady reads may_leave old lists → (image : List ℕ) → may_leave new.disk image → Stands image lists ⊎ Stands image (without unit lists))
-      → faults old.disk ≤ faults new.disk → Rose (faults old.disk) (faults new.disk) → FreesList {E = E} tells reads may_leave faults ends unit old new (Err fault)
+      → (IsTrue tells → (lists : List Handed) → IsReady reads may_leave old lists → (image : List ℕ) → may_leave new.disk image → Stands image lists
+      ⊎ Stands image (without unit lists))
+      → faults old.disk ≤ faults new.disk → Rose (faults old.disk) (faults new.disk)
+      → FreesList {E = E} tells reads may_leave faults ends unit old new (Err fault)
   not_freed ends unit old new fault is images later failed = record {
     usable = tt;
     freed = λ t lists ready. tt;
@@ -214,13 +228,16 @@ module _ {D : Type 0} (tells : Bool) (reads : D → List ℕ) (may_leave : D →
   -- lists are those of the open units by units and marks alone
   agree_beside : (ledger now : Ledger) (lists : List Handed) → KeepsUnits ledger now → AgreeAll ledger lists → AgreeAll now lists
   agree_beside ledger now lists same h =
-      subst (λ us. AgreeAll (record now { units = us }) lists) (sym same.units) (subst (λ ms. AgreeAll (record now { units = ledger.units; marks = ms }) lists) (sym same.marks) h)
+      subst (λ us. AgreeAll (record now { units = us }) lists) (sym same.units)
+      (subst (λ ms. AgreeAll (record now { units = ledger.units; marks = ms }) lists) (sym same.marks) h)
 
   just_beside : (ledger now : Ledger) (lists : List Handed) → KeepsUnits ledger now → AreOpenLists ledger lists → AreOpenLists now lists
   just_beside ledger now lists same h =
-      subst (λ us. AreOpenLists (record now { units = us }) lists) (sym same.units) (subst (λ ms. AreOpenLists (record now { units = ledger.units; marks = ms }) lists) (sym same.marks) (record { agree = h.agree; only = h.only }))
+      subst (λ us. AreOpenLists (record now { units = us }) lists) (sym same.units)
+      (subst (λ ms. AreOpenLists (record now { units = ledger.units; marks = ms }) lists) (sym same.marks) (record { agree = h.agree; only = h.only }))
 
-  flight_beside : (ledger : Ledger) (o : Option Ledger) (lists : List Handed) → OfPending o (KeepsUnits ledger) → AgreeAll ledger lists → OfPending o (λ l. AgreeAll l lists)
+  flight_beside : (ledger : Ledger) (o : Option Ledger) (lists : List Handed) → OfPending o (KeepsUnits ledger) → AgreeAll ledger lists
+      → OfPending o (λ l. AgreeAll l lists)
   flight_beside ledger None lists same h = tt
   flight_beside ledger (Some l) lists same h = agree_beside ledger l lists same h
 
@@ -233,11 +250,16 @@ module _ {D : Type 0} (tells : Bool) (reads : D → List ℕ) (may_leave : D →
   beside_lists ledger now file (Failed change) same has = tt
   beside_lists ledger now file Unfiled same has = tt
 
-  pub beside_images : (ledger now : Ledger) (file : BackupView D) (w : Written) → ChangesLevels ledger now w → Has ledger file → IsTrue tells → (image : List ℕ) → may_leave file.disk image → StandsWritten now w image
-  beside_images ledger now file (Answered r) same has = λ t image may. let h = has.ready t in (h.lists, ready_stands file h.lists image h.ready may, just_beside ledger now h.lists same h.just)
+  pub beside_images : (ledger now : Ledger) (file : BackupView D) (w : Written) → ChangesLevels ledger now w → Has ledger file → IsTrue tells → (image : List ℕ)
+      → may_leave file.disk image → StandsWritten now w image
+  beside_images ledger now file (Answered r) same has = λ t image may. let h = has.ready t in
+      (h.lists, ready_stands file h.lists image h.ready may, just_beside ledger now h.lists same h.just)
   beside_images ledger now file (Failed change) same has = λ t image may.
-      let h = has.ready t in
-      (h.lists, ready_stands file h.lists image h.ready may, (agree_beside ledger now h.lists same.0 h.just.agree, flight_beside ledger (option_map (after_step now) change) h.lists same.1 h.just.agree))
+      let h = has.ready t in (
+        h.lists,
+        ready_stands file h.lists image h.ready may,
+        (agree_beside ledger now h.lists same.0 h.just.agree, flight_beside ledger (option_map (after_step now) change) h.lists same.1 h.just.agree),
+      )
   beside_images ledger now file Unfiled same has = absurd same
 
   -- ---- the server behind a call
@@ -249,12 +271,14 @@ module _ {D : Type 0} (tells : Bool) (reads : D → List ℕ) (may_leave : D →
   no_change l f lists none = subst (λ q. OfPending (option_map (after_step l) q) (λ x. AgreeAll x lists)) (sym none) tt
 
   -- lists that agree with all that the store may have
-  recovers : (k : Condition) (ledger : Ledger) (pending : Option Ledger) (found : Option Bool) (image : List ℕ) (lists : List Handed) → found ≡ None → Stands image lists → AgreeAll ledger lists
+  recovers : (k : Condition) (ledger : Ledger) (pending : Option Ledger) (found : Option Bool) (image : List ℕ) (lists : List Handed) → found ≡ None
+      → Stands image lists → AgreeAll ledger lists
       → OfPending pending (λ x. AgreeAll x lists) → OutsideDoubt k (lists ≡ lists_among (open_locks ledger) lists) → RecoversFrom k ledger pending found image
   recovers k ledger pending found image lists none stands agree landed only =
       subst (λ q. RecoversFrom k ledger pending q image) (sym none) (record { lists = lists; stands = stands; agree = agree; landed = landed; only = only })
 
-  stands_after : (ledger : Ledger) (f : Failure) (caller : Option (List ℕ)) (before : Condition) (n : ℕ) (w : Written) (image : List ℕ) → (f.pending ≡ None) × (f.found ≡ None) → StandsWritten ledger w image
+  stands_after : (ledger : Ledger) (f : Failure) (caller : Option (List ℕ)) (before : Condition) (n : ℕ) (w : Written) (image : List ℕ) → (f.pending ≡ None)
+      × (f.found ≡ None) → StandsWritten ledger w image
       → RecoversFrom (written_condition before n w) ledger (flight_over ledger (written_failure f caller w)) (written_failure f caller w).found image
   stands_after ledger f caller before n (Answered r) image none h =
       recovers before ledger (flight_over ledger f) f.found image h.0 none.1 h.1 h.2.agree (no_change ledger f h.0 none.0) (outside_any before _ h.2.only)
@@ -264,8 +288,10 @@ module _ {D : Type 0} (tells : Bool) (reads : D → List ℕ) (may_leave : D →
       recovers (condition.Doubt (n + 1)) ledger (flight_over ledger f) f.found image h.0 none.1 h.1 h.2 (no_change ledger f h.0 none.0) tt
 
   -- whatever is left of the file behind a call, lists stand in it with which the open units agree
-  pub recovers_after : (ledger : Ledger) (file : BackupView D) (f failure : Failure) (caller : Option (List ℕ)) (before now : Condition) (n : ℕ) (w : Written) → (f.pending ≡ None) × (f.found ≡ None) → failure ≡ written_failure f caller w → now ≡ written_condition before n w
-      → (IsTrue tells → (image : List ℕ) → may_leave file.disk image → StandsWritten ledger w image) → Recover now ledger (flight_over ledger failure) failure.found file
+  pub recovers_after : (ledger : Ledger) (file : BackupView D) (f failure : Failure) (caller : Option (List ℕ)) (before now : Condition) (n : ℕ) (w : Written)
+      → (f.pending ≡ None) × (f.found ≡ None) → failure ≡ written_failure f caller w → now ≡ written_condition before n w
+      → (IsTrue tells → (image : List ℕ) → may_leave file.disk image → StandsWritten ledger w image)
+      → Recover now ledger (flight_over ledger failure) failure.found file
   recovers_after ledger file f failure caller before now n w none is doubt h =
       subst (λ (q : Failure). Recover now ledger (flight_over ledger q) q.found file) (sym is)
       (subst (λ k. Recover k ledger (flight_over ledger (written_failure f caller w)) (written_failure f caller w).found file) (sym doubt)
@@ -273,13 +299,22 @@ module _ {D : Type 0} (tells : Bool) (reads : D → List ℕ) (may_leave : D →
 
   -- the file is as it was
 
-  pub same_recovers : (k : Condition) (ledger : Ledger) (pending : Option Ledger) (found : Option Bool) (old new : BackupView D) → new ≡ old → Recover k ledger pending found old → Recover k ledger pending found new
+  pub same_recovers : (k : Condition) (ledger : Ledger) (pending : Option Ledger) (found : Option Bool) (old new : BackupView D) → new ≡ old
+      → Recover k ledger pending found old → Recover k ledger pending found new
   same_recovers k ledger pending found old new is h = subst (λ f. Recover k ledger pending found f) (sym is) h
 
   -- a file that is ready with the lists of the open units
   pub ready_recovers : (k : Condition) (ledger : Ledger) (file : BackupView D) → Has ledger file → Recover k ledger None None file
   ready_recovers k ledger file has = λ t image may.
-      let h = has.ready t in record { lists = h.lists; stands = ready_stands file h.lists image h.ready may; agree = h.just.agree; landed = tt; only = outside_any k _ h.just.only }
+      let h = has.ready t in
+      record {
+        lists = h.lists;
+        stands = ready_stands file h.lists image h.ready may;
+        agree = h.just.agree;
+        landed = tt;
+        only =
+            outside_any k _ h.just.only;
+      }
 
   -- a server that is up before any call
   pub first_recovers : (ledger : Ledger) (file : BackupView D) → Has ledger file → Recover condition.Up ledger None None file
@@ -288,14 +323,16 @@ module _ {D : Type 0} (tells : Bool) (reads : D → List ℕ) (may_leave : D →
   -- ---- a lock server that is made anew, or isn't
 
   -- the file may be written outside doubt
-  pub remade_filed : (remade : Remade) (k : Condition) (calls : ℕ) (before now : Ledger) (f : Failure) (old new : BackupView D) → IsLeftReady tells reads may_leave before now f old new remade
+  pub remade_filed : (remade : Remade) (k : Condition) (calls : ℕ) (before now : Ledger) (f : Failure) (old new : BackupView D)
+      → IsLeftReady tells reads may_leave before now f old new remade
       → OnNotRemade remade (now ≡ before) → OutsideDoubt k (Has before old) → OutsideDoubt (remade_condition k calls remade) (Has now new)
   remade_filed (Done taken) k calls before now f old new h kept has = h
   remade_filed (Refused r) k calls before now f old new h kept has =
       subst (λ x. OutsideDoubt k (Has now x)) (sym h) (subst (λ l. OutsideDoubt k (Has l old)) (sym kept) has)
   remade_filed (InDoubt r read) k calls before now f old new h kept has = tt
 
-  remade_any : (remade : Remade) (k : Condition) (calls : ℕ) (before now : Ledger) (f : Failure) (old new : BackupView D) → IsLeftReady tells reads may_leave before now f old new remade
+  remade_any : (remade : Remade) (k : Condition) (calls : ℕ) (before now : Ledger) (f : Failure) (old new : BackupView D)
+      → IsLeftReady tells reads may_leave before now f old new remade
       → OnNotRemade remade (now ≡ before) → Recover k before (flight_over before f) f.found old
       → Recover (remade_condition k calls remade) now (flight_over now (remade_failure f remade)) (remade_failure f remade).found new
   remade_any (Done taken) k calls before now f old new h kept all = first_recovers now new h
@@ -304,8 +341,10 @@ module _ {D : Type 0} (tells : Bool) (reads : D → List ℕ) (may_leave : D →
   remade_any (InDoubt r read) k calls before now f old new h kept all =
       subst (λ l. Recover (condition.Doubt (calls + 1)) l (flight_over l f) (known_behind f.found read) new) (sym kept) (h calls)
 
-  pub remade_recovers : (remade : Remade) (k after : Condition) (calls : ℕ) (before now : Ledger) (f failure : Failure) (old new : BackupView D) → after ≡ remade_condition k calls remade → failure ≡ remade_failure f remade
-      → IsLeftReady tells reads may_leave before now f old new remade → OnNotRemade remade (now ≡ before) → Recover k before (flight_over before f) f.found old → Recover after now (flight_over now failure) failure.found new
+  pub remade_recovers : (remade : Remade) (k after : Condition) (calls : ℕ) (before now : Ledger) (f failure : Failure) (old new : BackupView D)
+      → after ≡ remade_condition k calls remade → failure ≡ remade_failure f remade
+      → IsLeftReady tells reads may_leave before now f old new remade → OnNotRemade remade (now ≡ before) → Recover k before (flight_over before f) f.found old
+      → Recover after now (flight_over now failure) failure.found new
   remade_recovers remade k after calls before now f failure old new is left h kept all =
       subst (λ q. Recover q now (flight_over now failure) failure.found new) (sym is)
       (subst (λ (q : Failure). Recover (remade_condition k calls remade) now (flight_over now q) q.found new) (sym left)

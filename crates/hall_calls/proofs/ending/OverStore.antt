@@ -28,7 +28,8 @@ module _ {K : Type 0} (held : K → Option Rows) (is_open : K → Type 0) (may_l
   -- ---- the books are as before
 
   -- the answer tells of no failure, and asks nothing of a store that is the same
-  pub quiet_ends : IsSettled → (shelf : BooksView K) → IsUsable held is_open shelf → (r : Reply) → ((n : ℕ) → HasStoreCause n n r) → ((k : K) → KeepsStore held may_leave k k r)
+  pub quiet_ends : IsSettled → (shelf : BooksView K) → IsUsable held is_open shelf → (r : Reply) → ((n : ℕ) → HasStoreCause n n r)
+      → ((k : K) → KeepsStore held may_leave k k r)
       → EndsAs held is_open may_leave faults shelf shelf (Answered r)
   quiet_ends settled shelf usable r quiet keeps = record {
     ledger = tt;
@@ -73,7 +74,8 @@ module _ {K : Type 0} (held : K → Option Rows) (is_open : K → Type 0) (may_l
 
   -- ---- how a step is tried
 
-  either_stays : (o : Option Rows) (P : Rows → Type 0) (ledger old : Ledger) (step : Step) → ledger ≡ old → IfSome o (λ _. (left : Rows) → P left → StandFor left ledger)
+  either_stays : (o : Option Rows) (P : Rows → Type 0) (ledger old : Ledger) (step : Step) → ledger ≡ old
+      → IfSome o (λ _. (left : Rows) → P left → StandFor left ledger)
       → IfSome o (λ _. (left : Rows) → P left → StandForEither left old step)
   either_stays None P ledger old step same h = tt
   either_stays (Some rows) P ledger old step same h = λ left may. inl (subst (StandFor left) same (h left may))
@@ -86,7 +88,8 @@ module _ {K : Type 0} (held : K → Option Rows) (is_open : K → Type 0) (may_l
     kept = same.ledger;
     usable = usable;
     told = ap is_some same.rows;
-    left = either_stays (held new.keeper) (may_leave new.keeper) new.ledger old.ledger step same.ledger (answered_leaves held is_open may_leave new settled usable);
+    left = either_stays (held new.keeper) (may_leave new.keeper) new.ledger old.ledger step same.ledger
+        (answered_leaves held is_open may_leave new settled usable);
     cause = let count = same.count in record { later = omega (arith, count); failed = tt; quiet = count };
     untouched = record { rows = same.rows; crash = same.crash };
   }
@@ -105,7 +108,8 @@ module _ {K : Type 0} (held : K → Option Rows) (is_open : K → Type 0) (may_l
   pub ready_tries : (old mid new : BooksView K) (ready step : Step) (result : Result Unit KeepFault) → ready ≡ step → IsUnmoved held may_leave faults old mid
       → TriesStep held is_open may_leave faults mid new ready result → TriesStep held is_open may_leave faults old new step result
   ready_tries old mid new ready step result is same tried = record {
-    done = subst (λ s. OnOk result (new.ledger ≡ after_step old.ledger s)) is (subst (λ l. OnOk result (new.ledger ≡ after_step l ready)) same.ledger tried.done);
+    done = subst (λ s. OnOk result (new.ledger ≡ after_step old.ledger s)) is
+        (subst (λ l. OnOk result (new.ledger ≡ after_step l ready)) same.ledger tried.done);
     kept = subst (λ l. OnErr result (new.ledger ≡ l)) same.ledger tried.kept;
     usable = tried.usable;
     told = tried.told ∙ ap is_some same.rows;
@@ -118,7 +122,8 @@ module _ {K : Type 0} (held : K → Option Rows) (is_open : K → Type 0) (may_l
   -- ---- a call that does something else between what it makes ready and what it writes
 
   -- memory was wanting in it
-  pub unready_ends : IsSettled → (old mid : BooksView K) → IsUsable held is_open mid → IsUnmoved held may_leave faults old mid → EndsAs held is_open may_leave faults old mid (Answered (reply.Refused refusal.NoMemory))
+  pub unready_ends : IsSettled → (old mid : BooksView K) → IsUsable held is_open mid → IsUnmoved held may_leave faults old mid
+      → EndsAs held is_open may_leave faults old mid (Answered (reply.Refused refusal.NoMemory))
   unready_ends settled old mid usable same = record {
     ledger = tt;
     usable = usable;
@@ -129,7 +134,8 @@ module _ {K : Type 0} (held : K → Option Rows) (is_open : K → Type 0) (may_l
   }
 
   -- the disk of the backup file failed in it
-  pub unfiled_ends : IsSettled → (old mid : BooksView K) → IsUsable held is_open mid → IsUnmoved held may_leave faults old mid → EndsAs held is_open may_leave faults old mid Unfiled
+  pub unfiled_ends : IsSettled → (old mid : BooksView K) → IsUsable held is_open mid → IsUnmoved held may_leave faults old mid
+      → EndsAs held is_open may_leave faults old mid Unfiled
   unfiled_ends settled old mid usable same = record {
     ledger = tt;
     usable = tt;
@@ -139,18 +145,21 @@ module _ {K : Type 0} (held : K → Option Rows) (is_open : K → Type 0) (may_l
     kept = tt;
   }
 
-  refused_more : (old mid new : K) (r : Refusal) → held mid ≡ held old → IsWithin (may_leave mid) (may_leave old) → KeepsStore held may_leave mid new (reply.Refused r) → KeepsStore held may_leave old new (reply.Refused r)
+  refused_more : (old mid new : K) (r : Refusal) → held mid ≡ held old → IsWithin (may_leave mid) (may_leave old)
+      → KeepsStore held may_leave mid new (reply.Refused r) → KeepsStore held may_leave old new (reply.Refused r)
   refused_more old mid new refusal.StoreFault rows crash h = tt
   refused_more old mid new refusal.BackupFault rows crash h = tt
   refused_more old mid new _ rows crash h = (h.0 ∙ rows, λ left may. crash left (h.1 left may))
 
-  keeps_more : (old mid new : K) (r : Reply) → held mid ≡ held old → IsWithin (may_leave mid) (may_leave old) → KeepsStore held may_leave mid new r → KeepsStore held may_leave old new r
+  keeps_more : (old mid new : K) (r : Reply) → held mid ≡ held old → IsWithin (may_leave mid) (may_leave old) → KeepsStore held may_leave mid new r
+      → KeepsStore held may_leave old new r
   keeps_more old mid new (reply.Refused r) rows crash h = refused_more old mid new r rows crash h
   keeps_more old mid new (reply.Row text) rows crash h = (h.0 ∙ rows, λ left may. crash left (h.1 left may))
   keeps_more old mid new _ rows crash h = tt
 
   -- what came behind it ended so
-  pub ready_ends : (old mid new : BooksView K) (w : Written) → IsUnmoved held may_leave faults old mid → EndsAs held is_open may_leave faults mid new w → EndsAs held is_open may_leave faults old new w
+  pub ready_ends : (old mid new : BooksView K) (w : Written) → IsUnmoved held may_leave faults old mid → EndsAs held is_open may_leave faults mid new w
+      → EndsAs held is_open may_leave faults old new w
   ready_ends old mid new w same h = record {
     ledger = subst (λ l. OnStoreFailure w (new.ledger ≡ l)) same.ledger h.ledger;
     usable = h.usable;

@@ -38,7 +38,8 @@ written_state s call after (Answered r) = after
 written_state s call after (Failed change) = doubted (without_stock call s) call None (option_map (after_step s.stored) change)
 written_state s call after Unfiled = unfiled s call None after.stored
 
-pub written_act : (s : State) (c : Command) (after : State) (w : Written) → IsWritten s c after w → IsAct s c (written_state s (call_of c) after w) (written_reply w)
+pub written_act : (s : State) (c : Command) (after : State) (w : Written) → IsWritten s c after w
+    → IsAct s c (written_state s (call_of c) after w) (written_reply w)
 written_act s c after (Answered r) h = h
 written_act s c after (Failed change) h = h
 written_act s c after Unfiled h = h
@@ -59,12 +60,14 @@ same_ranges call (Answered r) ranges is = tt
 same_ranges call (Failed change) ranges is = sym is
 same_ranges call Unfiled ranges is = refl
 
-pub kept_ranges : (call : Call) (w : Written) (before now : List NumberRange) → ranges_without call before ≡ before → OnFailure w (now ≡ before) → HasRanges call w before now
+pub kept_ranges : (call : Call) (w : Written) (before now : List NumberRange) → ranges_without call before ≡ before → OnFailure w (now ≡ before)
+    → HasRanges call w before now
 kept_ranges call (Answered r) before now is h = tt
 kept_ranges call (Failed change) before now is h = h ∙ sym is
 kept_ranges call Unfiled before now is h = h
 
-pub commit_ranges : (session : List ℕ) (parts : Parts) (stock : List Num) (w : Written) (before now : List NumberRange) → OnFailure w (now ≡ ranges_behind stock before w)
+pub commit_ranges : (session : List ℕ) (parts : Parts) (stock : List Num) (w : Written) (before now : List NumberRange)
+    → OnFailure w (now ≡ ranges_behind stock before w)
     → HasRanges (OfSession session (Commits parts stock)) w before now
 commit_ranges session parts stock (Answered r) before now h = tt
 commit_ranges session parts stock (Failed change) before now h = h
@@ -116,31 +119,45 @@ same_flight : (f : Failure) (l l' : Ledger) → flight_over l f ≡ None → fli
 same_flight f l l' none = ap (option_map (after_step l')) (none_before f l none) ∙ sym none
 
 -- the fields of a server
-abbrev pub state_with : (told link_told attached : Bool) → Condition → List Session → ℕ → List (Option UnitKey) → Table → ℕ → ℕ → List NumberRange → Ledger → Failure → List PastEntry → State
-state_with told link_told attached k sessions n orders table x m rs ledger f past = state_of told link_told attached k sessions n orders table x m rs ledger (flight_over ledger f) f.found f.caller past
+abbrev pub state_with : (told link_told attached : Bool) → Condition → List Session → ℕ → List (Option UnitKey) → Table → ℕ → ℕ → List NumberRange → Ledger
+    → Failure → List PastEntry → State
+state_with told link_told attached k sessions n orders table x m rs ledger f past =
+    state_of told link_told attached k sessions n orders table x m rs ledger (flight_over ledger f) f.found f.caller past
 
 -- what the fields are behind a call that uses the store
-pub ends_as : (c : Condition) (call : Call) (told told' link link' on on' : Bool) (ss ss' : List Session) (n : ℕ) (os os' : List (Option UnitKey)) (t t' : Table) (k m : ℕ) (rs rs' : List NumberRange) (l l' : Ledger) (f : Failure) (past past' : List PastEntry) (w : Written)
-    → told' ≡ told → link' ≡ link → flight_over l f ≡ None → f.caller ≡ None → t'.limit ≡ t.limit → OnAnswer w (gone_in c t'.entries ≡ gone_in c t.entries) → OnFailure w (unhanded t'.entries ≡ unhanded t.entries)
+pub ends_as : (c : Condition) (call : Call) (told told' link link' on on' : Bool) (ss ss' : List Session) (n : ℕ) (os os' : List (Option UnitKey))
+    (t t' : Table) (k m : ℕ) (rs rs' : List NumberRange) (l l' : Ledger) (f : Failure) (past past' : List PastEntry) (w : Written)
+    → told' ≡ told → link' ≡ link → flight_over l f ≡ None → f.caller ≡ None → t'.limit ≡ t.limit → OnAnswer w (gone_in c t'.entries ≡ gone_in c t.entries)
+    → OnFailure w (unhanded t'.entries ≡ unhanded t.entries)
     → OnFailure w (ss' ≡ ss) → OnFailure w (os' ≡ os) → OnStoreFailure w (l' ≡ l) → HasRanges call w rs rs'
     → state_with told' link' on' (written_condition c (length past) w) ss' n os' t' k m rs' l' (written_failure f (caller_of call) w) past'
-    ≡ record (written_state (state_with told link on c ss n os t k m rs l f past) call (record (state_with told link on c ss n os t k m rs l f past) { sessions = ss'; orders = os'; locks = locks_in c t'.entries; ranges = rs'; attached = attached_in c on'; stored = l' }) w) { past = past' }
-ends_as c call told told' link link' on on' ss ss' n os os' t t' k m rs rs' l l' f past past' (Answered r) tells links none unfailed limit gone lost a b kept d =
-    λ i. record (state_of (tells i) (links i) on' c ss' n os' t' k m rs' l' (same_flight f l l' none i) f.found f.caller past') { limit = limit i; gone = gone i }
-ends_as c call told told' link link' on on' ss ss' n os os' t t' k m rs rs' l l' f past past' (Failed change) tells links none unfailed limit gone lost a b kept d =
+    ≡ record (written_state (state_with told link on c ss n os t k m rs l f past) call
+    (record (state_with told link on c ss n os t k m rs l f past)
+    { sessions = ss'; orders = os'; locks = locks_in c t'.entries; ranges = rs'; attached = attached_in c on'; stored = l' }) w) { past = past' }
+ends_as c call told told' link link' on on' ss ss' n os os' t t' k m rs rs' l l' f past past'
+    (Answered r) tells links none unfailed limit gone lost a b kept d =
+    λ i. record (state_of (tells i) (links i) on' c ss' n os' t' k m rs' l' (same_flight f l l' none i) f.found f.caller past')
+    { limit = limit i; gone = gone i }
+ends_as c call told told' link link' on on' ss ss' n os os' t t' k m rs rs' l l' f past past'
+    (Failed change) tells links none unfailed limit gone lost a b kept d =
     let s = state_with told link on c ss n os t k m rs l f past in
     let bereft : unhanded t'.entries ≡ behind_in c t.entries = lost ∙ sym (gone_at c t.entries) in
     let caller : caller_of call ≡ caller_behind f.caller call = sym (caller_as f.caller call unfailed) in
-    (λ i. record (state_of (tells i) (links i) on' (condition.Doubt (length past + 1)) (a i) n (b i) t k m (d i) (kept i) (option_map (after_step (kept i)) change) f.found (caller i) past') { limit = limit i; gone = bereft i })
+    (λ i. record (state_of (tells i) (links i) on' (condition.Doubt (length past + 1)) (a i) n (b i) t k m (d i) (kept i)
+    (option_map (after_step (kept i)) change) f.found (caller i) past') { limit = limit i; gone = bereft i })
     ∙ ap (λ (x : State). record (doubted x call None (option_map (after_step l) change)) { past = past' }) (sym (without_as call s))
 ends_as c call told told' link link' on on' ss ss' n os os' t t' k m rs rs' l l' f past past' Unfiled tells links none unfailed limit gone lost a b kept d =
     let bereft : unhanded t'.entries ≡ behind_in c t.entries = lost ∙ sym (gone_at c t.entries) in
     let caller : caller_of call ≡ caller_behind f.caller call = sym (caller_as f.caller call unfailed) in
-    λ i. record (state_of (tells i) (links i) on' (condition.Doubt (length past + 1)) (a i) n (b i) t k m (d i) l' (same_flight f l l' none i) f.found (caller i) past') { limit = limit i; gone = bereft i }
+    λ i. record (state_of (tells i) (links i) on' (condition.Doubt (length past + 1)) (a i) n (b i) t k m (d i) l' (same_flight f l l' none i) f.found
+    (caller i) past') { limit = limit i; gone = bereft i }
 
 -- the fields behind a restart
-pub remade_as : (remade : Remade) (told told' link link' on on' : Bool) (k k' : Condition) (ss ss' : List Session) (n : ℕ) (os os' : List (Option UnitKey)) (t t' : Table) (x m : ℕ) (rs : List NumberRange) (l l' : Ledger) (f f' : Failure) (past : List PastEntry)
-    → told' ≡ told → link' ≡ link → OnRemade remade (on' ≡ false) → OnRefusedFirst remade (on' ≡ on) → k' ≡ remade_condition k (length past) remade → f' ≡ remade_failure f remade → OnNotRemade remade (ss' ≡ ss) → OnNotRemade remade (os' ≡ os) → OnNotRemade remade (t' ≡ t) → OnNotRemade remade (l' ≡ l)
+pub remade_as : (remade : Remade) (told told' link link' on on' : Bool) (k k' : Condition) (ss ss' : List Session) (n : ℕ) (os os' : List (Option UnitKey))
+    (t t' : Table) (x m : ℕ) (rs : List NumberRange) (l l' : Ledger) (f f' : Failure) (past : List PastEntry)
+    → told' ≡ told → link' ≡ link → OnRemade remade (on' ≡ false) → OnRefusedFirst remade (on' ≡ on) → k' ≡ remade_condition k (length past) remade
+    → f' ≡ remade_failure f remade → OnNotRemade remade (ss' ≡ ss) → OnNotRemade remade (os' ≡ os) → OnNotRemade remade (t' ≡ t)
+    → OnNotRemade remade (l' ≡ l)
     → state_with told' link' on' k' ss' n os' t' x m rs l' f' past ≡ remade_state (state_with told link on k ss n os t x m rs l f past) ss' os' t' l' remade
 remade_as (Done taken) told told' link link' on on' k k' ss ss' n os os' t t' x m rs l l' f f' past tells links off still is now a b c kept =
     λ i. state_with (tells i) (links i) (off i) (is i) ss' n os' t' x m rs l' (now i) past
@@ -148,7 +165,8 @@ remade_as (Refused r) told told' link link' on on' k k' ss ss' n os os' t t' x m
     λ i. state_with (tells i) (links i) (still i) (is i) (a i) n (b i) (c i) x m rs (kept i) (now i) past
 remade_as (InDoubt r read) told told' link link' on on' k k' ss ss' n os os' t t' x m rs l l' f f' past tells links off still is now a b c kept =
     (λ i. state_with (tells i) (links i) on' (is i) (a i) n (b i) (c i) x m rs (kept i) (now i) past)
-    ∙ (λ i. record (state_with told link on (condition.Doubt (length past + 1)) ss n os t x m rs l (remade_failure f (InDoubt r read)) past) { gone = sym (gone_at k t.entries) i })
+    ∙ (λ i. record (state_with told link on (condition.Doubt (length past + 1)) ss n os t x m rs l (remade_failure f (InDoubt r read)) past)
+    { gone = sym (gone_at k t.entries) i })
 
 -- one of the two parts of a unit
 abbrev pub IsPart : ℕ → Type 0
@@ -168,6 +186,7 @@ posts_part part worker (inl e) = subst (λ p. call_of (post_of p worker) ≡ OfW
 posts_part part worker (inr e) = subst (λ p. call_of (post_of p worker) ≡ OfWorker worker (Posts p)) (sym e) refl
 
 -- an order that is answered as its command says
-pub taken_call : (part : ℕ) (s : State) (worker : ℕ) (after : State) (r : Reply) → IsPart part → Admits s (take_of part worker) → judged s (take part s worker) ≡ record { state = after; reply = r } → IsAct s (take_of part worker) after r
+pub taken_call : (part : ℕ) (s : State) (worker : ℕ) (after : State) (r : Reply) → IsPart part → Admits s (take_of part worker)
+    → judged s (take part s worker) ≡ record { state = after; reply = r } → IsAct s (take_of part worker) after r
 taken_call part s worker after r is room h =
     tells s (take_of part worker) (take part s worker) after r room (ap (own_verdict (found_in s) s) (takes_part part worker is)) h

@@ -84,11 +84,13 @@ pub not_barred : (s : State) (call : Call) → unavailable s call ≡ None → b
 not_barred s call free = none_first (barred s call) _ free
 
 -- a call that no doubt bars, but for a restart, finds the server not in doubt
-serving_in : (full : Bool) (k : Condition) (call : Call) → restarts call ≡ false → (if full then Some refusal.LogFull else down_refusal k call) ≡ None → IsServing k
+serving_in : (full : Bool) (k : Condition) (call : Call) → restarts call ≡ false → (if full then Some refusal.LogFull else down_refusal k call) ≡ None
+    → IsServing k
 serving_in true k call off e = cc
 serving_in false condition.Up call off e = tt
 serving_in false condition.NoServer call off e = tt
-serving_in false (condition.Doubt n) call off e = let shut : Some (refusal.Down n) ≡ None = sym (ap (λ b. if b then None else Some (refusal.Down n)) off) ∙ e in cc
+serving_in false (condition.Doubt n) call off e = let shut : Some (refusal.Down n) ≡ None = sym (ap (λ b. if b then None else Some (refusal.Down n)) off) ∙ e in
+    cc
 
 -- it finds the server up, or a call that wants none without a server
 pub is_serving : (s : State) (c : Command) → restarts (call_of c) ≡ false → Admits s c → IsServing s.condition
@@ -108,7 +110,8 @@ wants_none (OfAdmin (Resubmits unit)) wants = refl
 
 up_in : (k : Condition) (call : Call) → IsServing k → wants_server call ≡ true → server_refusal k call ≡ None → k ≡ Up
 up_in condition.Up call serving wants e = refl
-up_in condition.NoServer call serving wants e = let refused : Some refusal.SystemFailure ≡ None = sym (ap (λ b. if b then Some refusal.SystemFailure else None) wants) ∙ e in cc
+up_in condition.NoServer call serving wants e = let refused : Some refusal.SystemFailure ≡ None =
+    sym (ap (λ b. if b then Some refusal.SystemFailure else None) wants) ∙ e in cc
 up_in (condition.Doubt n) call serving wants e = absurd serving
 
 pub server_up : (s : State) (c : Command) → wants_server (call_of c) ≡ true → Admits s c → s.condition ≡ Up
@@ -127,20 +130,27 @@ due_serving s past c off due = is_serving (with_calls s past) c off due.admits
 pub due_up : (s : State) (past : List PastEntry) (c : Command) → wants_server (call_of c) ≡ true → IsDue s past c → s.condition ≡ Up
 due_up s past c wants due = server_up (with_calls s past) c wants due.admits
 
-same_past : (s after : State) (call : Call) (w : Written) → after.past ≡ s.past → record (written_state s call after w) { past = s.past } ≡ written_state s call after w
+same_past : (s after : State) (call : Call) (w : Written) → after.past ≡ s.past
+    → record (written_state s call after w) { past = s.past } ≡ written_state s call after w
 same_past s after call (Answered r) h = λ i. record after { past = sym h i }
-same_past s after call (Failed change) h = ap (λ (x : State). record (doubted x call None (option_map (after_step s.stored) change)) { past = s.past }) (without_as call s) ∙ ap (λ (x : State). doubted x call None (option_map (after_step s.stored) change)) (sym (without_as call s))
+same_past s after call (Failed change) h = ap (λ (x : State). record (doubted x call None (option_map (after_step s.stored) change)) { past = s.past })
+    (without_as call s) ∙ ap (λ (x : State). doubted x call None (option_map (after_step s.stored) change)) (sym (without_as call s))
 same_past s after call Unfiled h = refl
 
 -- a call that uses the store, where it fails too
-pub written_call : (told told' link link' on on' : Bool) (k k' : Condition) (ss ss' : List Session) (n : ℕ) (os os' : List (Option UnitKey)) (t t' : Table) (x m : ℕ) (rs rs' : List NumberRange) (l l' : Ledger) (f f' : Failure) (past : List PastEntry) (w : Written) (c : Command) (said : Reply)
+pub written_call : (told told' link link' on on' : Bool) (k k' : Condition) (ss ss' : List Session) (n : ℕ) (os os' : List (Option UnitKey)) (t t' : Table)
+    (x m : ℕ) (rs rs' : List NumberRange) (l l' : Ledger) (f f' : Failure) (past : List PastEntry) (w : Written) (c : Command) (said : Reply)
     → restarts (call_of c) ≡ false → IsDue (state_with told link on k ss n os t x m rs l f []) past c
-    → told' ≡ told → link' ≡ link → Stays (call_of c) on on' → k' ≡ written_condition k (length past) w → f' ≡ written_failure f (caller_of (call_of c)) w → said ≡ written_reply w
+    → told' ≡ told → link' ≡ link → Stays (call_of c) on on' → k' ≡ written_condition k (length past) w → f' ≡ written_failure f (caller_of (call_of c)) w
+    → said ≡ written_reply w
     → t'.limit ≡ t.limit → OnAnswer w (gone_in k t'.entries ≡ gone_in k t.entries) → OnFailure w (unhanded t'.entries ≡ unhanded t.entries)
     → OnFailure w (ss' ≡ ss) → OnFailure w (os' ≡ os) → OnStoreFailure w (l' ≡ l) → HasRanges (call_of c) w rs rs'
-    → (flight_over l f ≡ None → Admits (state_with told link on k ss n os t x m rs l f past) c → IsWritten (state_with told link on k ss n os t x m rs l f past) c (rewritten (state_with told link on k ss n os t x m rs l f past) ss' os' t' rs' l') w)
+    → (flight_over l f ≡ None → Admits (state_with told link on k ss n os t x m rs l f past) c
+    → IsWritten (state_with told link on k ss n os t x m rs l f past) c
+    (rewritten (state_with told link on k ss n os t x m rs l f past) ss' os' t' rs' l') w)
     → IsAct (state_with told link on k ss n os t x m rs l f past) c (state_with told' link' on' k' ss' n os' t' x m rs' l' f' past) said
-written_call told told' link link' on on' k k' ss ss' n os os' t t' x m rs rs' l l' f f' past w c said off due tells links stays condition failure reply limit gone lost a b d e written =
+written_call told told' link link' on on' k k' ss ss' n os os' t t' x m rs rs' l l' f f' past w c said off due tells links stays condition failure reply limit
+    gone lost a b d e written =
     let s : State = state_with told link on k ss n os t x m rs l f past in
     let serving = is_serving s c off due.admits in
     let none : flight_over l f ≡ None = outside k _ serving due.kept.steady.settled in
@@ -149,7 +159,8 @@ written_call told told' link link' on on' k k' ss ss' n os os' t t' x m rs rs' l
     let after : State = written_state s (call_of c) now w in
     let act : IsAct s c after (written_reply w) =
     written_act s c now w
-    (shipped_written s c (rewritten s ss' os' t' rs' l') (attached_in k on') w (stays_in k (call_of c) on on' stays) due.admits refl (written none due.admits)) in
+    (shipped_written s c (rewritten s ss' os' t' rs' l') (attached_in k on') w (stays_in k (call_of c) on on' stays) due.admits refl
+    (written none due.admits)) in
     let is : state_with told' link' on' k' ss' n os' t' x m rs' l' f' past ≡ after =
     (λ i. state_with told' link' on' (condition i) ss' n os' t' x m rs' l' (failure i) past)
     ∙ ends_as k (call_of c) told told' link link' on on' ss ss' n os os' t t' x m rs rs' l l' f past past w tells links none unfailed limit gone lost a b d e
@@ -157,18 +168,26 @@ written_call told told' link link' on on' k k' ss ss' n os os' t t' x m rs rs' l
     acts_as s c after (state_with told' link' on' k' ss' n os' t' x m rs' l' f' past) (written_reply w) said act is reply
 
 -- the same of a call that wants a server
-pub written_up : (told told' link link' on on' : Bool) (k k' : Condition) (ss ss' : List Session) (n : ℕ) (os os' : List (Option UnitKey)) (t t' : Table) (x m : ℕ) (rs rs' : List NumberRange) (l l' : Ledger) (f f' : Failure) (past : List PastEntry) (w : Written) (c : Command) (said : Reply)
+pub written_up : (told told' link link' on on' : Bool) (k k' : Condition) (ss ss' : List Session) (n : ℕ) (os os' : List (Option UnitKey)) (t t' : Table)
+    (x m : ℕ) (rs rs' : List NumberRange) (l l' : Ledger) (f f' : Failure) (past : List PastEntry) (w : Written) (c : Command) (said : Reply)
     → wants_server (call_of c) ≡ true → IsDue (state_with told link on k ss n os t x m rs l f []) past c
-    → told' ≡ told → link' ≡ link → Stays (call_of c) on on' → k' ≡ written_condition k (length past) w → f' ≡ written_failure f (caller_of (call_of c)) w → said ≡ written_reply w
-    → t'.limit ≡ t.limit → OnFailure w (unhanded t'.entries ≡ unhanded t.entries) → OnFailure w (ss' ≡ ss) → OnFailure w (os' ≡ os) → OnStoreFailure w (l' ≡ l) → HasRanges (call_of c) w rs rs'
-    → (flight_over l f ≡ None → Admits (state_with told link on Up ss n os t x m rs l f past) c → IsWritten (state_with told link on Up ss n os t x m rs l f past) c (rewritten (state_with told link on Up ss n os t x m rs l f past) ss' os' t' rs' l') w)
+    → told' ≡ told → link' ≡ link → Stays (call_of c) on on' → k' ≡ written_condition k (length past) w → f' ≡ written_failure f (caller_of (call_of c)) w
+    → said ≡ written_reply w
+    → t'.limit ≡ t.limit → OnFailure w (unhanded t'.entries ≡ unhanded t.entries) → OnFailure w (ss' ≡ ss) → OnFailure w (os' ≡ os) → OnStoreFailure w (l' ≡ l)
+    → HasRanges (call_of c) w rs rs'
+    → (flight_over l f ≡ None → Admits (state_with told link on Up ss n os t x m rs l f past) c
+    → IsWritten (state_with told link on Up ss n os t x m rs l f past) c
+    (rewritten (state_with told link on Up ss n os t x m rs l f past) ss' os' t' rs' l') w)
     → IsAct (state_with told link on k ss n os t x m rs l f past) c (state_with told' link' on' k' ss' n os' t' x m rs' l' f' past) said
-written_up told told' link link' on on' k k' ss ss' n os os' t t' x m rs rs' l l' f f' past w c said wants due tells links stays condition failure reply limit lost a b d e written =
+written_up told told' link link' on on' k k' ss ss' n os os' t t' x m rs rs' l l' f f' past w c said wants due tells links stays condition failure reply limit
+    lost a b d e written =
     let before : Condition → State = λ q. state_with told link on q ss n os t x m rs l f past in
     let up : k ≡ Up = due_up (state_with told link on k ss n os t x m rs l f []) past c wants due in
     let gone : gone_in k t'.entries ≡ gone_in k t.entries = subst (λ q. gone_in q t'.entries ≡ gone_in q t.entries) (sym up) refl in
-    written_call told told' link link' on on' k k' ss ss' n os os' t t' x m rs rs' l l' f f' past w c said (wants_none (call_of c) wants) due tells links stays condition failure reply limit (also_answered _ w gone) lost a b d e
-    (λ none room. subst (λ q. IsWritten (before q) c (rewritten (before q) ss' os' t' rs' l') w) (sym up) (written none (subst (λ q. Admits (before q) c) up room)))
+    written_call told told' link link' on on' k k' ss ss' n os os' t t' x m rs rs' l l' f f' past w c said
+    (wants_none (call_of c) wants) due tells links stays condition failure reply limit (also_answered _ w gone) lost a b d e
+    (λ none room. subst (λ q. IsWritten (before q) c (rewritten (before q) ss' os' t' rs' l') w) (sym up)
+    (written none (subst (λ q. Admits (before q) c) up room)))
 
 -- a table that is as it was
 pub lost_none : (old new : Table) (w : Written) → OnFailure w (new ≡ old) → OnFailure w (unhanded new.entries ≡ unhanded old.entries)
@@ -177,7 +196,8 @@ lost_none old new (Failed change) same = ap (λ (t : Table). unhanded t.entries)
 lost_none old new Unfiled same = ap (λ (t : Table). unhanded t.entries) same
 
 -- the locks behind a post are those of the table, and where there is no server none
-pub posted_in : (k : Condition) (part : ℕ) (old new : List Entry) → (nat_eq part 1 ≡ true → k ≡ Up) → (nat_eq part 1 ≡ false → new ≡ old) → locks_posted part (locks_in k old) new ≡ locks_in k new
+pub posted_in : (k : Condition) (part : ℕ) (old new : List Entry) → (nat_eq part 1 ≡ true → k ≡ Up) → (nat_eq part 1 ≡ false → new ≡ old)
+    → locks_posted part (locks_in k old) new ≡ locks_in k new
 posted_in k part old new up same = by_part (nat_eq part 1) up same
   where
     by_part : (b : Bool) → (b ≡ true → k ≡ Up) → (b ≡ false → new ≡ old) → (if b then new else locks_in k old) ≡ locks_in k new
@@ -185,7 +205,8 @@ posted_in k part old new up same = by_part (nat_eq part 1) up same
     by_part false up same = ap (locks_in k) (sym (same refl))
 
 -- and what sessions had of one that is there no more stays
-pub posted_gone : (k : Condition) (part : ℕ) (old new : List Entry) → (nat_eq part 1 ≡ true → k ≡ Up) → (nat_eq part 1 ≡ false → new ≡ old) → gone_in k new ≡ gone_in k old
+pub posted_gone : (k : Condition) (part : ℕ) (old new : List Entry) → (nat_eq part 1 ≡ true → k ≡ Up) → (nat_eq part 1 ≡ false → new ≡ old)
+    → gone_in k new ≡ gone_in k old
 posted_gone k part old new up same = by_part (nat_eq part 1) up same
   where
     by_part : (b : Bool) → (b ≡ true → k ≡ Up) → (b ≡ false → new ≡ old) → gone_in k new ≡ gone_in k old
@@ -196,7 +217,12 @@ posted_gone k part old new up same = by_part (nat_eq part 1) up same
 
 pub refused_telling : (s : State) (c : Command) (r : Refusal) → unavailable s (call_of c) ≡ Some r → IsTelling s c false s (reply.Refused r)
 refused_telling s c r shut = record {
-  act = record { outcome = all_well; possible = record { reading = tt; event = tt; lost = tt }; same = ap (judged s) (refused_verdict (found_in s) s (call_of c) r shut) };
+  act = record {
+    outcome = all_well;
+    possible = record { reading = tt; event = tt; lost = tt };
+    same =
+        ap (judged s) (refused_verdict (found_in s) s (call_of c) r shut);
+  };
   taken = refl;
 }
 
@@ -215,9 +241,15 @@ refused_room s call r shut noted =
 pub shut_plain : (s : State) (call : Call) (r : Refusal) → unavailable s call ≡ Some r → IsPlain r
 shut_plain s call r shut = subst ArePlain shut (plain_unavailable s call)
 
-pub refused_store : {K : Type 0} (held : K → Option Rows) (may_leave : K → Rows → Type 0) (faults : K → ℕ) (keeper : K) (s : State) (call : Call) (r : Refusal) → unavailable s call ≡ Some r → MayWrite held may_leave faults keeper keeper (reply.Refused r)
+pub refused_store : {K : Type 0} (held : K → Option Rows) (may_leave : K → Rows → Type 0) (faults : K → ℕ) (keeper : K) (s : State) (call : Call) (r : Refusal)
+    → unavailable s call ≡ Some r → MayWrite held may_leave faults keeper keeper (reply.Refused r)
 refused_store held may_leave faults keeper s call r shut =
-    record { told = refl; cause = plain_quiet r (faults keeper) (faults keeper) refl (shut_plain s call r shut); kept = untouched_keeps held may_leave keeper r }
+    record {
+      told = refl;
+      cause = plain_quiet r (faults keeper) (faults keeper) refl (shut_plain s call r shut);
+      kept =
+          untouched_keeps held may_leave keeper r;
+    }
 
 -- ---- what a call does to the store
 
@@ -252,7 +284,8 @@ untouched true e f = cc
 untouched false e f = cc
 
 -- a call that doesn't touch the store is not answered that it failed
-quiet_counts : (s : State) (c : Command) (after : State) (r : Reply) (f g : ℕ) → reaches_store s (call_of c) ≡ false → IsAct s c after r → g ≡ f → HasStoreCause f g r
+quiet_counts : (s : State) (c : Command) (after : State) (r : Reply) (f g : ℕ) → reaches_store s (call_of c) ≡ false → IsAct s c after r → g ≡ f
+    → HasStoreCause f g r
 quiet_counts s c after (reply.Refused refusal.StoreFault) f g off act e =
     absurd (untouched _ (uses_touches s (call_of c) (fault_uses_store s c after act)) off)
 quiet_counts s c after _ f g off act e = e
@@ -267,7 +300,8 @@ module _ {K : Type 0} (held : K → Option Rows) (may_leave : K → Rows → Typ
   told_by true false r h = ap (λ k. is_some (held k)) h
   told_by false false r h = ap (λ k. is_some (held k)) h
 
-  cause_by : (remakes reaches : Bool) (r : Reply) → (reaches ≡ false → faults new ≡ faults old → HasStoreCause (faults old) (faults new) r) → Does remakes reaches r → HasStoreCause (faults old) (faults new) r
+  cause_by : (remakes reaches : Bool) (r : Reply) → (reaches ≡ false → faults new ≡ faults old → HasStoreCause (faults old) (faults new) r)
+      → Does remakes reaches r → HasStoreCause (faults old) (faults new) r
   cause_by true true r quiet h = h.cause
   cause_by false true r quiet h = h.cause
   cause_by true false r quiet h = quiet refl (ap faults h)
@@ -306,14 +340,17 @@ module _ {K : Type 0} (held : K → Option Rows) (may_leave : K → Rows → Typ
         same_by false h = h
 
 -- a call but a restart that touches the store in some cases
-pub does_store : {K : Type 0} (held : K → Option Rows) (may_leave : K → Rows → Type 0) (faults : K → ℕ) (b : Bool) (old new : K) (r : Reply) → MayWrite held may_leave faults old new r → (b ≡ false → new ≡ old) → DoesStore held may_leave faults false b old new r
+pub does_store : {K : Type 0} (held : K → Option Rows) (may_leave : K → Rows → Type 0) (faults : K → ℕ) (b : Bool) (old new : K) (r : Reply)
+    → MayWrite held may_leave faults old new r → (b ≡ false → new ≡ old) → DoesStore held may_leave faults false b old new r
 does_store held may_leave faults true old new r may same = may
 does_store held may_leave faults false old new r may same = same refl
 
 -- ---- what a call does to the backup file
 
-pub refused_file : {D : Type 0} (faults : D → ℕ) (file : BackupView D) (s : State) (call : Call) (r : Refusal) → unavailable s call ≡ Some r → MayFile faults file file (reply.Refused r)
-refused_file faults file s call r shut = record { cause = plain_file r (faults file.disk) (faults file.disk) refl (shut_plain s call r shut); kept = any_file file (reply.Refused r) }
+pub refused_file : {D : Type 0} (faults : D → ℕ) (file : BackupView D) (s : State) (call : Call) (r : Refusal) → unavailable s call ≡ Some r
+    → MayFile faults file file (reply.Refused r)
+refused_file faults file s call r shut =
+    record { cause = plain_file r (faults file.disk) (faults file.disk) refl (shut_plain s call r shut); kept = any_file file (reply.Refused r) }
 
 file_session_touches : (s : State) (name : List ℕ) (call : SessionCall) → IsTrue (session_uses_file s name call) → session_touches_file call ≡ true
 file_session_touches s name (Commits parts stock) uses = refl
@@ -347,16 +384,20 @@ quiet_file s c after (reply.Refused refusal.BackupFault) f g off act e =
     absurd (untouched _ (uses_touches_file s (call_of c) (fault_uses_file s c after act)) off)
 quiet_file s c after _ f g off act e = e
 
-file_by : {D : Type 0} (faults : D → ℕ) (old new : BackupView D) (s : State) (c : Command) (after : State) (r : Reply) (b : Bool) → touches_file (call_of c) ≡ b → IsAct s c after r → DoesFile faults b old new r → MayFile faults old new r
+file_by : {D : Type 0} (faults : D → ℕ) (old new : BackupView D) (s : State) (c : Command) (after : State) (r : Reply) (b : Bool) → touches_file (call_of c) ≡ b
+    → IsAct s c after r → DoesFile faults b old new r → MayFile faults old new r
 file_by faults old new s c after r true e act h = h
 file_by faults old new s c after r false e act h =
-    subst (λ f. MayFile faults old f r) (sym h) (record { cause = quiet_file s c after r (faults old.disk) (faults old.disk) e act refl; kept = any_file old r })
+    subst (λ f. MayFile faults old f r) (sym h)
+    (record { cause = quiet_file s c after r (faults old.disk) (faults old.disk) e act refl; kept = any_file old r })
 
 -- what any call may do to it
-any_call_file : {D : Type 0} (faults : D → ℕ) (old new : BackupView D) (s : State) (c : Command) (after : State) (r : Reply) → IsAct s c after r → DoesFile faults (touches_file (call_of c)) old new r → MayFile faults old new r
+any_call_file : {D : Type 0} (faults : D → ℕ) (old new : BackupView D) (s : State) (c : Command) (after : State) (r : Reply) → IsAct s c after r
+    → DoesFile faults (touches_file (call_of c)) old new r → MayFile faults old new r
 any_call_file faults old new s c after r act h = file_by faults old new s c after r (touches_file (call_of c)) refl act h
 
-pub file_cause : {D : Type 0} (faults : D → ℕ) (old new : BackupView D) (s : State) (c : Command) (after : State) (r : Reply) → IsAct s c after r → LeavesFile faults (restarts (call_of c)) (touches_file (call_of c)) old new r
+pub file_cause : {D : Type 0} (faults : D → ℕ) (old new : BackupView D) (s : State) (c : Command) (after : State) (r : Reply) → IsAct s c after r
+    → LeavesFile faults (restarts (call_of c)) (touches_file (call_of c)) old new r
     → HasFileCause (faults old.disk) (faults new.disk) r
 file_cause faults old new s c after r act h =
     elim (restarts (call_of c)) as (λ b. LeavesFile faults b (touches_file (call_of c)) old new r → HasFileCause (faults old.disk) (faults new.disk) r) [
@@ -364,9 +405,11 @@ file_cause faults old new s c after r act h =
       | false ↦ λ k. (any_call_file faults old new s c after r act k).cause
     ] h
 
-pub file_kept : {D : Type 0} (faults : D → ℕ) (old new : BackupView D) (s : State) (c : Command) (after : State) (r : Reply) → IsAct s c after r → LeavesFile faults (restarts (call_of c)) (touches_file (call_of c)) old new r
+pub file_kept : {D : Type 0} (faults : D → ℕ) (old new : BackupView D) (s : State) (c : Command) (after : State) (r : Reply) → IsAct s c after r
+    → LeavesFile faults (restarts (call_of c)) (touches_file (call_of c)) old new r
     → restarts (call_of c) ≡ false → KeepsFile old new r
-file_kept faults old new s c after r act h off = (any_call_file faults old new s c after r act (subst (λ b. LeavesFile faults b (touches_file (call_of c)) old new r) off h)).kept
+file_kept faults old new s c after r act h off =
+    (any_call_file faults old new s c after r act (subst (λ b. LeavesFile faults b (touches_file (call_of c)) old new r) off h)).kept
 
 -- a restart touches the file
 restarts_touch : (call : Call) → restarts call ≡ true → touches_file call ≡ true
@@ -380,7 +423,8 @@ restarts_touch (OfAdmin Attaches) is = cc
 restarts_touch (OfAdmin (Cancels unit)) is = cc
 restarts_touch (OfAdmin (Resubmits unit)) is = cc
 
-pub same_as_filed : {D : Type 0} (faults : D → ℕ) (old new : BackupView D) (c : Command) (r : Reply) → LeavesFile faults (restarts (call_of c)) (touches_file (call_of c)) old new r → touches_file (call_of c) ≡ false → new ≡ old
+pub same_as_filed : {D : Type 0} (faults : D → ℕ) (old new : BackupView D) (c : Command) (r : Reply)
+    → LeavesFile faults (restarts (call_of c)) (touches_file (call_of c)) old new r → touches_file (call_of c) ≡ false → new ≡ old
 same_as_filed faults old new c r h e =
     elim (restarts (call_of c)) as (λ b. restarts (call_of c) ≡ b → LeavesFile faults b (touches_file (call_of c)) old new r → new ≡ old) [
       | true ↦ λ is k. absurd (untouched (touches_file (call_of c)) (restarts_touch (call_of c) is) e)
@@ -390,11 +434,16 @@ same_as_filed faults old new c r h e =
 -- ---- a call by itself
 
 -- a call that doesn't touch the store
-pub serves_apart : {K D L : Type 0} (held : K → Option Rows) (may_leave : K → Rows → Type 0) (faults : K → ℕ) (disk_faults : D → ℕ) (gives : L → List Entry) (applied : L → Option (List Entry)) (link_faults refusals : L → ℕ) (before after : Condition → View K D L) (k : Condition) (was : View K D L) (past : List PastEntry) (c : Command) (r said : Reply)
-    → before k ≡ was → (after k).keeper ≡ (before k).keeper → (after k).file ≡ (before k).file → KeepsOn applied link_faults refusals (before k).follower (after k).follower → IsDue was.state past c → reaches_store (before k).state (call_of c) ≡ false → touches_file (call_of c) ≡ false → renews_replica (call_of c) ≡ false → said ≡ r
+pub serves_apart : {K D L : Type 0} (held : K → Option Rows) (may_leave : K → Rows → Type 0) (faults : K → ℕ) (disk_faults : D → ℕ) (gives : L → List Entry)
+    (applied : L → Option (List Entry)) (link_faults refusals : L → ℕ) (before after : Condition → View K D L) (k : Condition) (was : View K D L)
+    (past : List PastEntry) (c : Command) (r said : Reply)
+    → before k ≡ was → (after k).keeper ≡ (before k).keeper → (after k).file ≡ (before k).file
+    → KeepsOn applied link_faults refusals (before k).follower (after k).follower → IsDue was.state past c
+    → reaches_store (before k).state (call_of c) ≡ false → touches_file (call_of c) ≡ false → renews_replica (call_of c) ≡ false → said ≡ r
     → (Admits (with_calls (before k).state past) c → IsAct (with_calls (before k).state past) c (with_calls (after k).state past) r)
     → Serves held may_leave faults disk_faults gives applied link_faults refusals was (after k) past c said
-serves_apart held may_leave faults disk_faults gives applied link_faults refusals before after k was past c r said is kept file follows due off unfiled still same act =
+serves_apart held may_leave faults disk_faults gives applied link_faults refusals before after k was past c r said is kept file follows due off unfiled still
+    same act =
     let here : IsDue (before k).state past c = subst (λ (v : View _ _ _). IsDue v.state past c) (sym is) due in
     let never = never_remakes (call_of c) still in
     subst (λ v. Serves held may_leave faults disk_faults gives applied link_faults refusals v (after k) past c said) is
@@ -407,15 +456,22 @@ serves_apart held may_leave faults disk_faults gives applied link_faults refusal
     follows)
 
 -- the same of one that wants a server
-pub serves_beside : {K D L : Type 0} (held : K → Option Rows) (may_leave : K → Rows → Type 0) (faults : K → ℕ) (disk_faults : D → ℕ) (gives : L → List Entry) (applied : L → Option (List Entry)) (link_faults refusals : L → ℕ) (before after : Condition → View K D L) (k : Condition) (was : View K D L) (past : List PastEntry) (c : Command) (r said : Reply)
-    → before k ≡ was → (before k).state.condition ≡ k → (after k).keeper ≡ (before k).keeper → (after k).file ≡ (before k).file → KeepsOn applied link_faults refusals (before k).follower (after k).follower → wants_server (call_of c) ≡ true → IsDue was.state past c → reaches_store (before k).state (call_of c) ≡ false → touches_file (call_of c) ≡ false → renews_replica (call_of c) ≡ false → said ≡ r
+pub serves_beside : {K D L : Type 0} (held : K → Option Rows) (may_leave : K → Rows → Type 0) (faults : K → ℕ) (disk_faults : D → ℕ) (gives : L → List Entry)
+    (applied : L → Option (List Entry)) (link_faults refusals : L → ℕ) (before after : Condition → View K D L) (k : Condition) (was : View K D L)
+    (past : List PastEntry) (c : Command) (r said : Reply)
+    → before k ≡ was → (before k).state.condition ≡ k → (after k).keeper ≡ (before k).keeper → (after k).file ≡ (before k).file
+    → KeepsOn applied link_faults refusals (before k).follower (after k).follower → wants_server (call_of c) ≡ true → IsDue was.state past c
+    → reaches_store (before k).state (call_of c) ≡ false → touches_file (call_of c) ≡ false → renews_replica (call_of c) ≡ false → said ≡ r
     → (Admits (with_calls (before Up).state past) c → IsAct (with_calls (before Up).state past) c (with_calls (after Up).state past) r)
     → Serves held may_leave faults disk_faults gives applied link_faults refusals was (after k) past c said
-serves_beside held may_leave faults disk_faults gives applied link_faults refusals before after k was past c r said is own kept file follows wants due off unfiled still same act =
+serves_beside held may_leave faults disk_faults gives applied link_faults refusals before after k was past c r said is own kept file follows wants due off
+    unfiled still same act =
     let here : IsDue (before k).state past c = subst (λ (v : View _ _ _). IsDue v.state past c) (sym is) due in
     let up : k ≡ Up = sym own ∙ due_up (before k).state past c wants here in
-    serves_apart held may_leave faults disk_faults gives applied link_faults refusals before after k was past c r said is kept file follows due off unfiled still same
-    (λ room. subst (λ q. IsAct (with_calls (before q).state past) c (with_calls (after q).state past) r) (sym up) (act (subst (λ q. Admits (with_calls (before q).state past) c) up room)))
+    serves_apart held may_leave faults disk_faults gives applied link_faults refusals before after k was past c r said is kept file follows due off unfiled
+    still same
+    (λ room. subst (λ q. IsAct (with_calls (before q).state past) c (with_calls (after q).state past) r) (sym up)
+    (act (subst (λ q. Admits (with_calls (before q).state past) c) up room)))
 
 -- any call but a restart
 pub never_restarts : (c : Command) → (c ≡ command.Restart → ⊥) → restarts (call_of c) ≡ false
@@ -434,14 +490,17 @@ given_noted made given (inl same) noted = ap is_unrecorded same ∙ noted
 given_noted made given (inr (row, is)) noted = ap is_unrecorded is
 
 -- no change is in flight where a call is due
-pub no_flight : (told link on : Bool) (k : Condition) (ss : List Session) (n : ℕ) (os : List (Option UnitKey)) (t : Table) (x m : ℕ) (rs : List NumberRange) (l : Ledger) (f : Failure) (past : List PastEntry) (c : Command) → restarts (call_of c) ≡ false → IsDue (state_with told link on k ss n os t x m rs l f []) past c
+pub no_flight : (told link on : Bool) (k : Condition) (ss : List Session) (n : ℕ) (os : List (Option UnitKey)) (t : Table) (x m : ℕ) (rs : List NumberRange)
+    (l : Ledger) (f : Failure) (past : List PastEntry) (c : Command) → restarts (call_of c) ≡ false
+    → IsDue (state_with told link on k ss n os t x m rs l f []) past c
     → (f.pending ≡ None) × (f.found ≡ None)
 no_flight told link on k ss n os t x m rs l f past c off due =
     let serving = due_serving (state_with told link on k ss n os t x m rs l f []) past c off due in
     (none_before f l (outside k _ serving due.kept.steady.settled), outside k _ serving due.kept.steady.unknown)
 
 -- a V2 part isn't one whose locks end
-pub posts_file : {D : Type 0} (faults : D → ℕ) (old new : BackupView D) (part worker : ℕ) (r : Reply) → IsPart part → MayFile faults old new r → (nat_eq part 1 ≡ false → new ≡ old)
+pub posts_file : {D : Type 0} (faults : D → ℕ) (old new : BackupView D) (part worker : ℕ) (r : Reply) → IsPart part → MayFile faults old new r
+    → (nat_eq part 1 ≡ false → new ≡ old)
     → LeavesFile faults (restarts (call_of (post_of part worker))) (touches_file (call_of (post_of part worker))) old new r
 posts_file faults old new part worker r is does unfiled =
     subst (λ call. LeavesFile faults (restarts call) (touches_file call) old new r) (sym (posts_part part worker is)) (by_part (nat_eq part 1) refl)

@@ -61,7 +61,8 @@ commit_noted s x parts stock =
     (one_of Q (nat_eq (effects_in parts) 0 && nat_eq (length numbers) 0) _ _ refl
     (by_room Q s (recording s x parts numbers) refl (recorded_noted s x parts numbers stock)))
 
-session_noted : (found : Found) (s : State) (x : Session) (call : SessionCall) (name : List ℕ) → ships (OfSession name call) ≡ true → IsNoted s (session_call found s x call)
+session_noted : (found : Found) (s : State) (x : Session) (call : SessionCall) (name : List ℕ) → ships (OfSession name call) ≡ true
+    → IsNoted s (session_call found s x call)
 session_noted found s x LogsOff name on = refl
 session_noted found s x (Asks rs) name on = grant_noted s _
 session_noted found s x (Frees rs) name on = refl
@@ -73,14 +74,17 @@ session_noted found s x (Reads table key) name on = never on
 session_noted found s x (Commits parts stock) name on = commit_noted s x parts stock
 session_noted found s x RollsBack name on = refl
 
-called_noted : (found : Found) (s : State) (call : SessionCall) (name : List ℕ) (o : Option Session) → ships (OfSession name call) ≡ true → IsNoted s (called found s call o)
+called_noted : (found : Found) (s : State) (call : SessionCall) (name : List ℕ) (o : Option Session) → ships (OfSession name call) ≡ true
+    → IsNoted s (called found s call o)
 called_noted found s call name None on = refl
 called_noted found s call name (Some x) on = session_noted found s x call name on
 
 posted_noted : (part : ℕ) (unit : UnitKey) (o : Outcome) → is_unrecorded (posted_reply part unit o) ≡ false
-posted_noted part unit outcome.Done = elim (nat_eq part 1) as (λ b. is_unrecorded (if b then reply.Posted unit else reply.Closed unit) ≡ false) [ true ↦ refl | false ↦ refl ]
+posted_noted part unit outcome.Done = elim (nat_eq part 1) as (λ b. is_unrecorded (if b then reply.Posted unit else reply.Closed unit) ≡ false)
+    [ true ↦ refl | false ↦ refl ]
 posted_noted part unit (outcome.Refused index reason) =
-    elim (nat_eq part 1) as (λ b. is_unrecorded (if b then reply.Bad unit index reason else reply.Bad2 unit index reason) ≡ false) [ true ↦ refl | false ↦ refl ]
+    elim (nat_eq part 1) as (λ b. is_unrecorded (if b then reply.Bad unit index reason else reply.Bad2 unit index reason) ≡ false)
+    [ true ↦ refl | false ↦ refl ]
 
 post_noted : (found : Found) (s : State) (worker part : ℕ) (o : Option UnitKey)
     → IsNoted s (elim o [ None ↦ Refuses refusal.NoOrder | Some unit ↦ with_room s (posting part s worker unit (found.part part unit)) ])
@@ -100,7 +104,8 @@ unclaimed_declines : (o : Option ℕ) (next : Result Status Refusal) → Decline
 unclaimed_declines None next h = h
 unclaimed_declines (Some worker) next h = refl
 
-status_declines : (b : Bool) (unit : UnitKey) (status : Status) (next : Result Status Refusal) → Declines next → Declines (if b then next else Err (refusal.WrongStatus unit status))
+status_declines : (b : Bool) (unit : UnitKey) (status : Status) (next : Result Status Refusal) → Declines next
+    → Declines (if b then next else Err (refusal.WrongStatus unit status))
 status_declines true unit status next h = h
 status_declines false unit status next h = refl
 
@@ -111,7 +116,8 @@ cancel_declines s unit =
       | Some status ↦ if_status may_cancel unit status (if_unclaimed (worker_of s.orders unit) (if_room s.stored s.mark_limit status))
     ])) [
       | None ↦ refl
-      | Some status ↦ status_declines (may_cancel status) unit status _ (unclaimed_declines (worker_of s.orders unit) _ (room_declines (nat_le s.mark_limit (length s.stored.marks)) s.mark_limit status))
+      | Some status ↦ status_declines (may_cancel status) unit status _
+          (unclaimed_declines (worker_of s.orders unit) _ (room_declines (nat_le s.mark_limit (length s.stored.marks)) s.mark_limit status))
     ]
 
 cancel_noted : (s : State) (unit : UnitKey) (r : Result Status Refusal) → Declines r → IsNoted s (cancelling s unit r)
@@ -157,6 +163,7 @@ own_noted found s (OfAdmin Attaches) on = refl
 own_noted found s (OfAdmin (Cancels unit)) on = cancel_noted s unit _ (cancel_declines s unit)
 own_noted found s (OfAdmin (Resubmits unit)) on = resubmit_noted s unit _ (resubmit_declines s unit)
 
-pub ships_noted : (found : Found) (s : State) (call : Call) → unavailable s call ≡ None → ships call ≡ true → is_unrecorded (judged s (call_verdict found s call)).reply ≡ false
+pub ships_noted : (found : Found) (s : State) (call : Call) → unavailable s call ≡ None → ships call ≡ true
+    → is_unrecorded (judged s (call_verdict found s call)).reply ≡ false
 unfolding call_verdict
 ships_noted found s call served on = subst (λ o. IsNoted s (unless_refused o (own_verdict found s call))) (sym served) (own_noted found s call on)

@@ -59,11 +59,14 @@ plain_replica (refusal.Unsound found) plain = absurd (cc)
 plain_replica r plain = refl
 
 posted_replica : (part : ℕ) (unit : UnitKey) (o : Outcome) → is_unsound_replica (posted_reply part unit o) ≡ false
-posted_replica part unit outcome.Done = elim (nat_eq part 1) as (λ b. is_unsound_replica (if b then reply.Posted unit else reply.Closed unit) ≡ false) [ true ↦ refl | false ↦ refl ]
+posted_replica part unit outcome.Done = elim (nat_eq part 1) as (λ b. is_unsound_replica (if b then reply.Posted unit else reply.Closed unit) ≡ false)
+    [ true ↦ refl | false ↦ refl ]
 posted_replica part unit (outcome.Refused index reason) =
-    elim (nat_eq part 1) as (λ b. is_unsound_replica (if b then reply.Bad unit index reason else reply.Bad2 unit index reason) ≡ false) [ true ↦ refl | false ↦ refl ]
+    elim (nat_eq part 1) as (λ b. is_unsound_replica (if b then reply.Bad unit index reason else reply.Bad2 unit index reason) ≡ false)
+    [ true ↦ refl | false ↦ refl ]
 
-good_verdict : (found : Found) (s : State) → IsTable (record { entries = s.locks; limit = s.limit }) → found.list ≡ s.locks → OfEach (λ call v. is_unsound_replica (judged s v).reply ≡ false) found s
+good_verdict : (found : Found) (s : State) → IsTable (record { entries = s.locks; limit = s.limit }) → found.list ≡ s.locks
+    → OfEach (λ call v. is_unsound_replica (judged s v).reply ≡ false) found s
 good_verdict found s table same = record {
   refuses = λ call r plain. plain_replica r plain;
   enters = λ name user free. refl;
@@ -98,7 +101,8 @@ told_replica (FindsBad place) = refl
 told_replica (FindsBadStore table row) = refl
 
 -- so no list of such a link is refused
-pub good_replica : (s : State) (c : Command) (after : State) (r : Reply) → IsTable (record { entries = s.locks; limit = s.limit }) → s.link_told ≡ true → IsAct s c after r
+pub good_replica : (s : State) (c : Command) (after : State) (r : Reply) → IsTable (record { entries = s.locks; limit = s.limit }) → s.link_told ≡ true
+    → IsAct s c after r
     → is_unsound_replica r ≡ false
 good_replica s c after r table told act =
     let o = act.outcome in

@@ -35,26 +35,35 @@ use Rattle.hall_calls.proofs.lists.BehindMarks.{again_same, committed_lists, end
 
 -- ---- a part that is posted
 
-pub posted_lists : (part : ℕ) → IsPart part → (ledger : Ledger) (unit : UnitKey) (o : Outcome) → WaitsFor part ledger unit → (lists : List Handed) → AreOpenLists ledger lists → AreOpenLists (with_mark ledger unit (kind_for part o)) (lists_ended (nat_eq part 1) lists unit)
+pub posted_lists : (part : ℕ) → IsPart part → (ledger : Ledger) (unit : UnitKey) (o : Outcome) → WaitsFor part ledger unit → (lists : List Handed)
+    → AreOpenLists ledger lists → AreOpenLists (with_mark ledger unit (kind_for part o)) (lists_ended (nat_eq part 1) lists unit)
 posted_lists part (inl e) ledger unit o waits lists h =
-    subst (λ p. AreOpenLists (with_mark ledger unit (kind_for p o)) (lists_ended (nat_eq p 1) lists unit)) (sym e) (ended_lists ledger unit (kind_for 1 o) lists (ends_first o) h)
+    subst (λ p. AreOpenLists (with_mark ledger unit (kind_for p o)) (lists_ended (nat_eq p 1) lists unit)) (sym e)
+    (ended_lists ledger unit (kind_for 1 o) lists (ends_first o) h)
 posted_lists part (inr e) ledger unit o waits lists h =
     subst (λ p. AreOpenLists (with_mark ledger unit (kind_for p o)) (lists_ended (nat_eq p 1) lists unit)) (sym e)
     (same_lists ledger (with_mark ledger unit (kind_for 2 o)) lists (second_same ledger unit o (subst (λ p. WaitsFor p ledger unit) e waits)) h)
 
-pub posted_agree : (part : ℕ) → IsPart part → (ledger : Ledger) (unit : UnitKey) (o : Outcome) (lists : List Handed) → AgreeAll ledger lists → AgreeAll (with_mark ledger unit (kind_for part o)) lists
-posted_agree part (inl e) ledger unit o lists h = subst (λ p. AgreeAll (with_mark ledger unit (kind_for p o)) lists) (sym e) (ended_agree ledger unit (kind_for 1 o) lists (ends_first o) h)
-posted_agree part (inr e) ledger unit o lists h = subst (λ p. AgreeAll (with_mark ledger unit (kind_for p o)) lists) (sym e) (ended_agree ledger unit (kind_for 2 o) lists (ends_second o) h)
+pub posted_agree : (part : ℕ) → IsPart part → (ledger : Ledger) (unit : UnitKey) (o : Outcome) (lists : List Handed) → AgreeAll ledger lists
+    → AgreeAll (with_mark ledger unit (kind_for part o)) lists
+posted_agree part (inl e) ledger unit o lists h = subst (λ p. AgreeAll (with_mark ledger unit (kind_for p o)) lists) (sym e)
+    (ended_agree ledger unit (kind_for 1 o) lists (ends_first o) h)
+posted_agree part (inr e) ledger unit o lists h = subst (λ p. AgreeAll (with_mark ledger unit (kind_for p o)) lists) (sym e)
+    (ended_agree ledger unit (kind_for 2 o) lists (ends_second o) h)
 
-pub posted_half : (part : ℕ) → IsPart part → (ledger : Ledger) (unit : UnitKey) (o : Outcome) (lists : List Handed) → AgreeAll ledger lists → AgreeAll (with_mark ledger unit (kind_for part o)) (lists_ended (nat_eq part 1) lists unit)
+pub posted_half : (part : ℕ) → IsPart part → (ledger : Ledger) (unit : UnitKey) (o : Outcome) (lists : List Handed) → AgreeAll ledger lists
+    → AgreeAll (with_mark ledger unit (kind_for part o)) (lists_ended (nat_eq part 1) lists unit)
 posted_half part (inl e) ledger unit o lists h =
-    subst (λ p. AgreeAll (with_mark ledger unit (kind_for p o)) (lists_ended (nat_eq p 1) lists unit)) (sym e) (ended_without ledger unit (kind_for 1 o) lists (ends_first o) h)
+    subst (λ p. AgreeAll (with_mark ledger unit (kind_for p o)) (lists_ended (nat_eq p 1) lists unit)) (sym e)
+    (ended_without ledger unit (kind_for 1 o) lists (ends_first o) h)
 posted_half part (inr e) ledger unit o lists h =
-    subst (λ p. AgreeAll (with_mark ledger unit (kind_for p o)) (lists_ended (nat_eq p 1) lists unit)) (sym e) (ended_agree ledger unit (kind_for 2 o) lists (ends_second o) h)
+    subst (λ p. AgreeAll (with_mark ledger unit (kind_for p o)) (lists_ended (nat_eq p 1) lists unit)) (sym e)
+    (ended_agree ledger unit (kind_for 2 o) lists (ends_second o) h)
 
 -- ---- a unit that is cancelled
 
-pub gone_lists : (ledger : Ledger) (unit : UnitKey) (status : Status) → status_of ledger.units ledger.marks unit ≡ Some status → may_cancel status ≡ true → (lists : List Handed) → AreOpenLists ledger lists → AreOpenLists (with_mark ledger unit Gone) (lists_ended (is_open status) lists unit)
+pub gone_lists : (ledger : Ledger) (unit : UnitKey) (status : Status) → status_of ledger.units ledger.marks unit ≡ Some status → may_cancel status ≡ true
+    → (lists : List Handed) → AreOpenLists ledger lists → AreOpenLists (with_mark ledger unit Gone) (lists_ended (is_open status) lists unit)
 gone_lists ledger unit Open here may lists h = ended_lists ledger unit Gone lists ends_gone h
 gone_lists ledger unit Bad here may lists h = same_lists ledger (with_mark ledger unit Gone) lists (gone_same ledger unit here) h
 gone_lists ledger unit Bad2 here may lists h = same_lists ledger (with_mark ledger unit Gone) lists (gone_second_same ledger unit here) h
@@ -65,12 +74,14 @@ gone_lists ledger unit Cancelled here may lists h = absurd (cc)
 pub gone_agree : (ledger : Ledger) (unit : UnitKey) (lists : List Handed) → AgreeAll ledger lists → AgreeAll (with_mark ledger unit Gone) lists
 gone_agree ledger unit lists h = ended_agree ledger unit Gone lists ends_gone h
 
-pub gone_half : (ledger : Ledger) (unit : UnitKey) (ends : Bool) (lists : List Handed) → AgreeAll ledger lists → AgreeAll (with_mark ledger unit Gone) (lists_ended ends lists unit)
+pub gone_half : (ledger : Ledger) (unit : UnitKey) (ends : Bool) (lists : List Handed) → AgreeAll ledger lists
+    → AgreeAll (with_mark ledger unit Gone) (lists_ended ends lists unit)
 gone_half ledger unit true lists h = ended_without ledger unit Gone lists ends_gone h
 gone_half ledger unit false lists h = gone_agree ledger unit lists h
 
 -- the locks that end are those of a unit that waited
-pub ended_so : (status : Status) (ends : Bool) (entries : List Entry) (unit : UnitKey) → ends ≡ is_open status → locks_ended ends entries unit ≡ locks_without status entries unit
+pub ended_so : (status : Status) (ends : Bool) (entries : List Entry) (unit : UnitKey) → ends ≡ is_open status
+    → locks_ended ends entries unit ≡ locks_without status entries unit
 ended_so status ends entries unit is = ap (λ b. locks_ended b entries unit) is ∙ by_status status
   where
     by_status : (x : Status) → locks_ended (is_open x) entries unit ≡ locks_without x entries unit
@@ -101,28 +112,36 @@ was_bad2 (Some Closed) h = cc
 was_bad2 (Some Bad2) h = refl
 was_bad2 (Some Cancelled) h = cc
 
-pub again2_lists : (ledger : Ledger) (unit : UnitKey) → may_follow (status_of ledger.units ledger.marks unit) Again2 ≡ true → (lists : List Handed) → AreOpenLists ledger lists → AreOpenLists (with_mark ledger unit Again2) lists
-again2_lists ledger unit may lists h = same_lists ledger (with_mark ledger unit Again2) lists (again_same ledger unit (was_bad2 (status_of ledger.units ledger.marks unit) may)) h
+pub again2_lists : (ledger : Ledger) (unit : UnitKey) → may_follow (status_of ledger.units ledger.marks unit) Again2 ≡ true → (lists : List Handed)
+    → AreOpenLists ledger lists → AreOpenLists (with_mark ledger unit Again2) lists
+again2_lists ledger unit may lists h = same_lists ledger (with_mark ledger unit Again2) lists
+    (again_same ledger unit (was_bad2 (status_of ledger.units ledger.marks unit) may)) h
 
-pub again2_agree : (ledger : Ledger) (unit : UnitKey) → may_follow (status_of ledger.units ledger.marks unit) Again2 ≡ true → (lists : List Handed) → AgreeAll ledger lists → AgreeAll (with_mark ledger unit Again2) lists
-again2_agree ledger unit may lists h = same_agree ledger (with_mark ledger unit Again2) lists (again_same ledger unit (was_bad2 (status_of ledger.units ledger.marks unit) may)) h
+pub again2_agree : (ledger : Ledger) (unit : UnitKey) → may_follow (status_of ledger.units ledger.marks unit) Again2 ≡ true → (lists : List Handed)
+    → AgreeAll ledger lists → AgreeAll (with_mark ledger unit Again2) lists
+again2_agree ledger unit may lists h = same_agree ledger (with_mark ledger unit Again2) lists
+    (again_same ledger unit (was_bad2 (status_of ledger.units ledger.marks unit) may)) h
 
 -- ---- numbers alone
 
 module _ {D : Type 0} (tells : Bool) (reads : D → List ℕ) (may_leave : D → List ℕ → Type 0) (faults : D → ℕ) where
-  pub numbers_files : (old new : List Session) (ledger now : Ledger) (name : List ℕ) (unit : UnitKey) (numbers : List Number) (levels : List StoredInterval) (file : BackupView D) (w : Written)
-      → HasOpenLists tells reads may_leave ledger file → OnStoreFailure w (now ≡ ledger) → RecordsNumbers old new ledger now name unit numbers levels w → FilesAs tells reads may_leave faults now file file w
+  pub numbers_files : (old new : List Session) (ledger now : Ledger) (name : List ℕ) (unit : UnitKey) (numbers : List Number) (levels : List StoredInterval)
+      (file : BackupView D) (w : Written)
+      → HasOpenLists tells reads may_leave ledger file → OnStoreFailure w (now ≡ ledger) → RecordsNumbers old new ledger now name unit numbers levels w
+      → FilesAs tells reads may_leave faults now file file w
   numbers_files old new ledger now name unit numbers levels file (Answered reply.Done) has kept h =
       answered_files tells reads may_leave faults now file file reply.Done (record {
         usable = has.usable;
         ready = λ t. let k = has.ready t in record {
           lists = k.lists;
           ready = k.ready;
-          just = subst (λ l. AreOpenLists l k.lists) (sym h.1) (same_lists ledger (with_intervals levels (with_mark ledger unit (Num numbers))) k.lists (numbers_same ledger unit numbers levels) k.just);
+          just = subst (λ l. AreOpenLists l k.lists) (sym h.1)
+              (same_lists ledger (with_intervals levels (with_mark ledger unit (Num numbers))) k.lists (numbers_same ledger unit numbers levels) k.just);
         };
       }) (record { cause = refl; kept = tt })
   numbers_files old new ledger now name unit numbers levels file (Answered (reply.Refused refusal.NoMemory)) has kept h =
-      answered_files tells reads may_leave faults now file file (reply.Refused refusal.NoMemory) (subst (λ l. HasOpenLists tells reads may_leave l file) (sym h.1) has) (record { cause = refl; kept = same_file file })
+      answered_files tells reads may_leave faults now file file (reply.Refused refusal.NoMemory)
+      (subst (λ l. HasOpenLists tells reads may_leave l file) (sym h.1) has) (record { cause = refl; kept = same_file file })
   numbers_files old new ledger now name unit numbers levels file (Failed (Some (Draw key drawn rows))) has kept h =
       failed_before tells reads may_leave faults ledger now file (Some (Draw key drawn rows)) has kept
       (λ lists just. same_agree ledger (with_intervals rows (with_mark ledger key (Num drawn))) lists (numbers_same ledger key drawn rows) just.agree)
@@ -131,7 +150,8 @@ module _ {D : Type 0} (tells : Bool) (reads : D → List ℕ) (may_leave : D →
 -- ---- a unit whose list the file has
 
 -- whether its list was written or not, the open units agree with the lists as long as it isn't recorded
-pub unsaved_agree : (ledger now : Ledger) (unit : UnitOfWork) (locks : List Entry) → IsOfCommit ledger unit locks → now ≡ ledger → (lists : List Handed) → AreOpenLists ledger lists
+pub unsaved_agree : (ledger now : Ledger) (unit : UnitOfWork) (locks : List Entry) → IsOfCommit ledger unit locks → now ≡ ledger → (lists : List Handed)
+    → AreOpenLists ledger lists
     → AgreeAll now lists × AgreeAll now (with_list unit.key (lasting unit.key locks) lists)
 unsaved_agree ledger now unit locks commit is lists just =
     subst (λ l. AgreeAll l lists × AgreeAll l (with_list unit.key (lasting unit.key locks) lists)) (sym is)
@@ -139,7 +159,8 @@ unsaved_agree ledger now unit locks commit is lists just =
 
 module _ {D : Type 0} (tells : Bool) (reads : D → List ℕ) (may_leave : D → List ℕ → Type 0) where
   -- it was recorded
-  pub saved_lists : (ledger next now : Ledger) (old new : BackupView D) → IsSaved tells reads may_leave ledger next old → new ≡ old → now ≡ next → HasOpenLists tells reads may_leave now new
+  pub saved_lists : (ledger next now : Ledger) (old new : BackupView D) → IsSaved tells reads may_leave ledger next old → new ≡ old → now ≡ next
+      → HasOpenLists tells reads may_leave now new
   saved_lists ledger next now old new saved same is =
       subst (λ f. HasOpenLists tells reads may_leave now f) (sym same) (subst (λ l. HasOpenLists tells reads may_leave l old) (sym is) (record {
         usable = saved.usable;
@@ -147,15 +168,18 @@ module _ {D : Type 0} (tells : Bool) (reads : D → List ℕ) (may_leave : D →
       }))
 
   -- it is in flight
-  pub saved_agrees : (ledger now : Ledger) (unit : UnitOfWork) (levels rows : List StoredInterval) (file : BackupView D) → IsSaved tells reads may_leave ledger (with_intervals levels (with_unit ledger unit)) file → now ≡ ledger → rows ≡ levels
+  pub saved_agrees : (ledger now : Ledger) (unit : UnitOfWork) (levels rows : List StoredInterval) (file : BackupView D)
+      → IsSaved tells reads may_leave ledger (with_intervals levels (with_unit ledger unit)) file → now ≡ ledger → rows ≡ levels
       → AgreesBoth tells reads may_leave (λ d. 0) now (Some (Record unit rows)) file
   saved_agrees ledger now unit levels rows file saved is same =
       subst (λ l. AgreesBoth tells reads may_leave (λ d. 0) l (Some (Record unit rows)) file) (sym is)
       (λ t. let h = saved.ready t in (h.0, h.1, h.2, subst (λ ls. AgreeAll (with_intervals ls (with_unit ledger unit)) h.0) (sym same) h.3.agree))
 
   -- its list was written, where it has locks
-  pub written_saved : (ledger : Ledger) (unit : UnitOfWork) (levels : List StoredInterval) (locks : List Entry) (old new : BackupView D) → HasOpenLists tells reads may_leave ledger old → new.failed ≡ false → IsOfCommit ledger unit locks
-      → (IsTrue tells → (lists : List Handed) → IsReady reads may_leave old lists → IsReady reads may_leave new (with_list unit.key (lasting unit.key locks) lists))
+  pub written_saved : (ledger : Ledger) (unit : UnitOfWork) (levels : List StoredInterval) (locks : List Entry) (old new : BackupView D)
+      → HasOpenLists tells reads may_leave ledger old → new.failed ≡ false → IsOfCommit ledger unit locks
+      → (IsTrue tells → (lists : List Handed) → IsReady reads may_leave old lists
+      → IsReady reads may_leave new (with_list unit.key (lasting unit.key locks) lists))
       → IsSaved tells reads may_leave ledger (with_intervals levels (with_unit ledger unit)) new
   written_saved ledger unit levels locks old new has usable commit written = record {
     usable = usable;

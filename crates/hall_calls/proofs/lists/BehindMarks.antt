@@ -47,13 +47,15 @@ use Rattle.hall_model.proofs.BesideRecorded.{entries_beside}
 -- ---- lists
 
 -- of what is so of each element a filter leaves what is so of those that pass
-every_kept : {A : Type 0} (Q P : A → Type 0) (p : A → Bool) → ((x : A) → Q x → p x ≡ true → P x) → (xs : List A) → AllByRecursion Q xs → AllByRecursion P (filter p xs)
+every_kept : {A : Type 0} (Q P : A → Type 0) (p : A → Bool) → ((x : A) → Q x → p x ≡ true → P x) → (xs : List A) → AllByRecursion Q xs
+    → AllByRecursion P (filter p xs)
 every_kept Q P p k [] h = tt
 every_kept Q P p k (x ∷ xs) h =
     let rest = every_kept Q P p k xs h.1 in
     elim (p x) as (λ b. p x ≡ b → AllByRecursion P (cond b (x ∷ filter p xs) (filter p xs))) [ true ↦ λ e. (k x h.0 e, rest) | false ↦ λ e. rest ] refl
 
-listed_other : (l : List Handed) (key other : UnitKey) (es : List Entry) → same_unit key other ≡ false → listed_of (with_list key es l) other ≡ listed_of l other
+listed_other : (l : List Handed) (key other : UnitKey) (es : List Entry) → same_unit key other ≡ false
+    → listed_of (with_list key es l) other ≡ listed_of l other
 listed_other l key other [] apart = refl
 listed_other l key other (e ∷ es) apart =
     entries-with l key other (e ∷ es) (omega arith) ∙ ap (λ b. if b then (handed_of key (e ∷ es)).entries else listed_of l other) apart
@@ -64,7 +66,8 @@ listed_own l key (e ∷ es) none =
     entries-with l key key (e ∷ es) (omega arith) ∙ ap (λ b. if b then (handed_of key (e ∷ es)).entries else listed_of l key) (unit_refl key)
 
 -- what hangs on the units of the lists alone
-every_with : (P : UnitKey → Type 0) (l : List Handed) (key : UnitKey) (es : List Entry) → P key → AllByRecursion (λ (h : Handed). P h.unit) l → AllByRecursion (λ (h : Handed). P h.unit) (with_list key es l)
+every_with : (P : UnitKey → Type 0) (l : List Handed) (key : UnitKey) (es : List Entry) → P key → AllByRecursion (λ (h : Handed). P h.unit) l
+    → AllByRecursion (λ (h : Handed). P h.unit) (with_list key es l)
 every_with P l key [] here h = h
 every_with P l key (e ∷ es) here h =
     let Q : Handed → Type 0 = λ x. P x.unit in
@@ -99,7 +102,8 @@ apart_from_shut ledger key other shut waits =
     ]
 
 -- a list that is written of a unit which isn't open leaves those of the open ones
-pub beside_agree : (ledger : Ledger) (key : UnitKey) (es : List Entry) (lists : List Handed) → (IsOpenUnit ledger key → ⊥) → AgreeAll ledger lists → AgreeAll ledger (with_list key es lists)
+pub beside_agree : (ledger : Ledger) (key : UnitKey) (es : List Entry) (lists : List Handed) → (IsOpenUnit ledger key → ⊥) → AgreeAll ledger lists
+    → AgreeAll ledger (with_list key es lists)
 beside_agree ledger key es lists shut h =
     all_agree ledger (with_list key es lists)
     (λ unit waits. each_agree ledger lists h unit waits ∙ sym (listed_other lists key unit es (apart_from_shut ledger key unit shut waits)))
@@ -110,7 +114,9 @@ entries_recorded : (ledger : Ledger) (unit : UnitOfWork) → unit_at ledger.unit
 entries_recorded ledger unit none = ap (λ o. option_map_or (λ (u : UnitOfWork). u.entries) o []) (unit_new ledger.units unit none)
 
 -- of a session that is logged on
-pub of_session : (ledger : Ledger) (sessions : List Session) (name : List ℕ) (x : Session) (locks : List Entry) (parts : Parts) (numbers : List Number) → session_at sessions name ≡ Some x → status_in ledger (unit_key ledger.start x) ≡ None → HaveMarks ledger → AllByRecursion (OfLock (HasItsUser ledger.start sessions)) locks
+pub of_session : (ledger : Ledger) (sessions : List Session) (name : List ℕ) (x : Session) (locks : List Entry) (parts : Parts) (numbers : List Number)
+    → session_at sessions name ≡ Some x → status_in ledger (unit_key ledger.start x) ≡ None → HaveMarks ledger
+    → AllByRecursion (OfLock (HasItsUser ledger.start sessions)) locks
     → IsOfCommit ledger (unit_of ledger.start locks x parts numbers) locks
 of_session ledger sessions name x locks parts numbers found fresh marked users = record {
   fresh = fresh;
@@ -119,7 +125,8 @@ of_session ledger sessions name x locks parts numbers found fresh marked users =
   used = lasting_used locks sessions name ledger.start x found users;
 }
 
-recorded_agree : (ledger : Ledger) (unit : UnitOfWork) (locks : List Entry) (lists : List Handed) → IsOfCommit ledger unit locks → FollowUnits ledger lists → AgreeEach (with_unit ledger unit) (with_list unit.key (lasting unit.key locks) lists)
+recorded_agree : (ledger : Ledger) (unit : UnitOfWork) (locks : List Entry) (lists : List Handed) → IsOfCommit ledger unit locks → FollowUnits ledger lists
+    → AgreeEach (with_unit ledger unit) (with_list unit.key (lasting unit.key locks) lists)
 recorded_agree ledger unit locks lists new h other waits =
     let key = unit.key in
     let written = with_list key (lasting key locks) lists in
@@ -137,7 +144,8 @@ recorded_agree ledger unit locks lists new h other waits =
           ∙ sym (listed_other lists key other (lasting key locks) apart)
     ]
 
-recorded_lists : (ledger : Ledger) (unit : UnitOfWork) (locks : List Entry) (lists : List Handed) → IsOfCommit ledger unit locks → FollowUnits ledger lists → FollowUnits (with_unit ledger unit) (with_list unit.key (lasting unit.key locks) lists)
+recorded_lists : (ledger : Ledger) (unit : UnitOfWork) (locks : List Entry) (lists : List Handed) → IsOfCommit ledger unit locks → FollowUnits ledger lists
+    → FollowUnits (with_unit ledger unit) (with_list unit.key (lasting unit.key locks) lists)
 recorded_lists ledger unit locks lists new h = record {
   agree = recorded_agree ledger unit locks lists new h;
   only = every_with (IsOpenUnit (with_unit ledger unit)) lists unit.key (lasting unit.key locks) (recorded_here ledger unit)
@@ -170,7 +178,8 @@ levels_same : (ledger : Ledger) (levels : List StoredInterval) → SameOpen ledg
 levels_same ledger levels = record { units = refl; stays = λ unit waits. waits; was = λ unit waits. waits }
 
 -- numbers that are recorded alone, with the levels that they leave
-pub numbers_same : (ledger : Ledger) (key : UnitKey) (numbers : List Number) (levels : List StoredInterval) → SameOpen ledger (with_intervals levels (with_mark ledger key (Num numbers)))
+pub numbers_same : (ledger : Ledger) (key : UnitKey) (numbers : List Number) (levels : List StoredInterval)
+    → SameOpen ledger (with_intervals levels (with_mark ledger key (Num numbers)))
 numbers_same ledger key numbers levels = record {
   units = refl;
   stays = λ unit waits. numbers_leave ledger key unit numbers ∙ waits;
@@ -184,7 +193,8 @@ was_open : (ledger : Ledger) (key other : UnitKey) (kind : MarkKind) → EndsFir
 was_open ledger key other kind ends waits = sym (marked_other ledger key other kind (apart_from_ended ledger key other kind ends waits)) ∙ waits
 
 -- and of a unit that wasn't open before it either it leaves the open ones
-pub shut_same : (ledger : Ledger) (key : UnitKey) (kind : MarkKind) (status : Status) → EndsFirst kind → status_in ledger key ≡ Some status → (status ≡ Open → ⊥) → SameOpen ledger (with_mark ledger key kind)
+pub shut_same : (ledger : Ledger) (key : UnitKey) (kind : MarkKind) (status : Status) → EndsFirst kind → status_in ledger key ≡ Some status
+    → (status ≡ Open → ⊥) → SameOpen ledger (with_mark ledger key kind)
 shut_same ledger key kind status ends here differs = record {
   units = refl;
   stays = λ unit waits. marked_other ledger key unit kind (apart_from_shut ledger key unit (λ k. status_shut ledger key status here differs k) waits) ∙ waits;
@@ -224,24 +234,30 @@ gone_second_same ledger key here = shut_same ledger key Gone BadSecond ends_gone
 -- ---- the V1 part of a unit ends
 
 -- with its list as without it the other units agree
-pub ended_agree : (ledger : Ledger) (key : UnitKey) (kind : MarkKind) (lists : List Handed) → EndsFirst kind → AgreeAll ledger lists → AgreeAll (with_mark ledger key kind) lists
-ended_agree ledger key kind lists ends h = all_agree (with_mark ledger key kind) lists (λ unit waits. each_agree ledger lists h unit (was_open ledger key unit kind ends waits))
+pub ended_agree : (ledger : Ledger) (key : UnitKey) (kind : MarkKind) (lists : List Handed) → EndsFirst kind → AgreeAll ledger lists
+    → AgreeAll (with_mark ledger key kind) lists
+ended_agree ledger key kind lists ends h = all_agree (with_mark ledger key kind) lists
+    (λ unit waits. each_agree ledger lists h unit (was_open ledger key unit kind ends waits))
 
-freed_each : (ledger : Ledger) (key : UnitKey) (kind : MarkKind) (lists : List Handed) → EndsFirst kind → AgreeEach ledger lists → AgreeEach (with_mark ledger key kind) (without key lists)
+freed_each : (ledger : Ledger) (key : UnitKey) (kind : MarkKind) (lists : List Handed) → EndsFirst kind → AgreeEach ledger lists
+    → AgreeEach (with_mark ledger key kind) (without key lists)
 freed_each ledger key kind lists ends h unit waits =
     let apart = apart_from_ended ledger key unit kind ends waits in
     h unit (was_open ledger key unit kind ends waits)
     ∙ sym (entries-without lists key unit ∙ ap (λ b. if b then [] else listed_of lists unit) apart)
 
-pub ended_without : (ledger : Ledger) (key : UnitKey) (kind : MarkKind) (lists : List Handed) → EndsFirst kind → AgreeAll ledger lists → AgreeAll (with_mark ledger key kind) (without key lists)
-ended_without ledger key kind lists ends h = all_agree (with_mark ledger key kind) (without key lists) (freed_each ledger key kind lists ends (each_agree ledger lists h))
+pub ended_without : (ledger : Ledger) (key : UnitKey) (kind : MarkKind) (lists : List Handed) → EndsFirst kind → AgreeAll ledger lists
+    → AgreeAll (with_mark ledger key kind) (without key lists)
+ended_without ledger key kind lists ends h = all_agree (with_mark ledger key kind) (without key lists)
+    (freed_each ledger key kind lists ends (each_agree ledger lists h))
 
 apart_by_not : (b : Bool) → not b ≡ true → b ≡ false
 apart_by_not true h = cc
 apart_by_not false h = refl
 
 -- the lists are those of the open units again once the unit's is freed
-pub ended_lists : (ledger : Ledger) (key : UnitKey) (kind : MarkKind) (lists : List Handed) → EndsFirst kind → AreOpenLists ledger lists → AreOpenLists (with_mark ledger key kind) (without key lists)
+pub ended_lists : (ledger : Ledger) (key : UnitKey) (kind : MarkKind) (lists : List Handed) → EndsFirst kind → AreOpenLists ledger lists
+    → AreOpenLists (with_mark ledger key kind) (without key lists)
 ended_lists ledger key kind lists ends h =
     let all = follow_units ledger lists h in
     are_open_lists (with_mark ledger key kind) (without key lists) (record {
@@ -253,7 +269,8 @@ ended_lists ledger key kind lists ends h =
 -- ---- commits
 
 -- once the unit's list is written and the unit is recorded, with these levels
-pub committed_lists : (ledger : Ledger) (unit : UnitOfWork) (levels : List StoredInterval) (locks : List Entry) (lists : List Handed) → IsOfCommit ledger unit locks → AreOpenLists ledger lists
+pub committed_lists : (ledger : Ledger) (unit : UnitOfWork) (levels : List StoredInterval) (locks : List Entry) (lists : List Handed)
+    → IsOfCommit ledger unit locks → AreOpenLists ledger lists
     → AreOpenLists (with_intervals levels (with_unit ledger unit)) (with_list unit.key (lasting unit.key locks) lists)
 committed_lists ledger unit levels locks lists new h =
     let written = with_list unit.key (lasting unit.key locks) lists in
@@ -261,18 +278,22 @@ committed_lists ledger unit levels locks lists new h =
     (are_open_lists (with_unit ledger unit) written (recorded_lists ledger unit locks lists new (follow_units ledger lists h)))
 
 -- the list is written, and the unit isn't recorded
-pub uncommitted_agree : (ledger : Ledger) (key : UnitKey) (es : List Entry) (lists : List Handed) → status_in ledger key ≡ None → AgreeAll ledger lists → AgreeAll ledger (with_list key es lists)
+pub uncommitted_agree : (ledger : Ledger) (key : UnitKey) (es : List Entry) (lists : List Handed) → status_in ledger key ≡ None → AgreeAll ledger lists
+    → AgreeAll ledger (with_list key es lists)
 uncommitted_agree ledger key es lists fresh h = beside_agree ledger key es lists (λ waits. unheard_shut ledger key fresh waits) h
 
 -- ---- the V1 part of a unit is tried again
 
-again_each : (ledger : Ledger) (key : UnitKey) (user : List ℕ) (es : List Entry) (lists : List Handed) → status_in ledger key ≡ Some Bad → es ≡ entries_of ledger.units key → AllByRecursion (λ (e : Entry). e.user ≡ user) es → AllByRecursion (λ (e : Entry). e.handed ≡ true) es → FollowUnits ledger lists
+again_each : (ledger : Ledger) (key : UnitKey) (user : List ℕ) (es : List Entry) (lists : List Handed) → status_in ledger key ≡ Some Bad
+    → es ≡ entries_of ledger.units key → AllByRecursion (λ (e : Entry). e.user ≡ user) es → AllByRecursion (λ (e : Entry). e.handed ≡ true) es
+    → FollowUnits ledger lists
     → AgreeEach (with_mark ledger key Again1) (with_list key es lists)
 again_each ledger key user es lists here is used flags h other waits =
     let unlisted = none_listed ledger lists key (λ k. status_shut ledger key Bad here bad_differs k) h.only in
     let own : entries_of ledger.units key ≡ listed_of (with_list key es lists) key =
     sym is
-    ∙ sym (returned_as_kept key user es (All-from_recursion (λ (e : Entry). e.user ≡ user) es used) (All-from_recursion (λ (e : Entry). e.handed ≡ true) es flags))
+    ∙ sym (returned_as_kept key user es (All-from_recursion (λ (e : Entry). e.user ≡ user) es used)
+    (All-from_recursion (λ (e : Entry). e.handed ≡ true) es flags))
     ∙ sym (listed_own lists key es unlisted) in
     elim (cases_Bool (same_unit key other)) [
       | inl same ↦ subst (λ (k : UnitKey). entries_of ledger.units k ≡ listed_of (with_list key es lists) k) (one_unit key other same) own
@@ -280,28 +301,35 @@ again_each ledger key user es lists here is used flags h other waits =
     ]
 
 -- once the unit's stored locks are written as its list, and the mark is
-pub again_lists : (ledger : Ledger) (key : UnitKey) (user : List ℕ) (es : List Entry) (lists : List Handed) → status_in ledger key ≡ Some Bad → es ≡ entries_of ledger.units key → AllByRecursion (λ (e : Entry). e.user ≡ user) es → AllByRecursion (λ (e : Entry). e.handed ≡ true) es → AreOpenLists ledger lists
+pub again_lists : (ledger : Ledger) (key : UnitKey) (user : List ℕ) (es : List Entry) (lists : List Handed) → status_in ledger key ≡ Some Bad
+    → es ≡ entries_of ledger.units key → AllByRecursion (λ (e : Entry). e.user ≡ user) es → AllByRecursion (λ (e : Entry). e.handed ≡ true) es
+    → AreOpenLists ledger lists
     → AreOpenLists (with_mark ledger key Again1) (with_list key es lists)
 again_lists ledger key user es lists here is used flags h =
     let all = follow_units ledger lists h in
-    let apart : (x : Handed) → IsOfOpen ledger x → same_unit key x.unit ≡ false = λ x waits. apart_from_shut ledger key x.unit (λ k. status_shut ledger key Bad here bad_differs k) waits in
+    let apart : (x : Handed) → IsOfOpen ledger x → same_unit key x.unit ≡ false =
+    λ x waits. apart_from_shut ledger key x.unit (λ k. status_shut ledger key Bad here bad_differs k) waits in
     are_open_lists (with_mark ledger key Again1) (with_list key es lists) (record {
       agree = again_each ledger key user es lists here is used flags all;
       only = every_with (IsOpenUnit (with_mark ledger key Again1)) lists key es (status_marked ledger key Again1)
-          (every_more (IsOfOpen ledger) (IsOfOpen (with_mark ledger key Again1)) (λ x waits. marked_other ledger key x.unit Again1 (apart x waits) ∙ waits) lists all.only);
+          (every_more (IsOfOpen ledger) (IsOfOpen (with_mark ledger key Again1))
+          (λ x waits. marked_other ledger key x.unit Again1 (apart x waits) ∙ waits) lists all.only);
     })
 
 -- the list is written, and the mark isn't
-pub unagain_agree : (ledger : Ledger) (key : UnitKey) (es : List Entry) (lists : List Handed) → status_in ledger key ≡ Some Bad → AgreeAll ledger lists → AgreeAll ledger (with_list key es lists)
+pub unagain_agree : (ledger : Ledger) (key : UnitKey) (es : List Entry) (lists : List Handed) → status_in ledger key ≡ Some Bad → AgreeAll ledger lists
+    → AgreeAll ledger (with_list key es lists)
 unagain_agree ledger key es lists here h = beside_agree ledger key es lists (λ waits. status_shut ledger key Bad here bad_differs waits) h
 
 -- the same with the locks that are stored with the unit
-pub reopened_lists : (ledger : Ledger) (key : UnitKey) (lists : List Handed) → status_in ledger key ≡ Some Bad → AllByRecursion HasGoodLocks ledger.units → AreOpenLists ledger lists
+pub reopened_lists : (ledger : Ledger) (key : UnitKey) (lists : List Handed) → status_in ledger key ≡ Some Bad → AllByRecursion HasGoodLocks ledger.units
+    → AreOpenLists ledger lists
     → AreOpenLists (with_mark ledger key Again1) (with_list key (entries_of ledger.units key) lists)
 reopened_lists ledger key lists here good h =
     let used = stored_used ledger.units key good in
     again_lists ledger key used.0 (entries_of ledger.units key) lists here refl used.1 (stored_flags ledger.units key good) h
 
-pub reopened_agree : (ledger : Ledger) (key : UnitKey) (lists : List Handed) → status_in ledger key ≡ Some Bad → AllByRecursion HasGoodLocks ledger.units → AreOpenLists ledger lists
+pub reopened_agree : (ledger : Ledger) (key : UnitKey) (lists : List Handed) → status_in ledger key ≡ Some Bad → AllByRecursion HasGoodLocks ledger.units
+    → AreOpenLists ledger lists
     → AgreeAll (with_mark ledger key Again1) (with_list key (entries_of ledger.units key) lists)
 reopened_agree ledger key lists here good h = (reopened_lists ledger key lists here good h).agree

@@ -35,20 +35,23 @@ use Rattle.hall_calls.proofs.verdicts.Replies.{is_fault_reply, verdict_answered}
 
 -- ---- a backup file that has the locks of these units
 
-agrees_at : (lists : List Handed) (front : List UnitLocks) (found : UnitLocks) (rest : List UnitLocks) → AllByRecursion (Agrees lists) (front ++ found ∷ rest) → Agrees lists found
+agrees_at : (lists : List Handed) (front : List UnitLocks) (found : UnitLocks) (rest : List UnitLocks) → AllByRecursion (Agrees lists) (front ++ found ∷ rest)
+    → Agrees lists found
 agrees_at lists [] found rest h = h.0
 agrees_at lists (u ∷ front) found rest h = agrees_at lists front found rest h.1
 
 no_difference : (xs ys : List Entry) (at : ℕ) → xs ≡ ys → IsFirstDifference xs ys at → ⊥
 no_difference xs ys at same d = d.differ (ap (λ zs. slice_get zs d.before) same)
 
-none_missing : (lists : List Handed) (units : List UnitLocks) (unit : UnitKey) (at : ℕ) → AllByRecursion (Agrees lists) units → IsMissing lists units unit at → ⊥
+none_missing : (lists : List Handed) (units : List UnitLocks) (unit : UnitKey) (at : ℕ) → AllByRecursion (Agrees lists) units → IsMissing lists units unit at
+    → ⊥
 none_missing lists units unit at agree m =
     let own : Agrees lists m.found = agrees_at lists m.front m.found m.rest (subst (AllByRecursion (Agrees lists)) m.whole agree) in
     no_difference m.found.entries (entries_of lists unit) at (own ∙ ap (entries_of lists) m.named) m.difference
 
 -- no place of it is bad
-pub no_bad_place : (bytes : List ℕ) (units : List UnitLocks) (lists : List Handed) (place : BackupBad) → Stands bytes lists → All (Agrees lists) units → IsSound (joined units) → IsOpenFault bytes units (opening.Bad place) → ⊥
+pub no_bad_place : (bytes : List ℕ) (units : List UnitLocks) (lists : List Handed) (place : BackupBad) → Stands bytes lists → All (Agrees lists) units
+    → IsSound (joined units) → IsOpenFault bytes units (opening.Bad place) → ⊥
 no_bad_place bytes units lists (backup.Bytes at) stands agree sound why = stands_unbroken grammar record_at record_reader bytes lists at stands why
 no_bad_place bytes units lists (backup.Clash first second) stands agree sound why = why.2.unsound sound
 no_bad_place bytes units lists (backup.Missing unit at) stands agree sound why =
@@ -91,7 +94,8 @@ pub others_sound : (s : State) (c : Command) (after : State) (r : Reply) → IsA
 others_sound s c after r act off =
     let o = act.outcome in
     let told : (served o s c).reply ≡ r = ap (λ (x : Served). x.reply) act.same in
-    elim o.event as (λ e. MayHappen e s (call_of c) (call_verdict (found_by o.reading s) s (call_of c)) → (served (record { event = e; reading = o.reading; lost = o.lost }) s c).reply ≡ r → is_unsound r ≡ false) [
+    elim o.event as (λ e. MayHappen e s (call_of c) (call_verdict (found_by o.reading s) s (call_of c))
+    → (served (record { event = e; reading = o.reading; lost = o.lost }) s c).reply ≡ r → is_unsound r ≡ false) [
       | AllWell ↦ λ may is. subst (λ x. is_unsound x ≡ false) is (plain_sound _ (verdict_answered (found_by o.reading s) s (call_of c)).own)
       | Wanting ↦ λ may is. sym (ap is_unsound is)
       | StoreFails ↦ λ may is. sym (ap is_unsound is)
@@ -100,7 +104,8 @@ others_sound s c after r act off =
       | NotRemade fault ↦ λ may is. let odd : false ≡ true = sym off ∙ may.1 in absurd (cc)
     ] act.possible.event told
 
-barred_sound : (found : Found) (s : State) (call : Call) (r : Refusal) → unavailable s call ≡ Some r → is_fault_reply (judged s (call_verdict found s call)).reply ≡ false → is_unsound (reply.Refused r) ≡ false
+barred_sound : (found : Found) (s : State) (call : Call) (r : Refusal) → unavailable s call ≡ Some r
+    → is_fault_reply (judged s (call_verdict found s call)).reply ≡ false → is_unsound (reply.Refused r) ≡ false
 unfolding call_verdict
 barred_sound found s call r is own =
     plain_sound (reply.Refused r) (subst (λ o. is_fault_reply (judged s (unless_refused o (own_verdict found s call))).reply ≡ false) is own)
@@ -110,6 +115,7 @@ pub refused_sound : (s : State) (call : Call) (r : Refusal) → unavailable s ca
 refused_sound s call r is = barred_sound (found_in s) s call r is (verdict_answered (found_in s) s call).own
 
 -- a text that can't be told twice tells of none either
-pub given_sound : (tells : Reply → Bool) (made given : Reply) → tells (reply.Refused refusal.NoMemory) ≡ false → IsGiven made given → tells made ≡ false → tells given ≡ false
+pub given_sound : (tells : Reply → Bool) (made given : Reply) → tells (reply.Refused refusal.NoMemory) ≡ false → IsGiven made given → tells made ≡ false
+    → tells given ≡ false
 given_sound tells made given plain (inl same) sound = ap tells same ∙ sound
 given_sound tells made given plain (inr h) sound = ap tells h.1 ∙ plain

@@ -71,7 +71,8 @@ AgreeEach ledger lists = (unit : UnitKey) → IsOpenUnit ledger unit → entries
 abbrev pub IsOfOpen : Ledger → Handed → Type 0
 IsOfOpen ledger h = IsOpenUnit ledger h.unit
 
-agree_at : (ledger : Ledger) (lists : List Handed) (keys : List UnitKey) (unit : UnitKey) → AllByRecursion (Agrees lists) (map (locks_of ledger) keys) → Among keys unit → entries_of ledger.units unit ≡ listed_of lists unit
+agree_at : (ledger : Ledger) (lists : List Handed) (keys : List UnitKey) (unit : UnitKey) → AllByRecursion (Agrees lists) (map (locks_of ledger) keys)
+    → Among keys unit → entries_of ledger.units unit ≡ listed_of lists unit
 agree_at ledger lists [] unit h k = absurd k
 agree_at ledger lists (key ∷ keys) unit h (inl e) = subst (λ (k : UnitKey). entries_of ledger.units k ≡ listed_of lists k) e h.0
 agree_at ledger lists (key ∷ keys) unit h (inr k) = agree_at ledger lists keys unit h.1 k
@@ -80,7 +81,8 @@ pub each_agree : (ledger : Ledger) (lists : List Handed) → AgreeAll ledger lis
 each_agree ledger lists h unit waits =
     agree_at ledger lists (waiting_for 1 ledger) unit (recursion_from_All (Agrees lists) (open_locks ledger) h) (open_listed ledger unit waits)
 
-agree_keys : (ledger : Ledger) (lists : List Handed) (keys : List UnitKey) → AgreeEach ledger lists → AllByRecursion (IsOpenUnit ledger) keys → AllByRecursion (Agrees lists) (map (locks_of ledger) keys)
+agree_keys : (ledger : Ledger) (lists : List Handed) (keys : List UnitKey) → AgreeEach ledger lists → AllByRecursion (IsOpenUnit ledger) keys
+    → AllByRecursion (Agrees lists) (map (locks_of ledger) keys)
 agree_keys ledger lists [] h waits = tt
 agree_keys ledger lists (key ∷ keys) h waits = (h key waits.0, agree_keys ledger lists keys h waits.1)
 
@@ -109,7 +111,8 @@ pub are_open_lists : (ledger : Ledger) (lists : List Handed) → FollowUnits led
 are_open_lists ledger lists h = record { agree = all_agree ledger lists h.agree; only = none_but ledger lists h.only }
 
 -- a unit that isn't open has no list
-pub none_listed : (ledger : Ledger) (lists : List Handed) (unit : UnitKey) → (IsOpenUnit ledger unit → ⊥) → AllByRecursion (IsOfOpen ledger) lists → listed_of lists unit ≡ []
+pub none_listed : (ledger : Ledger) (lists : List Handed) (unit : UnitKey) → (IsOpenUnit ledger unit → ⊥) → AllByRecursion (IsOfOpen ledger) lists
+    → listed_of lists unit ≡ []
 none_listed ledger [] unit shut h = refl
 none_listed ledger (x ∷ lists) unit shut h =
     elim (cases_Bool (same_unit x.unit unit)) [
@@ -134,6 +137,7 @@ among_lists ledger lists h =
     }
 
 -- a file that was recovered is ready with the lists of the open units
-pub recovered_lists : {D : Type 0} (reads : D → List ℕ) (may_leave : D → List ℕ → Type 0) (bytes : List ℕ) (ledger : Ledger) (file : BackupView D) → IsRecovered reads may_leave bytes (open_locks ledger) file
+pub recovered_lists : {D : Type 0} (reads : D → List ℕ) (may_leave : D → List ℕ → Type 0) (bytes : List ℕ) (ledger : Ledger) (file : BackupView D)
+    → IsRecovered reads may_leave bytes (open_locks ledger) file
     → (lists : List Handed) × IsReady reads may_leave file lists × AreOpenLists ledger lists
 recovered_lists reads may_leave bytes ledger file h = (lists_among (open_locks ledger) h.lists, h.ready, among_lists ledger h.lists h.agree)

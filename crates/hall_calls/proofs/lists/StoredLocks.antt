@@ -24,17 +24,22 @@ use Rattle.hall_calls.proofs.lists.OfOpenUnits.{every_passing}
 use Rattle.hall_model.proofs.EachLock.{found_unit, may_be_readmitted, stored_firm}
 
 -- they have one user
-pub stored_used : (units : List UnitOfWork) (key : UnitKey) → AllByRecursion HasGoodLocks units → (user : List ℕ) × AllByRecursion (λ (e : Entry). e.user ≡ user) (entries_of units key)
+pub stored_used : (units : List UnitOfWork) (key : UnitKey) → AllByRecursion HasGoodLocks units → (user : List ℕ)
+    × AllByRecursion (λ (e : Entry). e.user ≡ user) (entries_of units key)
 stored_used units key held =
-    elim (unit_at units key) as (λ o. unit_at units key ≡ o → (user : List ℕ) × AllByRecursion (λ (e : Entry). e.user ≡ user) (option_map_or (λ (unit : UnitOfWork). unit.entries) o [])) [
+    elim (unit_at units key)
+    as (λ o. unit_at units key ≡ o → (user : List ℕ) × AllByRecursion (λ (e : Entry). e.user ≡ user)
+    (option_map_or (λ (unit : UnitOfWork). unit.entries) o [])) [
       | None ↦ λ e. ([], tt)
       | Some unit ↦ λ e. (unit.user, (found_unit HasGoodLocks units key unit e held).0.used)
     ] refl
 
 -- they are handed
-pub stored_flags : (units : List UnitOfWork) (key : UnitKey) → AllByRecursion HasGoodLocks units → AllByRecursion (λ (e : Entry). e.handed ≡ true) (entries_of units key)
+pub stored_flags : (units : List UnitOfWork) (key : UnitKey) → AllByRecursion HasGoodLocks units
+    → AllByRecursion (λ (e : Entry). e.handed ≡ true) (entries_of units key)
 stored_flags units key held =
-    every_passing (λ (e : Entry). e.handed ≡ true) is_firm (λ e firm. (and_parts e.handed (not (same_mode e.mode O)) firm).0) (entries_of units key) (stored_firm units key held)
+    every_passing (λ (e : Entry). e.handed ≡ true) is_firm (λ e firm. (and_parts e.handed (not (same_mode e.mode O)) firm).0) (entries_of units key)
+    (stored_firm units key held)
 
 lasts : (m : Mode) → not (same_mode m O) ≡ true → 0 < mode_byte m
 lasts S h = omega arith
@@ -52,7 +57,8 @@ may_be_handed key e own counted firm =
       countable = leb-true e.count 9999 counts.1;
     }
 
-each_handable : (key : UnitKey) (es : List Entry) → list_all (is_of (Upd key)) es ≡ true → list_all has_count es ≡ true → list_all is_firm es ≡ true → AllByRecursion (MayBeHanded key) es
+each_handable : (key : UnitKey) (es : List Entry) → list_all (is_of (Upd key)) es ≡ true → list_all has_count es ≡ true → list_all is_firm es ≡ true
+    → AllByRecursion (MayBeHanded key) es
 each_handable key [] own counted firm = tt
 each_handable key (e ∷ es) own counted firm =
     let owns = and_parts (is_of (Upd key) e) (list_all (is_of (Upd key)) es) own in
@@ -64,5 +70,6 @@ firm_handable : (key : UnitKey) (es : List Entry) → ReadmitsOnly (owners_of ke
 firm_handable key es only firm some = record { some = some; each = each_handable key es only.owners only.counts firm; distinct = only.names }
 
 -- the same of those that are found by the unit's key
-pub stored_handable : (units : List UnitOfWork) (key : UnitKey) → AllByRecursion HasGoodLocks units → 1 ≤ length (entries_of units key) → IsHandable key (entries_of units key)
+pub stored_handable : (units : List UnitOfWork) (key : UnitKey) → AllByRecursion HasGoodLocks units → 1 ≤ length (entries_of units key)
+    → IsHandable key (entries_of units key)
 stored_handable units key held some = firm_handable key (entries_of units key) (may_be_readmitted units key held) (stored_firm units key held) some

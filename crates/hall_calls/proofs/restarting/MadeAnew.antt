@@ -106,7 +106,8 @@ module _ (s : State) (k : Condition) (is : s.condition ≡ k) (down : k ≡ cond
   reads_it (Some taken) = refl
 
   -- for a reason of its own
-  in_vain : (fault : RemakeFault) (read : Option Bool) → MayHaveRead read → Tells false (doubted s (OfAdmin Restarts) read s.pending) (reply.Refused (fault_told fault))
+  in_vain : (fault : RemakeFault) (read : Option Bool) → MayHaveRead read
+      → Tells false (doubted s (OfAdmin Restarts) read s.pending) (reply.Refused (fault_told fault))
   in_vain fault read may = record {
     act = record {
       outcome = record { event = NotRemade fault; reading = reading_of read; lost = false };
@@ -122,7 +123,8 @@ module _ (s : State) (k : Condition) (is : s.condition ≡ k) (down : k ≡ cond
     act = record {
       outcome = record { event = BackupFails; reading = reading_of read; lost = false };
       possible = record { reading = may_read read may; event = (leaves_so (reading_of read), refl); lost = tt };
-      same = ap (λ v. refused (unfiled s (OfAdmin Restarts) (read_anew (reading_of read)) (stored_before_file s (OfAdmin Restarts) v)) refusal.BackupFault) (given (found_by (reading_of read) s))
+      same = ap (λ v. refused (unfiled s (OfAdmin Restarts) (read_anew (reading_of read)) (stored_before_file s (OfAdmin Restarts) v)) refusal.BackupFault)
+          (given (found_by (reading_of read) s))
           ∙ ap (λ b. refused (doubted s (OfAdmin Restarts) b s.pending) refusal.BackupFault) (reads_it read);
     };
     taken = refl;
@@ -184,7 +186,8 @@ module _ (s : State) (k : Condition) (is : s.condition ≡ k) (down : k ≡ cond
   gone_so (condition.Doubt n) entries off = refl
 
   -- what it has of the store and of the table, of sessions and orders
-  pub record IsMadeOf (read : Option Bool) (after : List Session) (orders : List (Option UnitKey)) (table : Table) (entries : List Entry) (ledger : Ledger) : Type 0 where
+  pub record IsMadeOf (read : Option Bool) (after : List Session) (orders : List (Option UnitKey)) (table : Table) (entries : List Entry)
+      (ledger : Ledger) : Type 0 where
     pub stored : ledger ≡ stored_anew (is_taken read) s.stored s.pending
     pub gone : s.gone ≡ gone_in k entries
     pub bereaved : after ≡ map (bereft_if s.stored.start (unhanded entries) s.failed_caller) s.sessions
@@ -312,7 +315,8 @@ module _ {D : Type 0} (tells : Bool) (reads : D → List ℕ) (may_leave : D →
         recovers_so (calls + 1) (known_behind found read) stored pending image less.0 less.1 (agrees_then read found stored pending less.0 right less.2)
 
     -- and one that wasn't touched, where something was read
-    pub same_recovers : (new : BackupView D) → new ≡ old → (calls : ℕ) → AllRecover tells may_leave (condition.Doubt (calls + 1)) stored pending (known_behind found read) new
+    pub same_recovers : (new : BackupView D) → new ≡ old → (calls : ℕ) → AllRecover tells may_leave (condition.Doubt (calls + 1)) stored pending
+        (known_behind found read) new
     same_recovers new same calls = λ t image may.
         let h = found_stands t image (subst (λ (f : BackupView D). may_leave f.disk image) same may) in
         recovers_so (calls + 1) (known_behind found read) stored pending image h.0 h.1 (agrees_then read found stored pending h.0 right h.2)

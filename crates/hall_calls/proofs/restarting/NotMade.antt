@@ -44,7 +44,8 @@ pub record IsOf (s : State) (ledger : Ledger) (failure : Failure) : Type 0 where
   pub pending : s.pending ≡ flight_over ledger failure
   pub found : s.found ≡ failure.found
 
-pub may_find : (s : State) (ledger : Ledger) (failure : Failure) → IsOf s ledger failure → (taken : Bool) → (IsTrue taken → IsInFlight ledger (flight_over ledger failure))
+pub may_find : (s : State) (ledger : Ledger) (failure : Failure) → IsOf s ledger failure → (taken : Bool)
+    → (IsTrue taken → IsInFlight ledger (flight_over ledger failure))
     → IsAsBefore failure.found taken → MayFind s taken
 may_find s ledger failure h taken flight known = record {
   flight = λ t. subst (λ l. IsInFlight l s.pending) (sym h.stored) (subst (IsInFlight ledger) (sym h.pending) (flight t));
@@ -68,11 +69,13 @@ fault_sound refusal.NoMemory read why = refl
 fault_sound (refusal.Unsound (bad.Store table row)) read why = refl
 fault_sound _ read why = absurd why
 
-module _ {K : Type 0} (held : K → Option Rows) (may_leave : K → Rows → Type 0) (faults : K → ℕ) (k : Condition) (failure : Failure) (old new : BooksView K) where
+module _ {K : Type 0} (held : K → Option Rows) (may_leave : K → Rows → Type 0) (faults : K → ℕ) (k : Condition) (failure : Failure)
+    (old new : BooksView K) where
   abbrev Unread : Remade → Type 0
   Unread remade = IsUnread held may_leave faults k failure old new remade
 
-  pub unread_acts : (remade : Remade) → Unread remade → (k ≡ condition.Up → ⊥) → (s : State) → s.condition ≡ k → IsOf s old.ledger failure → Admits s command.Restart
+  pub unread_acts : (remade : Remade) → Unread remade → (k ≡ condition.Up → ⊥) → (s : State) → s.condition ≡ k → IsOf s old.ledger failure
+      → Admits s command.Restart
       → (sessions : List Session) (orders : List (Option UnitKey)) (table : Table) (ledger : Ledger)
       → IsTelling s command.Restart (remade_taken remade) (remade_state s sessions orders table ledger remade) (remade_reply remade)
   unread_acts (Done taken) h down s is own free sessions orders table ledger = absurd h
@@ -100,7 +103,8 @@ module _ {K : Type 0} (held : K → Option Rows) (may_leave : K → Rows → Typ
       subst (λ b. DoesStore held may_leave faults true b old.keeper new.keeper (reply.Refused r)) (sym h.0)
       (record { told = told; cause = h.1.cause; within = within })
 
-  pub unread_left : (remade : Remade) → Unread remade → is_some (held new.keeper) ≡ is_some (held old.keeper) → IsWithin (may_leave new.keeper) (may_leave old.keeper)
+  pub unread_left : (remade : Remade) → Unread remade → is_some (held new.keeper) ≡ is_some (held old.keeper)
+      → IsWithin (may_leave new.keeper) (may_leave old.keeper)
       → LeavesKnown held may_leave old.keeper failure.found old.ledger (flight_over old.ledger failure)
       → LeavesRemade held may_leave new.keeper old.ledger new.ledger failure remade
   unread_left (Done taken) h told within before = absurd h
@@ -125,9 +129,11 @@ module _ {K : Type 0} (held : K → Option Rows) (may_leave : K → Rows → Typ
     known_file None file flight known all calls =
         untouched_recovers tells reads leaves disk_faults k old.ledger (flight_over old.ledger failure) failure.found file file refl all calls
     known_file (Some taken) file flight known all calls =
-        same_recovers tells reads leaves disk_faults k old.ledger (flight_over old.ledger failure) failure.found (Some taken) (flight, known) file all file refl calls
+        same_recovers tells reads leaves disk_faults k old.ledger (flight_over old.ledger failure) failure.found (Some taken)
+        (flight, known) file all file refl calls
 
-    pub unread_file : (remade : Remade) (file : BackupView D) → Unread remade → AllRecover tells leaves k old.ledger (flight_over old.ledger failure) failure.found file
+    pub unread_file : (remade : Remade) (file : BackupView D) → Unread remade
+        → AllRecover tells leaves k old.ledger (flight_over old.ledger failure) failure.found file
         → IsLeftReady tells reads leaves old.ledger new.ledger failure file file remade
     unread_file (Done taken) file h all = absurd h
     unread_file (Refused r) file h all = refl

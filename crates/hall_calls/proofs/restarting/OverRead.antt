@@ -37,7 +37,8 @@ right_found before failure None h = absurd h
 right_found before failure (Some found) h = (h.flight, h.known)
 
 pub read_right : (k : Condition) (before : Ledger) (failure : Failure) (found : Option FoundAnew) → (k ≡ condition.Up → ⊥) → IsReadAs k before failure found
-    → OutsideDoubt k (failure.pending ≡ None) → OutsideDoubt k (failure.found ≡ None) → IsReadRight (taken_in found) failure.found before (flight_over before failure)
+    → OutsideDoubt k (failure.pending ≡ None) → OutsideDoubt k (failure.found ≡ None)
+    → IsReadRight (taken_in found) failure.found before (flight_over before failure)
 read_right condition.Up before failure found down h settled unknown = absurd (down refl)
 read_right condition.NoServer before failure found down h settled unknown =
     subst (λ f. IsReadRight (taken_in f) failure.found before (flight_over before failure)) (sym h) (no_flight_over before failure settled, unknown)
@@ -69,7 +70,8 @@ stands_alone None may_leave ledger h = tt
 stands_alone (Some rows) may_leave ledger h = λ left may. inl (h left may)
 
 module _ {K : Type 0} (held : K → Option Rows) (is_open : K → Type 0) (may_leave : K → Rows → Type 0) (faults : K → ℕ) where
-  usable_found : (mid new : BooksView K) (found : FoundAnew) → IsUsable held is_open (record mid { ledger = found.ledger }) → new.ledger ≡ found.ledger → new.keeper ≡ mid.keeper
+  usable_found : (mid new : BooksView K) (found : FoundAnew) → IsUsable held is_open (record mid { ledger = found.ledger }) → new.ledger ≡ found.ledger
+      → new.keeper ≡ mid.keeper
       → IsUsable held is_open new
   usable_found mid new found h is kept = record {
     opened = subst is_open (sym kept) h.opened;
@@ -82,12 +84,14 @@ module _ {K : Type 0} (held : K → Option Rows) (is_open : K → Type 0) (may_l
   usable_read mid new None before h same is kept = subst (IsUsable held is_open) (sym (same refl)) before
   usable_read mid new (Some found) before h same is kept = usable_found mid new found h is kept
 
-  usable_anew : (mid new : BooksView K) (before : Ledger) (failure : Failure) (found : Option FoundAnew) → IsReadAs (condition.Doubt 0) before failure found → IsUsableAs held is_open mid found
+  usable_anew : (mid new : BooksView K) (before : Ledger) (failure : Failure) (found : Option FoundAnew) → IsReadAs (condition.Doubt 0) before failure found
+      → IsUsableAs held is_open mid found
       → new.ledger ≡ ledger_read mid.ledger found → new.keeper ≡ mid.keeper → IsUsable held is_open new
   usable_anew mid new before failure None was h is kept = absurd was
   usable_anew mid new before failure (Some found) was h is kept = usable_found mid new found h is kept
 
-  pub usable_made : (k : Condition) (failure : Failure) (old mid new : BooksView K) (found : Option FoundAnew) → (k ≡ condition.Up → ⊥) → IsReadAs k old.ledger failure found
+  pub usable_made : (k : Condition) (failure : Failure) (old mid new : BooksView K) (found : Option FoundAnew) → (k ≡ condition.Up → ⊥)
+      → IsReadAs k old.ledger failure found
       → OutsideDoubt k (IsUsable held is_open old) → (is_doubt k ≡ false → mid ≡ old) → IsUsableAs held is_open mid found → (found ≡ None → new ≡ mid)
       → new.ledger ≡ ledger_read mid.ledger found → new.keeper ≡ mid.keeper → IsUsable held is_open new
   usable_made condition.Up failure old mid new found down was before apart h same is kept = absurd (down refl)
@@ -95,7 +99,8 @@ module _ {K : Type 0} (held : K → Option Rows) (is_open : K → Type 0) (may_l
       usable_read mid new found (subst (IsUsable held is_open) (sym (apart refl)) before) h same is kept
   usable_made (condition.Doubt n) failure old mid new found down was before apart h same is kept = usable_anew mid new old.ledger failure found was h is kept
 
-  pub made_leaves : (new : BooksView K) → ((keeper : K) → is_open keeper → IfSome (held keeper) (λ rows. IsOnly rows (may_leave keeper))) → IsUsable held is_open new
+  pub made_leaves : (new : BooksView K) → ((keeper : K) → is_open keeper → IfSome (held keeper) (λ rows. IsOnly rows (may_leave keeper)))
+      → IsUsable held is_open new
       → LeavesKnown held may_leave new.keeper None new.ledger None
   made_leaves new settled usable =
       stands_alone (held new.keeper) (may_leave new.keeper) new.ledger (answered_leaves held is_open may_leave new settled usable)
@@ -108,7 +113,8 @@ module _ {K : Type 0} (held : K → Option Rows) (is_open : K → Type 0) (may_l
   read_store (condition.Doubt n) old new r apart reread = reread refl
 
 -- the joined locks of what was found
-pub found_sound : (P : Ledger → Type 0) (taken : Bool) (stored : Ledger) (pending : Option Ledger) → P stored → OfPending pending P → P (stored_anew taken stored pending)
+pub found_sound : (P : Ledger → Type 0) (taken : Bool) (stored : Ledger) (pending : Option Ledger) → P stored → OfPending pending P
+    → P (stored_anew taken stored pending)
 found_sound P false stored pending h landed = h
 found_sound P true stored None h landed = h
 found_sound P true stored (Some changed) h landed = landed

@@ -140,7 +140,8 @@ read_leaves held is_open may_leave shelf settled old ledger change taken usable 
     (answered_leaves held is_open may_leave (record shelf { ledger = ledger }) settled usable)
 
 -- nothing new may be left of one that wasn't
-pub unread_known : {K : Type 0} (held : K → Option Rows) (may_leave : K → Rows → Type 0) (old new : K) (found : Option Bool) (stored : Ledger) (pending : Option Ledger)
+pub unread_known : {K : Type 0} (held : K → Option Rows) (may_leave : K → Rows → Type 0) (old new : K) (found : Option Bool) (stored : Ledger)
+    (pending : Option Ledger)
     → is_some (held new) ≡ is_some (held old) → IsWithin (may_leave new) (may_leave old) → LeavesKnown held may_leave old found stored pending
     → LeavesKnown held may_leave new found stored pending
 unread_known held may_leave old new found stored pending told within h =

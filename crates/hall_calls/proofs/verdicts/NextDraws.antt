@@ -35,21 +35,25 @@ module _ (sessions : List Session) (ranges : List NumberRange) (ledger : Ledger)
   here = present ledger.levels
 
   -- the level of an interval with a buffer may be raised to reach a number
-  raised_stored : (r : NumberRange) (upto : ℕ) → Contains ranges r → is_buffered r.interval ≡ true → upto ≤ r.interval.to → MayStore ledger (stored_as (with_level (block_level (here r.interval) upto) (here r.interval)) ∷ []) []
+  raised_stored : (r : NumberRange) (upto : ℕ) → Contains ranges r → is_buffered r.interval ≡ true → upto ≤ r.interval.to
+      → MayStore ledger (stored_as (with_level (block_level (here r.interval) upto) (here r.interval)) ∷ []) []
   raised_stored r upto among buffered within =
       let is = present_is ranges ledger.levels (draws_in sessions) committed h r among in
       let block = blocks (here r.interval) upto buffered is.within within in
-      may_raise ledger (intervals_of ranges) r.interval (block_level (here r.interval) upto) h.intervals h.fit (interval_among ranges r among) buffered block.risen block.within
+      may_raise ledger (intervals_of ranges) r.interval (block_level (here r.interval) upto) h.intervals h.fit
+      (interval_among ranges r among) buffered block.risen block.within
 
   -- the row of a level that reserves a number, of an interval with a buffer
-  stored_for : (r : NumberRange) (i : Interval) (upto level : ℕ) → Contains ranges r → i ≡ here r.interval → is_buffered i ≡ true → upto ≤ i.to → level ≡ level_for i upto → MayStore ledger (stored_as (with_level level i) ∷ []) []
+  stored_for : (r : NumberRange) (i : Interval) (upto level : ℕ) → Contains ranges r → i ≡ here r.interval → is_buffered i ≡ true → upto ≤ i.to
+      → level ≡ level_for i upto → MayStore ledger (stored_as (with_level level i) ∷ []) []
   stored_for r i upto level among is buffered within reserved =
       let at : level ≡ block_level i upto = reserved ∙ ap (λ b. if b then block_level i upto else i.level) buffered in
       subst (λ n. MayStore ledger (stored_as (with_level n i) ∷ []) []) (sym at)
       (subst (λ j. MayStore ledger (stored_as (with_level (block_level j upto) j) ∷ []) []) (sym is)
       (raised_stored r upto among (ap is_buffered (sym is) ∙ buffered) (subst (λ (j : Interval). upto ≤ j.to) is within)))
 
-  module _ (name object nr : List ℕ) (i : Interval) (number level : ℕ) (draws : List Num) (d : IsNextDraw sessions ranges ledger.levels name object nr i number level draws) where
+  module _ (name object nr : List ℕ) (i : Interval) (number level : ℕ) (draws : List Num)
+      (d : IsNextDraw sessions ranges ledger.levels name object nr i number level draws) where
     among_them : Contains ranges d.range
     among_them = (range_found ranges object nr d.range d.chosen).among
 
@@ -60,7 +64,8 @@ module _ (sessions : List Session) (ranges : List NumberRange) (ledger : Ledger)
     next_high = not_past i.to number d.within
 
     drawn_here : IsDrawnAs (is_buffered i) i d.range.next (draws_in sessions) committed
-    drawn_here = subst (λ j. IsDrawnAs (is_buffered j) j d.range.next (draws_in sessions) committed) (sym d.interval) (drawn_at ranges ledger.levels (draws_in sessions) committed h d.range among_them)
+    drawn_here = subst (λ j. IsDrawnAs (is_buffered j) j d.range.next (draws_in sessions) committed) (sym d.interval)
+        (drawn_at ranges ledger.levels (draws_in sessions) committed h d.range among_them)
 
     -- what memory hands out next stands at most behind the end
     next_bound : (b : Bool) → IsDrawnAs b i d.range.next (draws_in sessions) committed → b ≡ true → (i.from ≤ d.range.next) × (d.range.next ≤ i.level + 1)
@@ -76,7 +81,8 @@ module _ (sessions : List Session) (ranges : List NumberRange) (ledger : Ledger)
               let low = (next_bound (is_buffered i) drawn_here e).0 in
               subst (λ n. i.from ≤ n) (sym same) low
           | false ↦ λ e.
-              let same : number ≡ i.level + drawn_of i d.session.draws + 1 = d.next ∙ ap (λ b. if b then d.range.next else i.level + drawn_of i d.session.draws + 1) e in
+              let same : number ≡ i.level + drawn_of i d.session.draws + 1 =
+              d.next ∙ ap (λ b. if b then d.range.next else i.level + drawn_of i d.session.draws + 1) e in
               omega (arith, same, begun)
         ] refl
 
@@ -120,18 +126,22 @@ reserved_already i number level buffered reserved still =
     ∙ ap (λ b. if b then block_level i number else i.level) buffered
     ∙ ap (λ b. if b then i.level else level_with i (div_ceil (number - i.level) i.buffer)) (up_to i.level number still)
 
-pub draw_still : (sessions : List Session) (ranges : List NumberRange) (ledger : Ledger) (name object nr : List ℕ) (i : Interval) (number level : ℕ) (draws : List Num) → IsNextDraw sessions ranges ledger.levels name object nr i number level draws
+pub draw_still : (sessions : List Session) (ranges : List NumberRange) (ledger : Ledger) (name object nr : List ℕ) (i : Interval) (number level : ℕ)
+    (draws : List Num) → IsNextDraw sessions ranges ledger.levels name object nr i number level draws
     → is_buffered i ≡ true → (s : State) → s.ranges ≡ ranges → s.stored ≡ ledger → raises_level s (Draws object nr) ≡ false → level ≡ i.level
 draw_still sessions ranges ledger name object nr i number level draws d buffered s e l off =
-    let test : Levels → Option NumberRange → Bool = λ levels o. option_map_or (λ (r : NumberRange). is_buffered r.interval && nat_lt (present levels r.interval).level r.next) o false in
+    let test : Levels → Option NumberRange → Bool = λ levels o. option_map_or
+    (λ (r : NumberRange). is_buffered r.interval && nat_lt (present levels r.interval).level r.next) o false in
     let found : range_at s.ranges object nr ≡ Some d.range = ap (λ rs. range_at rs object nr) e ∙ d.chosen in
     let here : test ledger.levels (Some d.range) ≡ false = sym (λ k. let m : Ledger = l k in test m.levels (found k)) ∙ off in
-    let both : (is_buffered i && nat_lt i.level d.range.next) ≡ false = subst (λ (j : Interval). (is_buffered j && nat_lt j.level d.range.next) ≡ false) (sym d.interval) here in
+    let both : (is_buffered i && nat_lt i.level d.range.next) ≡ false = subst (λ (j : Interval). (is_buffered j && nat_lt j.level d.range.next) ≡ false)
+    (sym d.interval) here in
     let past : nat_lt i.level d.range.next ≡ false = subst (λ b. (b && nat_lt i.level d.range.next) ≡ false) buffered both in
     let same : number ≡ d.range.next = d.next ∙ ap (λ b. if b then d.range.next else i.level + drawn_of i d.session.draws + 1) buffered in
     reserved_already i number level buffered d.reserved (ap (nat_lt i.level) same ∙ past)
 
-pub reserve_still : (sessions : List Session) (ranges : List NumberRange) (ledger : Ledger) (name object nr : List ℕ) (upto : ℕ) (i : Interval) (level : ℕ) → IsNextReserve sessions ranges ledger.levels name object nr upto i level
+pub reserve_still : (sessions : List Session) (ranges : List NumberRange) (ledger : Ledger) (name object nr : List ℕ) (upto : ℕ) (i : Interval) (level : ℕ)
+    → IsNextReserve sessions ranges ledger.levels name object nr upto i level
     → (s : State) → s.ranges ≡ ranges → s.stored ≡ ledger → raises_level s (Reserves object nr upto) ≡ false → level ≡ i.level
 reserve_still sessions ranges ledger name object nr upto i level d s e l off =
     let test : Levels → Option NumberRange → Bool = λ levels o. option_map_or (λ (r : NumberRange). nat_lt (present levels r.interval).level upto) o false in

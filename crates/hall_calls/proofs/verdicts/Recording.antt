@@ -104,7 +104,8 @@ module _ (levels : Levels) (nums : List Number) where
 
   settled_same : (ranges : List NumberRange) (k : ℕ) (r : NumberRange) (before now : List StoredInterval)
       → k < length ranges → r ≡ get_or ranges k r
-      → is_settled_by nums (present levels r.interval) ≡ false → before ≡ settled_rows levels (take k ranges) nums → now ≡ before → now ≡ settled_rows levels (take (k + 1) ranges) nums
+      → is_settled_by nums (present levels r.interval) ≡ false → before ≡ settled_rows levels (take k ranges) nums → now ≡ before
+      → now ≡ settled_rows levels (take (k + 1) ranges) nums
   settled_same ranges k r before now within at is so_far same =
       same ∙ so_far ∙ sym (settled_next ranges k r false within at is ∙ append_none (settled_rows levels (take k ranges) nums))
 
@@ -139,7 +140,8 @@ module _ (levels : Levels) (nums : List Number) (ranges : List NumberRange) wher
   abbrev pub AreNone : ℕ → ℕ → Type 0
   AreNone from to = (k : ℕ) (r : NumberRange) → from ≤ k → k < to → slice_get ranges k ≡ Some r → drawn_of r.interval nums ≡ 0
 
-  none_of_next : (from n : ℕ) → from + n ≤ length ranges → AreNone from (from + n) → settled_rows levels (take from ranges) nums ≡ settled_rows levels (take (from + n) ranges) nums
+  none_of_next : (from n : ℕ) → from + n ≤ length ranges → AreNone from (from + n)
+      → settled_rows levels (take from ranges) nums ≡ settled_rows levels (take (from + n) ranges) nums
   none_of_next from zero within none = let same : from ≡ from + zero = omega arith in ap (λ k. settled_rows levels (take k ranges) nums) same
   none_of_next from (suc n) within none =
       let e = element_at ranges (from + n) (omega (arith, within)) in
@@ -147,12 +149,14 @@ module _ (levels : Levels) (nums : List Number) (ranges : List NumberRange) wher
       let last : from + n + 1 ≡ from + suc n = omega arith in
       let drawn : 0 ≡ drawn_of r.interval nums = sym (none (from + n) r (omega arith) (omega arith) e.1.found) in
       none_of_next from n (omega (arith, within)) (λ k x low high at. none k x low (omega (arith, high)) at)
-      ∙ settled_same levels nums ranges (from + n) r (settled_rows levels (take (from + n) ranges) nums) (settled_rows levels (take (from + n) ranges) nums) (omega (arith, within)) e.1.read
+      ∙ settled_same levels nums ranges (from + n) r (settled_rows levels (take (from + n) ranges) nums) (settled_rows levels (take (from + n) ranges) nums)
+      (omega (arith, within)) e.1.read
       (settled_not_drawn (present levels r.interval) nums 0 refl drawn) refl refl
       ∙ ap (λ k. settled_rows levels (take k ranges) nums) last
 
   -- the rows up to a place are those up to a later one where there are no numbers between
-  pub settled_between : (from to : ℕ) → from ≤ to → to ≤ length ranges → AreNone from to → settled_rows levels (take from ranges) nums ≡ settled_rows levels (take to ranges) nums
+  pub settled_between : (from to : ℕ) → from ≤ to → to ≤ length ranges → AreNone from to
+      → settled_rows levels (take from ranges) nums ≡ settled_rows levels (take to ranges) nums
   settled_between from to low high none =
       let n : ℕ = to - from in
       let same : from + n ≡ to = omega (arith, low) in
@@ -161,7 +165,8 @@ module _ (levels : Levels) (nums : List Number) (ranges : List NumberRange) wher
 
 -- ---- what a session has drawn, with numbers of a stock
 
-module _ (sessions : List Session) (name : List ℕ) (x : Session) (found : session_at sessions name ≡ Some x) (ledger : Ledger) (ranges : List NumberRange) (stock : List Number)
+module _ (sessions : List Session) (name : List ℕ) (x : Session) (found : session_at sessions name ≡ Some x) (ledger : Ledger) (ranges : List NumberRange)
+    (stock : List Number)
     (h : AreDrawnRight ranges ledger.levels (draws_in sessions) (numbers_of ledger.units ledger.marks))
     (fits : IsStock (intervals_of ranges) ledger.levels (draws_in sessions) (numbers_of ledger.units ledger.marks) stock) where
   abbrev committed : List Number
@@ -175,17 +180,21 @@ module _ (sessions : List Session) (name : List ℕ) (x : Session) (found : sess
       → level_in ledger.levels r.interval + drawn_of (present ledger.levels r.interval) nums ≤ r.interval.to
   rows_fit nums is r among plain =
       subst (λ ns. level_in ledger.levels r.interval + drawn_of (present ledger.levels r.interval) ns ≤ r.interval.to) (sym is)
-      (session_stock_fits (λ (y : Session). y.draws) (is_called name) (λ y. y) sessions x found ranges ledger.levels committed stock fits h r.interval (interval_among ranges r among) plain)
+      (session_stock_fits (λ (y : Session). y.draws) (is_called name) (λ y. y) sessions x found ranges ledger.levels committed stock fits h r.interval
+      (interval_among ranges r among) plain)
 
   -- they may be stored with their levels
-  pub draws_stored : (levels : List StoredInterval) (nums : List Number) → levels ≡ settled_rows ledger.levels ranges taken → nums ≡ taken → MayStore ledger levels nums
+  pub draws_stored : (levels : List StoredInterval) (nums : List Number) → levels ≡ settled_rows ledger.levels ranges taken → nums ≡ taken
+      → MayStore ledger levels nums
   draws_stored levels nums rows is =
       subst (λ ns. MayStore ledger levels ns) (sym is)
       (subst (λ ls. MayStore ledger ls taken) (sym rows)
       (session_may_commit_stock (λ (y : Session). y.draws) (is_called name) (λ y. y) sessions x found ledger ranges stock fits h))
 
   pub draws_digits : (nums : List Number) → nums ≡ taken → All HasDigits nums
-  draws_digits nums is = subst (All HasDigits) (sym is) (session_stock_digits (λ (y : Session). y.draws) (is_called name) (λ y. y) sessions x found ranges ledger.levels committed stock fits h)
+  draws_digits nums is =
+      subst (All HasDigits) (sym is)
+      (session_stock_digits (λ (y : Session). y.draws) (is_called name) (λ y. y) sessions x found ranges ledger.levels committed stock fits h)
 
   -- numbers alone may be recorded of the session's open unit
   pub may_draw : (start : ℕ) (key : UnitKey) (nums : List Number) → start ≡ ledger.start → key ≡ unit_key start x → nums ≡ taken
@@ -204,7 +213,8 @@ module _ (sessions : List Session) (name : List ℕ) (x : Session) (found : sess
 
 -- ---- the change in flight
 
-pub landed_unit : (ledger : Ledger) (unit : UnitOfWork) (rows levels : List StoredInterval) → levels ≡ rows → after_step ledger (Record unit rows) ≡ after_step ledger (Record unit levels)
+pub landed_unit : (ledger : Ledger) (unit : UnitOfWork) (rows levels : List StoredInterval) → levels ≡ rows
+    → after_step ledger (Record unit rows) ≡ after_step ledger (Record unit levels)
 landed_unit ledger unit rows levels is = ap (λ ls. with_intervals ls (with_unit ledger unit)) (sym is)
 
 pub landed_numbers : (ledger : Ledger) (key : UnitKey) (drawn nums : List Number) (rows levels : List StoredInterval) → nums ≡ drawn → levels ≡ rows
@@ -223,7 +233,8 @@ too_many nums parts n is many = ap (λ b. b || nat_lt 200 (effects_in parts)) (a
     above k h = grind (arith, nat_tests)
 
 pub too_large : (nums : List Number) (parts : Parts) (e : ℕ) → e ≡ effects_in parts → 200 < e → is_too_much nums parts ≡ true
-too_large nums parts e is large = ap (λ b. nat_lt 64 (length nums) || b) (above (effects_in parts) (subst (λ k. 200 < k) is large)) ∙ or_true (nat_lt 64 (length nums))
+too_large nums parts e is large = ap (λ b. nat_lt 64 (length nums) || b) (above (effects_in parts) (subst (λ k. 200 < k) is large))
+    ∙ or_true (nat_lt 64 (length nums))
   where
     above : (k : ℕ) → 200 < k → nat_lt 200 k ≡ true
     above k h = grind (arith, nat_tests)
@@ -252,7 +263,8 @@ pub nothing_there : (nums : List Number) (parts : Parts) (n e : ℕ) → n ≡ l
 nothing_there nums parts n e a b none without = λ i. is_zero (effects_in parts) (sym b ∙ without) i && is_zero (length nums) (sym a ∙ none) i
 
 pub some_numbers : (nums : List Number) (parts : Parts) (n : ℕ) → n ≡ length nums → 1 ≤ n → is_nothing nums parts ≡ false
-some_numbers nums parts n a some = ap (λ b. nat_eq (effects_in parts) 0 && b) (is_more (length nums) (subst (λ k. 1 ≤ k) a some)) ∙ no_both (nat_eq (effects_in parts) 0)
+some_numbers nums parts n a some = ap (λ b. nat_eq (effects_in parts) 0 && b) (is_more (length nums) (subst (λ k. 1 ≤ k) a some))
+    ∙ no_both (nat_eq (effects_in parts) 0)
 
 pub some_effects : (nums : List Number) (parts : Parts) (e : ℕ) → e ≡ effects_in parts → 1 ≤ e → is_nothing nums parts ≡ false
 some_effects nums parts e b some = ap (λ c. c && nat_eq (length nums) 0) (is_more (effects_in parts) (subst (λ k. 1 ≤ k) b some))
@@ -265,8 +277,10 @@ with_effects parts e b some = is_more (effects_in parts) (subst (λ k. 1 ≤ k) 
 
 -- ---- what was recorded is what the call leaves
 
-module _ (s : State) (sessions : List Session) (ranges : List NumberRange) (entries : List Entry) (ledger : Ledger) (limit : ℕ) (name : List ℕ) (x : Session) (parts : Parts) (stock : List Number)
-    (at : IsCommitAt s sessions ranges entries ledger limit name x (command.Commit name parts stock)) (few : is_too_much (x.draws ++ stock) parts ≡ false) (some : is_nothing (x.draws ++ stock) parts ≡ false)
+module _ (s : State) (sessions : List Session) (ranges : List NumberRange) (entries : List Entry) (ledger : Ledger) (limit : ℕ) (name : List ℕ) (x : Session)
+    (parts : Parts) (stock : List Number)
+    (at : IsCommitAt s sessions ranges entries ledger limit name x (command.Commit name parts stock)) (few : is_too_much (x.draws ++ stock) parts ≡ false)
+    (some : is_nothing (x.draws ++ stock) parts ≡ false)
     (space : nat_le limit (length ledger.marks) ≡ false) where
   called_so : x.name ≡ name
   called_so = bytes_eq-same _ _ (found_name name sessions x at.found)
@@ -274,7 +288,8 @@ module _ (s : State) (sessions : List Session) (ranges : List NumberRange) (entr
   abbrev left_as : List Session → List Entry → Ledger → Written → State
   left_as after left now w = record s { sessions = after; ranges = ranges_behind stock ranges w; locks = left; stored = now }
 
-  pub unit_recorded : nat_eq (effects_in parts) 0 ≡ false → (unit : UnitOfWork) (levels : List StoredInterval) → unit ≡ unit_of ledger.start entries x parts (x.draws ++ stock)
+  pub unit_recorded : nat_eq (effects_in parts) 0 ≡ false → (unit : UnitOfWork) (levels : List StoredInterval)
+      → unit ≡ unit_of ledger.start entries x parts (x.draws ++ stock)
       → levels ≡ settled_rows ledger.levels ranges (x.draws ++ stock) → (after : List Session) (left : List Entry) (now : Ledger) (w : Written)
       → RecordsUnit sessions after entries left ledger now name unit levels w → IsWritten s (command.Commit name parts stock) (left_as after left now w) w
   unit_recorded effects unit levels is rows after left now (Answered (reply.Unit key)) h =
@@ -282,16 +297,20 @@ module _ (s : State) (sessions : List Session) (ranges : List NumberRange) (entr
       (h.0 ∙ ap (λ (u : UnitOfWork). u.key) is) (h.1 ∙ ap (λ n. with_session n with_next_unit sessions) (sym called_so)) h.2
       (h.3 ∙ (λ i. with_intervals (rows i) (with_unit ledger (is i))))
   unit_recorded effects unit levels is rows after left now (Answered (reply.Refused refusal.NoMemory)) h =
-      subst (λ ss. IsAct s (command.Commit name parts stock) (left_as ss left now (Answered (reply.Refused refusal.NoMemory))) (reply.Refused refusal.NoMemory)) (sym h.0)
-      (subst (λ es. IsAct s (command.Commit name parts stock) (left_as sessions es now (Answered (reply.Refused refusal.NoMemory))) (reply.Refused refusal.NoMemory)) (sym h.1)
+      subst (λ ss. IsAct s (command.Commit name parts stock) (left_as ss left now (Answered (reply.Refused refusal.NoMemory))) (reply.Refused refusal.NoMemory))
+      (sym h.0)
+      (subst (λ es. IsAct s (command.Commit name parts stock) (left_as sessions es now (Answered (reply.Refused refusal.NoMemory)))
+      (reply.Refused refusal.NoMemory)) (sym h.1)
       (commits_wanting s sessions ranges entries ledger limit name x parts stock at now h.2))
   unit_recorded effects unit levels is rows after left now (Failed (Some (Record recorded kept))) h =
       commits_in_doubt s sessions ranges entries ledger limit name x parts stock at few effects some space recorded kept (h.0 ∙ is) (h.1 ∙ rows)
   unit_recorded effects unit levels is rows after left now Unfiled h =
-      commits_unfiled s sessions ranges entries ledger limit name x parts stock at few effects some space unit.key (ap (λ (u : UnitOfWork). u.key) is) h.1 now h.0
+      commits_unfiled s sessions ranges entries ledger limit name x parts stock at few effects some space unit.key
+      (ap (λ (u : UnitOfWork). u.key) is) h.1 now h.0
   unit_recorded effects unit levels is rows after left now _ h = absurd h
 
-  pub numbers_recorded : nat_eq (effects_in parts) 0 ≡ true → (key : UnitKey) (nums : List Number) (levels : List StoredInterval) → key ≡ unit_key ledger.start x → nums ≡ (x.draws ++ stock)
+  pub numbers_recorded : nat_eq (effects_in parts) 0 ≡ true → (key : UnitKey) (nums : List Number) (levels : List StoredInterval)
+      → key ≡ unit_key ledger.start x → nums ≡ (x.draws ++ stock)
       → levels ≡ settled_rows ledger.levels ranges (x.draws ++ stock) → (after : List Session) (now : Ledger) (w : Written)
       → RecordsNumbers sessions after ledger now name key nums levels w → IsWritten s (command.Commit name parts stock) (left_as after entries now w) w
   numbers_recorded alone key nums levels k is rows after now (Answered reply.Done) h =
@@ -299,10 +318,12 @@ module _ (s : State) (sessions : List Session) (ranges : List NumberRange) (entr
       (h.0 ∙ ap (λ n. with_session n without_draws sessions) (sym called_so))
       (h.1 ∙ (λ i. with_intervals (rows i) (with_mark ledger (k i) (Num (is i)))))
   numbers_recorded alone key nums levels k is rows after now (Answered (reply.Refused refusal.NoMemory)) h =
-      subst (λ ss. IsAct s (command.Commit name parts stock) (left_as ss entries now (Answered (reply.Refused refusal.NoMemory))) (reply.Refused refusal.NoMemory)) (sym h.0)
+      subst (λ ss. IsAct s (command.Commit name parts stock) (left_as ss entries now (Answered (reply.Refused refusal.NoMemory)))
+      (reply.Refused refusal.NoMemory)) (sym h.0)
       (commits_wanting s sessions ranges entries ledger limit name x parts stock at now h.1)
   numbers_recorded alone key nums levels k is rows after now (Failed (Some (Draw drawn_key drawn kept))) h =
       let key_is : drawn_key ≡ unit_key s.stored.start x = h.0 ∙ k ∙ ap (λ (l : Ledger). unit_key l.start x) (sym at.own_ledger) in
-      subst (λ l. IsWritten s (command.Commit name parts stock) (left_as after entries now (Failed (Some l))) (Failed (Some l))) (λ i. Draw (sym key_is i) (sym (h.1 ∙ is) i) kept)
+      subst (λ l. IsWritten s (command.Commit name parts stock) (left_as after entries now (Failed (Some l))) (Failed (Some l)))
+      (λ i. Draw (sym key_is i) (sym (h.1 ∙ is) i) kept)
       (numbers_in_doubt s sessions ranges entries ledger limit name x parts stock at few alone some space kept (h.2 ∙ rows))
   numbers_recorded alone key nums levels k is rows after now _ h = absurd h

@@ -73,7 +73,8 @@ module _ (ledger : Ledger) (next : _) (sessions : List Session) (unit : UnitKey)
   one_of (inl same) = ap (λ (t : Table). unhanded t.entries) same
   one_of (inr h) = regained h
 
-  pub lost_regained : (w : Written) → OnFailure w ((new ≡ old) ⊎ IsRegained ledger unit old new.entries) → OnFailure w (unhanded new.entries ≡ unhanded old.entries)
+  pub lost_regained : (w : Written) → OnFailure w ((new ≡ old) ⊎ IsRegained ledger unit old new.entries)
+      → OnFailure w (unhanded new.entries ≡ unhanded old.entries)
   lost_regained (Answered r) h = tt
   lost_regained (Failed change) h = one_of h
   lost_regained Unfiled h = one_of h

@@ -147,7 +147,8 @@ lost_same : (lost : Bool) (o : DeviceOutcome) (s : State) (c : Command) → MayL
 lost_same true o s c may e = absurd (never _ (loses_on o s c may) e)
 lost_same false o s c may e = unlost_same o s c e
 
-pub unnoted_same : (o : DeviceOutcome) (s : State) (c : Command) → MayLose o.lost o.event s (call_of c) → is_unrecorded (served o s c).reply ≡ true → (served o s c).state ≡ s
+pub unnoted_same : (o : DeviceOutcome) (s : State) (c : Command) → MayLose o.lost o.event s (call_of c) → is_unrecorded (served o s c).reply ≡ true
+    → (served o s c).state ≡ s
 unnoted_same o s c may e = lost_same o.lost o s c may e
 
 abbrev IsStoreFault : Reply → Type 0
@@ -174,7 +175,8 @@ not_told (FindsBadStore table row) e = cc
 pub fault_uses_store : (s : State) (c : Command) (after : State) → IsAct s c after (reply.Refused refusal.StoreFault) → IsTrue (uses_store s (call_of c))
 fault_uses_store s c after act =
     let o = act.outcome in
-    elim o.event as (λ e. MayHappen e s (call_of c) (call_verdict (found_by o.reading s) s (call_of c)) → IsStoreFault (served (record { event = e; reading = o.reading; lost = o.lost }) s c).reply → IsTrue (uses_store s (call_of c))) [
+    elim o.event as (λ e. MayHappen e s (call_of c) (call_verdict (found_by o.reading s) s (call_of c))
+    → IsStoreFault (served (record { event = e; reading = o.reading; lost = o.lost }) s c).reply → IsTrue (uses_store s (call_of c))) [
       | AllWell ↦ λ may is. absurd (no_fault _ (verdict_answered _ s _).own is)
       | Wanting ↦ λ may is. absurd (not_wanting is)
       | StoreFails ↦ λ may is. may.1
@@ -206,7 +208,8 @@ served_counts o s c f g =
     ]
 
 -- it rises just in a call in which the store fails
-pub step_counts : (o : DeviceOutcome) (s : State) (line : ℕ) (c : Command) (f g : ℕ) → HasStoreCause f g (step o s line c).reply → HasCounted (is_store_failure o.event) f g
+pub step_counts : (o : DeviceOutcome) (s : State) (line : ℕ) (c : Command) (f g : ℕ) → HasStoreCause f g (step o s line c).reply
+    → HasCounted (is_store_failure o.event) f g
 step_counts o s line c f g =
     by_noting (λ x. HasStoreCause f g x.reply → HasCounted (is_store_failure o.event) f g) line c (takes_flight o) (served o s c)
     (served_counts o s c f g) (served_counts o s c f g)
@@ -234,7 +237,8 @@ served_file_counts o s c f g =
     ]
 
 -- it rises just in a call in which the disk fails
-pub step_file_counts : (o : DeviceOutcome) (s : State) (line : ℕ) (c : Command) (f g : ℕ) → HasFileCause f g (step o s line c).reply → HasCounted (is_file_failure o.event) f g
+pub step_file_counts : (o : DeviceOutcome) (s : State) (line : ℕ) (c : Command) (f g : ℕ) → HasFileCause f g (step o s line c).reply
+    → HasCounted (is_file_failure o.event) f g
 step_file_counts o s line c f g =
     by_noting (λ x. HasFileCause f g x.reply → HasCounted (is_file_failure o.event) f g) line c (takes_flight o) (served o s c)
     (served_file_counts o s c f g) (served_file_counts o s c f g)
@@ -263,7 +267,8 @@ file_not_told (FindsBadStore table row) e = cc
 pub fault_uses_file : (s : State) (c : Command) (after : State) → IsAct s c after (reply.Refused refusal.BackupFault) → IsTrue (uses_file s (call_of c))
 fault_uses_file s c after act =
     let o = act.outcome in
-    elim o.event as (λ e. MayHappen e s (call_of c) (call_verdict (found_by o.reading s) s (call_of c)) → IsFileFault (served (record { event = e; reading = o.reading; lost = o.lost }) s c).reply → IsTrue (uses_file s (call_of c))) [
+    elim o.event as (λ e. MayHappen e s (call_of c) (call_verdict (found_by o.reading s) s (call_of c))
+    → IsFileFault (served (record { event = e; reading = o.reading; lost = o.lost }) s c).reply → IsTrue (uses_file s (call_of c))) [
       | AllWell ↦ λ may is. absurd (no_file_fault _ (verdict_answered _ s _).own is)
       | Wanting ↦ λ may is. absurd (file_not_wanting is)
       | StoreFails ↦ λ may is. absurd (file_not_storing is)

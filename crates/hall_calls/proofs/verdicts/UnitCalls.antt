@@ -67,7 +67,8 @@ use Rattle.hall_model.proofs.HandedLocks.{all_held, handed_table}
 
 -- ---- orders
 
-find_step : {X : Type 0} (p : X → Bool) (xs : List X) (k : ℕ) (x : X) → slice_get xs k ≡ Some x → find p (drop k xs) ≡ cond (p x) (Some x) (find p (drop (suc k) xs))
+find_step : {X : Type 0} (p : X → Bool) (xs : List X) (k : ℕ) (x : X) → slice_get xs k ≡ Some x
+    → find p (drop k xs) ≡ cond (p x) (Some x) (find p (drop (suc k) xs))
 find_step p [] k x h = cc
 find_step p (y ∷ xs) zero x h = let same : y ≡ x = cc in ap (λ z. cond (p z) (Some z) (find p xs)) same
 find_step p (y ∷ xs) (suc k) x h = find_step p xs k x h
@@ -91,36 +92,46 @@ at_next xs k = ap (λ b. if b then None else slice_get xs (k + 1 - 1)) (not_firs
 abbrev pub FindsFrom : List (Option UnitKey) → List UnitKey → ℕ → Type 0
 FindsFrom orders units k = first_unclaimed orders (drop k units) ≡ first_unclaimed orders units
 
-pub found_here : (orders : List (Option UnitKey)) (units : List UnitKey) (k : ℕ) (unit : UnitKey) → FindsFrom orders units k → slice_get units k ≡ Some unit → is_claimed orders unit ≡ false → Some unit ≡ first_unclaimed orders units
+pub found_here : (orders : List (Option UnitKey)) (units : List UnitKey) (k : ℕ) (unit : UnitKey) → FindsFrom orders units k → slice_get units k ≡ Some unit
+    → is_claimed orders unit ≡ false → Some unit ≡ first_unclaimed orders units
 found_here orders units k unit from here free =
-    sym (find_step (λ u. not (is_claimed orders u)) units k unit here ∙ ap (λ b. cond (not b) (Some unit) (find (λ u. not (is_claimed orders u)) (drop (suc k) units))) free) ∙ from
+    sym (find_step (λ u. not (is_claimed orders u)) units k unit here ∙ ap
+    (λ b. cond (not b) (Some unit) (find (λ u. not (is_claimed orders u)) (drop (suc k) units))) free) ∙ from
 
 suc_next : (k : ℕ) → suc k ≡ k + 1
 suc_next k = omega arith
 
-pub claimed_here : (orders : List (Option UnitKey)) (units : List UnitKey) (k : ℕ) (unit : UnitKey) → FindsFrom orders units k → slice_get units k ≡ Some unit → is_claimed orders unit ≡ true → FindsFrom orders units (k + 1)
+pub claimed_here : (orders : List (Option UnitKey)) (units : List UnitKey) (k : ℕ) (unit : UnitKey) → FindsFrom orders units k → slice_get units k ≡ Some unit
+    → is_claimed orders unit ≡ true → FindsFrom orders units (k + 1)
 claimed_here orders units k unit from here claimed =
     subst (FindsFrom orders units) (suc_next k)
-    (sym (find_step (λ u. not (is_claimed orders u)) units k unit here ∙ ap (λ b. cond (not b) (Some unit) (find (λ u. not (is_claimed orders u)) (drop (suc k) units))) claimed) ∙ from)
+    (sym (find_step (λ u. not (is_claimed orders u)) units k unit here ∙ ap
+    (λ b. cond (not b) (Some unit) (find (λ u. not (is_claimed orders u)) (drop (suc k) units))) claimed) ∙ from)
 
-pub none_here : (orders : List (Option UnitKey)) (units : List UnitKey) (k : ℕ) → FindsFrom orders units k → slice_get units k ≡ None → None ≡ first_unclaimed orders units
+pub none_here : (orders : List (Option UnitKey)) (units : List UnitKey) (k : ℕ) → FindsFrom orders units k → slice_get units k ≡ None
+    → None ≡ first_unclaimed orders units
 none_here orders units k from here = sym (find_end (λ u. not (is_claimed orders u)) units k here) ∙ from
 
-ordered : (s : State) (orders : List (Option UnitKey)) (worker : ℕ) (o : Option UnitKey) → s.orders ≡ orders → order_of orders worker ≡ o → order_of s.orders worker ≡ o
+ordered : (s : State) (orders : List (Option UnitKey)) (worker : ℕ) (o : Option UnitKey) → s.orders ≡ orders → order_of orders worker ≡ o
+    → order_of s.orders worker ≡ o
 ordered s orders worker o e f = ap (λ xs. order_of xs worker) e ∙ f
 
-pub drops_none : (s : State) (orders : List (Option UnitKey)) (worker : ℕ) → s.orders ≡ orders → Admits s (command.DropOrder worker) → order_of orders worker ≡ None → IsAct s (command.DropOrder worker) (record s { orders = orders }) (reply.Refused refusal.NoOrder)
+pub drops_none : (s : State) (orders : List (Option UnitKey)) (worker : ℕ) → s.orders ≡ orders → Admits s (command.DropOrder worker)
+    → order_of orders worker ≡ None → IsAct s (command.DropOrder worker) (record s { orders = orders }) (reply.Refused refusal.NoOrder)
 drops_none s orders worker e room none =
     at_state _ _ s _ _ (λ i. record s { orders = e i })
     (refuses s (command.DropOrder worker) refusal.NoOrder room
-    (ap (λ o. elim o [ None ↦ Refuses refusal.NoOrder | Some unit ↦ Leaves (record s { orders = set s.orders worker None }) (reply.Unit unit) ]) (ordered s orders worker None e none)))
+    (ap (λ o. elim o [ None ↦ Refuses refusal.NoOrder | Some unit ↦ Leaves (record s { orders = set s.orders worker None }) (reply.Unit unit) ])
+    (ordered s orders worker None e none)))
 
-pub drops : (s : State) (orders after : List (Option UnitKey)) (worker : ℕ) (unit : UnitKey) → s.orders ≡ orders → Admits s (command.DropOrder worker) → order_of orders worker ≡ Some unit → after ≡ set orders worker None → IsAct s (command.DropOrder worker) (record s { orders = after }) (reply.Unit unit)
+pub drops : (s : State) (orders after : List (Option UnitKey)) (worker : ℕ) (unit : UnitKey) → s.orders ≡ orders → Admits s (command.DropOrder worker)
+    → order_of orders worker ≡ Some unit → after ≡ set orders worker None → IsAct s (command.DropOrder worker) (record s { orders = after }) (reply.Unit unit)
 drops s orders after worker unit e room found is =
     let e' : set s.orders worker None ≡ after = ap (λ xs. set xs worker None) e ∙ sym is in
     at_state _ _ _ _ _ (λ i. record s { orders = e' i })
     (leaves_as s (command.DropOrder worker) (record s { orders = set s.orders worker None }) (reply.Unit unit) room
-    (ap (λ o. elim o [ None ↦ Refuses refusal.NoOrder | Some u ↦ Leaves (record s { orders = set s.orders worker None }) (reply.Unit u) ]) (ordered s orders worker (Some unit) e found)))
+    (ap (λ o. elim o [ None ↦ Refuses refusal.NoOrder | Some u ↦ Leaves (record s { orders = set s.orders worker None }) (reply.Unit u) ])
+    (ordered s orders worker (Some unit) e found)))
 
 -- ---- room for one more mark
 
@@ -129,7 +140,8 @@ abbrev pub is_store_full : State → Bool
 is_store_full s = nat_le s.mark_limit (length s.stored.marks)
 
 -- what a call tells of its store
-pub full_as : (s : State) (limit : ℕ) (ledger : Ledger) (full : Bool) → s.mark_limit ≡ limit → s.stored ≡ ledger → nat_le limit (length ledger.marks) ≡ full → is_store_full s ≡ full
+pub full_as : (s : State) (limit : ℕ) (ledger : Ledger) (full : Bool) → s.mark_limit ≡ limit → s.stored ≡ ledger → nat_le limit (length ledger.marks) ≡ full
+    → is_store_full s ≡ full
 full_as s limit ledger full m g h = (λ i. nat_le (m i) (length (g i).marks)) ∙ h
 
 not_reached : (limit n : ℕ) → nat_le limit n ≡ false → n < limit
@@ -150,10 +162,12 @@ overflows s v h = ap (λ b. if b then Refuses (refusal.StoreFull s.mark_limit) e
 abbrev pub Posting : ℕ → State → ℕ → (ℕ → UnitKey → Outcome) → Option UnitKey → Verdict
 Posting part s worker come o = elim o [ None ↦ Refuses refusal.NoOrder | Some unit ↦ with_room s (posting part s worker unit (come part unit)) ]
 
-held : (part : ℕ) (s : State) (ledger : Ledger) (orders : List (Option UnitKey)) (worker : ℕ) (o : Option UnitKey) → s.stored ≡ ledger → s.orders ≡ orders → order_for part ledger orders worker ≡ o → order_for part s.stored s.orders worker ≡ o
+held : (part : ℕ) (s : State) (ledger : Ledger) (orders : List (Option UnitKey)) (worker : ℕ) (o : Option UnitKey) → s.stored ≡ ledger → s.orders ≡ orders
+    → order_for part ledger orders worker ≡ o → order_for part s.stored s.orders worker ≡ o
 held part s ledger orders worker o g e f = (λ i. order_for part (g i) (e i) worker) ∙ f
 
-pub own_post : (part : ℕ) (c : Command) (found : Found) (s : State) (worker : ℕ) (o : Option UnitKey) → call_of c ≡ OfWorker worker (Posts part) → order_for part s.stored s.orders worker ≡ o → own_verdict found s (call_of c) ≡ Posting part s worker found.part o
+pub own_post : (part : ℕ) (c : Command) (found : Found) (s : State) (worker : ℕ) (o : Option UnitKey) → call_of c ≡ OfWorker worker (Posts part)
+    → order_for part s.stored s.orders worker ≡ o → own_verdict found s (call_of c) ≡ Posting part s worker found.part o
 own_post part c found s worker o posts at = ap (own_verdict found s) posts ∙ ap (Posting part s worker found.part) at
 
 -- what a post leaves of the locks where it is refused, and where it is done
@@ -164,27 +178,37 @@ stay false before entries f = refl
 locks_stay : (part : ℕ) (before entries : List Entry) → (nat_eq part 1 ≡ true → before ≡ entries) → before ≡ locks_posted part before entries
 locks_stay part before entries f = stay (nat_eq part 1) before entries f
 
-locks_go : (b : Bool) (before entries left : List Entry) (unit : UnitKey) → (b ≡ true → before ≡ entries) → left ≡ (if b then freed_owner entries (Upd unit) else entries) → (if b then freed_owner before (Upd unit) else before) ≡ (if b then left else before)
+locks_go : (b : Bool) (before entries left : List Entry) (unit : UnitKey) → (b ≡ true → before ≡ entries)
+    → left ≡ (if b then freed_owner entries (Upd unit) else entries) → (if b then freed_owner before (Upd unit) else before) ≡ (if b then left else before)
 locks_go true before entries left unit f is = ap (λ xs. freed_owner xs (Upd unit)) (f refl) ∙ sym is
 locks_go false before entries left unit f is = refl
 
-pub posts_none : (part : ℕ) (s : State) (orders : List (Option UnitKey)) (entries : List Entry) (ledger : Ledger) (worker : ℕ) → IsPart part → s.orders ≡ orders → (nat_eq part 1 ≡ true → s.locks ≡ entries) → s.stored ≡ ledger → Admits s (post_of part worker) → order_for part ledger orders worker ≡ None → IsAct s (post_of part worker) (record s { orders = orders; locks = locks_posted part s.locks entries; stored = ledger }) (reply.Refused refusal.NoOrder)
+pub posts_none : (part : ℕ) (s : State) (orders : List (Option UnitKey)) (entries : List Entry) (ledger : Ledger) (worker : ℕ) → IsPart part → s.orders ≡ orders
+    → (nat_eq part 1 ≡ true → s.locks ≡ entries) → s.stored ≡ ledger → Admits s (post_of part worker) → order_for part ledger orders worker ≡ None
+    → IsAct s (post_of part worker) (record s { orders = orders; locks = locks_posted part s.locks entries; stored = ledger }) (reply.Refused refusal.NoOrder)
 posts_none part s orders entries ledger worker is e f g room none =
     let c = post_of part worker in
     at_state _ _ s _ _ (λ i. record s { orders = e i; locks = locks_stay part s.locks entries f i; stored = g i })
     (refuses s c refusal.NoOrder room
     (own_post part c (found_in s) s worker None (posts_part part worker is) (held part s ledger orders worker None g e none)))
 
-pub posts_full : (part : ℕ) (s : State) (orders : List (Option UnitKey)) (entries : List Entry) (ledger : Ledger) (limit worker : ℕ) (unit : UnitKey) → IsPart part → s.orders ≡ orders → (nat_eq part 1 ≡ true → s.locks ≡ entries) → s.stored ≡ ledger → s.mark_limit ≡ limit → Admits s (post_of part worker) → order_for part ledger orders worker ≡ Some unit → nat_le limit (length ledger.marks) ≡ true → IsAct s (post_of part worker) (record s { orders = orders; locks = locks_posted part s.locks entries; stored = ledger }) (reply.Refused (refusal.StoreFull limit))
+pub posts_full : (part : ℕ) (s : State) (orders : List (Option UnitKey)) (entries : List Entry) (ledger : Ledger) (limit worker : ℕ) (unit : UnitKey)
+    → IsPart part → s.orders ≡ orders → (nat_eq part 1 ≡ true → s.locks ≡ entries) → s.stored ≡ ledger → s.mark_limit ≡ limit → Admits s (post_of part worker)
+    → order_for part ledger orders worker ≡ Some unit → nat_le limit (length ledger.marks) ≡ true
+    → IsAct s (post_of part worker) (record s { orders = orders; locks = locks_posted part s.locks entries; stored = ledger })
+    (reply.Refused (refusal.StoreFull limit))
 posts_full part s orders entries ledger limit worker unit is e f g m room found full =
     let c = post_of part worker in
     subst (λ n. IsAct s c (record s { orders = orders; locks = locks_posted part s.locks entries; stored = ledger }) (reply.Refused (refusal.StoreFull n))) m
     (at_state _ _ s _ _ (λ i. record s { orders = e i; locks = locks_stay part s.locks entries f i; stored = g i })
     (refuses s c (refusal.StoreFull s.mark_limit) room
-    (own_post part c (found_in s) s worker (Some unit) (posts_part part worker is) (held part s ledger orders worker (Some unit) g e found) ∙ overflows s _ (full_as s limit ledger true m g full))))
+    (own_post part c (found_in s) s worker (Some unit) (posts_part part worker is) (held part s ledger orders worker (Some unit) g e found)
+    ∙ overflows s _ (full_as s limit ledger true m g full))))
 
 -- a part that comes to this
-pub comes : (part : ℕ) (c : Command) (s : State) (worker : ℕ) (unit : UnitKey) (o : Outcome) → call_of c ≡ OfWorker worker (Posts part) → Admits s c → order_for part s.stored s.orders worker ≡ Some unit → is_store_full s ≡ false → MayComeTo s.told s.stored part unit o → IsAct s c (marked part s worker unit (kind_for part o)) (posted_reply part unit o)
+pub comes : (part : ℕ) (c : Command) (s : State) (worker : ℕ) (unit : UnitKey) (o : Outcome) → call_of c ≡ OfWorker worker (Posts part) → Admits s c
+    → order_for part s.stored s.orders worker ≡ Some unit → is_store_full s ≡ false → MayComeTo s.told s.stored part unit o
+    → IsAct s c (marked part s worker unit (kind_for part o)) (posted_reply part unit o)
 comes part c s worker unit o posts room at space may =
     let found = found_by (Comes o) s in
     record {
@@ -197,14 +221,20 @@ comes part c s worker unit o posts room at space may =
       same = ap (judged s) (admitted found s c room ∙ own_post part c found s worker (Some unit) posts at ∙ fits s _ space);
     }
 
-pub posts : (part : ℕ) (s : State) (told : Bool) (orders after : List (Option UnitKey)) (entries left : List Entry) (ledger new : Ledger) (limit worker : ℕ) (unit : UnitKey) (o : Outcome) → IsPart part → s.told ≡ told → s.orders ≡ orders → (nat_eq part 1 ≡ true → s.locks ≡ entries) → s.stored ≡ ledger → s.mark_limit ≡ limit → Admits s (post_of part worker) → order_for part ledger orders worker ≡ Some unit → nat_le limit (length ledger.marks) ≡ false → MayComeTo told ledger part unit o → after ≡ set orders worker None → left ≡ locks_behind part entries unit → new ≡ with_mark ledger unit (kind_for part o) → IsAct s (post_of part worker) (record s { orders = after; locks = locks_posted part s.locks left; stored = new }) (posted_reply part unit o)
+pub posts : (part : ℕ) (s : State) (told : Bool) (orders after : List (Option UnitKey)) (entries left : List Entry) (ledger new : Ledger) (limit worker : ℕ)
+    (unit : UnitKey) (o : Outcome) → IsPart part → s.told ≡ told → s.orders ≡ orders → (nat_eq part 1 ≡ true → s.locks ≡ entries) → s.stored ≡ ledger
+    → s.mark_limit ≡ limit → Admits s (post_of part worker) → order_for part ledger orders worker ≡ Some unit → nat_le limit (length ledger.marks) ≡ false
+    → MayComeTo told ledger part unit o → after ≡ set orders worker None → left ≡ locks_behind part entries unit → new ≡ with_mark ledger unit (kind_for part o)
+    → IsAct s (post_of part worker) (record s { orders = after; locks = locks_posted part s.locks left; stored = new }) (posted_reply part unit o)
 posts part s told orders after entries left ledger new limit worker unit o is t e f g m room found space may a b c =
     let e' : set s.orders worker None ≡ after = ap (λ xs. set xs worker None) e ∙ sym a in
     let f' : locks_behind part s.locks unit ≡ locks_posted part s.locks left = locks_go (nat_eq part 1) s.locks entries left unit f b in
     let g' : with_mark s.stored unit (kind_for part o) ≡ new = ap (λ l. with_mark l unit (kind_for part o)) g ∙ sym c in
-    let may' : MayComeTo s.told s.stored part unit o = subst (λ x. MayComeTo x s.stored part unit o) (sym t) (subst (λ l. MayComeTo told l part unit o) (sym g) may) in
+    let may' : MayComeTo s.told s.stored part unit o = subst (λ x. MayComeTo x s.stored part unit o) (sym t)
+    (subst (λ l. MayComeTo told l part unit o) (sym g) may) in
     at_state _ _ (marked part s worker unit (kind_for part o)) _ _ (λ i. record s { orders = e' i; locks = f' i; stored = g' i })
-    (comes part (post_of part worker) s worker unit o (posts_part part worker is) room (held part s ledger orders worker (Some unit) g e found) (full_as s limit ledger false m g space) may')
+    (comes part (post_of part worker) s worker unit o (posts_part part worker is) room (held part s ledger orders worker (Some unit) g e found)
+    (full_as s limit ledger false m g space) may')
 
 outcome_is : (r : Result Tables EffectFault) (o : Outcome) → IsOutcome r o → o ≡ outcome_of r
 outcome_is (Ok tables) o h = h
@@ -212,12 +242,15 @@ outcome_is (Err (effect.Refused index reason)) o h = h
 outcome_is (Err effect.NoMemory) o h = absurd h
 
 -- what the books make ready may come
-pub may_come : (part : ℕ) (told : Bool) (rows : Option Rows) (ledger : Ledger) (unit : UnitKey) (o : Outcome) → told ≡ is_some rows → IfSome rows (λ _. IsOutcome (applied (effects_of part ledger.units unit) (tables_of ledger.units ledger.marks)) o) → MayCome (effects_of part ledger.units unit) o → MayComeTo told ledger part unit o
+pub may_come : (part : ℕ) (told : Bool) (rows : Option Rows) (ledger : Ledger) (unit : UnitKey) (o : Outcome) → told ≡ is_some rows
+    → IfSome rows (λ _. IsOutcome (applied (effects_of part ledger.units unit) (tables_of ledger.units ledger.marks)) o)
+    → MayCome (effects_of part ledger.units unit) o → MayComeTo told ledger part unit o
 may_come part told None ledger unit o t known possible = subst (λ b. MayComeTo b ledger part unit o) (sym t) possible
 may_come part told (Some rows) ledger unit o t known possible = subst (λ b. MayComeTo b ledger part unit o) (sym t) (outcome_is _ o known)
 
 -- the store fails behind what a part came to
-failed_post : (part : ℕ) (c : Command) (s : State) (worker : ℕ) (unit : UnitKey) (o : Outcome) → call_of c ≡ OfWorker worker (Posts part) → Admits s c → order_for part s.stored s.orders worker ≡ Some unit → is_store_full s ≡ false → MayComeTo s.told s.stored part unit o
+failed_post : (part : ℕ) (c : Command) (s : State) (worker : ℕ) (unit : UnitKey) (o : Outcome) → call_of c ≡ OfWorker worker (Posts part) → Admits s c
+    → order_for part s.stored s.orders worker ≡ Some unit → is_store_full s ≡ false → MayComeTo s.told s.stored part unit o
     → IsAct s c (doubted (without_stock (call_of c) s) (call_of c) None (Some (with_mark s.stored unit (kind_for part o)))) (reply.Refused refusal.StoreFault)
 failed_post part c s worker unit o posts room at space may =
     let found = found_by (Comes o) s in
@@ -231,36 +264,50 @@ failed_post part c s worker unit o posts room at space may =
         lost = tt;
       };
       same = ap (λ w. refused (doubted (without_stock call s) call None (pending_after (Comes o) s call w)) refusal.StoreFault) v
-          ∙ ap (λ b. refused (doubted (without_stock call s) call None (if b then s.pending else Some (with_mark s.stored unit (kind_for part o)))) refusal.StoreFault)
+          ∙ ap (λ b. refused (doubted (without_stock call s) call None (if b then s.pending else Some (with_mark s.stored unit (kind_for part o))))
+          refusal.StoreFault)
           (λ i. only_reads (posts i) || is_unread (Comes o) (posts i));
     }
 
-pub posts_in_doubt : (part : ℕ) (s : State) (told : Bool) (orders : List (Option UnitKey)) (ledger : Ledger) (limit worker : ℕ) (unit : UnitKey) (o : Outcome) → IsPart part → s.told ≡ told → s.orders ≡ orders → s.stored ≡ ledger → s.mark_limit ≡ limit → Admits s (post_of part worker) → order_for part ledger orders worker ≡ Some unit → nat_le limit (length ledger.marks) ≡ false → MayComeTo told ledger part unit o
-    → IsAct s (post_of part worker) (doubted (without_stock (call_of (post_of part worker)) s) (call_of (post_of part worker)) None (Some (with_mark s.stored unit (kind_for part o)))) (reply.Refused refusal.StoreFault)
+pub posts_in_doubt : (part : ℕ) (s : State) (told : Bool) (orders : List (Option UnitKey)) (ledger : Ledger) (limit worker : ℕ) (unit : UnitKey) (o : Outcome)
+    → IsPart part → s.told ≡ told → s.orders ≡ orders → s.stored ≡ ledger → s.mark_limit ≡ limit → Admits s (post_of part worker)
+    → order_for part ledger orders worker ≡ Some unit → nat_le limit (length ledger.marks) ≡ false → MayComeTo told ledger part unit o
+    → IsAct s (post_of part worker)
+    (doubted (without_stock (call_of (post_of part worker)) s) (call_of (post_of part worker)) None (Some (with_mark s.stored unit (kind_for part o))))
+    (reply.Refused refusal.StoreFault)
 posts_in_doubt part s told orders ledger limit worker unit o is t e g m room found space may =
-    let may' : MayComeTo s.told s.stored part unit o = subst (λ x. MayComeTo x s.stored part unit o) (sym t) (subst (λ l. MayComeTo told l part unit o) (sym g) may) in
-    failed_post part (post_of part worker) s worker unit o (posts_part part worker is) room (held part s ledger orders worker (Some unit) g e found) (full_as s limit ledger false m g space) may'
+    let may' : MayComeTo s.told s.stored part unit o = subst (λ x. MayComeTo x s.stored part unit o) (sym t)
+    (subst (λ l. MayComeTo told l part unit o) (sym g) may) in
+    failed_post part (post_of part worker) s worker unit o (posts_part part worker is) room (held part s ledger orders worker (Some unit) g e found)
+    (full_as s limit ledger false m g space) may'
 
 -- the rows weren't read by which it is posted: nothing is in flight then
-pub posts_unread : (part : ℕ) (s : State) (orders : List (Option UnitKey)) (ledger : Ledger) (limit worker : ℕ) (unit : UnitKey) → IsPart part → s.orders ≡ orders → s.stored ≡ ledger → s.mark_limit ≡ limit → s.pending ≡ None → Admits s (post_of part worker) → order_for part ledger orders worker ≡ Some unit → nat_le limit (length ledger.marks) ≡ false
-    → IsAct s (post_of part worker) (doubted (without_stock (call_of (post_of part worker)) s) (call_of (post_of part worker)) None None) (reply.Refused refusal.StoreFault)
+pub posts_unread : (part : ℕ) (s : State) (orders : List (Option UnitKey)) (ledger : Ledger) (limit worker : ℕ) (unit : UnitKey) → IsPart part
+    → s.orders ≡ orders → s.stored ≡ ledger → s.mark_limit ≡ limit → s.pending ≡ None → Admits s (post_of part worker)
+    → order_for part ledger orders worker ≡ Some unit → nat_le limit (length ledger.marks) ≡ false
+    → IsAct s (post_of part worker) (doubted (without_stock (call_of (post_of part worker)) s) (call_of (post_of part worker)) None None)
+    (reply.Refused refusal.StoreFault)
 posts_unread part s orders ledger limit worker unit is e g m none room found space =
     let c = post_of part worker in
     let call = call_of c in
     let o = outcome_in s.stored part unit in
     let by = posts_part part worker is in
-    let v = admitted (found_in s) s c room ∙ own_post part c (found_in s) s worker (Some unit) by (held part s ledger orders worker (Some unit) g e found) ∙ fits s _ (full_as s limit ledger false m g space) in
+    let v = admitted (found_in s) s c room ∙ own_post part c (found_in s) s worker (Some unit) by (held part s ledger orders worker (Some unit) g e found)
+    ∙ fits s _ (full_as s limit ledger false m g space) in
     record {
       outcome = only StoreFails;
       possible = record { reading = tt; event = (ap leaves v, ap (uses_store s) by); lost = tt };
       same = ap (λ w. refused (doubted (without_stock call s) call None (pending_after AsKnown s call w)) refusal.StoreFault) v
-          ∙ ap (λ b. refused (doubted (without_stock call s) call None (if b then s.pending else Some (with_mark s.stored unit (kind_for part o)))) refusal.StoreFault)
+          ∙ ap (λ b. refused (doubted (without_stock call s) call None (if b then s.pending else Some (with_mark s.stored unit (kind_for part o))))
+          refusal.StoreFault)
           (λ i. only_reads (by i) || is_unread AsKnown (by i))
           ∙ ap (λ q. refused (doubted (without_stock call s) call None q) refusal.StoreFault) none;
     }
 
 -- the disk fails behind the mark of a V1 part that comes to this
-unfiled_post : (part : ℕ) (c : Command) (s : State) (worker : ℕ) (unit : UnitKey) (o : Outcome) → call_of c ≡ OfWorker worker (Posts part) → nat_eq part 1 ≡ true → Admits s c → order_for part s.stored s.orders worker ≡ Some unit → is_store_full s ≡ false → MayComeTo s.told s.stored part unit o → IsAct s c (unfiled s (call_of c) None (with_mark s.stored unit (kind_for part o))) (reply.Refused refusal.BackupFault)
+unfiled_post : (part : ℕ) (c : Command) (s : State) (worker : ℕ) (unit : UnitKey) (o : Outcome) → call_of c ≡ OfWorker worker (Posts part)
+    → nat_eq part 1 ≡ true → Admits s c → order_for part s.stored s.orders worker ≡ Some unit → is_store_full s ≡ false → MayComeTo s.told s.stored part unit o
+    → IsAct s c (unfiled s (call_of c) None (with_mark s.stored unit (kind_for part o))) (reply.Refused refusal.BackupFault)
 unfiled_post part c s worker unit o posts first room at space may =
     let found = found_by (Comes o) s in
     let v = admitted found s c room ∙ own_post part c found s worker (Some unit) posts at ∙ fits s _ space in
@@ -272,17 +319,27 @@ unfiled_post part c s worker unit o posts first room at space may =
         lost = tt;
       };
       same = ap (λ w. refused (unfiled s (call_of c) None (stored_before_file s (call_of c) w)) refusal.BackupFault) v
-          ∙ ap (λ b. refused (unfiled s (call_of c) None (if b then with_mark s.stored unit (kind_for part o) else s.stored)) refusal.BackupFault) (ap writes_store_first posts);
+          ∙ ap (λ b. refused (unfiled s (call_of c) None (if b then with_mark s.stored unit (kind_for part o) else s.stored)) refusal.BackupFault)
+          (ap writes_store_first posts);
     }
 
-pub posts_unfiled : (part : ℕ) (s : State) (told : Bool) (orders : List (Option UnitKey)) (ledger new : Ledger) (limit worker : ℕ) (unit : UnitKey) (o : Outcome) → IsPart part → nat_eq part 1 ≡ true → s.told ≡ told → s.orders ≡ orders → s.stored ≡ ledger → s.mark_limit ≡ limit → Admits s (post_of part worker) → order_for part ledger orders worker ≡ Some unit → nat_le limit (length ledger.marks) ≡ false → MayComeTo told ledger part unit o → new ≡ with_mark ledger unit (kind_for part o) → IsAct s (post_of part worker) (unfiled s (call_of (post_of part worker)) None new) (reply.Refused refusal.BackupFault)
+pub posts_unfiled : (part : ℕ) (s : State) (told : Bool) (orders : List (Option UnitKey)) (ledger new : Ledger) (limit worker : ℕ) (unit : UnitKey)
+    (o : Outcome) → IsPart part → nat_eq part 1 ≡ true → s.told ≡ told → s.orders ≡ orders → s.stored ≡ ledger → s.mark_limit ≡ limit
+    → Admits s (post_of part worker) → order_for part ledger orders worker ≡ Some unit → nat_le limit (length ledger.marks) ≡ false
+    → MayComeTo told ledger part unit o → new ≡ with_mark ledger unit (kind_for part o)
+    → IsAct s (post_of part worker) (unfiled s (call_of (post_of part worker)) None new) (reply.Refused refusal.BackupFault)
 posts_unfiled part s told orders ledger new limit worker unit o is first t e g m room found space may c =
     let g' : with_mark s.stored unit (kind_for part o) ≡ new = ap (λ l. with_mark l unit (kind_for part o)) g ∙ sym c in
-    let may' : MayComeTo s.told s.stored part unit o = subst (λ x. MayComeTo x s.stored part unit o) (sym t) (subst (λ l. MayComeTo told l part unit o) (sym g) may) in
+    let may' : MayComeTo s.told s.stored part unit o = subst (λ x. MayComeTo x s.stored part unit o) (sym t)
+    (subst (λ l. MayComeTo told l part unit o) (sym g) may) in
     subst (λ l. IsAct s (post_of part worker) (unfiled s (call_of (post_of part worker)) None l) (reply.Refused refusal.BackupFault)) g'
-    (unfiled_post part (post_of part worker) s worker unit o (posts_part part worker is) first room (held part s ledger orders worker (Some unit) g e found) (full_as s limit ledger false m g space) may')
+    (unfiled_post part (post_of part worker) s worker unit o (posts_part part worker is) first room (held part s ledger orders worker (Some unit) g e found)
+    (full_as s limit ledger false m g space) may')
 
-pub posts_wanting : (part : ℕ) (s : State) (orders : List (Option UnitKey)) (entries : List Entry) (ledger new : Ledger) (worker : ℕ) (unit : UnitKey) → IsPart part → s.orders ≡ orders → (nat_eq part 1 ≡ true → s.locks ≡ entries) → s.stored ≡ ledger → new ≡ ledger → Admits s (post_of part worker) → order_for part ledger orders worker ≡ Some unit → IsAct s (post_of part worker) (record s { orders = orders; locks = locks_posted part s.locks entries; stored = new }) (reply.Refused refusal.NoMemory)
+pub posts_wanting : (part : ℕ) (s : State) (orders : List (Option UnitKey)) (entries : List Entry) (ledger new : Ledger) (worker : ℕ) (unit : UnitKey)
+    → IsPart part → s.orders ≡ orders → (nat_eq part 1 ≡ true → s.locks ≡ entries) → s.stored ≡ ledger → new ≡ ledger → Admits s (post_of part worker)
+    → order_for part ledger orders worker ≡ Some unit → IsAct s (post_of part worker)
+    (record s { orders = orders; locks = locks_posted part s.locks entries; stored = new }) (reply.Refused refusal.NoMemory)
 posts_wanting part s orders entries ledger new worker unit is e f g kept room found =
     let g' : s.stored ≡ new = g ∙ sym kept in
     let by = posts_part part worker is in
@@ -291,30 +348,41 @@ posts_wanting part s orders entries ledger new worker unit is e f g kept room fo
 
 -- ---- cancelling
 
-own_cancel : (s : State) (orders : List (Option UnitKey)) (ledger : Ledger) (limit : ℕ) (unit : UnitKey) (r : Result Status Refusal) → s.orders ≡ orders → s.stored ≡ ledger → s.mark_limit ≡ limit → to_cancel ledger orders limit unit ≡ r → cancel s unit ≡ cancelling s unit r
+own_cancel : (s : State) (orders : List (Option UnitKey)) (ledger : Ledger) (limit : ℕ) (unit : UnitKey) (r : Result Status Refusal) → s.orders ≡ orders
+    → s.stored ≡ ledger → s.mark_limit ≡ limit → to_cancel ledger orders limit unit ≡ r → cancel s unit ≡ cancelling s unit r
 own_cancel s orders ledger limit unit r e g m h =
     (λ i. cancelling s unit (to_cancel (g i) (e i) (m i) unit)) ∙ ap (cancelling s unit) h
 
-pub cancels_not : (s : State) (orders : List (Option UnitKey)) (entries : List Entry) (ledger : Ledger) (limit : ℕ) (unit : UnitKey) (r : Refusal) → s.orders ≡ orders → s.locks ≡ entries → s.stored ≡ ledger → s.mark_limit ≡ limit → Admits s (command.Cancel unit) → to_cancel ledger orders limit unit ≡ Err r → IsAct s (command.Cancel unit) (record s { locks = entries; stored = ledger }) (reply.Refused r)
+pub cancels_not : (s : State) (orders : List (Option UnitKey)) (entries : List Entry) (ledger : Ledger) (limit : ℕ) (unit : UnitKey) (r : Refusal)
+    → s.orders ≡ orders → s.locks ≡ entries → s.stored ≡ ledger → s.mark_limit ≡ limit → Admits s (command.Cancel unit)
+    → to_cancel ledger orders limit unit ≡ Err r → IsAct s (command.Cancel unit) (record s { locks = entries; stored = ledger }) (reply.Refused r)
 cancels_not s orders entries ledger limit unit r e f g m room h =
     at_state _ _ s _ _ (λ i. record s { locks = f i; stored = g i })
     (refuses s (command.Cancel unit) r room (own_cancel s orders ledger limit unit (Err r) e g m h))
 
-pub cancels_wanting : (s : State) (orders : List (Option UnitKey)) (entries : List Entry) (ledger new : Ledger) (limit : ℕ) (unit : UnitKey) (status : Status) → s.orders ≡ orders → s.locks ≡ entries → s.stored ≡ ledger → s.mark_limit ≡ limit → Admits s (command.Cancel unit) → to_cancel ledger orders limit unit ≡ Ok status → new ≡ ledger → IsAct s (command.Cancel unit) (record s { locks = entries; stored = new }) (reply.Refused refusal.NoMemory)
+pub cancels_wanting : (s : State) (orders : List (Option UnitKey)) (entries : List Entry) (ledger new : Ledger) (limit : ℕ) (unit : UnitKey) (status : Status)
+    → s.orders ≡ orders → s.locks ≡ entries → s.stored ≡ ledger → s.mark_limit ≡ limit → Admits s (command.Cancel unit)
+    → to_cancel ledger orders limit unit ≡ Ok status → new ≡ ledger → IsAct s (command.Cancel unit) (record s { locks = entries; stored = new })
+    (reply.Refused refusal.NoMemory)
 cancels_wanting s orders entries ledger new limit unit status e f g m room h kept =
     let g' : s.stored ≡ new = g ∙ sym kept in
     at_state _ _ s _ _ (λ i. record s { locks = f i; stored = g' i })
     (is_wanting s (command.Cancel unit) room.served
     (ap leaves (admitted (found_in s) s (command.Cancel unit) room ∙ own_cancel s orders ledger limit unit (Ok status) e g m h)))
 
-pub cancels : (s : State) (orders : List (Option UnitKey)) (entries left : List Entry) (ledger new : Ledger) (limit : ℕ) (unit : UnitKey) (status : Status) → s.orders ≡ orders → s.locks ≡ entries → s.stored ≡ ledger → s.mark_limit ≡ limit → Admits s (command.Cancel unit) → to_cancel ledger orders limit unit ≡ Ok status → left ≡ locks_without status entries unit → new ≡ with_mark ledger unit Gone → IsAct s (command.Cancel unit) (record s { locks = left; stored = new }) (reply.Unit unit)
+pub cancels : (s : State) (orders : List (Option UnitKey)) (entries left : List Entry) (ledger new : Ledger) (limit : ℕ) (unit : UnitKey) (status : Status)
+    → s.orders ≡ orders → s.locks ≡ entries → s.stored ≡ ledger → s.mark_limit ≡ limit → Admits s (command.Cancel unit)
+    → to_cancel ledger orders limit unit ≡ Ok status → left ≡ locks_without status entries unit → new ≡ with_mark ledger unit Gone
+    → IsAct s (command.Cancel unit) (record s { locks = left; stored = new }) (reply.Unit unit)
 cancels s orders entries left ledger new limit unit status e f g m room h a b =
     let f' : locks_without status s.locks unit ≡ left = ap (λ xs. locks_without status xs unit) f ∙ sym a in
     let g' : with_mark s.stored unit Gone ≡ new = ap (λ l. with_mark l unit Gone) g ∙ sym b in
     at_state _ _ (cancelled s unit status) _ _ (λ i. record s { locks = f' i; stored = g' i })
     (leaves_as s (command.Cancel unit) (cancelled s unit status) (reply.Unit unit) room (own_cancel s orders ledger limit unit (Ok status) e g m h))
 
-pub cancels_in_doubt : (s : State) (orders : List (Option UnitKey)) (ledger : Ledger) (limit : ℕ) (unit : UnitKey) (status : Status) → s.orders ≡ orders → s.stored ≡ ledger → s.mark_limit ≡ limit → Admits s (command.Cancel unit) → to_cancel ledger orders limit unit ≡ Ok status → IsAct s (command.Cancel unit) (doubted s (OfAdmin (Cancels unit)) None (Some (with_mark s.stored unit Gone))) (reply.Refused refusal.StoreFault)
+pub cancels_in_doubt : (s : State) (orders : List (Option UnitKey)) (ledger : Ledger) (limit : ℕ) (unit : UnitKey) (status : Status) → s.orders ≡ orders
+    → s.stored ≡ ledger → s.mark_limit ≡ limit → Admits s (command.Cancel unit) → to_cancel ledger orders limit unit ≡ Ok status
+    → IsAct s (command.Cancel unit) (doubted s (OfAdmin (Cancels unit)) None (Some (with_mark s.stored unit Gone))) (reply.Refused refusal.StoreFault)
 cancels_in_doubt s orders ledger limit unit status e g m room h =
     fails s (command.Cancel unit) (cancelled s unit status) (reply.Unit unit) room (own_cancel s orders ledger limit unit (Ok status) e g m h) refl refl
 
@@ -326,58 +394,82 @@ open_status status.Closed h = cc
 open_status status.Bad2 h = cc
 open_status status.Cancelled h = cc
 
-pub cancels_unfiled : (s : State) (orders : List (Option UnitKey)) (ledger new : Ledger) (limit : ℕ) (unit : UnitKey) (found : Status) → s.orders ≡ orders → s.stored ≡ ledger → s.mark_limit ≡ limit → Admits s (command.Cancel unit) → to_cancel ledger orders limit unit ≡ Ok found → is_open found ≡ true → new ≡ with_mark ledger unit Gone → IsAct s (command.Cancel unit) (unfiled s (call_of (command.Cancel unit)) None new) (reply.Refused refusal.BackupFault)
+pub cancels_unfiled : (s : State) (orders : List (Option UnitKey)) (ledger new : Ledger) (limit : ℕ) (unit : UnitKey) (found : Status) → s.orders ≡ orders
+    → s.stored ≡ ledger → s.mark_limit ≡ limit → Admits s (command.Cancel unit) → to_cancel ledger orders limit unit ≡ Ok found → is_open found ≡ true
+    → new ≡ with_mark ledger unit Gone → IsAct s (command.Cancel unit) (unfiled s (call_of (command.Cancel unit)) None new) (reply.Refused refusal.BackupFault)
 cancels_unfiled s orders ledger new limit unit found e g m room h waits b =
-    subst (λ l. IsAct s (command.Cancel unit) (unfiled s (call_of (command.Cancel unit)) None l) (reply.Refused refusal.BackupFault)) (ap (λ l. with_mark l unit Gone) g ∙ sym b)
+    subst (λ l. IsAct s (command.Cancel unit) (unfiled s (call_of (command.Cancel unit)) None l) (reply.Refused refusal.BackupFault))
+    (ap (λ l. with_mark l unit Gone) g ∙ sym b)
     (fails_filing s (command.Cancel unit) (cancelled s unit found) (reply.Unit unit) room (own_cancel s orders ledger limit unit (Ok found) e g m h)
-    (ap (λ (l : Ledger). has_status status.Open (status_of l.units l.marks unit)) g ∙ ap (has_status status.Open) (can_be ledger orders limit unit found h).recorded ∙ open_status found waits))
+    (ap (λ (l : Ledger). has_status status.Open (status_of l.units l.marks unit)) g
+    ∙ ap (has_status status.Open) (can_be ledger orders limit unit found h).recorded ∙ open_status found waits))
 
 -- ---- trying again
 
-own_resubmit : (s : State) (ledger : Ledger) (limit : ℕ) (unit : UnitKey) (r : Result Status Refusal) → s.stored ≡ ledger → s.mark_limit ≡ limit → to_resubmit ledger limit unit ≡ r → resubmit s unit ≡ resubmitting s unit r
+own_resubmit : (s : State) (ledger : Ledger) (limit : ℕ) (unit : UnitKey) (r : Result Status Refusal) → s.stored ≡ ledger → s.mark_limit ≡ limit
+    → to_resubmit ledger limit unit ≡ r → resubmit s unit ≡ resubmitting s unit r
 own_resubmit s ledger limit unit r g m h = (λ i. resubmitting s unit (to_resubmit (g i) (m i) unit)) ∙ ap (resubmitting s unit) h
 
-pub resubmits_not : (s : State) (entries : List Entry) (ledger : Ledger) (limit : ℕ) (unit : UnitKey) (r : Refusal) → s.locks ≡ entries → s.stored ≡ ledger → s.mark_limit ≡ limit → Admits s (command.Resubmit unit) → to_resubmit ledger limit unit ≡ Err r → IsAct s (command.Resubmit unit) (record s { locks = entries; stored = ledger }) (reply.Refused r)
+pub resubmits_not : (s : State) (entries : List Entry) (ledger : Ledger) (limit : ℕ) (unit : UnitKey) (r : Refusal) → s.locks ≡ entries → s.stored ≡ ledger
+    → s.mark_limit ≡ limit → Admits s (command.Resubmit unit) → to_resubmit ledger limit unit ≡ Err r
+    → IsAct s (command.Resubmit unit) (record s { locks = entries; stored = ledger }) (reply.Refused r)
 resubmits_not s entries ledger limit unit r f g m room h =
     at_state _ _ s _ _ (λ i. record s { locks = f i; stored = g i })
     (refuses s (command.Resubmit unit) r room (own_resubmit s ledger limit unit (Err r) g m h))
 
-pub resubmits_wanting : (s : State) (entries : List Entry) (ledger new : Ledger) (limit : ℕ) (unit : UnitKey) (status : Status) → s.locks ≡ entries → s.stored ≡ ledger → s.mark_limit ≡ limit → Admits s (command.Resubmit unit) → to_resubmit ledger limit unit ≡ Ok status → new ≡ ledger → IsAct s (command.Resubmit unit) (record s { locks = entries; stored = new }) (reply.Refused refusal.NoMemory)
+pub resubmits_wanting : (s : State) (entries : List Entry) (ledger new : Ledger) (limit : ℕ) (unit : UnitKey) (status : Status) → s.locks ≡ entries
+    → s.stored ≡ ledger → s.mark_limit ≡ limit → Admits s (command.Resubmit unit) → to_resubmit ledger limit unit ≡ Ok status → new ≡ ledger
+    → IsAct s (command.Resubmit unit) (record s { locks = entries; stored = new }) (reply.Refused refusal.NoMemory)
 resubmits_wanting s entries ledger new limit unit status f g m room h kept =
     let g' : s.stored ≡ new = g ∙ sym kept in
     at_state _ _ s _ _ (λ i. record s { locks = f i; stored = g' i })
     (is_wanting s (command.Resubmit unit) room.served (ap is_ok ((λ i. to_resubmit (g i) (m i) unit) ∙ h)))
 
-pub reposts : (s : State) (entries : List Entry) (ledger new : Ledger) (limit : ℕ) (unit : UnitKey) → s.locks ≡ entries → s.stored ≡ ledger → s.mark_limit ≡ limit → Admits s (command.Resubmit unit) → to_resubmit ledger limit unit ≡ Ok Bad2 → new ≡ with_mark ledger unit Again2 → IsAct s (command.Resubmit unit) (record s { locks = entries; stored = new }) (reply.Unit unit)
+pub reposts : (s : State) (entries : List Entry) (ledger new : Ledger) (limit : ℕ) (unit : UnitKey) → s.locks ≡ entries → s.stored ≡ ledger
+    → s.mark_limit ≡ limit → Admits s (command.Resubmit unit) → to_resubmit ledger limit unit ≡ Ok Bad2 → new ≡ with_mark ledger unit Again2
+    → IsAct s (command.Resubmit unit) (record s { locks = entries; stored = new }) (reply.Unit unit)
 reposts s entries ledger new limit unit f g m room h b =
     let g' : with_mark s.stored unit Again2 ≡ new = ap (λ l. with_mark l unit Again2) g ∙ sym b in
     at_state _ _ (reposted s unit) _ _ (λ i. record s { locks = f i; stored = g' i })
     (leaves_as s (command.Resubmit unit) (reposted s unit) (reply.Unit unit) room (own_resubmit s ledger limit unit (Ok Bad2) g m h))
 
-pub reposts_in_doubt : (s : State) (ledger : Ledger) (limit : ℕ) (unit : UnitKey) → s.stored ≡ ledger → s.mark_limit ≡ limit → Admits s (command.Resubmit unit) → to_resubmit ledger limit unit ≡ Ok Bad2 → IsAct s (command.Resubmit unit) (doubted s (OfAdmin (Resubmits unit)) None (Some (with_mark s.stored unit Again2))) (reply.Refused refusal.StoreFault)
+pub reposts_in_doubt : (s : State) (ledger : Ledger) (limit : ℕ) (unit : UnitKey) → s.stored ≡ ledger → s.mark_limit ≡ limit → Admits s (command.Resubmit unit)
+    → to_resubmit ledger limit unit ≡ Ok Bad2 → IsAct s (command.Resubmit unit)
+    (doubted s (OfAdmin (Resubmits unit)) None (Some (with_mark s.stored unit Again2))) (reply.Refused refusal.StoreFault)
 reposts_in_doubt s ledger limit unit g m room h =
     fails s (command.Resubmit unit) (reposted s unit) (reply.Unit unit) room (own_resubmit s ledger limit unit (Ok Bad2) g m h) refl refl
 
-own_reopen : (s : State) (t : Table) (ledger : Ledger) (limit : ℕ) (unit : UnitKey) (answer : Result (List Entry) AskFault) → s.locks ≡ t.entries → s.limit ≡ t.limit → s.stored ≡ ledger → s.mark_limit ≡ limit → to_resubmit ledger limit unit ≡ Ok Bad → readmitted t (owners_of unit) (entries_of ledger.units unit) ≡ answer → resubmit s unit ≡ reopening s unit answer
+own_reopen : (s : State) (t : Table) (ledger : Ledger) (limit : ℕ) (unit : UnitKey) (answer : Result (List Entry) AskFault) → s.locks ≡ t.entries
+    → s.limit ≡ t.limit → s.stored ≡ ledger → s.mark_limit ≡ limit → to_resubmit ledger limit unit ≡ Ok Bad
+    → readmitted t (owners_of unit) (entries_of ledger.units unit) ≡ answer → resubmit s unit ≡ reopening s unit answer
 own_reopen s t ledger limit unit answer f l g m h e =
     own_resubmit s ledger limit unit (Ok Bad) g m h
     ∙ (λ i. reopening s unit (readmitted (record { entries = f i; limit = l i }) (owners_of unit) (entries_of (g i).units unit)))
     ∙ ap (reopening s unit) e
 
-pub reopens : (s : State) (t : Table) (ledger new : Ledger) (limit : ℕ) (unit : UnitKey) (left : List Entry) → s.locks ≡ t.entries → s.limit ≡ t.limit → s.stored ≡ ledger → s.mark_limit ≡ limit → Admits s (command.Resubmit unit) → to_resubmit ledger limit unit ≡ Ok Bad → readmitted t (owners_of unit) (entries_of ledger.units unit) ≡ Ok left → new ≡ with_mark ledger unit Again1 → IsAct s (command.Resubmit unit) (record s { locks = left; stored = new }) (reply.Unit unit)
+pub reopens : (s : State) (t : Table) (ledger new : Ledger) (limit : ℕ) (unit : UnitKey) (left : List Entry) → s.locks ≡ t.entries → s.limit ≡ t.limit
+    → s.stored ≡ ledger → s.mark_limit ≡ limit → Admits s (command.Resubmit unit) → to_resubmit ledger limit unit ≡ Ok Bad
+    → readmitted t (owners_of unit) (entries_of ledger.units unit) ≡ Ok left → new ≡ with_mark ledger unit Again1
+    → IsAct s (command.Resubmit unit) (record s { locks = left; stored = new }) (reply.Unit unit)
 reopens s t ledger new limit unit left f l g m room h stand b =
     let g' : with_mark s.stored unit Again1 ≡ new = ap (λ x. with_mark x unit Again1) g ∙ sym b in
     at_state _ _ (reopened s unit left) _ _ (λ i. record s { locks = left; stored = g' i })
     (leaves_as s (command.Resubmit unit) (reopened s unit left) (reply.Unit unit) room (own_reopen s t ledger limit unit (Ok left) f l g m h stand))
 
-pub reopens_in_doubt : (s : State) (t : Table) (ledger : Ledger) (limit : ℕ) (unit : UnitKey) (left : List Entry) → s.locks ≡ t.entries → s.limit ≡ t.limit → s.stored ≡ ledger → s.mark_limit ≡ limit → Admits s (command.Resubmit unit) → to_resubmit ledger limit unit ≡ Ok Bad → readmitted t (owners_of unit) (entries_of ledger.units unit) ≡ Ok left → IsAct s (command.Resubmit unit) (doubted s (OfAdmin (Resubmits unit)) None (Some (with_mark s.stored unit Again1))) (reply.Refused refusal.StoreFault)
+pub reopens_in_doubt : (s : State) (t : Table) (ledger : Ledger) (limit : ℕ) (unit : UnitKey) (left : List Entry) → s.locks ≡ t.entries → s.limit ≡ t.limit
+    → s.stored ≡ ledger → s.mark_limit ≡ limit → Admits s (command.Resubmit unit) → to_resubmit ledger limit unit ≡ Ok Bad
+    → readmitted t (owners_of unit) (entries_of ledger.units unit) ≡ Ok left
+    → IsAct s (command.Resubmit unit) (doubted s (OfAdmin (Resubmits unit)) None (Some (with_mark s.stored unit Again1))) (reply.Refused refusal.StoreFault)
 reopens_in_doubt s t ledger limit unit left f l g m room h stand =
     fails s (command.Resubmit unit) (reopened s unit left) (reply.Unit unit) room (own_reopen s t ledger limit unit (Ok left) f l g m h stand) refl refl
 
 some_written : (n : ℕ) → 1 ≤ n → nat_lt 0 n ≡ true
 some_written n h = grind (arith, nat_tests)
 
-pub reopens_unfiled : (s : State) (t : Table) (ledger new : Ledger) (limit : ℕ) (unit : UnitKey) (left : List Entry) → s.locks ≡ t.entries → s.limit ≡ t.limit → s.stored ≡ ledger → s.mark_limit ≡ limit → Admits s (command.Resubmit unit) → to_resubmit ledger limit unit ≡ Ok Bad → readmitted t (owners_of unit) (entries_of ledger.units unit) ≡ Ok left → 1 ≤ length (entries_of ledger.units unit) → new ≡ ledger → IsAct s (command.Resubmit unit) (unfiled s (call_of (command.Resubmit unit)) None new) (reply.Refused refusal.BackupFault)
+pub reopens_unfiled : (s : State) (t : Table) (ledger new : Ledger) (limit : ℕ) (unit : UnitKey) (left : List Entry) → s.locks ≡ t.entries → s.limit ≡ t.limit
+    → s.stored ≡ ledger → s.mark_limit ≡ limit → Admits s (command.Resubmit unit) → to_resubmit ledger limit unit ≡ Ok Bad
+    → readmitted t (owners_of unit) (entries_of ledger.units unit) ≡ Ok left → 1 ≤ length (entries_of ledger.units unit) → new ≡ ledger
+    → IsAct s (command.Resubmit unit) (unfiled s (call_of (command.Resubmit unit)) None new) (reply.Refused refusal.BackupFault)
 reopens_unfiled s t ledger new limit unit left f l g m room h stand some b =
     subst (λ x. IsAct s (command.Resubmit unit) (unfiled s (call_of (command.Resubmit unit)) None x) (reply.Refused refusal.BackupFault)) (g ∙ sym b)
     (fails_filing s (command.Resubmit unit) (reopened s unit left) (reply.Unit unit) room (own_reopen s t ledger limit unit (Ok left) f l g m h stand)
@@ -385,7 +477,9 @@ reopens_unfiled s t ledger new limit unit left f l g m room h stand some b =
     ∙ ap (λ o. nat_lt 0 (length (if has_status status.Bad o then entries_of ledger.units unit else []))) (can_be_tried ledger limit unit Bad h).recorded
     ∙ some_written (length (entries_of ledger.units unit)) some))
 
-not_reopened : (s : State) (t : Table) (ledger : Ledger) (limit : ℕ) (unit : UnitKey) (f : AskFault) → s.locks ≡ t.entries → s.limit ≡ t.limit → s.stored ≡ ledger → s.mark_limit ≡ limit → Admits s (command.Resubmit unit) → to_resubmit ledger limit unit ≡ Ok Bad → IsFaultOf (readmitted t (owners_of unit) (entries_of ledger.units unit)) f → IsAct s (command.Resubmit unit) s (reply.Refused (ask_refusal f))
+not_reopened : (s : State) (t : Table) (ledger : Ledger) (limit : ℕ) (unit : UnitKey) (f : AskFault) → s.locks ≡ t.entries → s.limit ≡ t.limit
+    → s.stored ≡ ledger → s.mark_limit ≡ limit → Admits s (command.Resubmit unit) → to_resubmit ledger limit unit ≡ Ok Bad
+    → IsFaultOf (readmitted t (owners_of unit) (entries_of ledger.units unit)) f → IsAct s (command.Resubmit unit) s (reply.Refused (ask_refusal f))
 not_reopened s t ledger limit unit (fault.Foreign e) locks l g m room h why =
     refuses s (command.Resubmit unit) _ room (own_reopen s t ledger limit unit _ locks l g m h why)
 not_reopened s t ledger limit unit (fault.Full used most) locks l g m room h why =
@@ -397,7 +491,10 @@ not_reopened s t ledger limit unit fault.Lost locks l g m room h why =
 not_reopened s t ledger limit unit fault.NoMemory locks l g m room h why =
     is_wanting s (command.Resubmit unit) room.served (ap is_ok ((λ i. to_resubmit (g i) (m i) unit) ∙ h))
 
-pub reopens_in_vain : (s : State) (t : Table) (ledger new : Ledger) (limit : ℕ) (unit : UnitKey) (f : AskFault) (r : Refusal) (after : List Entry) → s.locks ≡ t.entries → s.limit ≡ t.limit → s.stored ≡ ledger → s.mark_limit ≡ limit → Admits s (command.Resubmit unit) → to_resubmit ledger limit unit ≡ Ok Bad → IsFaultOf (readmitted t (owners_of unit) (entries_of ledger.units unit)) f → after ≡ t.entries → new ≡ ledger → r ≡ ask_refusal f → IsAct s (command.Resubmit unit) (record s { locks = after; stored = new }) (reply.Refused r)
+pub reopens_in_vain : (s : State) (t : Table) (ledger new : Ledger) (limit : ℕ) (unit : UnitKey) (f : AskFault) (r : Refusal) (after : List Entry)
+    → s.locks ≡ t.entries → s.limit ≡ t.limit → s.stored ≡ ledger → s.mark_limit ≡ limit → Admits s (command.Resubmit unit)
+    → to_resubmit ledger limit unit ≡ Ok Bad → IsFaultOf (readmitted t (owners_of unit) (entries_of ledger.units unit)) f → after ≡ t.entries → new ≡ ledger
+    → r ≡ ask_refusal f → IsAct s (command.Resubmit unit) (record s { locks = after; stored = new }) (reply.Refused r)
 reopens_in_vain s t ledger new limit unit f r after locks l g m room h why same kept is =
     let f' : s.locks ≡ after = locks ∙ sym same in
     let g' : s.stored ≡ new = g ∙ sym kept in
@@ -406,10 +503,13 @@ reopens_in_vain s t ledger new limit unit f r after locks l g m room h why same 
 
 -- ---- rows
 
-own_read : (found : Found) (s : State) (sessions : List Session) (name table key : List ℕ) (x : Session) → s.sessions ≡ sessions → session_at sessions name ≡ Some x → own_verdict found s (OfSession name (Reads table key)) ≡ Leaves s (reply.Row (found.row table key))
+own_read : (found : Found) (s : State) (sessions : List Session) (name table key : List ℕ) (x : Session) → s.sessions ≡ sessions
+    → session_at sessions name ≡ Some x → own_verdict found s (OfSession name (Reads table key)) ≡ Leaves s (reply.Row (found.row table key))
 own_read found s sessions name table key x e at = ap (called found s (Reads table key)) (found_at s sessions name (Some x) e at)
 
-pub reads_unknown : (s : State) (sessions : List Session) (ledger : Ledger) (name table key : List ℕ) (r : Refusal) → s.sessions ≡ sessions → s.stored ≡ ledger → Admits s (command.Read name table key) → session_at sessions name ≡ None → r ≡ refusal.UnknownSession → IsAct s (command.Read name table key) (record s { stored = ledger }) (reply.Refused r)
+pub reads_unknown : (s : State) (sessions : List Session) (ledger : Ledger) (name table key : List ℕ) (r : Refusal) → s.sessions ≡ sessions → s.stored ≡ ledger
+    → Admits s (command.Read name table key) → session_at sessions name ≡ None → r ≡ refusal.UnknownSession
+    → IsAct s (command.Read name table key) (record s { stored = ledger }) (reply.Refused r)
 reads_unknown s sessions ledger name table key r e g room none is =
     subst (λ x. IsAct s (command.Read name table key) (record s { stored = ledger }) (reply.Refused x)) (sym is)
     (at_state _ _ s _ _ (λ i. record s { stored = g i })
@@ -418,48 +518,67 @@ reads_unknown s sessions ledger name table key r e g room none is =
 abbrev TellsText : Bool → Ledger → List ℕ → List ℕ → Option (List ℕ) → Type 0
 TellsText told ledger table key text = IsTold told (text ≡ row_in ledger table key)
 
-told_text : (told : Bool) (rows : Option Rows) (ledger : Ledger) (table key : List ℕ) (text : Option (List ℕ)) → told ≡ is_some rows → IfSome rows (λ _. text ≡ row_in ledger table key) → TellsText told ledger table key text
+told_text : (told : Bool) (rows : Option Rows) (ledger : Ledger) (table key : List ℕ) (text : Option (List ℕ)) → told ≡ is_some rows
+    → IfSome rows (λ _. text ≡ row_in ledger table key) → TellsText told ledger table key text
 told_text told None ledger table key text t known = subst (λ b. TellsText b ledger table key text) (sym t) tt
 told_text told (Some rows) ledger table key text t known = subst (λ b. TellsText b ledger table key text) (sym t) known
 
-pub reads : (s : State) (rows : Option Rows) (sessions : List Session) (ledger new : Ledger) (name table key : List ℕ) (x : Session) (text : Option (List ℕ)) → s.sessions ≡ sessions → s.told ≡ is_some rows → s.stored ≡ ledger → Admits s (command.Read name table key) → session_at sessions name ≡ Some x → IfSome rows (λ _. text ≡ row_in ledger table key) → new ≡ ledger → IsAct s (command.Read name table key) (record s { stored = new }) (reply.Row text)
+pub reads : (s : State) (rows : Option Rows) (sessions : List Session) (ledger new : Ledger) (name table key : List ℕ) (x : Session) (text : Option (List ℕ))
+    → s.sessions ≡ sessions → s.told ≡ is_some rows → s.stored ≡ ledger → Admits s (command.Read name table key) → session_at sessions name ≡ Some x
+    → IfSome rows (λ _. text ≡ row_in ledger table key) → new ≡ ledger → IsAct s (command.Read name table key) (record s { stored = new }) (reply.Row text)
 reads s rows sessions ledger new name table key x text e t g room at known kept =
     let g' : s.stored ≡ new = g ∙ sym kept in
     let found = found_by (Shows text) s in
     at_state _ _ s _ _ (λ i. record s { stored = g' i })
     (record {
       outcome = record { event = AllWell; reading = Shows text; lost = false };
-      possible = record { reading = subst (λ l. TellsText s.told l table key text) (sym g) (told_text s.told rows ledger table key text t known); event = tt; lost = tt };
+      possible = record {
+        reading = subst (λ l. TellsText s.told l table key text) (sym g) (told_text s.told rows ledger table key text t known);
+        event =
+            tt;
+        lost = tt;
+      };
       same = ap (judged s) (admitted found s (command.Read name table key) room ∙ own_read found s sessions name table key x e at);
     })
 
-pub reads_wanting : (s : State) (sessions : List Session) (ledger new : Ledger) (name table key : List ℕ) (x : Session) → s.sessions ≡ sessions → s.stored ≡ ledger → Admits s (command.Read name table key) → session_at sessions name ≡ Some x → new ≡ ledger → IsAct s (command.Read name table key) (record s { stored = new }) (reply.Refused refusal.NoMemory)
+pub reads_wanting : (s : State) (sessions : List Session) (ledger new : Ledger) (name table key : List ℕ) (x : Session) → s.sessions ≡ sessions
+    → s.stored ≡ ledger → Admits s (command.Read name table key) → session_at sessions name ≡ Some x → new ≡ ledger
+    → IsAct s (command.Read name table key) (record s { stored = new }) (reply.Refused refusal.NoMemory)
 reads_wanting s sessions ledger new name table key x e g room at kept =
     let g' : s.stored ≡ new = g ∙ sym kept in
     at_state _ _ s _ _ (λ i. record s { stored = g' i })
     (is_wanting s (command.Read name table key) room.served refl)
 
 -- a read that failed leaves no change in flight
-pub reads_in_doubt : (s : State) (sessions : List Session) (name table key : List ℕ) (x : Session) → s.sessions ≡ sessions → s.pending ≡ None → Admits s (command.Read name table key) → session_at sessions name ≡ Some x → IsAct s (command.Read name table key) (doubted s (OfSession name (Reads table key)) None None) (reply.Refused refusal.StoreFault)
+pub reads_in_doubt : (s : State) (sessions : List Session) (name table key : List ℕ) (x : Session) → s.sessions ≡ sessions → s.pending ≡ None
+    → Admits s (command.Read name table key) → session_at sessions name ≡ Some x
+    → IsAct s (command.Read name table key) (doubted s (OfSession name (Reads table key)) None None) (reply.Refused refusal.StoreFault)
 reads_in_doubt s sessions name table key x e none room at =
     let v = admitted (found_in s) s (command.Read name table key) room ∙ own_read (found_in s) s sessions name table key x e at in
     record {
       outcome = only StoreFails;
       possible = record { reading = tt; event = (ap leaves v, refl); lost = tt };
-      same = ap (λ w. refused (doubted s (OfSession name (Reads table key)) None (pending_after AsKnown s (OfSession name (Reads table key)) w)) refusal.StoreFault) v
+      same = ap (λ w. refused (doubted s (OfSession name (Reads table key)) None (pending_after AsKnown s (OfSession name (Reads table key)) w))
+          refusal.StoreFault) v
           ∙ ap (λ p. refused (doubted s (OfSession name (Reads table key)) None p) refusal.StoreFault) none;
     }
 
 -- ---- commits
 
-own_commit : (s : State) (sessions : List Session) (name : List ℕ) (x : Session) (parts : Parts) (stock : List Number) → s.sessions ≡ sessions → session_at sessions name ≡ Some x → own_verdict (found_in s) s (OfSession name (Commits parts stock)) ≡ commit s x parts stock
+own_commit : (s : State) (sessions : List Session) (name : List ℕ) (x : Session) (parts : Parts) (stock : List Number) → s.sessions ≡ sessions
+    → session_at sessions name ≡ Some x → own_verdict (found_in s) s (OfSession name (Commits parts stock)) ≡ commit s x parts stock
 own_commit s sessions name x parts stock e found = ap (called (found_in s) s (Commits parts stock)) (found_at s sessions name (Some x) e found)
 
-pub commits_unknown : (s : State) (sessions : List Session) (ranges : List NumberRange) (entries : List Entry) (ledger : Ledger) (name : List ℕ) (parts : Parts) (stock : List Number) (r : Refusal) → s.sessions ≡ sessions → s.ranges ≡ ranges → s.locks ≡ entries → s.stored ≡ ledger → Admits s (command.Commit name parts stock) → session_at sessions name ≡ None → r ≡ refusal.UnknownSession → IsAct s (command.Commit name parts stock) (record s { sessions = sessions; ranges = ranges; locks = entries; stored = ledger }) (reply.Refused r)
+pub commits_unknown : (s : State) (sessions : List Session) (ranges : List NumberRange) (entries : List Entry) (ledger : Ledger) (name : List ℕ) (parts : Parts)
+    (stock : List Number) (r : Refusal) → s.sessions ≡ sessions → s.ranges ≡ ranges → s.locks ≡ entries → s.stored ≡ ledger
+    → Admits s (command.Commit name parts stock) → session_at sessions name ≡ None → r ≡ refusal.UnknownSession
+    → IsAct s (command.Commit name parts stock) (record s { sessions = sessions; ranges = ranges; locks = entries; stored = ledger }) (reply.Refused r)
 commits_unknown s sessions ranges entries ledger name parts stock r e k f g room none is =
-    subst (λ x. IsAct s (command.Commit name parts stock) (record s { sessions = sessions; ranges = ranges; locks = entries; stored = ledger }) (reply.Refused x)) (sym is)
+    subst (λ x. IsAct s (command.Commit name parts stock) (record s { sessions = sessions; ranges = ranges; locks = entries; stored = ledger })
+    (reply.Refused x)) (sym is)
     (at_state _ _ s _ _ (λ i. record s { sessions = e i; ranges = k i; locks = f i; stored = g i })
-    (refuses s (command.Commit name parts stock) refusal.UnknownSession room (ap (called (found_in s) s (Commits parts stock)) (found_at s sessions name None e none))))
+    (refuses s (command.Commit name parts stock) refusal.UnknownSession room
+    (ap (called (found_in s) s (Commits parts stock)) (found_at s sessions name None e none))))
 
 -- the same with the tests decided
 abbrev decided : State → Session → Parts → List Number → Bool → Bool → Bool → Verdict
@@ -475,12 +594,14 @@ is_too_much numbers parts = nat_lt 64 (length numbers) || nat_lt 200 (effects_in
 abbrev pub is_nothing : List Number → Parts → Bool
 is_nothing numbers parts = nat_eq (effects_in parts) 0 && nat_eq (length numbers) 0
 
-tested : (s : State) (x : Session) (parts : Parts) (stock : List Number) (large none alone : Bool) → is_too_much (x.draws ++ stock) parts ≡ large → is_nothing (x.draws ++ stock) parts ≡ none → nat_eq (effects_in parts) 0 ≡ alone
+tested : (s : State) (x : Session) (parts : Parts) (stock : List Number) (large none alone : Bool) → is_too_much (x.draws ++ stock) parts ≡ large
+    → is_nothing (x.draws ++ stock) parts ≡ none → nat_eq (effects_in parts) 0 ≡ alone
     → commit s x parts stock ≡ passing stock (decided s x parts (x.draws ++ stock) large none alone)
 tested s x parts stock large none alone a b c = λ i. passing stock (decided s x parts (x.draws ++ stock) (a i) (b i) (c i))
 
 -- where there is no room, and where there is
-passes_overflow : (s : State) (stock : List Number) (v : Verdict) → is_store_full s ≡ true → passing stock (with_room s v) ≡ Refuses (refusal.StoreFull s.mark_limit)
+passes_overflow : (s : State) (stock : List Number) (v : Verdict) → is_store_full s ≡ true
+    → passing stock (with_room s v) ≡ Refuses (refusal.StoreFull s.mark_limit)
 passes_overflow s stock v full = ap (passing stock) (overflows s v full)
 
 passes_fit : (s : State) (stock : List Number) (v : Verdict) → is_store_full s ≡ false → passing stock (with_room s v) ≡ passing stock v
@@ -490,7 +611,8 @@ pub is_written : (n : ℕ) → 1 ≤ n → nat_lt 0 n ≡ true
 is_written n h = grind (arith, nat_tests)
 
 -- a session that commits: what the hall holds is the state's
-pub record IsCommitAt (s : State) (sessions : List Session) (ranges : List NumberRange) (entries : List Entry) (ledger : Ledger) (limit : ℕ) (name : List ℕ) (x : Session) (c : Command) : Type 0 where
+pub record IsCommitAt (s : State) (sessions : List Session) (ranges : List NumberRange) (entries : List Entry) (ledger : Ledger) (limit : ℕ) (name : List ℕ)
+    (x : Session) (c : Command) : Type 0 where
   pub own_sessions : s.sessions ≡ sessions
   pub own_ranges : s.ranges ≡ ranges
   pub own_locks : s.locks ≡ entries
@@ -499,7 +621,8 @@ pub record IsCommitAt (s : State) (sessions : List Session) (ranges : List Numbe
   pub admits : Admits s c
   pub found : session_at sessions name ≡ Some x
 
-module _ (s : State) (sessions : List Session) (ranges : List NumberRange) (entries : List Entry) (ledger : Ledger) (limit : ℕ) (name : List ℕ) (x : Session) (parts : Parts) (stock : List Number) (at : IsCommitAt s sessions ranges entries ledger limit name x (command.Commit name parts stock)) where
+module _ (s : State) (sessions : List Session) (ranges : List NumberRange) (entries : List Entry) (ledger : Ledger) (limit : ℕ) (name : List ℕ) (x : Session)
+    (parts : Parts) (stock : List Number) (at : IsCommitAt s sessions ranges entries ledger limit name x (command.Commit name parts stock)) where
   abbrev numbers : List Number
   numbers = x.draws ++ stock
 
@@ -513,19 +636,25 @@ module _ (s : State) (sessions : List Session) (ranges : List NumberRange) (entr
   here r = at_state _ _ s _ _ (λ i. record s { sessions = at.own_sessions i; ranges = at.own_ranges i; locks = at.own_locks i; stored = at.own_ledger i })
 
   pub commits_too_much : is_too_much numbers parts ≡ true → IsAct s (command.Commit name parts stock) same_state (reply.Refused refusal.UnitTooLarge)
-  commits_too_much large = here _ (refuses s (command.Commit name parts stock) refusal.UnitTooLarge at.admits (own ∙ tested s x parts stock true _ _ large refl refl))
+  commits_too_much large =
+      here _ (refuses s (command.Commit name parts stock) refusal.UnitTooLarge at.admits (own ∙ tested s x parts stock true _ _ large refl refl))
 
-  pub commits_nothing : is_too_much numbers parts ≡ false → is_nothing numbers parts ≡ true → IsAct s (command.Commit name parts stock) (record s { sessions = sessions; ranges = passed stock ranges; locks = entries; stored = ledger }) reply.Done
+  pub commits_nothing : is_too_much numbers parts ≡ false → is_nothing numbers parts ≡ true
+      → IsAct s (command.Commit name parts stock) (record s { sessions = sessions; ranges = passed stock ranges; locks = entries; stored = ledger }) reply.Done
   commits_nothing few none =
-      at_state _ _ (stocked stock s) _ _ (λ i. record s { sessions = at.own_sessions i; ranges = passed stock (at.own_ranges i); locks = at.own_locks i; stored = at.own_ledger i })
+      at_state _ _ (stocked stock s) _ _
+      (λ i. record s { sessions = at.own_sessions i; ranges = passed stock (at.own_ranges i); locks = at.own_locks i; stored = at.own_ledger i })
       (is_done s (command.Commit name parts stock) (stocked stock s) at.admits (own ∙ tested s x parts stock false true _ few none refl))
 
-  pub commits_wanting : (new : Ledger) → new ≡ ledger → IsAct s (command.Commit name parts stock) (record s { sessions = sessions; ranges = ranges; locks = entries; stored = new }) (reply.Refused refusal.NoMemory)
+  pub commits_wanting : (new : Ledger) → new ≡ ledger → IsAct s (command.Commit name parts stock)
+      (record s { sessions = sessions; ranges = ranges; locks = entries; stored = new }) (reply.Refused refusal.NoMemory)
   commits_wanting new kept =
-      subst (λ l. IsAct s (command.Commit name parts stock) (record s { sessions = sessions; ranges = ranges; locks = entries; stored = l }) (reply.Refused refusal.NoMemory)) (sym kept)
+      subst (λ l. IsAct s (command.Commit name parts stock) (record s { sessions = sessions; ranges = ranges; locks = entries; stored = l })
+      (reply.Refused refusal.NoMemory)) (sym kept)
       (here _ (is_wanting s (command.Commit name parts stock) at.admits.served refl))
 
-  pub commits_full : is_too_much numbers parts ≡ false → is_nothing numbers parts ≡ false → nat_le limit (length ledger.marks) ≡ true → IsAct s (command.Commit name parts stock) same_state (reply.Refused (refusal.StoreFull limit))
+  pub commits_full : is_too_much numbers parts ≡ false → is_nothing numbers parts ≡ false → nat_le limit (length ledger.marks) ≡ true
+      → IsAct s (command.Commit name parts stock) same_state (reply.Refused (refusal.StoreFull limit))
   commits_full few some full =
       subst (λ n. IsAct s (command.Commit name parts stock) same_state (reply.Refused (refusal.StoreFull n))) at.own_limit
       (here _ (refuses s (command.Commit name parts stock) (refusal.StoreFull s.mark_limit) at.admits
@@ -533,9 +662,12 @@ module _ (s : State) (sessions : List Session) (ranges : List NumberRange) (entr
 
   -- ---- a unit
 
-  leaves_unit : is_too_much numbers parts ≡ false → nat_eq (effects_in parts) 0 ≡ false → is_nothing numbers parts ≡ false → nat_le limit (length ledger.marks) ≡ false
-      → own_verdict (found_in s) s (OfSession name (Commits parts stock)) ≡ Leaves (stocked stock (committed s x parts numbers)) (reply.Unit (unit_key s.stored.start x))
-  leaves_unit few effects some space = own ∙ tested s x parts stock false false false few some effects ∙ passes_fit s stock _ (full_as s limit ledger false at.own_limit at.own_ledger space)
+  leaves_unit : is_too_much numbers parts ≡ false → nat_eq (effects_in parts) 0 ≡ false → is_nothing numbers parts ≡ false
+      → nat_le limit (length ledger.marks) ≡ false
+      → own_verdict (found_in s) s (OfSession name (Commits parts stock)) ≡ Leaves (stocked stock (committed s x parts numbers))
+      (reply.Unit (unit_key s.stored.start x))
+  leaves_unit few effects some space = own ∙ tested s x parts stock false false false few some effects
+      ∙ passes_fit s stock _ (full_as s limit ledger false at.own_limit at.own_ledger space)
 
   -- what is written of it
   abbrev the_unit : UnitOfWork
@@ -544,23 +676,30 @@ module _ (s : State) (sessions : List Session) (ranges : List NumberRange) (entr
   abbrev the_levels : List StoredInterval
   the_levels = settled_rows ledger.levels ranges numbers
 
-  pub commits : is_too_much numbers parts ≡ false → nat_eq (effects_in parts) 0 ≡ false → is_nothing numbers parts ≡ false → nat_le limit (length ledger.marks) ≡ false
-      → (after : List Session) (left : List Entry) (new : Ledger) (key : UnitKey) → key ≡ unit_key ledger.start x → after ≡ with_session x.name with_next_unit sessions → left ≡ handed_over entries key
-      → new ≡ with_intervals the_levels (with_unit ledger the_unit) → IsAct s (command.Commit name parts stock) (record s { sessions = after; ranges = passed stock ranges; locks = left; stored = new }) (reply.Unit key)
+  pub commits : is_too_much numbers parts ≡ false → nat_eq (effects_in parts) 0 ≡ false → is_nothing numbers parts ≡ false
+      → nat_le limit (length ledger.marks) ≡ false
+      → (after : List Session) (left : List Entry) (new : Ledger) (key : UnitKey) → key ≡ unit_key ledger.start x
+      → after ≡ with_session x.name with_next_unit sessions → left ≡ handed_over entries key
+      → new ≡ with_intervals the_levels (with_unit ledger the_unit) → IsAct s (command.Commit name parts stock)
+      (record s { sessions = after; ranges = passed stock ranges; locks = left; stored = new }) (reply.Unit key)
   commits few effects some space after left new key k a b c =
       let k' : unit_key s.stored.start x ≡ key = ap (λ (l : Ledger). unit_key l.start x) at.own_ledger ∙ sym k in
       let e' : with_session x.name with_next_unit s.sessions ≡ after = ap (with_session x.name with_next_unit) at.own_sessions ∙ sym a in
       let f' : handed_over s.locks (unit_key s.stored.start x) ≡ left = (λ i. handed_over (at.own_locks i) (k' i)) ∙ sym b in
       let g' : with_numbers s numbers (with_unit s.stored (unit_of s.stored.start s.locks x parts numbers)) ≡ new =
-      (λ i. let l : Ledger = at.own_ledger i in with_intervals (settled_rows l.levels (at.own_ranges i) numbers) (with_unit l (unit_of l.start (at.own_locks i) x parts numbers))) ∙ sym c in
-      subst (λ u. IsAct s (command.Commit name parts stock) (record s { sessions = after; ranges = passed stock ranges; locks = left; stored = new }) (reply.Unit u)) k'
-      (at_state _ _ (stocked stock (committed s x parts numbers)) _ _ (λ i. record s { sessions = e' i; ranges = passed stock (at.own_ranges i); locks = f' i; stored = g' i })
+      (λ i. let l : Ledger = at.own_ledger i in with_intervals (settled_rows l.levels (at.own_ranges i) numbers)
+      (with_unit l (unit_of l.start (at.own_locks i) x parts numbers))) ∙ sym c in
+      subst (λ u. IsAct s (command.Commit name parts stock) (record s { sessions = after; ranges = passed stock ranges; locks = left; stored = new })
+      (reply.Unit u)) k'
+      (at_state _ _ (stocked stock (committed s x parts numbers)) _ _
+      (λ i. record s { sessions = e' i; ranges = passed stock (at.own_ranges i); locks = f' i; stored = g' i })
       (leaves_as s (command.Commit name parts stock) (stocked stock (committed s x parts numbers)) _ at.admits (leaves_unit few effects some space)))
 
   -- the call uses the store
   pub uses_to_commit : is_nothing numbers parts ≡ false → IsTrue (uses_store s (OfSession name (Commits parts stock)))
   uses_to_commit some =
-      subst (λ o. IsTrue (nat_lt 0 (effects_in parts) || option_map_or (λ (y : Session). nat_lt 0 (length (y.draws ++ stock))) o false)) (sym (ap (λ ss. session_at ss name) at.own_sessions ∙ at.found))
+      subst (λ o. IsTrue (nat_lt 0 (effects_in parts) || option_map_or (λ (y : Session). nat_lt 0 (length (y.draws ++ stock))) o false))
+      (sym (ap (λ ss. session_at ss name) at.own_sessions ∙ at.found))
       (some_of (effects_in parts) (length numbers) some)
     where
       some_of : (m n : ℕ) → (nat_eq m 0 && nat_eq n 0) ≡ false → IsTrue (nat_lt 0 m || nat_lt 0 n)
@@ -568,60 +707,89 @@ module _ (s : State) (sessions : List Session) (ranges : List NumberRange) (entr
       some_of zero (suc n) h = is_written (suc n) (omega arith)
       some_of zero zero h = cc
 
-  pub commits_in_doubt : is_too_much numbers parts ≡ false → nat_eq (effects_in parts) 0 ≡ false → is_nothing numbers parts ≡ false → nat_le limit (length ledger.marks) ≡ false
+  pub commits_in_doubt : is_too_much numbers parts ≡ false → nat_eq (effects_in parts) 0 ≡ false → is_nothing numbers parts ≡ false
+      → nat_le limit (length ledger.marks) ≡ false
       → (unit : UnitOfWork) (levels : List StoredInterval) → unit ≡ the_unit → levels ≡ the_levels
-      → IsAct s (command.Commit name parts stock) (doubted (stocked stock s) (OfSession name (Commits parts stock)) None (Some (with_intervals levels (with_unit s.stored unit)))) (reply.Refused refusal.StoreFault)
+      → IsAct s (command.Commit name parts stock)
+      (doubted (stocked stock s) (OfSession name (Commits parts stock)) None (Some (with_intervals levels (with_unit s.stored unit))))
+      (reply.Refused refusal.StoreFault)
   commits_in_doubt few effects some space unit levels is rows =
-      let same : unit_of s.stored.start s.locks x parts numbers ≡ unit = (λ i. let l : Ledger = at.own_ledger i in unit_of l.start (at.own_locks i) x parts numbers) ∙ sym is in
-      let same_rows : settled_rows s.stored.levels s.ranges numbers ≡ levels = (λ i. let l : Ledger = at.own_ledger i in settled_rows l.levels (at.own_ranges i) numbers) ∙ sym rows in
-      subst (λ (w : Ledger). IsAct s (command.Commit name parts stock) (doubted (stocked stock s) (OfSession name (Commits parts stock)) None (Some w)) (reply.Refused refusal.StoreFault)) (λ i. with_intervals (same_rows i) (with_unit s.stored (same i)))
-      (fails s (command.Commit name parts stock) (stocked stock (committed s x parts numbers)) _ at.admits (leaves_unit few effects some space) (uses_to_commit some) refl)
+      let same : unit_of s.stored.start s.locks x parts numbers ≡ unit =
+      (λ i. let l : Ledger = at.own_ledger i in unit_of l.start (at.own_locks i) x parts numbers) ∙ sym is in
+      let same_rows : settled_rows s.stored.levels s.ranges numbers ≡ levels =
+      (λ i. let l : Ledger = at.own_ledger i in settled_rows l.levels (at.own_ranges i) numbers) ∙ sym rows in
+      subst (λ (w : Ledger). IsAct s (command.Commit name parts stock) (doubted (stocked stock s) (OfSession name (Commits parts stock)) None (Some w))
+      (reply.Refused refusal.StoreFault)) (λ i. with_intervals (same_rows i) (with_unit s.stored (same i)))
+      (fails s (command.Commit name parts stock) (stocked stock (committed s x parts numbers)) _ at.admits (leaves_unit few effects some space)
+      (uses_to_commit some) refl)
 
   not_none : (n : ℕ) → nat_eq n 0 ≡ false → 1 ≤ n
   not_none zero h = cc
   not_none (suc n) h = omega arith
 
   -- the call uses the backup file
-  uses_to_hand : nat_eq (effects_in parts) 0 ≡ false → 1 ≤ length (lasting (unit_key ledger.start x) entries) → IsTrue (uses_file s (OfSession name (Commits parts stock)))
+  uses_to_hand : nat_eq (effects_in parts) 0 ≡ false → 1 ≤ length (lasting (unit_key ledger.start x) entries)
+      → IsTrue (uses_file s (OfSession name (Commits parts stock)))
   uses_to_hand effects some =
-      subst (λ o. IsTrue (nat_lt 0 (effects_in parts) && option_map_or (λ (y : Session). nat_lt 0 (length (lasting (unit_key s.stored.start y) s.locks))) o false)) (sym (ap (λ ss. session_at ss name) at.own_sessions ∙ at.found))
+      subst (λ o. IsTrue
+      (nat_lt 0 (effects_in parts) && option_map_or (λ (y : Session). nat_lt 0 (length (lasting (unit_key s.stored.start y) s.locks))) o false))
+      (sym (ap (λ ss. session_at ss name) at.own_sessions ∙ at.found))
       (and_from (nat_lt 0 (effects_in parts)) _ (is_written (effects_in parts) (not_none (effects_in parts) effects))
-      ((λ i. let l : Ledger = at.own_ledger i in nat_lt 0 (length (lasting (unit_key l.start x) (at.own_locks i)))) ∙ is_written (length (lasting (unit_key ledger.start x) entries)) some))
+      ((λ i. let l : Ledger = at.own_ledger i in nat_lt 0 (length (lasting (unit_key l.start x) (at.own_locks i))))
+      ∙ is_written (length (lasting (unit_key ledger.start x) entries)) some))
 
-  pub commits_unfiled : is_too_much numbers parts ≡ false → nat_eq (effects_in parts) 0 ≡ false → is_nothing numbers parts ≡ false → nat_le limit (length ledger.marks) ≡ false
+  pub commits_unfiled : is_too_much numbers parts ≡ false → nat_eq (effects_in parts) 0 ≡ false → is_nothing numbers parts ≡ false
+      → nat_le limit (length ledger.marks) ≡ false
       → (key : UnitKey) → key ≡ unit_key ledger.start x → 1 ≤ length (lasting key entries) → (new : Ledger) → new ≡ ledger
       → IsAct s (command.Commit name parts stock) (unfiled s (call_of (command.Commit name parts stock)) None new) (reply.Refused refusal.BackupFault)
   commits_unfiled few effects some space key k lasts new b =
-      subst (λ l. IsAct s (command.Commit name parts stock) (unfiled s (call_of (command.Commit name parts stock)) None l) (reply.Refused refusal.BackupFault)) (at.own_ledger ∙ sym b)
+      subst (λ l. IsAct s (command.Commit name parts stock) (unfiled s (call_of (command.Commit name parts stock)) None l) (reply.Refused refusal.BackupFault))
+      (at.own_ledger ∙ sym b)
       (fails_filing s (command.Commit name parts stock) (stocked stock (committed s x parts numbers)) _ at.admits (leaves_unit few effects some space)
       (uses_to_hand effects (subst (λ u. 1 ≤ length (lasting u entries)) k lasts)))
 
   -- ---- numbers alone
 
-  leaves_numbers : is_too_much numbers parts ≡ false → nat_eq (effects_in parts) 0 ≡ true → is_nothing numbers parts ≡ false → nat_le limit (length ledger.marks) ≡ false
+  leaves_numbers : is_too_much numbers parts ≡ false → nat_eq (effects_in parts) 0 ≡ true → is_nothing numbers parts ≡ false
+      → nat_le limit (length ledger.marks) ≡ false
       → own_verdict (found_in s) s (OfSession name (Commits parts stock)) ≡ Leaves (stocked stock (numbered s x numbers)) reply.Done
-  leaves_numbers few alone some space = own ∙ tested s x parts stock false false true few some alone ∙ passes_fit s stock _ (full_as s limit ledger false at.own_limit at.own_ledger space)
+  leaves_numbers few alone some space = own ∙ tested s x parts stock false false true few some alone
+      ∙ passes_fit s stock _ (full_as s limit ledger false at.own_limit at.own_ledger space)
 
-  pub commits_numbers : is_too_much numbers parts ≡ false → nat_eq (effects_in parts) 0 ≡ true → is_nothing numbers parts ≡ false → nat_le limit (length ledger.marks) ≡ false
-      → (after : List Session) (new : Ledger) → after ≡ with_session x.name without_draws sessions → new ≡ with_intervals the_levels (with_mark ledger (unit_key ledger.start x) (Num numbers))
+  pub commits_numbers : is_too_much numbers parts ≡ false → nat_eq (effects_in parts) 0 ≡ true → is_nothing numbers parts ≡ false
+      → nat_le limit (length ledger.marks) ≡ false
+      → (after : List Session) (new : Ledger) → after ≡ with_session x.name without_draws sessions
+      → new ≡ with_intervals the_levels (with_mark ledger (unit_key ledger.start x) (Num numbers))
       → IsAct s (command.Commit name parts stock) (record s { sessions = after; ranges = passed stock ranges; locks = entries; stored = new }) reply.Done
   commits_numbers few alone some space after new a c =
       let e' : with_session x.name without_draws s.sessions ≡ after = ap (with_session x.name without_draws) at.own_sessions ∙ sym a in
       let g' : with_numbers s numbers (with_mark s.stored (unit_key s.stored.start x) (Num numbers)) ≡ new =
-      (λ i. let l : Ledger = at.own_ledger i in with_intervals (settled_rows l.levels (at.own_ranges i) numbers) (with_mark l (unit_key l.start x) (Num numbers))) ∙ sym c in
-      at_state _ _ (stocked stock (numbered s x numbers)) _ _ (λ i. record s { sessions = e' i; ranges = passed stock (at.own_ranges i); locks = at.own_locks i; stored = g' i })
+      (λ i. let l : Ledger = at.own_ledger i in with_intervals (settled_rows l.levels (at.own_ranges i) numbers)
+      (with_mark l (unit_key l.start x) (Num numbers))) ∙ sym c in
+      at_state _ _ (stocked stock (numbered s x numbers)) _ _
+      (λ i. record s { sessions = e' i; ranges = passed stock (at.own_ranges i); locks = at.own_locks i; stored = g' i })
       (leaves_as s (command.Commit name parts stock) (stocked stock (numbered s x numbers)) _ at.admits (leaves_numbers few alone some space))
 
-  pub numbers_in_doubt : is_too_much numbers parts ≡ false → nat_eq (effects_in parts) 0 ≡ true → is_nothing numbers parts ≡ false → nat_le limit (length ledger.marks) ≡ false
+  pub numbers_in_doubt : is_too_much numbers parts ≡ false → nat_eq (effects_in parts) 0 ≡ true → is_nothing numbers parts ≡ false
+      → nat_le limit (length ledger.marks) ≡ false
       → (levels : List StoredInterval) → levels ≡ the_levels
-      → IsAct s (command.Commit name parts stock) (doubted (stocked stock s) (OfSession name (Commits parts stock)) None (Some (with_intervals levels (with_mark s.stored (unit_key s.stored.start x) (Num numbers))))) (reply.Refused refusal.StoreFault)
+      → IsAct s (command.Commit name parts stock)
+      (doubted (stocked stock s) (OfSession name (Commits parts stock)) None
+      (Some (with_intervals levels (with_mark s.stored (unit_key s.stored.start x) (Num numbers))))) (reply.Refused refusal.StoreFault)
   numbers_in_doubt few alone some space levels rows =
-      let same_rows : settled_rows s.stored.levels s.ranges numbers ≡ levels = (λ i. let l : Ledger = at.own_ledger i in settled_rows l.levels (at.own_ranges i) numbers) ∙ sym rows in
-      subst (λ (ls : List StoredInterval). IsAct s (command.Commit name parts stock) (doubted (stocked stock s) (OfSession name (Commits parts stock)) None (Some (with_intervals ls (with_mark s.stored (unit_key s.stored.start x) (Num numbers))))) (reply.Refused refusal.StoreFault)) same_rows
-      (fails s (command.Commit name parts stock) (stocked stock (numbered s x numbers)) _ at.admits (leaves_numbers few alone some space) (uses_to_commit some) refl)
+      let same_rows : settled_rows s.stored.levels s.ranges numbers ≡ levels =
+      (λ i. let l : Ledger = at.own_ledger i in settled_rows l.levels (at.own_ranges i) numbers) ∙ sym rows in
+      subst (λ (ls : List StoredInterval). IsAct s (command.Commit name parts stock)
+      (doubted (stocked stock s) (OfSession name (Commits parts stock)) None
+      (Some (with_intervals ls (with_mark s.stored (unit_key s.stored.start x) (Num numbers))))) (reply.Refused refusal.StoreFault)) same_rows
+      (fails s (command.Commit name parts stock) (stocked stock (numbered s x numbers)) _ at.admits (leaves_numbers few alone some space)
+      (uses_to_commit some) refl)
 
 -- the unit of a session that is logged on may be recorded
-pub may_record : (ledger : Ledger) (sessions : List Session) (name : List ℕ) (x : Session) (parts : Parts) (numbers : List Number) (start : ℕ) (t : Table) (unit : UnitOfWork) → start ≡ ledger.start → unit ≡ unit_of start t.entries x parts numbers → All HasDigits numbers → length numbers ≤ 64 → session_at sessions name ≡ Some x → AllByRecursion (IsAhead ledger) sessions → AllByRecursion (OfLock (HasItsUser ledger.start sessions)) t.entries → IsTable t → 1 ≤ ledger.start → 1 ≤ effects_in parts → effects_in parts ≤ 200 → IsNewUnit ledger unit
+pub may_record : (ledger : Ledger) (sessions : List Session) (name : List ℕ) (x : Session) (parts : Parts) (numbers : List Number) (start : ℕ) (t : Table)
+    (unit : UnitOfWork) → start ≡ ledger.start → unit ≡ unit_of start t.entries x parts numbers → All HasDigits numbers → length numbers ≤ 64
+    → session_at sessions name ≡ Some x → AllByRecursion (IsAhead ledger) sessions → AllByRecursion (OfLock (HasItsUser ledger.start sessions)) t.entries
+    → IsTable t → 1 ≤ ledger.start → 1 ≤ effects_in parts → effects_in parts ≤ 200 → IsNewUnit ledger unit
 may_record ledger sessions name x parts numbers start t unit same is digits few_draws found ahead users good started some few =
     let held = handed_table t ledger.start x good in
     subst (IsNewUnit ledger) (sym (is ∙ ap (λ n. unit_of n t.entries x parts numbers) same)) (record {

@@ -26,7 +26,8 @@ use Rattle.hall_model.proofs.EachLock.{every_append, every_filter, every_map, ev
 
 -- ---- lists
 
-pub every_replaced : {A : Type 0} (Q : A → Type 0) (p : A → Bool) (turn : A → List A) → ((x : A) → Q x → AllByRecursion Q (turn x)) → (xs : List A) → AllByRecursion Q xs → AllByRecursion Q (replace_first p turn xs)
+pub every_replaced : {A : Type 0} (Q : A → Type 0) (p : A → Bool) (turn : A → List A) → ((x : A) → Q x → AllByRecursion Q (turn x)) → (xs : List A)
+    → AllByRecursion Q xs → AllByRecursion Q (replace_first p turn xs)
 every_replaced Q p turn k [] h = tt
 every_replaced Q p turn k (x ∷ xs) h =
     elim (p x) as (λ b. AllByRecursion Q (cond b (turn x ++ xs) (x ∷ replace_first p turn xs))) [
@@ -38,7 +39,8 @@ abbrev pub OnSome : {A : Type 0} → (A → Type 0) → Option A → Type 0
 OnSome Q None = Unit {0}
 OnSome Q (Some x) = Q x
 
-pub every_turned : {A : Type 0} (Q : A → Type 0) (f : A → Option A) → ((x : A) → Q x → OnSome Q (f x)) → (xs : List A) → AllByRecursion Q xs → AllByRecursion Q (filter_map f xs)
+pub every_turned : {A : Type 0} (Q : A → Type 0) (f : A → Option A) → ((x : A) → Q x → OnSome Q (f x)) → (xs : List A) → AllByRecursion Q xs
+    → AllByRecursion Q (filter_map f xs)
 every_turned Q f k [] h = tt
 every_turned Q f k (x ∷ xs) h =
     let rest = every_turned Q f k xs h.1 in
@@ -50,14 +52,17 @@ every_lowered : (Q : Owner → List ℕ → Type 0) (e : Entry) → OfLock Q e �
 every_lowered Q e h =
     elim (nat_le e.count 1) as (λ b. AllByRecursion (OfLock Q) (cond b [] (record e { count = e.count - 1 } ∷ []))) [ true ↦ tt | false ↦ (h, tt) ]
 
-pub every_freed : (Q : Owner → List ℕ → Type 0) (es : List Entry) (names : List LockName) → AllByRecursion (OfLock Q) es → AllByRecursion (OfLock Q) (fold freed es names)
+pub every_freed : (Q : Owner → List ℕ → Type 0) (es : List Entry) (names : List LockName) → AllByRecursion (OfLock Q) es
+    → AllByRecursion (OfLock Q) (fold freed es names)
 every_freed Q es [] h = h
 every_freed Q es (n ∷ ns) h = every_freed Q (freed es n) ns (every_replaced (OfLock Q) (has_name n) lowered (every_lowered Q) es h)
 
-pub every_freed_owner : (Q : Owner → List ℕ → Type 0) (es : List Entry) (owner : Owner) → AllByRecursion (OfLock Q) es → AllByRecursion (OfLock Q) (freed_owner es owner)
+pub every_freed_owner : (Q : Owner → List ℕ → Type 0) (es : List Entry) (owner : Owner) → AllByRecursion (OfLock Q) es
+    → AllByRecursion (OfLock Q) (freed_owner es owner)
 every_freed_owner Q es owner h = every_filter (OfLock Q) (λ e. not (is_of owner e)) es h
 
-pub every_of : (Q : Owner → List ℕ → Type 0) (es : List Entry) (owner : Owner) → AllByRecursion (OfLock Q) es → AllByRecursion (OfLock Q) (filter (is_of owner) es)
+pub every_of : (Q : Owner → List ℕ → Type 0) (es : List Entry) (owner : Owner) → AllByRecursion (OfLock Q) es
+    → AllByRecursion (OfLock Q) (filter (is_of owner) es)
 every_of Q es owner h = every_filter (OfLock Q) (is_of owner) es h
 
 by_mode : (Q : Owner → List ℕ → Type 0) (m : Mode) (es : List Entry) (e : Entry) → OfLock Q e → OnSome (OfLock Q) (turned_by m es e)
@@ -72,7 +77,8 @@ pub turned_one : (Q : Owner → List ℕ → Type 0) (test : Entry → Bool) (es
 turned_one Q test es e h =
     elim (test e) as (λ b. OnSome (OfLock Q) (cond b (turned_by e.mode es e) (Some e))) [ true ↦ by_mode Q e.mode es e h | false ↦ h ]
 
-pub every_conversion : (Q : Owner → List ℕ → Type 0) (es : List Entry) (asker : Asker) (asked : List Asked) → AllByRecursion (OfLock Q) es → AllByRecursion (OfLock Q) (conversion es asker asked).entries
+pub every_conversion : (Q : Owner → List ℕ → Type 0) (es : List Entry) (asker : Asker) (asked : List Asked) → AllByRecursion (OfLock Q) es
+    → AllByRecursion (OfLock Q) (conversion es asker asked).entries
 every_conversion Q es asker asked h =
     let test = turns asker asked in
     every_filter (OfLock Q) (λ e. not (gives_way asker asked e)) (turned es test) (every_turned (OfLock Q) (turned_entry test es) (turned_one Q test es) es h)
@@ -90,14 +96,16 @@ pub of_halves : (P : Owner → Type 0) (asker : Asker) (rs : List Request) → P
 of_halves P asker [] d u = tt
 of_halves P asker (r ∷ rs) d u =
     every_append (NamesOf P) (halves_of asker r) (halves asker rs)
-    (every_append (NamesOf P) (cond r.dialogue (named asker.dialogue r.asked ∷ []) []) _ (half_of P asker.dialogue r.dialogue r.asked d) (half_of P asker.update r.update r.asked u))
+    (every_append (NamesOf P) (cond r.dialogue (named asker.dialogue r.asked ∷ []) []) _ (half_of P asker.dialogue r.dialogue r.asked d)
+    (half_of P asker.update r.update r.asked u))
     (of_halves P asker rs d u)
 
 pub of_once : (P : Owner → Type 0) (ns : List LockName) → AllByRecursion (NamesOf P) ns → AllByRecursion (NamesOf P) (each_once ns)
 of_once P [] h = tt
 of_once P (n ∷ ns) h = (h.0, every_filter (NamesOf P) (λ m. not (same_name n m)) (each_once ns) (of_once P ns h.1))
 
-pub every_granted : (Q : Owner → List ℕ → Type 0) (es : List Entry) (user : List ℕ) (asker : Asker) (rs : List Request) → Q asker.dialogue user → Q asker.update user → AllByRecursion (OfLock Q) es → AllByRecursion (OfLock Q) (granted es user (halves asker rs))
+pub every_granted : (Q : Owner → List ℕ → Type 0) (es : List Entry) (user : List ℕ) (asker : Asker) (rs : List Request) → Q asker.dialogue user
+    → Q asker.update user → AllByRecursion (OfLock Q) es → AllByRecursion (OfLock Q) (granted es user (halves asker rs))
 every_granted Q es user asker rs d u h =
     let names = halves asker rs in
     let P : Owner → Type 0 = λ owner. Q owner user in
@@ -108,7 +116,8 @@ every_granted Q es user asker rs d u h =
 
 -- ---- sessions
 
-pub every_two : {A : Type 0} (P Q R : A → Type 0) → ((x : A) → P x → Q x → R x) → (xs : List A) → AllByRecursion P xs → AllByRecursion Q xs → AllByRecursion R xs
+pub every_two : {A : Type 0} (P Q R : A → Type 0) → ((x : A) → P x → Q x → R x) → (xs : List A) → AllByRecursion P xs → AllByRecursion Q xs
+    → AllByRecursion R xs
 every_two P Q R k [] h g = tt
 every_two P Q R k (x ∷ xs) h g = (k x h.0 g.0, every_two P Q R k xs h.1 g.1)
 
@@ -127,7 +136,8 @@ pub only_update : (start : ℕ) (x : Session) → IsOnlyOf start x.number (pair_
 only_update start x other h = other_number (nat_eq start start) x.number other h
 
 -- no two sessions have one number
-pub one_number : (start n : ℕ) (name : List ℕ) (x : Session) (owner : Owner) (xs : List Session) → IsOnlyOf start x.number owner → find (is_called name) xs ≡ Some x → AreNumbered n xs → HasItsUser start xs owner x.user
+pub one_number : (start n : ℕ) (name : List ℕ) (x : Session) (owner : Owner) (xs : List Session) → IsOnlyOf start x.number owner
+    → find (is_called name) xs ≡ Some x → AreNumbered n xs → HasItsUser start xs owner x.user
 one_number start n name x owner [] only found h = cc
 one_number start n name x owner (y ∷ ys) only found h =
     elim (is_called name y) as (λ b. cond b (Some y) (find (is_called name) ys) ≡ Some x → HasItsUser start (y ∷ ys) owner x.user) [
@@ -135,7 +145,9 @@ one_number start n name x owner (y ∷ ys) only found h =
           let same : y ≡ x = equal_session y x e in (
             (λ k. ap (λ (z : Session). z.user) (sym same)),
             every_more (IsBelow y.number) (IsUserOf start owner x.user)
-                (λ z below k. absurd (let here : y.number ≡ x.number = ap (λ (w : Session). w.number) same in let there : z.number ≡ x.number = only z.number k in omega (arith, below, here, there)))
+                (λ z below k. absurd
+                (let here : y.number ≡ x.number = ap (λ (w : Session). w.number) same in let there : z.number ≡ x.number = only z.number k in
+                omega (arith, below, here, there)))
                 ys h.1,
           )
       | false ↦ λ e.
@@ -164,12 +176,15 @@ true_or_false true h k = cc
 true_or_false false h k = cc
 
 -- a new session has nothing yet
-pub user_entered : (start : ℕ) (sessions : List Session) (y : Session) (owner : Owner) (user : List ℕ) → IsKnown start y.number owner → HasItsUser start sessions owner user → HasItsUser start (sessions ++ y ∷ []) owner user
+pub user_entered : (start : ℕ) (sessions : List Session) (y : Session) (owner : Owner) (user : List ℕ) → IsKnown start y.number owner
+    → HasItsUser start sessions owner user → HasItsUser start (sessions ++ y ∷ []) owner user
 user_entered start sessions y owner user known h =
     all_push (IsUserOf start owner user) sessions y h (λ k. absurd (true_or_false (is_of_session start y.number owner) k (known y.number (omega arith))))
 
-pub user_left : (start : ℕ) (p : Session → Bool) (sessions : List Session) (owner : Owner) (user : List ℕ) → HasItsUser start sessions owner user → HasItsUser start (filter p sessions) owner user
+pub user_left : (start : ℕ) (p : Session → Bool) (sessions : List Session) (owner : Owner) (user : List ℕ) → HasItsUser start sessions owner user
+    → HasItsUser start (filter p sessions) owner user
 user_left start p sessions owner user h = all_filter (IsUserOf start owner user) p sessions h
 
-pub user_next : (start : ℕ) (name : List ℕ) (sessions : List Session) (owner : Owner) (user : List ℕ) → HasItsUser start sessions owner user → HasItsUser start (with_session name with_next_unit sessions) owner user
+pub user_next : (start : ℕ) (name : List ℕ) (sessions : List Session) (owner : Owner) (user : List ℕ) → HasItsUser start sessions owner user
+    → HasItsUser start (with_session name with_next_unit sessions) owner user
 user_next start name sessions owner user h = all_next (IsUserOf start owner user) name sessions (λ y own. own) h

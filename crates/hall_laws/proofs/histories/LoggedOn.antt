@@ -63,14 +63,16 @@ logged_without name (x ∷ xs) n other h =
           rw t (logged_without name xs n other k)
       | inr t ↦
           rw t
-          (elim (is_called n x) as (λ b. IsTrue (is_some (cond b (Some x) (session_at xs n))) → IsTrue (is_some (cond b (Some x) (session_at (without_session name xs) n)))) [
+          (elim (is_called n x)
+          as (λ b. IsTrue (is_some (cond b (Some x) (session_at xs n))) → IsTrue (is_some (cond b (Some x) (session_at (without_session name xs) n)))) [
             | true ↦ λ k. refl
             | false ↦ λ k. logged_without name xs n other k
           ] h)
     ]
 
 -- a change that leaves the names
-logged_with : (change : Session → Session) → ((m : List ℕ) (x : Session) → is_called m (change x) ≡ is_called m x) → (name : List ℕ) (xs : List Session) (n : List ℕ) → IsLoggedOn xs n → IsLoggedOn (with_session name change xs) n
+logged_with : (change : Session → Session) → ((m : List ℕ) (x : Session) → is_called m (change x) ≡ is_called m x)
+    → (name : List ℕ) (xs : List Session) (n : List ℕ) → IsLoggedOn xs n → IsLoggedOn (with_session name change xs) n
 logged_with change own name [] n h = h
 logged_with change own name (x ∷ xs) n h =
     elim (is_called name x) as (λ b. IsLoggedOn (cond b (change x ∷ xs) (x ∷ with_session name change xs)) n) [
@@ -81,18 +83,21 @@ logged_with change own name (x ∷ xs) n h =
             | false ↦ λ k. k
           ] h)
       | false ↦
-          elim (is_called n x) as (λ b. IsTrue (is_some (cond b (Some x) (session_at xs n))) → IsTrue (is_some (cond b (Some x) (session_at (with_session name change xs) n)))) [
+          elim (is_called n x)
+          as (λ b. IsTrue (is_some (cond b (Some x) (session_at xs n))) → IsTrue (is_some (cond b (Some x) (session_at (with_session name change xs) n)))) [
             | true ↦ λ k. refl
             | false ↦ λ k. logged_with change own name xs n k
           ] h
     ]
 
 -- a change of each session that leaves the names
-logged_map : (change : Session → Session) → ((m : List ℕ) (x : Session) → is_called m (change x) ≡ is_called m x) → (xs : List Session) (n : List ℕ) → IsLoggedOn xs n → IsLoggedOn (map change xs) n
+logged_map : (change : Session → Session) → ((m : List ℕ) (x : Session) → is_called m (change x) ≡ is_called m x) → (xs : List Session) (n : List ℕ)
+    → IsLoggedOn xs n → IsLoggedOn (map change xs) n
 logged_map change own [] n h = h
 logged_map change own (x ∷ xs) n h =
     subst (λ b. IsTrue (is_some (cond b (Some (change x)) (session_at (map change xs) n)))) (sym (own n x))
-    (elim (is_called n x) as (λ b. IsTrue (is_some (cond b (Some x) (session_at xs n))) → IsTrue (is_some (cond b (Some (change x)) (session_at (map change xs) n)))) [
+    (elim (is_called n x)
+    as (λ b. IsTrue (is_some (cond b (Some x) (session_at xs n))) → IsTrue (is_some (cond b (Some (change x)) (session_at (map change xs) n)))) [
       | true ↦ λ k. refl
       | false ↦ λ k. logged_map change own xs n k
     ] h)
@@ -112,7 +117,8 @@ logs_off_name _ _ n = false
 abbrev pub KeepsSessions : State → Call → Served → Type 0
 KeepsSessions s call r = (n : List ℕ) → logs_off_name call r.reply n ≡ false → IsLoggedOn s.sessions n → IsLoggedOn r.state.sessions n
 
-left_keeps : (s : State) (name : List ℕ) (x : Session) → session_at s.sessions name ≡ Some x → KeepsSessions s (OfSession name LogsOff) (judged s (Leaves (logged_off s x) reply.Done))
+left_keeps : (s : State) (name : List ℕ) (x : Session) → session_at s.sessions name ≡ Some x
+    → KeepsSessions s (OfSession name LogsOff) (judged s (Leaves (logged_off s x) reply.Done))
 left_keeps s name x found n off h =
     let own : x.name ≡ name = (bytes_decides x.name name).0 (found_name name s.sessions x found) in
     logged_without x.name s.sessions n (ap (bytes_eq n) own ∙ off) h
@@ -230,6 +236,7 @@ step_enters o s line name user =
     (λ reading. tt) (λ reading. tt) (λ read r. tt) in
     by_noting (MayEnter s (call_of c)) line c (takes_flight o) (served o s c) k k
 
-pub logon_enters : (old new : State) (line : ℕ) (name user : List ℕ) → IsStep old new line (command.Logon name user) reply.Done → Enters name old.sessions new.sessions
+pub logon_enters : (old new : State) (line : ℕ) (name user : List ℕ) → IsStep old new line (command.Logon name user) reply.Done
+    → Enters name old.sessions new.sessions
 logon_enters old new line name user h =
     subst (λ (r : Served). OnDone r.reply (Enters name old.sessions r.state.sessions)) (sym h.same) (step_enters h.outcome old line name user)

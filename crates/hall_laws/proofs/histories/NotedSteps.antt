@@ -29,18 +29,22 @@ told-answers first s h earlier later m e = answer_at first earlier later m (subs
 
 -- ---- a part of a history
 
-pub answers_from : (first : State) (earlier made : List Made) → ((done later : List Made) (m : Made) → made ≡ done ++ m ∷ later → IsModelAnswer (state_after first (earlier ++ done)) m) → AnswersFrom (state_after first earlier) made
+pub answers_from : (first : State) (earlier made : List Made)
+    → ((done later : List Made) (m : Made) → made ≡ done ++ m ∷ later → IsModelAnswer (state_after first (earlier ++ done)) m)
+    → AnswersFrom (state_after first earlier) made
 answers_from first earlier [] h = tt
 answers_from first earlier (m ∷ ms) h =
     let leads : state_after first (earlier ++ m ∷ []) ≡ recalled (state_after first earlier) m = fold-append recalled first earlier (m ∷ []) in (
       subst (λ es. IsModelAnswer (state_after first es) m) (append-nil earlier) (h [] ms m refl),
       subst (λ s. AnswersFrom s ms) leads
           (answers_from first (earlier ++ m ∷ []) ms
-          (λ done later other e. subst (λ es. IsModelAnswer (state_after first es) other) (sym (append_assoc earlier (m ∷ []) done)) (h (m ∷ done) later other (ap (λ es. m ∷ es) e)))),
+          (λ done later other e. subst (λ es. IsModelAnswer (state_after first es) other) (sym (append_assoc earlier (m ∷ []) done))
+          (h (m ∷ done) later other (ap (λ es. m ∷ es) e)))),
     )
 
 -- a call of those between is one of the whole history
-rest_of : (all earlier between later : List Made) (m : Made) (done after : List Made) (other : Made) → all ≡ earlier ++ m ∷ (between ++ later) → between ≡ done ++ other ∷ after → all ≡ ((earlier ++ m ∷ []) ++ done) ++ other ∷ (after ++ later)
+rest_of : (all earlier between later : List Made) (m : Made) (done after : List Made) (other : Made) → all ≡ earlier ++ m ∷ (between ++ later)
+    → between ≡ done ++ other ∷ after → all ≡ ((earlier ++ m ∷ []) ++ done) ++ other ∷ (after ++ later)
 rest_of all earlier between later m done after other whole e =
     whole
     ∙ ap (λ es. earlier ++ m ∷ (es ++ later)) e
@@ -55,7 +59,8 @@ answers_before first all earlier later answers whole =
     (λ done after other e. answers done (after ++ later) other (whole ∙ ap (λ es. es ++ later) e ∙ append_assoc done (other ∷ after) later))
 
 -- the calls behind one of a history, answered from the state behind it
-pub answers_behind : (first : State) (all earlier between later : List Made) (m : Made) → AreModelAnswers first all → all ≡ earlier ++ m ∷ (between ++ later) → AnswersFrom (recalled (state_after first earlier) m) between
+pub answers_behind : (first : State) (all earlier between later : List Made) (m : Made) → AreModelAnswers first all → all ≡ earlier ++ m ∷ (between ++ later)
+    → AnswersFrom (recalled (state_after first earlier) m) between
 answers_behind first all earlier between later m answers whole =
     subst (λ x. AnswersFrom x between) (fold-append recalled first earlier (m ∷ []))
     (answers_from first (earlier ++ m ∷ []) between

@@ -103,7 +103,8 @@ raised-stands {c} ledger i upto r =
 
 drawn-stands : {c : Call} (i : Interval) (number : ℕ) (s : State) (r : Reply) → Stands c s.stored r (from_memory i number s).stored
 drawn-stands {c} i number s r =
-    elim (is_buffered i) as (λ b. Stands c s.stored r (if b then record s { ranges = handed_out i s.ranges; stored = raised_to i number s.stored } else s).stored) [
+    elim (is_buffered i)
+    as (λ b. Stands c s.stored r (if b then record s { ranges = handed_out i s.ranges; stored = raised_to i number s.stored } else s).stored) [
       | true ↦ raised-stands s.stored i number r
       | false ↦ stands_still s.stored r
     ]
@@ -140,7 +141,8 @@ posted-stands {c} part ledger unit outcome.Done waits =
       | false ↦ λ w. beside-stands ledger unit mark.V2 Posted (reply.Closed unit) w (λ e. cc)
     ] waits
 posted-stands {c} part ledger unit (outcome.Refused index reason) waits =
-    elim (nat_eq part 1) as (StandsBy c ledger unit (mark.Bad1 index reason) (mark.Bad2 index reason) (reply.Bad unit index reason) (reply.Bad2 unit index reason)) [
+    elim (nat_eq part 1)
+    as (StandsBy c ledger unit (mark.Bad1 index reason) (mark.Bad2 index reason) (reply.Bad unit index reason) (reply.Bad2 unit index reason)) [
       | true ↦ λ w. marked-stands ledger unit (mark.Bad1 index reason) (reply.Bad unit index reason) (λ u. refl)
       | false ↦ λ w. beside-stands ledger unit (mark.Bad2 index reason) Posted (reply.Bad2 unit index reason) w (λ e. cc)
     ] waits
@@ -324,11 +326,14 @@ doubt-hands unit found s n call down is =
     (commit_apart call is) (λ r told. absurd (no_unit unit r told))
 
 -- without a server a commit is refused
-alone-hands : (unit : UnitKey) (found : Found) (s : State) (call : Call) → s.condition ≡ condition.NoServer → HandsIf unit s call (judged s (call_verdict found s call))
+alone-hands : (unit : UnitKey) (found : Found) (s : State) (call : Call) → s.condition ≡ condition.NoServer
+    → HandsIf unit s call (judged s (call_verdict found s call))
 alone-hands unit found s call none is =
-    unserved (λ v. (judged s v).reply ≡ reply.Unit unit → Hands unit s (judged s v).state) found s call none (commit_wants call is) (λ r told. absurd (no_unit unit r told))
+    unserved (λ v. (judged s v).reply ≡ reply.Unit unit → Hands unit s (judged s v).state) found s call none (commit_wants call is)
+    (λ r told. absurd (no_unit unit r told))
 
-hands_in : (k : Condition) (unit : UnitKey) (found : Found) (s : State) (call : Call) → s.condition ≡ k → HandsIf unit s call (judged s (call_verdict found s call))
+hands_in : (k : Condition) (unit : UnitKey) (found : Found) (s : State) (call : Call) → s.condition ≡ k
+    → HandsIf unit s call (judged s (call_verdict found s call))
 hands_in condition.Up unit found s call up = by_call (λ call v. HandsIf unit s call (judged s v)) found s (each-hands unit found s up) call
 hands_in condition.NoServer unit found s call none = alone-hands unit found s call none
 hands_in (condition.Doubt k) unit found s call down = doubt-hands unit found s k call down

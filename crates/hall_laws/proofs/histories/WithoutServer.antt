@@ -17,7 +17,8 @@ none_later (Some r) later e = cc
 
 not_alone : (k : Condition) (call : Call) → k ≡ condition.NoServer → wants_server call ≡ true → server_refusal k call ≡ None → ⊥
 not_alone condition.Up call is wants e = cc
-not_alone condition.NoServer call is wants e = let shut : Some refusal.SystemFailure ≡ None = sym (ap (λ b. if b then Some refusal.SystemFailure else None) wants) ∙ e in cc
+not_alone condition.NoServer call is wants e = let shut : Some refusal.SystemFailure ≡ None =
+    sym (ap (λ b. if b then Some refusal.SystemFailure else None) wants) ∙ e in cc
 not_alone (condition.Doubt n) call is wants e = cc
 
 some_refusal : (Q : Verdict → Type 0) (o : Option Refusal) (v : Verdict) → (o ≡ None → ⊥) → ((r : Refusal) → Q (Refuses r)) → Q (unless_refused o v)
@@ -25,7 +26,8 @@ some_refusal Q None v not refuse = absurd (not refl)
 some_refusal Q (Some r) v not refuse = refuse r
 
 -- it is refused
-pub unserved : (Q : Verdict → Type 0) (found : Found) (s : State) (call : Call) → s.condition ≡ condition.NoServer → wants_server call ≡ true → ((r : Refusal) → Q (Refuses r)) → Q (call_verdict found s call)
+pub unserved : (Q : Verdict → Type 0) (found : Found) (s : State) (call : Call) → s.condition ≡ condition.NoServer → wants_server call ≡ true
+    → ((r : Refusal) → Q (Refuses r)) → Q (call_verdict found s call)
 unfolding call_verdict
 unserved Q found s call none wants refuse =
     some_refusal Q (unavailable s call) (own_verdict found s call)

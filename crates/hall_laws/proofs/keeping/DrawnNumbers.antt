@@ -62,7 +62,8 @@ none_called p (x ∷ xs) h =
       | false ↦ λ e k. (e, none_called p xs k)
     ] refl h
 
-pub named_push : (name : List ℕ) (xs : List Session) (y : Session) → y.name ≡ name → is_some (session_at xs name) ≡ false → HaveOwnNames xs → HaveOwnNames (xs ++ y ∷ [])
+pub named_push : (name : List ℕ) (xs : List Session) (y : Session) → y.name ≡ name → is_some (session_at xs name) ≡ false → HaveOwnNames xs
+    → HaveOwnNames (xs ++ y ∷ [])
 named_push name xs y is free h other =
     let whole : count_by (is_called other) (xs ++ y ∷ []) ≡ count_by (is_called other) xs + (bit (is_called other y) + 0) =
     count_append (is_called other) xs (y ∷ []) ∙ ap (λ k. count_by (is_called other) xs + k) (count_cons (is_called other) y []) in
@@ -96,17 +97,21 @@ named_filter q xs h name =
     let one = h name in
     omega (arith, fewer, one)
 
-count_with : (change : Session → Session) → ((x : Session) → (change x).name ≡ x.name) → (name other : List ℕ) (xs : List Session) → count_by (is_called other) (with_session name change xs) ≡ count_by (is_called other) xs
+count_with : (change : Session → Session) → ((x : Session) → (change x).name ≡ x.name) → (name other : List ℕ) (xs : List Session)
+    → count_by (is_called other) (with_session name change xs) ≡ count_by (is_called other) xs
 count_with change keeps name other [] = refl
 count_with change keeps name other (x ∷ xs) =
-    elim (is_called name x) as (λ b. count_by (is_called other) (cond b (change x ∷ xs) (x ∷ with_session name change xs)) ≡ count_by (is_called other) (x ∷ xs)) [
-      | true ↦ count_cons (is_called other) (change x) xs ∙ ap (λ n. bit (bytes_eq n other) + count_by (is_called other) xs) (keeps x) ∙ sym (count_cons (is_called other) x xs)
+    elim (is_called name x)
+    as (λ b. count_by (is_called other) (cond b (change x ∷ xs) (x ∷ with_session name change xs)) ≡ count_by (is_called other) (x ∷ xs)) [
+      | true ↦ count_cons (is_called other) (change x) xs ∙ ap (λ n. bit (bytes_eq n other) + count_by (is_called other) xs) (keeps x)
+          ∙ sym (count_cons (is_called other) x xs)
       | false ↦
           count_cons (is_called other) x (with_session name change xs) ∙ ap (λ k. bit (is_called other x) + k) (count_with change keeps name other xs)
           ∙ sym (count_cons (is_called other) x xs)
     ]
 
-pub named_with : (change : Session → Session) → ((x : Session) → (change x).name ≡ x.name) → (name : List ℕ) (xs : List Session) → HaveOwnNames xs → HaveOwnNames (with_session name change xs)
+pub named_with : (change : Session → Session) → ((x : Session) → (change x).name ≡ x.name) → (name : List ℕ) (xs : List Session) → HaveOwnNames xs
+    → HaveOwnNames (with_session name change xs)
 named_with change keeps name xs h other = subst (λ n. n ≤ 1) (sym (count_with change keeps name other xs)) (h other)
 
 -- ---- sessions that come, go, and give back what they drew
@@ -118,13 +123,17 @@ IsDrawnBy s draws = AreDrawnRight s.ranges s.stored.levels draws (numbers_of s.s
 pub drawn_entered : (s : State) (y : Session) → y.draws ≡ [] → IsDrawn s → IsDrawnBy s (draws_in (s.sessions ++ y ∷ []))
 drawn_entered s y none h =
     subst (IsDrawnBy s) (sym (map-append draws_of s.sessions (y ∷ []) ∙ ap (λ d. draws_in s.sessions ++ d ∷ []) none))
-    (fewer_drawn s.ranges s.stored.levels (draws_in s.sessions) (draws_in s.sessions ++ [] ∷ []) (numbers_of s.stored.units s.stored.marks) (fewer_last (draws_in s.sessions)) h)
+    (fewer_drawn s.ranges s.stored.levels (draws_in s.sessions) (draws_in s.sessions ++ [] ∷ []) (numbers_of s.stored.units s.stored.marks)
+    (fewer_last (draws_in s.sessions)) h)
 
 pub drawn_left : (s : State) (p : Session → Bool) → IsDrawn s → IsDrawnBy s (draws_in (filter p s.sessions))
-drawn_left s p h = fewer_drawn s.ranges s.stored.levels (draws_in s.sessions) (draws_in (filter p s.sessions)) (numbers_of s.stored.units s.stored.marks) (fewer_left draws_of p s.sessions) h
+drawn_left s p h = fewer_drawn s.ranges s.stored.levels (draws_in s.sessions) (draws_in (filter p s.sessions)) (numbers_of s.stored.units s.stored.marks)
+    (fewer_left draws_of p s.sessions) h
 
-pub drawn_back : (s : State) (name : List ℕ) (x : Session) (change : Session → Session) → session_at s.sessions name ≡ Some x → (change x).draws ≡ [] → IsDrawn s → IsDrawnBy s (draws_in (with_session name change s.sessions))
-drawn_back s name x change at none h = session_gives_back draws_of (is_called name) change s.sessions x at s.ranges s.stored.levels (numbers_of s.stored.units s.stored.marks) none h
+pub drawn_back : (s : State) (name : List ℕ) (x : Session) (change : Session → Session) → session_at s.sessions name ≡ Some x → (change x).draws ≡ []
+    → IsDrawn s → IsDrawnBy s (draws_in (with_session name change s.sessions))
+drawn_back s name x change at none h = session_gives_back draws_of (is_called name) change s.sessions x at s.ranges s.stored.levels
+    (numbers_of s.stored.units s.stored.marks) none h
 
 -- ---- marks
 
@@ -133,13 +142,17 @@ abbrev pub CommitsNone : MarkKind → Type 0
 CommitsNone kind = (units : List UnitOfWork) (seq : ℕ) (key : UnitKey) → numbers_in units (record { seq = seq; unit = key; kind = kind }) ≡ []
 
 pub post_commits_none : (part : ℕ) (o : Outcome) → CommitsNone (kind_for part o)
-post_commits_none part outcome.Done units seq key = elim (nat_eq part 1) as (λ b. numbers_in units (record { seq = seq; unit = key; kind = if b then mark.V1 else mark.V2 }) ≡ []) [ true ↦ refl | false ↦ refl ]
+post_commits_none part outcome.Done units seq key = elim (nat_eq part 1)
+    as (λ b. numbers_in units (record { seq = seq; unit = key; kind = if b then mark.V1 else mark.V2 }) ≡ []) [ true ↦ refl | false ↦ refl ]
 post_commits_none part (outcome.Refused index reason) units seq key =
-    elim (nat_eq part 1) as (λ b. numbers_in units (record { seq = seq; unit = key; kind = if b then mark.Bad1 index reason else mark.Bad2 index reason }) ≡ []) [ true ↦ refl | false ↦ refl ]
+    elim (nat_eq part 1) as (λ b. numbers_in units (record { seq = seq; unit = key; kind = if b then mark.Bad1 index reason else mark.Bad2 index reason }) ≡ [])
+    [ true ↦ refl | false ↦ refl ]
 
-pub drawn_marked : (s : State) (key : UnitKey) (kind : MarkKind) → CommitsNone kind → IsDrawn s → AreDrawnRight s.ranges s.stored.levels (draws_in s.sessions) (numbers_of s.stored.units (with_mark s.stored key kind).marks)
+pub drawn_marked : (s : State) (key : UnitKey) (kind : MarkKind) → CommitsNone kind → IsDrawn s
+    → AreDrawnRight s.ranges s.stored.levels (draws_in s.sessions) (numbers_of s.stored.units (with_mark s.stored key kind).marks)
 drawn_marked s key kind none h =
-    subst (AreDrawnRight s.ranges s.stored.levels (draws_in s.sessions)) (sym (numbers_same s.stored.units s.stored.marks (next_mark s.stored key kind) (none s.stored.units (next_mark s.stored key kind).seq key))) h
+    subst (AreDrawnRight s.ranges s.stored.levels (draws_in s.sessions))
+    (sym (numbers_same s.stored.units s.stored.marks (next_mark s.stored key kind) (none s.stored.units (next_mark s.stored key kind).seq key))) h
 
 was_none : (b : Bool) (kind : MarkKind) (before : Option Status) → given b kind before ≡ None → before ≡ None
 was_none b (mark.Num numbers) before h = h
@@ -196,7 +209,8 @@ pub marks_recorded : (ledger : Ledger) (unit : UnitOfWork) → status_in ledger 
 marks_recorded ledger unit fresh h other none =
     elim (same_unit unit.key other) as (λ b. same_unit unit.key other ≡ b → unit_at (ledger.units ++ unit ∷ []) other ≡ None) [
       | true ↦ λ same.
-          absurd (some_or_none (status_in (with_unit ledger unit) unit.key) _ (recorded_here ledger unit) (ap (status_in (with_unit ledger unit)) (one_unit unit.key other same) ∙ none))
+          absurd (some_or_none (status_in (with_unit ledger unit) unit.key) _ (recorded_here ledger unit)
+          (ap (status_in (with_unit ledger unit)) (one_unit unit.key other same) ∙ none))
       | false ↦ λ apart. unit_other ledger.units unit other apart ∙ h other (sym (recorded_other ledger unit other fresh apart) ∙ none)
     ] refl
 
@@ -205,16 +219,20 @@ abbrev AreRightBehind : State → Session → List Num → List Session → List
 AreRightBehind s x stock sessions committed =
     AreDrawnRight (passed stock s.ranges) (with_levels (settled_rows s.stored.levels s.ranges (x.draws ++ stock)) s.stored.levels) (draws_in sessions) committed
 
-pub drawn_recorded : (s : State) (x : Session) (stock : List Num) (change : Session → Session) (unit : UnitOfWork) → session_at s.sessions x.name ≡ Some x → (change x).draws ≡ [] → unit.numbers ≡ x.draws ++ stock → status_in s.stored unit.key ≡ None → HaveMarks s.stored
-    → IsStockIn s stock → IsDrawn s → AreRightBehind s x stock (with_session x.name change s.sessions) (numbers_of (s.stored.units ++ unit ∷ []) (with_unit s.stored unit).marks)
+pub drawn_recorded : (s : State) (x : Session) (stock : List Num) (change : Session → Session) (unit : UnitOfWork) → session_at s.sessions x.name ≡ Some x
+    → (change x).draws ≡ [] → unit.numbers ≡ x.draws ++ stock → status_in s.stored unit.key ≡ None → HaveMarks s.stored
+    → IsStockIn s stock → IsDrawn s → AreRightBehind s x stock (with_session x.name change s.sessions)
+    (numbers_of (s.stored.units ++ unit ∷ []) (with_unit s.stored unit).marks)
 drawn_recorded s x stock change unit at none is fresh marks fits h =
     let units = s.stored.units in
     let old = s.stored.marks in
     subst (AreRightBehind s x stock (with_session x.name change s.sessions))
-    (sym (numbers_recorded units unit old (next_mark s.stored unit.key mark.Rec).seq (none_of (has_no_v2 units unit.key) unit.key old fresh) (marks unit.key fresh) ∙ ap (λ n. numbers_of units old ++ n) is))
+    (sym (numbers_recorded units unit old (next_mark s.stored unit.key mark.Rec).seq (none_of (has_no_v2 units unit.key) unit.key old fresh)
+    (marks unit.key fresh) ∙ ap (λ n. numbers_of units old ++ n) is))
     (session_commits_stock draws_of (is_called x.name) change s.sessions x at s.ranges s.stored.levels (numbers_of units old) stock fits h none)
 
-pub drawn_numbered : (s : State) (x : Session) (stock : List Num) → session_at s.sessions x.name ≡ Some x → IsStockIn s stock → IsDrawn s → IsDrawn (stocked stock (numbered s x (x.draws ++ stock)))
+pub drawn_numbered : (s : State) (x : Session) (stock : List Num) → session_at s.sessions x.name ≡ Some x → IsStockIn s stock → IsDrawn s
+    → IsDrawn (stocked stock (numbered s x (x.draws ++ stock)))
 drawn_numbered s x stock at fits h =
     let units = s.stored.units in
     let old = s.stored.marks in
@@ -232,7 +250,8 @@ record IsRaisedWell (s : State) (i : Interval) (upto : ℕ) (ledger : Ledger) : 
   drawn : AreRightIn s.ranges s.sessions ledger
   reached : upto ≤ level_in ledger.levels i
 
-raised_well : (s : State) (i : Interval) (upto : ℕ) → Contains (intervals_of s.ranges) i → is_buffered i ≡ true → upto ≤ i.to → IsDrawn s → IsRaisedWell s i upto (raised_to (present s.stored.levels i) upto s.stored)
+raised_well : (s : State) (i : Interval) (upto : ℕ) → Contains (intervals_of s.ranges) i → is_buffered i ≡ true → upto ≤ i.to → IsDrawn s
+    → IsRaisedWell s i upto (raised_to (present s.stored.levels i) upto s.stored)
 raised_well s i upto among is within h =
     let levels = s.stored.levels in
     let j = present levels i in
@@ -243,11 +262,13 @@ raised_well s i upto among is within h =
       | true ↦ λ e. record { drawn = h; reached = up_to upto j.level e }
       | false ↦ λ e. record {
         drawn = raised_drawn s.ranges levels (draws_in s.sessions) (numbers_of s.stored.units s.stored.marks) i level among is block.risen block.within h;
-        reached = subst (λ n. upto ≤ n) (sym (found_level (with_levels (row ∷ []) levels) i (Some (level_of row)) (insert_own row levels (name_of i) refl))) block.reached;
+        reached = subst (λ n. upto ≤ n) (sym (found_level (with_levels (row ∷ []) levels) i (Some (level_of row)) (insert_own row levels (name_of i) refl)))
+            block.reached;
       }
     ] refl
 
-pub drawn_raised : (s : State) (i : Interval) (upto : ℕ) → Contains (intervals_of s.ranges) i → is_buffered i ≡ true → upto ≤ i.to → IsDrawn s → AreRightIn s.ranges s.sessions (raised_to (present s.stored.levels i) upto s.stored)
+pub drawn_raised : (s : State) (i : Interval) (upto : ℕ) → Contains (intervals_of s.ranges) i → is_buffered i ≡ true → upto ≤ i.to → IsDrawn s
+    → AreRightIn s.ranges s.sessions (raised_to (present s.stored.levels i) upto s.stored)
 drawn_raised s i upto among is within h = (raised_well s i upto among is within h).drawn
 
 -- ---- a number that is drawn
@@ -256,18 +277,23 @@ drawn_raised s i upto among is within h = (raised_well s i upto among is within 
 can_among : (s : State) (x : Session) (object nr : List ℕ) (r : NumberRange) → CanDraw s x object nr r → Contains s.ranges r
 can_among s x object nr r can = (range_found s.ranges object nr r can.range).among
 
-pub drawn_plain : (s : State) (x : Session) (object nr : List ℕ) (r : NumberRange) (number : ℕ) → session_at s.sessions x.name ≡ Some x → CanDraw s x object nr r → number ≡ next_number r (present s.stored.levels r.interval) x → is_buffered r.interval ≡ false → HaveOwnNames s.sessions → IsDrawn s
+pub drawn_plain : (s : State) (x : Session) (object nr : List ℕ) (r : NumberRange) (number : ℕ) → session_at s.sessions x.name ≡ Some x
+    → CanDraw s x object nr r → number ≡ next_number r (present s.stored.levels r.interval) x → is_buffered r.interval ≡ false → HaveOwnNames s.sessions
+    → IsDrawn s
     → IsDrawnBy s (draws_in (with_session x.name (with_draw (num_of r.interval number)) s.sessions))
 drawn_plain s x object nr r number at can is_next is names h =
     let i = r.interval in
-    session_draws_plain draws_of (is_called x.name) (with_draw (num_of i number)) s.sessions x at s.ranges s.stored.levels (numbers_of s.stored.units s.stored.marks) i number
+    session_draws_plain draws_of (is_called x.name) (with_draw (num_of i number)) s.sessions x at s.ranges s.stored.levels
+    (numbers_of s.stored.units s.stored.marks) i number
     (interval_among s.ranges r (can_among s x object nr r can)) is (names x.name)
     (subst (λ b. (if b then None else find (λ (y : Session). not (is_called x.name y) && holds i y) s.sessions) ≡ None) is can.free)
     (is_next ∙ ap (λ b. if b then r.next else level_in s.stored.levels i + drawn_of i x.draws + 1) is)
     (subst (λ n. n ≤ i.to) (sym is_next) (not_past i.to _ can.within)) refl h
 
-pub drawn_buffered : (s : State) (x : Session) (object nr : List ℕ) (r : NumberRange) (number : ℕ) → session_at s.sessions x.name ≡ Some x → CanDraw s x object nr r → number ≡ next_number r (present s.stored.levels r.interval) x → is_buffered r.interval ≡ true → IsDrawn s
-    → AreRightIn (handed_out r.interval s.ranges) (with_session x.name (with_draw (num_of r.interval number)) s.sessions) (raised_to (present s.stored.levels r.interval) number s.stored)
+pub drawn_buffered : (s : State) (x : Session) (object nr : List ℕ) (r : NumberRange) (number : ℕ) → session_at s.sessions x.name ≡ Some x
+    → CanDraw s x object nr r → number ≡ next_number r (present s.stored.levels r.interval) x → is_buffered r.interval ≡ true → IsDrawn s
+    → AreRightIn (handed_out r.interval s.ranges) (with_session x.name (with_draw (num_of r.interval number)) s.sessions)
+    (raised_to (present s.stored.levels r.interval) number s.stored)
 drawn_buffered s x object nr r number at can is_next is h =
     let i = r.interval in
     let among = can_among s x object nr r can in
@@ -275,4 +301,5 @@ drawn_buffered s x object nr r number at can is_next is h =
     let raised = raised_well s i number (interval_among s.ranges r among) is (subst (λ n. n ≤ i.to) (sym is_next) (not_past i.to _ can.within)) h in
     let ledger = raised_to (present s.stored.levels i) number s.stored in
     subst (λ n. AreRightIn (handed_out i s.ranges) (with_session x.name (with_draw (num_of i n)) s.sessions) ledger) (sym next)
-    (session_draws_buffered draws_of (is_called x.name) (with_draw (num_of i r.next)) s.sessions x at s.ranges ledger.levels (numbers_of ledger.units ledger.marks) r among is (subst (λ n. n ≤ level_in ledger.levels i) next raised.reached) refl raised.drawn)
+    (session_draws_buffered draws_of (is_called x.name) (with_draw (num_of i r.next)) s.sessions x at s.ranges ledger.levels
+    (numbers_of ledger.units ledger.marks) r among is (subst (λ n. n ≤ level_in ledger.levels i) next raised.reached) refl raised.drawn)

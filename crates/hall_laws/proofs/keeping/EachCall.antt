@@ -81,10 +81,12 @@ young_push n (x ∷ xs) y k h = (k.0, young_push n xs y k.1 h)
 young_filter : (n : ℕ) (p : Session → Bool) (xs : List Session) → AllByRecursion (IsYoung n) xs → AllByRecursion (IsYoung n) (filter p xs)
 young_filter n p [] k = tt
 young_filter n p (x ∷ xs) k =
-    elim (p x) as (λ b. AllByRecursion (IsYoung n) (cond b (x ∷ filter p xs) (filter p xs))) [ true ↦ (k.0, young_filter n p xs k.1) | false ↦ young_filter n p xs k.1 ]
+    elim (p x) as (λ b. AllByRecursion (IsYoung n) (cond b (x ∷ filter p xs) (filter p xs)))
+    [ true ↦ (k.0, young_filter n p xs k.1) | false ↦ young_filter n p xs k.1 ]
 
 -- a change that opens the next unit
-young_next : (change : Session → Session) → ((x : Session) → (change x).luw ≡ x.luw + 1) → (n : ℕ) (name : List ℕ) (xs : List Session) → AllByRecursion (IsYoung n) xs → AllByRecursion (IsYoung (n + 1)) (with_session name change xs)
+young_next : (change : Session → Session) → ((x : Session) → (change x).luw ≡ x.luw + 1) → (n : ℕ) (name : List ℕ) (xs : List Session)
+    → AllByRecursion (IsYoung n) xs → AllByRecursion (IsYoung (n + 1)) (with_session name change xs)
 young_next change opens n name [] k = tt
 young_next change opens n name (x ∷ xs) k =
     elim (is_called name x) as (λ b. AllByRecursion (IsYoung (n + 1)) (cond b (change x ∷ xs) (x ∷ with_session name change xs))) [
@@ -129,7 +131,8 @@ abbrev AreOwned : State → List Entry → Type 0
 AreOwned s locks = IsOwned s.stored s.next_session s.sessions locks
 
 -- what holds of the locks so far holds of these, which follow from them by owner and user alone
-owned_by : (s : State) (locks : List Entry) → ((Q : Owner → List ℕ → Type 0) → AllByRecursion (OfLock Q) s.locks → AllByRecursion (OfLock Q) locks) → IsSteady s → AreOwned s locks
+owned_by : (s : State) (locks : List Entry) → ((Q : Owner → List ℕ → Type 0) → AllByRecursion (OfLock Q) s.locks → AllByRecursion (OfLock Q) locks) → IsSteady s
+    → AreOwned s locks
 owned_by s locks keeps steady = owned_locks s.stored s.next_session s.sessions s.locks locks keeps steady.owned
 
 -- other locks
@@ -157,7 +160,8 @@ holds_locks n s locks own h =
       };
     }
 
-left-holds : (n : ℕ) (s : State) (name : List ℕ) (locks : List Entry) → AreOwned s locks → Holds n s → Holds (n + 1) (record s { sessions = without_session name s.sessions; locks = locks })
+left-holds : (n : ℕ) (s : State) (name : List ℕ) (locks : List Entry) → AreOwned s locks → Holds n s
+    → Holds (n + 1) (record s { sessions = without_session name s.sessions; locks = locks })
 left-holds n s name locks own h =
     let p : Session → Bool = λ y. not (is_called name y) in
     let few = few_more n s h.few in
@@ -187,7 +191,9 @@ left-holds n s name locks own h =
 renewed_alike : (name : List ℕ) (xs : List Session) → AreAlike (with_session name with_next_unit xs) (with_session name with_fresh_unit xs)
 renewed_alike name [] = tt
 renewed_alike name (x ∷ xs) =
-    elim (is_called name x) as (λ b. AreAlike (cond b (with_next_unit x ∷ xs) (x ∷ with_session name with_next_unit xs)) (cond b (with_fresh_unit x ∷ xs) (x ∷ with_session name with_fresh_unit xs))) [
+    elim (is_called name x)
+    as (λ b. AreAlike (cond b (with_next_unit x ∷ xs) (x ∷ with_session name with_next_unit xs))
+    (cond b (with_fresh_unit x ∷ xs) (x ∷ with_session name with_fresh_unit xs))) [
       | true ↦ (record { name = refl; user = refl; number = refl; luw = refl }, alike_all xs)
       | false ↦ (alike_self x, renewed_alike name xs)
     ]
@@ -195,7 +201,9 @@ renewed_alike name (x ∷ xs) =
 renewed_draws : (name : List ℕ) (xs : List Session) → draws_in (with_session name with_fresh_unit xs) ≡ draws_in (with_session name with_next_unit xs)
 renewed_draws name [] = refl
 renewed_draws name (x ∷ xs) =
-    elim (is_called name x) as (λ b. draws_in (cond b (with_fresh_unit x ∷ xs) (x ∷ with_session name with_fresh_unit xs)) ≡ draws_in (cond b (with_next_unit x ∷ xs) (x ∷ with_session name with_next_unit xs))) [
+    elim (is_called name x)
+    as (λ b. draws_in (cond b (with_fresh_unit x ∷ xs) (x ∷ with_session name with_fresh_unit xs)) ≡ draws_in
+    (cond b (with_next_unit x ∷ xs) (x ∷ with_session name with_next_unit xs))) [
       | true ↦ refl
       | false ↦ ap (λ ds. x.draws ∷ ds) (renewed_draws name xs)
     ]
@@ -232,7 +240,8 @@ alike-holds n s sessions ranges levels marks alike same drawn known h =
       };
     }
 
-next-holds : (n : ℕ) (s : State) (name : List ℕ) (x : Session) (locks : List Entry) → session_at s.sessions name ≡ Some x → AreOwned s locks → Holds n s → Holds (n + 1) (record s { sessions = with_session name with_next_unit s.sessions; locks = locks })
+next-holds : (n : ℕ) (s : State) (name : List ℕ) (x : Session) (locks : List Entry) → session_at s.sessions name ≡ Some x → AreOwned s locks → Holds n s
+    → Holds (n + 1) (record s { sessions = with_session name with_next_unit s.sessions; locks = locks })
 next-holds n s name x locks at own h =
     let few = few_more n s h.few in
     let steady = h.steady in
@@ -257,7 +266,8 @@ next-holds n s name x locks at own h =
       };
     }
 
-rolled-holds : (n : ℕ) (s : State) (name : List ℕ) (x : Session) (locks : List Entry) → session_at s.sessions name ≡ Some x → AreOwned s locks → Holds n s → Holds (n + 1) (record s { sessions = with_session name with_fresh_unit s.sessions; locks = locks })
+rolled-holds : (n : ℕ) (s : State) (name : List ℕ) (x : Session) (locks : List Entry) → session_at s.sessions name ≡ Some x → AreOwned s locks → Holds n s
+    → Holds (n + 1) (record s { sessions = with_session name with_fresh_unit s.sessions; locks = locks })
 rolled-holds n s name x locks at own h =
     let t : State = record s { sessions = with_session name with_next_unit s.sessions; locks = locks } in
     let next = next-holds n s name x locks at own h in
@@ -278,7 +288,8 @@ commit-holds n s x parts stock at fits unread h =
     let sessions = with_session x.name with_next_unit s.sessions in
     let unheard = open_unheard s x.name x at steady.fresh in
     let own = steady.owned in
-    let its : (Q : Owner → List ℕ → Type 0) → AllByRecursion (OfLock Q) s.locks → OfStored Q unit = λ Q k. every_of Q (handed_over s.locks key) (Upd key) (every_handed Q s.locks key k) in
+    let its : (Q : Owner → List ℕ → Type 0) → AllByRecursion (OfLock Q) s.locks → OfStored Q unit =
+    λ Q k. every_of Q (handed_over s.locks key) (Upd key) (every_handed Q s.locks key k) in
     let recorded =
     owned_recorded s.stored s.next_session s.sessions (handed_over s.locks key) unit unheard
     (its (λ owner user. IsKnown s.stored.start s.next_session owner) own.known) (its (HasItsUser s.stored.start s.sessions) own.users)
@@ -299,37 +310,45 @@ commit-holds n s x parts stock at fits unread h =
         known = unread_known s.found _ s.pending unread;
         fresh = record { numbered = fresh.numbered; ahead = fresh.ahead; later = fresh.later };
         places = steady.places;
-        orders = outside_more s.condition (λ k. orders_alike recorded_ledger levels recorded_ledger.marks (λ other. refl) s.orders (orders_recorded s.stored unit s.orders unheard k)) steady.orders;
-        owned = owned_alike recorded_ledger levels recorded_ledger.marks (λ other. refl) s.next_session sessions sessions (handed_over s.locks key) (alike_all sessions)
+        orders = outside_more s.condition
+            (λ k. orders_alike recorded_ledger levels recorded_ledger.marks (λ other. refl) s.orders (orders_recorded s.stored unit s.orders unheard k))
+            steady.orders;
+        owned = owned_alike recorded_ledger levels recorded_ledger.marks (λ other. refl) s.next_session sessions sessions (handed_over s.locks key)
+            (alike_all sessions)
             (owned_next recorded_ledger s.next_session x.name s.sessions (handed_over s.locks key) recorded);
       };
     }
 
 -- ---- the locks of a session's calls
 
-granted-owned : (s : State) (name : List ℕ) (x : Session) (rs : List Request) → find (is_called name) s.sessions ≡ Some x → IsSteady s → Allows (AreOwned s) (asked (table_in s) (pair_of s.stored.start x) x.user rs)
+granted-owned : (s : State) (name : List ℕ) (x : Session) (rs : List Request) → find (is_called name) s.sessions ≡ Some x → IsSteady s
+    → Allows (AreOwned s) (asked (table_in s) (pair_of s.stored.start x) x.user rs)
 granted-owned s name x rs found steady =
     let pair = pair_of s.stored.start x in
     let below = number_below s.next_session name x s.sessions found steady.fresh.numbered in
     let start = s.stored.start in
     let own = steady.owned in
     asked_allows (AreOwned s) (table_in s) pair x.user rs (record {
-      known = every_granted (λ owner user. IsKnown start s.next_session owner) s.locks x.user pair rs (known_dialogue start s.next_session x below) (known_update start s.next_session x below) own.known;
+      known = every_granted (λ owner user. IsKnown start s.next_session owner) s.locks x.user pair rs (known_dialogue start s.next_session x below)
+          (known_update start s.next_session x below) own.known;
       users = every_granted (HasItsUser start s.sessions) s.locks x.user pair rs
           (one_number start s.next_session name x pair.dialogue s.sessions (only_dialogue start x) found steady.fresh.numbered)
           (one_number start s.next_session name x pair.update s.sessions (only_update start x) found steady.fresh.numbered) own.users;
-      holders = every_granted (λ owner user. MayHold s.stored owner) s.locks x.user pair rs tt (ap may_hold (open_unheard s name x found steady.fresh)) own.holders;
+      holders = every_granted (λ owner user. MayHold s.stored owner) s.locks x.user pair rs tt
+          (ap may_hold (open_unheard s name x found steady.fresh)) own.holders;
       stored_known = own.stored_known;
       stored_users = own.stored_users;
     })
 
-converted-owned : (s : State) (x : Session) (wanted : List Asked) → IsSteady s → Allows (λ (c : Conversion). AreOwned s c.entries) (converted s.locks (pair_of s.stored.start x) wanted)
+converted-owned : (s : State) (x : Session) (wanted : List Asked) → IsSteady s
+    → Allows (λ (c : Conversion). AreOwned s c.entries) (converted s.locks (pair_of s.stored.start x) wanted)
 converted-owned s x wanted steady =
     let pair = pair_of s.stored.start x in
     converted_allows (λ (c : Conversion). AreOwned s c.entries) s.locks pair wanted
     (owned_by s (conversion s.locks pair wanted).entries (λ Q k. every_conversion Q s.locks pair wanted k) steady)
 
-both-owned : (s : State) (x : Session) → IsSteady s → AreOwned s (freed_owner (freed_owner s.locks (pair_of s.stored.start x).dialogue) (pair_of s.stored.start x).update)
+both-owned : (s : State) (x : Session) → IsSteady s
+    → AreOwned s (freed_owner (freed_owner s.locks (pair_of s.stored.start x).dialogue) (pair_of s.stored.start x).update)
 both-owned s x steady =
     let pair = pair_of s.stored.start x in
     owned_by s (freed_owner (freed_owner s.locks pair.dialogue) pair.update)
@@ -367,7 +386,8 @@ entered-holds n s name user free h =
 
 -- ---- orders
 
-holds_orders : (n : ℕ) (s : State) (worker : ℕ) (o : Option UnitKey) → IsSteady (record s { orders = set s.orders worker o }) → Holds n s → Holds (n + 1) (record s { orders = set s.orders worker o })
+holds_orders : (n : ℕ) (s : State) (worker : ℕ) (o : Option UnitKey) → IsSteady (record s { orders = set s.orders worker o }) → Holds n s
+    → Holds (n + 1) (record s { orders = set s.orders worker o })
 holds_orders n s worker o steady h =
     let few = few_more n s h.few in
     record { few = record { sessions = few.sessions; units = few.units }; steady = steady }
@@ -383,7 +403,8 @@ not_no false h = cc
 not_past : (m n : ℕ) → nat_lt m n ≡ false → n ≤ m
 not_past m n h = grind (arith, nat_tests)
 
-taken-holds : (n part : ℕ) (s : State) (worker : ℕ) (unit : UnitKey) → first_unclaimed s.orders (waiting_for part s.stored) ≡ Some unit → Holds n s → Holds (n + 1) (taken s worker unit)
+taken-holds : (n part : ℕ) (s : State) (worker : ℕ) (unit : UnitKey) → first_unclaimed s.orders (waiting_for part s.stored) ≡ Some unit → Holds n s
+    → Holds (n + 1) (taken s worker unit)
 taken-holds n part s worker unit e h =
     let steady = h.steady in
     let found = found_all (IsWaiting s.stored) (λ key. not (is_claimed s.orders key)) (waiting_for part s.stored) unit e (all_waiting part s.stored) in
@@ -425,9 +446,12 @@ dropped-holds n s worker h =
     }) h
 
 -- with the V1 part of a unit its locks go; one that waits for its V2 part has none
-behind_marked : (s : State) (part : ℕ) (unit : UnitKey) (kind : MarkKind) → status_in s.stored unit ≡ Some (status_for part) → AreOwned s s.locks → IsOwned (with_mark s.stored unit kind) s.next_session s.sessions (locks_behind part s.locks unit)
+behind_marked : (s : State) (part : ℕ) (unit : UnitKey) (kind : MarkKind) → status_in s.stored unit ≡ Some (status_for part) → AreOwned s s.locks
+    → IsOwned (with_mark s.stored unit kind) s.next_session s.sessions (locks_behind part s.locks unit)
 behind_marked s part unit kind waits own =
-    elim (nat_eq part 1) as (λ b. status_in s.stored unit ≡ Some (if b then Open else Posted) → IsOwned (with_mark s.stored unit kind) s.next_session s.sessions (if b then freed_owner s.locks (Upd unit) else s.locks)) [
+    elim (nat_eq part 1)
+    as (λ b. status_in s.stored unit ≡ Some (if b then Open else Posted)
+    → IsOwned (with_mark s.stored unit kind) s.next_session s.sessions (if b then freed_owner s.locks (Upd unit) else s.locks)) [
       | true ↦ λ w. owned_freed s.stored s.next_session s.sessions s.locks unit kind own
       | false ↦ λ w. owned_beside s.stored s.next_session s.sessions s.locks unit kind Posted w refl own
     ] waits
@@ -461,7 +485,8 @@ marked-holds n part s worker unit kind none e unread h =
 
 -- ---- cancelling
 
-without_marked : (s : State) (unit : UnitKey) (status : Status) → status_in s.stored unit ≡ Some status → AreOwned s s.locks → IsOwned (with_mark s.stored unit Gone) s.next_session s.sessions (locks_without status s.locks unit)
+without_marked : (s : State) (unit : UnitKey) (status : Status) → status_in s.stored unit ≡ Some status → AreOwned s s.locks
+    → IsOwned (with_mark s.stored unit Gone) s.next_session s.sessions (locks_without status s.locks unit)
 without_marked s unit Open here own = owned_freed s.stored s.next_session s.sessions s.locks unit Gone own
 without_marked s unit Posted here own = owned_beside s.stored s.next_session s.sessions s.locks unit Gone Posted here refl own
 without_marked s unit Bad here own = owned_beside s.stored s.next_session s.sessions s.locks unit Gone Bad here refl own
@@ -498,7 +523,8 @@ cancelled-holds n s unit status can unread h =
 -- ---- trying again
 
 -- a unit that waits for no part has no order
-not_claimed : (ledger : Ledger) (orders : List (Option UnitKey)) (unit : UnitKey) (status : Status) → status_in ledger unit ≡ Some status → (status ≡ Open → ⊥) → (status ≡ Posted → ⊥) → AreOrders ledger orders → is_claimed orders unit ≡ false
+not_claimed : (ledger : Ledger) (orders : List (Option UnitKey)) (unit : UnitKey) (status : Status) → status_in ledger unit ≡ Some status → (status ≡ Open → ⊥)
+    → (status ≡ Posted → ⊥) → AreOrders ledger orders → is_claimed orders unit ≡ false
 not_claimed ledger [] unit status here no_open no_posted h = refl
 not_claimed ledger (None ∷ orders) unit status here no_open no_posted h = not_claimed ledger orders unit status here no_open no_posted h
 not_claimed ledger (Some other ∷ orders) unit status here no_open no_posted h =
@@ -527,7 +553,8 @@ reopened-holds n s unit es here own unread h =
         known = unread_known s.found _ s.pending unread;
         fresh = record { numbered = fresh.numbered; ahead = fresh.ahead; later = fresh.later };
         places = steady.places;
-        orders = outside_more s.condition (λ k. orders_marked s.stored unit Again1 s.orders (not_claimed s.stored s.orders unit Bad here (λ e. cc) (λ e. cc) k) k) steady.orders;
+        orders = outside_more s.condition
+            (λ k. orders_marked s.stored unit Again1 s.orders (not_claimed s.stored s.orders unit Bad here (λ e. cc) (λ e. cc) k) k) steady.orders;
         owned = own;
       };
     }
@@ -552,15 +579,19 @@ reposted-holds n s unit here unread h =
         known = unread_known s.found _ s.pending unread;
         fresh = record { numbered = fresh.numbered; ahead = fresh.ahead; later = fresh.later };
         places = steady.places;
-        orders = outside_more s.condition (λ k. orders_marked s.stored unit Again2 s.orders (not_claimed s.stored s.orders unit Bad2 here (λ e. cc) (λ e. cc) k) k) steady.orders;
+        orders = outside_more s.condition
+            (λ k. orders_marked s.stored unit Again2 s.orders (not_claimed s.stored s.orders unit Bad2 here (λ e. cc) (λ e. cc) k) k) steady.orders;
         owned = owned_beside s.stored s.next_session s.sessions s.locks unit Again2 Bad2 here refl steady.owned;
       };
     }
 
 -- the locks of the unit stand behind those of the others
-back-owned : (s : State) (unit : UnitKey) (es : List Entry) → AllByRecursion HasGoodLocks s.stored.units → readmitted (table_in s) (owners_of unit) (entries_of s.stored.units unit) ≡ Ok es → AreOwned s s.locks → IsOwned (with_mark s.stored unit Again1) s.next_session s.sessions es
+back-owned : (s : State) (unit : UnitKey) (es : List Entry) → AllByRecursion HasGoodLocks s.stored.units
+    → readmitted (table_in s) (owners_of unit) (entries_of s.stored.units unit) ≡ Ok es → AreOwned s s.locks
+    → IsOwned (with_mark s.stored unit Again1) s.next_session s.sessions es
 back-owned s unit es good stand own =
-    subst (IsOwned (with_mark s.stored unit Again1) s.next_session s.sessions) (sym (readmitted_is (table_in s) (owners_of unit) (entries_of s.stored.units unit) es stand))
+    subst (IsOwned (with_mark s.stored unit Again1) s.next_session s.sessions)
+    (sym (readmitted_is (table_in s) (owners_of unit) (entries_of s.stored.units unit) es stand))
     (owned_back s.stored s.next_session s.sessions s.locks unit good own)
 
 -- ---- numbers
@@ -579,7 +610,9 @@ raised-holds : (n : ℕ) (s : State) (sessions : List Session) (ranges : List Nu
 raised-holds n s sessions ranges i upto alike drawn unread h =
     let levels = with_levels (stored_as (with_level (block_level i upto) i) ∷ []) s.stored.levels in
     let with_ledger : Ledger → State = λ ledger. record s { sessions = sessions; ranges = ranges; stored = ledger } in
-    elim (nat_le upto i.level) as (λ b. AreRightIn ranges sessions (if b then s.stored else with_others s.stored levels s.stored.marks) → Holds (n + 1) (with_ledger (if b then s.stored else with_others s.stored levels s.stored.marks))) [
+    elim (nat_le upto i.level)
+    as (λ b. AreRightIn ranges sessions (if b then s.stored else with_others s.stored levels s.stored.marks)
+    → Holds (n + 1) (with_ledger (if b then s.stored else with_others s.stored levels s.stored.marks))) [
       | true ↦ λ d. beside-holds n s sessions ranges s.stored.levels s.stored.marks alike (λ key. refl) d unread h
       | false ↦ λ d. beside-holds n s sessions ranges levels s.stored.marks alike (λ key. refl) d unread h
     ] drawn
@@ -594,7 +627,9 @@ draws-holds n s x object nr r at can unread h =
     let sessions = with_session x.name draw s.sessions in
     let alike = alike_with draw (λ y. record { name = refl; user = refl; number = refl; luw = refl }) x.name s.sessions in
     let t : State = record s { sessions = sessions } in
-    elim (is_buffered i) as (λ b. is_buffered r.interval ≡ b → Holds (n + 1) (if b then record t { ranges = handed_out i t.ranges; stored = raised_to i number t.stored } else t)) [
+    elim (is_buffered i)
+    as (λ b. is_buffered r.interval ≡ b
+    → Holds (n + 1) (if b then record t { ranges = handed_out i t.ranges; stored = raised_to i number t.stored } else t)) [
       | true ↦ λ is.
           raised-holds n s sessions (handed_out i s.ranges) i number alike (drawn_buffered s x object nr r number at can refl is h.steady.drawn) unread h
       | false ↦ λ is.
@@ -616,7 +651,8 @@ numbered-holds : (n : ℕ) (s : State) (x : Session) (stock : List Number) → s
 numbered-holds n s x stock at fits unread h =
     let key = unit_key s.stored.start x in
     let numbers = x.draws ++ stock in
-    beside-holds n s (with_session x.name without_draws s.sessions) (passed stock s.ranges) (with_levels (settled_rows s.stored.levels s.ranges numbers) s.stored.levels) (with_mark s.stored key (Num numbers)).marks
+    beside-holds n s (with_session x.name without_draws s.sessions) (passed stock s.ranges)
+    (with_levels (settled_rows s.stored.levels s.ranges numbers) s.stored.levels) (with_mark s.stored key (Num numbers)).marks
     (alike_with without_draws (λ y. record { name = refl; user = refl; number = refl; luw = refl }) x.name s.sessions)
     (λ other. numbers_leave s.stored key other numbers) (drawn_numbered s x stock at fits h.steady.drawn) unread h
 
@@ -674,7 +710,8 @@ each-holds n found s sound landing unread h = record {
       let names = halves (pair_of s.stored.start x) rs in
       holds_locks n s _ (owned_by s (fold freed s.locks names) (λ Q k. every_freed Q s.locks names k) h.steady) h;
   frees = λ name x at may. holds_locks n s _ (both-owned s x h.steady) h;
-  converts = λ name x wanted c at e may. holds_locks n s c.entries (allowed (λ (c : Conversion). AreOwned s c.entries) _ c (converted-owned s x wanted h.steady) e) h;
+  converts = λ name x wanted c at e may. holds_locks n s c.entries
+      (allowed (λ (c : Conversion). AreOwned s c.entries) _ c (converted-owned s x wanted h.steady) e) h;
   reads = λ name x table key at may. holds_more n s h;
   commits_nothing = λ name x parts stock at may. holds_more n s h;
   draws = λ name x object nr r at can may. draws-holds n s x object nr r (own_name s name x at) can unread h;

@@ -37,7 +37,9 @@ by_test P false f g = g refl
 
 -- ---- other locks and other sessions
 
-pub owned_locks : (ledger : Ledger) (next : ℕ) (sessions : List Session) (es after : List Entry) → ((Q : Owner → List ℕ → Type 0) → AllByRecursion (OfLock Q) es → AllByRecursion (OfLock Q) after) → IsOwned ledger next sessions es → IsOwned ledger next sessions after
+pub owned_locks : (ledger : Ledger) (next : ℕ) (sessions : List Session) (es after : List Entry)
+    → ((Q : Owner → List ℕ → Type 0) → AllByRecursion (OfLock Q) es → AllByRecursion (OfLock Q) after) → IsOwned ledger next sessions es
+    → IsOwned ledger next sessions after
 owned_locks ledger next sessions es after keeps h = record {
   known = keeps (λ owner user. IsKnown ledger.start next owner) h.known;
   users = keeps (HasItsUser ledger.start sessions) h.users;
@@ -46,7 +48,8 @@ owned_locks ledger next sessions es after keeps h = record {
   stored_users = h.stored_users;
 }
 
-pub owned_entered : (ledger : Ledger) (sessions : List Session) (y : Session) (es : List Entry) → IsOwned ledger y.number sessions es → IsOwned ledger (y.number + 1) (sessions ++ y ∷ []) es
+pub owned_entered : (ledger : Ledger) (sessions : List Session) (y : Session) (es : List Entry) → IsOwned ledger y.number sessions es
+    → IsOwned ledger (y.number + 1) (sessions ++ y ∷ []) es
 owned_entered ledger sessions y es h =
     let known : Owner → List ℕ → Type 0 = λ owner user. IsKnown ledger.start y.number owner in
     let later : Owner → List ℕ → Type 0 = λ owner user. IsKnown ledger.start (y.number + 1) owner in
@@ -58,11 +61,14 @@ owned_entered ledger sessions y es h =
       known = every_more (OfLock known) (OfLock later) next_known es h.known;
       users = every_two (OfLock known) (OfLock users) (OfLock more) next_user es h.known h.users;
       holders = h.holders;
-      stored_known = every_more (OfStored known) (OfStored later) (λ unit k. every_more (OfLock known) (OfLock later) next_known unit.entries k) ledger.units h.stored_known;
-      stored_users = every_two (OfStored known) (OfStored users) (OfStored more) (λ unit k u. every_two (OfLock known) (OfLock users) (OfLock more) next_user unit.entries k u) ledger.units h.stored_known h.stored_users;
+      stored_known = every_more (OfStored known) (OfStored later) (λ unit k. every_more (OfLock known) (OfLock later) next_known unit.entries k) ledger.units
+          h.stored_known;
+      stored_users = every_two (OfStored known) (OfStored users) (OfStored more)
+          (λ unit k u. every_two (OfLock known) (OfLock users) (OfLock more) next_user unit.entries k u) ledger.units h.stored_known h.stored_users;
     }
 
-pub owned_left : (ledger : Ledger) (next : ℕ) (sessions : List Session) (p : Session → Bool) (es : List Entry) → IsOwned ledger next sessions es → IsOwned ledger next (filter p sessions) es
+pub owned_left : (ledger : Ledger) (next : ℕ) (sessions : List Session) (p : Session → Bool) (es : List Entry) → IsOwned ledger next sessions es
+    → IsOwned ledger next (filter p sessions) es
 owned_left ledger next sessions p es h =
     let users = HasItsUser ledger.start sessions in
     let fewer = HasItsUser ledger.start (filter p sessions) in
@@ -72,10 +78,12 @@ owned_left ledger next sessions p es h =
       users = every_more (OfLock users) (OfLock fewer) stays es h.users;
       holders = h.holders;
       stored_known = h.stored_known;
-      stored_users = every_more (OfStored users) (OfStored fewer) (λ unit u. every_more (OfLock users) (OfLock fewer) stays unit.entries u) ledger.units h.stored_users;
+      stored_users = every_more (OfStored users) (OfStored fewer) (λ unit u. every_more (OfLock users) (OfLock fewer) stays unit.entries u) ledger.units
+          h.stored_users;
     }
 
-pub owned_next : (ledger : Ledger) (next : ℕ) (name : List ℕ) (sessions : List Session) (es : List Entry) → IsOwned ledger next sessions es → IsOwned ledger next (with_session name with_next_unit sessions) es
+pub owned_next : (ledger : Ledger) (next : ℕ) (name : List ℕ) (sessions : List Session) (es : List Entry) → IsOwned ledger next sessions es
+    → IsOwned ledger next (with_session name with_next_unit sessions) es
 owned_next ledger next name sessions es h =
     let users = HasItsUser ledger.start sessions in
     let after = HasItsUser ledger.start (with_session name with_next_unit sessions) in
@@ -85,7 +93,8 @@ owned_next ledger next name sessions es h =
       users = every_more (OfLock users) (OfLock after) stays es h.users;
       holders = h.holders;
       stored_known = h.stored_known;
-      stored_users = every_more (OfStored users) (OfStored after) (λ unit u. every_more (OfLock users) (OfLock after) stays unit.entries u) ledger.units h.stored_users;
+      stored_users = every_more (OfStored users) (OfStored after) (λ unit u. every_more (OfLock users) (OfLock after) stays unit.entries u) ledger.units
+          h.stored_users;
     }
 
 pub owned_by_none : (ledger : Ledger) (next : ℕ) (sessions : List Session) (es : List Entry) → IsOwned ledger next sessions es → IsOwned ledger next sessions []
@@ -96,14 +105,17 @@ owned_by_none ledger next sessions es h = record { known = tt; users = tt; holde
 opened_holds : (o : Option Status) → o ≡ Some Open → may_hold o ≡ true
 opened_holds o h = ap may_hold h
 
-holder_recorded : (ledger : Ledger) (unit : UnitOfWork) (owner : Owner) → status_in ledger unit.key ≡ None → MayHold ledger owner → MayHold (with_unit ledger unit) owner
+holder_recorded : (ledger : Ledger) (unit : UnitOfWork) (owner : Owner) → status_in ledger unit.key ≡ None → MayHold ledger owner
+    → MayHold (with_unit ledger unit) owner
 holder_recorded ledger unit (Dlg start session) fresh h = tt
 holder_recorded ledger unit (Upd other) fresh h =
     by_test _ (same_unit unit.key other)
     (λ same. subst (λ u. MayHold (with_unit ledger unit) (Upd u)) (one_unit unit.key other same) (opened_holds _ (recorded_here ledger unit)))
     (λ apart. ap may_hold (recorded_other ledger unit other fresh apart) ∙ h)
 
-pub owned_recorded : (ledger : Ledger) (next : ℕ) (sessions : List Session) (es : List Entry) (unit : UnitOfWork) → status_in ledger unit.key ≡ None → OfStored (λ owner user. IsKnown ledger.start next owner) unit → OfStored (HasItsUser ledger.start sessions) unit → IsOwned ledger next sessions es → IsOwned (with_unit ledger unit) next sessions es
+pub owned_recorded : (ledger : Ledger) (next : ℕ) (sessions : List Session) (es : List Entry) (unit : UnitOfWork) → status_in ledger unit.key ≡ None
+    → OfStored (λ owner user. IsKnown ledger.start next owner) unit → OfStored (HasItsUser ledger.start sessions) unit → IsOwned ledger next sessions es
+    → IsOwned (with_unit ledger unit) next sessions es
 owned_recorded ledger next sessions es unit fresh known users h =
     let before : Owner → List ℕ → Type 0 = λ owner user. MayHold ledger owner in
     let after : Owner → List ℕ → Type 0 = λ owner user. MayHold (with_unit ledger unit) owner in
@@ -117,7 +129,8 @@ owned_recorded ledger next sessions es unit fresh known users h =
 
 -- ---- a mark
 
-holder_marked : (ledger : Ledger) (key : UnitKey) (kind : MarkKind) (owner : Owner) → MayHold ledger owner → (owner ≡ Upd key → MayHold (with_mark ledger key kind) (Upd key)) → MayHold (with_mark ledger key kind) owner
+holder_marked : (ledger : Ledger) (key : UnitKey) (kind : MarkKind) (owner : Owner) → MayHold ledger owner
+    → (owner ≡ Upd key → MayHold (with_mark ledger key kind) (Upd key)) → MayHold (with_mark ledger key kind) owner
 holder_marked ledger key kind (Dlg start session) h here = tt
 holder_marked ledger key kind (Upd other) h here =
     by_test _ (same_unit key other)
@@ -127,7 +140,9 @@ holder_marked ledger key kind (Upd other) h here =
     (λ apart. ap may_hold (marked_other ledger key other kind apart) ∙ h)
 
 -- a mark of a unit that has no locks afterwards, or that may have some
-pub owned_marked : (ledger : Ledger) (next : ℕ) (sessions : List Session) (es : List Entry) (key : UnitKey) (kind : MarkKind) → ((e : Entry) → Among es e → e.owner ≡ Upd key → MayHold (with_mark ledger key kind) (Upd key)) → IsOwned ledger next sessions es → IsOwned (with_mark ledger key kind) next sessions es
+pub owned_marked : (ledger : Ledger) (next : ℕ) (sessions : List Session) (es : List Entry) (key : UnitKey) (kind : MarkKind)
+    → ((e : Entry) → Among es e → e.owner ≡ Upd key → MayHold (with_mark ledger key kind) (Upd key)) → IsOwned ledger next sessions es
+    → IsOwned (with_mark ledger key kind) next sessions es
 owned_marked ledger next sessions es key kind here h = record {
   known = h.known;
   users = h.users;
@@ -153,7 +168,8 @@ holds_again ledger key = ap may_hold (status_marked ledger key mark.Again1)
 -- ---- the stored locks of a unit
 
 -- what is said of the stored locks of all units is said of those of one
-pub every_stored : (Q : Owner → List ℕ → Type 0) (units : List UnitOfWork) (key : UnitKey) → AllByRecursion (OfStored Q) units → AllByRecursion (OfLock Q) (entries_of units key)
+pub every_stored : (Q : Owner → List ℕ → Type 0) (units : List UnitOfWork) (key : UnitKey) → AllByRecursion (OfStored Q) units
+    → AllByRecursion (OfLock Q) (entries_of units key)
 every_stored Q units key h =
     elim (unit_at units key) as (λ o. unit_at units key ≡ o → AllByRecursion (OfLock Q) (option_map_or (λ (unit : UnitOfWork). unit.entries) o [])) [
       | None ↦ λ e. tt
@@ -161,25 +177,30 @@ every_stored Q units key h =
     ] refl
 
 -- each is the unit's own
-pub stored_owner : (units : List UnitOfWork) (key : UnitKey) (e : Entry) → AllByRecursion HasGoodLocks units → Among (entries_of units key) e → e.owner ≡ Upd key
+pub stored_owner : (units : List UnitOfWork) (key : UnitKey) (e : Entry) → AllByRecursion HasGoodLocks units → Among (entries_of units key) e
+    → e.owner ≡ Upd key
 stored_owner units key e held k =
     same_owner-same e.owner (Upd key) (all_among (is_of (Upd key)) (entries_of units key) e (may_be_readmitted units key held).owners k)
 
 -- ---- marks and locks
 
 -- a unit whose locks go with its mark
-pub owned_freed : (ledger : Ledger) (next : ℕ) (sessions : List Session) (es : List Entry) (key : UnitKey) (kind : MarkKind) → IsOwned ledger next sessions es → IsOwned (with_mark ledger key kind) next sessions (freed_owner es (Upd key))
+pub owned_freed : (ledger : Ledger) (next : ℕ) (sessions : List Session) (es : List Entry) (key : UnitKey) (kind : MarkKind) → IsOwned ledger next sessions es
+    → IsOwned (with_mark ledger key kind) next sessions (freed_owner es (Upd key))
 owned_freed ledger next sessions es key kind h =
     owned_marked ledger next sessions (freed_owner es (Upd key)) key kind (λ e k own. absurd (none_freed es (Upd key) e k own))
     (owned_locks ledger next sessions es (freed_owner es (Upd key)) (λ Q k. every_freed_owner Q es (Upd key) k) h)
 
 -- one that has none
-pub owned_beside : (ledger : Ledger) (next : ℕ) (sessions : List Session) (es : List Entry) (key : UnitKey) (kind : MarkKind) (status : Status) → status_in ledger key ≡ Some status → may_hold (Some status) ≡ false → IsOwned ledger next sessions es → IsOwned (with_mark ledger key kind) next sessions es
+pub owned_beside : (ledger : Ledger) (next : ℕ) (sessions : List Session) (es : List Entry) (key : UnitKey) (kind : MarkKind) (status : Status)
+    → status_in ledger key ≡ Some status → may_hold (Some status) ≡ false → IsOwned ledger next sessions es
+    → IsOwned (with_mark ledger key kind) next sessions es
 owned_beside ledger next sessions es key kind status here none h =
     owned_marked ledger next sessions es key kind (λ e k own. absurd (none_held ledger next sessions es key status here none h e k own)) h
 
 -- one whose locks stand again
-pub owned_back : (ledger : Ledger) (next : ℕ) (sessions : List Session) (es : List Entry) (key : UnitKey) → AllByRecursion HasGoodLocks ledger.units → IsOwned ledger next sessions es → IsOwned (with_mark ledger key mark.Again1) next sessions (freed_owner es (Upd key) ++ entries_of ledger.units key)
+pub owned_back : (ledger : Ledger) (next : ℕ) (sessions : List Session) (es : List Entry) (key : UnitKey) → AllByRecursion HasGoodLocks ledger.units
+    → IsOwned ledger next sessions es → IsOwned (with_mark ledger key mark.Again1) next sessions (freed_owner es (Upd key) ++ entries_of ledger.units key)
 owned_back ledger next sessions es key good h =
     let known : Owner → List ℕ → Type 0 = λ owner user. IsKnown ledger.start next owner in
     let users = HasItsUser ledger.start sessions in
@@ -190,7 +211,8 @@ owned_back ledger next sessions es key good h =
       known = every_append (OfLock known) (freed_owner es (Upd key)) stored others.known (every_stored known ledger.units key h.stored_known);
       users = every_append (OfLock users) (freed_owner es (Upd key)) stored others.users (every_stored users ledger.units key h.stored_users);
       holders = every_append (OfLock holders) (freed_owner es (Upd key)) stored others.holders
-          (every_by (OfLock holders) stored (λ e k. subst (MayHold (with_mark ledger key mark.Again1)) (sym (stored_owner ledger.units key e good k)) (holds_again ledger key)));
+          (every_by (OfLock holders) stored
+          (λ e k. subst (MayHold (with_mark ledger key mark.Again1)) (sym (stored_owner ledger.units key e good k)) (holds_again ledger key)));
       stored_known = h.stored_known;
       stored_users = h.stored_users;
     }

@@ -37,7 +37,8 @@ alike_all [] = tt
 alike_all (x ∷ xs) = (alike_self x, alike_all xs)
 
 -- one of them has other draws
-pub alike_with : (change : Session → Session) → ((x : Session) → IsAlike x (change x)) → (name : List ℕ) (xs : List Session) → AreAlike xs (with_session name change xs)
+pub alike_with : (change : Session → Session) → ((x : Session) → IsAlike x (change x)) → (name : List ℕ) (xs : List Session)
+    → AreAlike xs (with_session name change xs)
 alike_with change keeps name [] = tt
 alike_with change keeps name (x ∷ xs) =
     elim (is_called name x) as (λ b. AreAlike (x ∷ xs) (cond b (change x ∷ xs) (x ∷ with_session name change xs))) [
@@ -46,7 +47,8 @@ alike_with change keeps name (x ∷ xs) =
     ]
 
 -- what is so of each session, whatever it has drawn
-pub each_alike : (Q R : Session → Type 0) → ((x y : Session) → IsAlike x y → Q x → R y) → (xs ys : List Session) → AreAlike xs ys → AllByRecursion Q xs → AllByRecursion R ys
+pub each_alike : (Q R : Session → Type 0) → ((x y : Session) → IsAlike x y → Q x → R y) → (xs ys : List Session) → AreAlike xs ys → AllByRecursion Q xs
+    → AllByRecursion R ys
 each_alike Q R moves [] [] a h = tt
 each_alike Q R moves [] (y ∷ ys) a h = absurd a
 each_alike Q R moves (x ∷ xs) [] a h = absurd a
@@ -126,7 +128,9 @@ module _ (ledger : Ledger) (levels : Levels) (marks : List Mark) (same : HaveOne
       record {
         known = h.known;
         users = every_more (OfLock before) (OfLock after) moved locks h.users;
-        holders = every_more (OfLock (λ owner user. MayHold ledger owner)) (OfLock (λ owner user. MayHold now owner)) (λ e k. holder_alike e.owner k) locks h.holders;
+        holders = every_more (OfLock (λ owner user. MayHold ledger owner)) (OfLock (λ owner user. MayHold now owner))
+            (λ e k. holder_alike e.owner k) locks h.holders;
         stored_known = h.stored_known;
-        stored_users = every_more (OfStored before) (OfStored after) (λ unit k. every_more (OfLock before) (OfLock after) moved unit.entries k) ledger.units h.stored_users;
+        stored_users = every_more (OfStored before) (OfStored after) (λ unit k. every_more (OfLock before) (OfLock after) moved unit.entries k) ledger.units
+            h.stored_users;
       }

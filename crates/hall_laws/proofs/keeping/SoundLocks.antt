@@ -57,7 +57,8 @@ freed-good : (t : Table) (names : List LockName) → IsTable t → IsTable (with
 freed-good t [] h = h
 freed-good t (n ∷ ns) h = freed-good (with_entries t (freed t.entries n)) ns (IsTable-freed t n h)
 
-behind-sound : (s : State) (unit : UnitKey) (first : Bool) → IsTable (table_in s) → IsTable (with_entries (table_in s) (if first then freed_owner s.locks (Upd unit) else s.locks))
+behind-sound : (s : State) (unit : UnitKey) (first : Bool) → IsTable (table_in s)
+    → IsTable (with_entries (table_in s) (if first then freed_owner s.locks (Upd unit) else s.locks))
 behind-sound s unit true good = IsTable-freed_owner (table_in s) (Upd unit) good
 behind-sound s unit false good = good
 
@@ -73,7 +74,8 @@ without-sound s unit Cancelled good = good
 owners_of-IsPair : (unit : UnitKey) → IsPair (owners_of unit)
 owners_of-IsPair unit = and_from _ _ (eq-eqb unit.start unit.start refl) (eq-eqb unit.session unit.session refl)
 
-both_freed : (s : State) (x : Session) → IsTable (table_in s) → IsTable (with_entries (table_in s) (freed_owner (freed_owner s.locks (pair_of s.stored.start x).dialogue) (pair_of s.stored.start x).update))
+both_freed : (s : State) (x : Session) → IsTable (table_in s)
+    → IsTable (with_entries (table_in s) (freed_owner (freed_owner s.locks (pair_of s.stored.start x).dialogue) (pair_of s.stored.start x).update))
 both_freed s x good =
     let pair = pair_of s.stored.start x in
     IsTable-freed_owner (with_entries (table_in s) (freed_owner s.locks pair.dialogue)) pair.update (IsTable-freed_owner (table_in s) pair.dialogue good)
@@ -81,7 +83,8 @@ both_freed s x good =
 -- a level that is raised leaves locks and units
 raised-sound : (s : State) (i : Interval) (upto : ℕ) → HasSoundLocks s → HasSoundLocks (record s { stored = raised_to i upto s.stored })
 raised-sound s i upto good =
-    elim (nat_le upto i.level) as (λ b. HasSoundLocks (record s { stored = if b then s.stored else with_intervals (stored_as (with_level (block_level i upto) i) ∷ []) s.stored })) [
+    elim (nat_le upto i.level)
+    as (λ b. HasSoundLocks (record s { stored = if b then s.stored else with_intervals (stored_as (with_level (block_level i upto) i) ∷ []) s.stored })) [
       | true ↦ over_table good.stored good.table
       | false ↦ over_table good.stored good.table
     ]
@@ -180,7 +183,9 @@ sound found s steady units good landing = record {
   restarts = λ off. let taken = is_taken found.anew in restarted-sound taken s steady (restart_lands taken s good.stored steady units landing);
   cancels = λ unit status can. over_table good.stored (without-sound s unit status good.table);
   reopens = λ unit es here stand.
-      over_table good.stored (IsTable-readmitted (table_in s) (owners_of unit) (entries_of s.stored.units unit) es good.table (owners_of-IsPair unit) (may_be_readmitted s.stored.units unit good.stored) stand);
+      over_table good.stored
+      (IsTable-readmitted (table_in s) (owners_of unit) (entries_of s.stored.units unit) es good.table (owners_of-IsPair unit)
+      (may_be_readmitted s.stored.units unit good.stored) stand);
   reposts = λ unit here. over_table good.stored good.table;
 }
 

@@ -124,7 +124,8 @@ KeepsCondition s call v = is_of_server call ≡ false → (judged s v).state.con
 drawn_condition : (s : State) (x : Session) (i : Interval) (number : ℕ) → (drawn s x i number).condition ≡ s.condition
 drawn_condition s x i number =
     let t : State = record s { sessions = with_session x.name (with_draw (num_of i number)) s.sessions } in
-    elim (is_buffered i) as (λ b. (if b then record t { ranges = handed_out i t.ranges; stored = raised_to i number t.stored } else t).condition ≡ s.condition) [ true ↦ refl | false ↦ refl ]
+    elim (is_buffered i) as (λ b. (if b then record t { ranges = handed_out i t.ranges; stored = raised_to i number t.stored } else t).condition ≡ s.condition)
+    [ true ↦ refl | false ↦ refl ]
 
 conditions : (found : Found) (s : State) → OfEach (KeepsCondition s) found s
 conditions found s = record {
@@ -155,7 +156,8 @@ conditions found s = record {
   reposts = λ unit here off. refl;
 }
 
-pub verdict_condition : (found : Found) (s : State) (call : Call) → is_of_server call ≡ false → (judged s (call_verdict found s call)).state.condition ≡ s.condition
+pub verdict_condition : (found : Found) (s : State) (call : Call) → is_of_server call ≡ false
+    → (judged s (call_verdict found s call)).state.condition ≡ s.condition
 verdict_condition found s call off = by_call (KeepsCondition s) found s (conditions found s) call off
 
 -- a call leaves the doubt, or makes a lock server anew

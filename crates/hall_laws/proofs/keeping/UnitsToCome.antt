@@ -29,7 +29,8 @@ pub all_push : (Q : Session → Type 0) (xs : List Session) (y : Session) → Al
 all_push Q [] y k h = (h, tt)
 all_push Q (x ∷ xs) y k h = (k.0, all_push Q xs y k.1 h)
 
-pub all_next : (Q : Session → Type 0) (name : List ℕ) (xs : List Session) → ((y : Session) → Q y → Q (with_next_unit y)) → AllByRecursion Q xs → AllByRecursion Q (with_session name with_next_unit xs)
+pub all_next : (Q : Session → Type 0) (name : List ℕ) (xs : List Session) → ((y : Session) → Q y → Q (with_next_unit y)) → AllByRecursion Q xs
+    → AllByRecursion Q (with_session name with_next_unit xs)
 all_next Q name [] up k = tt
 all_next Q name (x ∷ xs) up k =
     elim (is_called name x) as (λ b. AllByRecursion Q (cond b (with_next_unit x ∷ xs) (x ∷ with_session name with_next_unit xs))) [
@@ -61,7 +62,8 @@ numbered_next n name (x ∷ xs) h =
 
 -- ---- a session that logs on or off, or opens its next unit
 
-pub fresh_entered : (s : State) (y : Session) → y.number ≡ s.next_session → HasFreshKeys s → HasFreshKeys (record s { sessions = s.sessions ++ y ∷ []; next_session = s.next_session + 1 })
+pub fresh_entered : (s : State) (y : Session) → y.number ≡ s.next_session → HasFreshKeys s
+    → HasFreshKeys (record s { sessions = s.sessions ++ y ∷ []; next_session = s.next_session + 1 })
 fresh_entered s y e h = record {
   numbered = numbered_push s.next_session s.sessions y e h.numbered;
   ahead = all_push (IsAhead s.stored) s.sessions y h.ahead (λ luw from. h.later y.number luw (omega (arith, e)));
@@ -87,12 +89,14 @@ fresh_next s name h = record {
 
 -- ---- a mark of a unit that was heard of
 
-all_marked : (ledger : Ledger) (key : UnitKey) (kind : MarkKind) (status : Status) (xs : List Session) → status_in ledger key ≡ Some status → AllByRecursion (IsAhead ledger) xs → AllByRecursion (IsAhead (with_mark ledger key kind)) xs
+all_marked : (ledger : Ledger) (key : UnitKey) (kind : MarkKind) (status : Status) (xs : List Session) → status_in ledger key ≡ Some status
+    → AllByRecursion (IsAhead ledger) xs → AllByRecursion (IsAhead (with_mark ledger key kind)) xs
 all_marked ledger key kind status [] here h = tt
 all_marked ledger key kind status (x ∷ xs) here h =
     ((λ luw from. marked_unheard ledger key _ kind status here (h.0 luw from)), all_marked ledger key kind status xs here h.1)
 
-pub fresh_marked : (s : State) (key : UnitKey) (kind : MarkKind) (status : Status) → status_in s.stored key ≡ Some status → HasFreshKeys s → HasFreshKeys (record s { stored = with_mark s.stored key kind })
+pub fresh_marked : (s : State) (key : UnitKey) (kind : MarkKind) (status : Status) → status_in s.stored key ≡ Some status → HasFreshKeys s
+    → HasFreshKeys (record s { stored = with_mark s.stored key kind })
 fresh_marked s key kind status here h = record {
   numbered = h.numbered;
   ahead = all_marked s.stored key kind status s.sessions here h.ahead;
@@ -117,17 +121,21 @@ nat_apart m n h = grind (arith, nat_tests)
 nat_apart_back : (m n : ℕ) → n < m → nat_eq m n ≡ false
 nat_apart_back m n h = grind (arith, nat_tests)
 
-by_luw : (start session low luw : ℕ) → low < luw → same_unit (record { start = start; session = session; luw = low }) (record { start = start; session = session; luw = luw }) ≡ false
+by_luw : (start session low luw : ℕ) → low < luw → same_unit (record { start = start; session = session; luw = low })
+    (record { start = start; session = session; luw = luw }) ≡ false
 by_luw start session low luw h = same_parts (nat_eq start start) (nat_eq session session) (nat_eq low luw) (nat_apart low luw h)
 
-by_session : (start low other m n : ℕ) → nat_eq low other ≡ false → same_unit (record { start = start; session = low; luw = m }) (record { start = start; session = other; luw = n }) ≡ false
+by_session : (start low other m n : ℕ) → nat_eq low other ≡ false → same_unit (record { start = start; session = low; luw = m })
+    (record { start = start; session = other; luw = n }) ≡ false
 by_session start low other m n h = same_middle (nat_eq start start) (nat_eq low other) (nat_eq m n) h
 
-unheard_recorded : (ledger : Ledger) (unit : UnitOfWork) (key : UnitKey) → status_in ledger unit.key ≡ None → same_unit unit.key key ≡ false → status_in ledger key ≡ None → status_in (with_unit ledger unit) key ≡ None
+unheard_recorded : (ledger : Ledger) (unit : UnitOfWork) (key : UnitKey) → status_in ledger unit.key ≡ None → same_unit unit.key key ≡ false
+    → status_in ledger key ≡ None → status_in (with_unit ledger unit) key ≡ None
 unheard_recorded ledger unit key fresh apart none = recorded_other ledger unit key fresh apart ∙ none
 
 -- sessions behind the one that commits
-ahead_behind : (ledger : Ledger) (unit : UnitOfWork) (x : Session) (ys : List Session) → unit.key ≡ unit_key ledger.start x → status_in ledger unit.key ≡ None → AllByRecursion (IsBelow x.number) ys → AllByRecursion (IsAhead ledger) ys → AllByRecursion (IsAhead (with_unit ledger unit)) ys
+ahead_behind : (ledger : Ledger) (unit : UnitOfWork) (x : Session) (ys : List Session) → unit.key ≡ unit_key ledger.start x → status_in ledger unit.key ≡ None
+    → AllByRecursion (IsBelow x.number) ys → AllByRecursion (IsAhead ledger) ys → AllByRecursion (IsAhead (with_unit ledger unit)) ys
 ahead_behind ledger unit x [] is fresh below h = tt
 ahead_behind ledger unit x (y ∷ ys) is fresh below h = (
   (λ luw from.
@@ -138,10 +146,14 @@ ahead_behind ledger unit x (y ∷ ys) is fresh below h = (
   ahead_behind ledger unit x ys is fresh below.1 h.1,
 )
 
-ahead_committed : (ledger : Ledger) (unit : UnitOfWork) (n : ℕ) (name : List ℕ) (x : Session) (xs : List Session) → unit.key ≡ unit_key ledger.start x → status_in ledger unit.key ≡ None → find (is_called name) xs ≡ Some x → AreNumbered n xs → AllByRecursion (IsAhead ledger) xs → AllByRecursion (IsAhead (with_unit ledger unit)) (with_session name with_next_unit xs)
+ahead_committed : (ledger : Ledger) (unit : UnitOfWork) (n : ℕ) (name : List ℕ) (x : Session) (xs : List Session) → unit.key ≡ unit_key ledger.start x
+    → status_in ledger unit.key ≡ None → find (is_called name) xs ≡ Some x → AreNumbered n xs → AllByRecursion (IsAhead ledger) xs
+    → AllByRecursion (IsAhead (with_unit ledger unit)) (with_session name with_next_unit xs)
 ahead_committed ledger unit n name x [] is fresh found numbered h = tt
 ahead_committed ledger unit n name x (y ∷ ys) is fresh found numbered h =
-    elim (is_called name y) as (λ b. cond b (Some y) (find (is_called name) ys) ≡ Some x → AllByRecursion (IsAhead (with_unit ledger unit)) (cond b (with_next_unit y ∷ ys) (y ∷ with_session name with_next_unit ys))) [
+    elim (is_called name y)
+    as (λ b. cond b (Some y) (find (is_called name) ys) ≡ Some x → AllByRecursion (IsAhead (with_unit ledger unit))
+    (cond b (with_next_unit y ∷ ys) (y ∷ with_session name with_next_unit ys))) [
       | true ↦ λ e.
           let same : y ≡ x = equal_session y x e in (
             (λ luw from.
@@ -163,7 +175,8 @@ ahead_committed ledger unit n name x (y ∷ ys) is fresh found numbered h =
     ] found
 
 -- the open unit of a session that is logged on is unheard of
-pub open_unheard : (s : State) (name : List ℕ) (x : Session) → find (is_called name) s.sessions ≡ Some x → HasFreshKeys s → status_in s.stored (unit_key s.stored.start x) ≡ None
+pub open_unheard : (s : State) (name : List ℕ) (x : Session) → find (is_called name) s.sessions ≡ Some x → HasFreshKeys s
+    → status_in s.stored (unit_key s.stored.start x) ≡ None
 open_unheard s name x found h = found_in (IsAhead s.stored) (is_called name) s.sessions x found h.ahead x.luw (omega arith)
 
 pub number_below : (n : ℕ) (name : List ℕ) (x : Session) (xs : List Session) → find (is_called name) xs ≡ Some x → AreNumbered n xs → x.number < n
@@ -174,7 +187,9 @@ number_below n name x (y ∷ ys) found h =
       | false ↦ λ e. number_below n name x ys e h.2
     ] found
 
-pub fresh_committed : (s : State) (unit : UnitOfWork) (name : List ℕ) (x : Session) → find (is_called name) s.sessions ≡ Some x → unit.key ≡ unit_key s.stored.start x → HasFreshKeys s → HasFreshKeys (record s { sessions = with_session name with_next_unit s.sessions; stored = with_unit s.stored unit })
+pub fresh_committed : (s : State) (unit : UnitOfWork) (name : List ℕ) (x : Session) → find (is_called name) s.sessions ≡ Some x
+    → unit.key ≡ unit_key s.stored.start x → HasFreshKeys s → HasFreshKeys
+    (record s { sessions = with_session name with_next_unit s.sessions; stored = with_unit s.stored unit })
 fresh_committed s unit name x found is h =
     let fresh : status_in s.stored unit.key ≡ None = ap (status_in s.stored) is ∙ open_unheard s name x found h in
     let below = number_below s.next_session name x s.sessions found h.numbered in
@@ -184,6 +199,7 @@ fresh_committed s unit name x found is h =
       later = λ session luw from.
           let key : UnitKey = record { start = s.stored.start; session = session; luw = luw } in
           unheard_recorded s.stored unit key fresh
-          (subst (λ k. same_unit k key ≡ false) (sym is) (by_session s.stored.start x.number session x.luw luw (nat_apart x.number session (omega (arith, below, from)))))
+          (subst (λ k. same_unit k key ≡ false) (sym is)
+          (by_session s.stored.start x.number session x.luw luw (nat_apart x.number session (omega (arith, below, from)))))
           (h.later session luw from);
     }

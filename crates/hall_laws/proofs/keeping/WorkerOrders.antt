@@ -39,7 +39,8 @@ unclaimed_without (o ∷ orders) (suc i) unit h =
     let parts = no_or (is_for unit o) (is_claimed orders unit) h in
     or_no (is_for unit o) _ parts.0 (unclaimed_without orders i unit parts.1)
 
-unclaimed_with : (orders : List (Option UnitKey)) (i : ℕ) (unit other : UnitKey) → same_unit other unit ≡ false → is_claimed orders unit ≡ false → is_claimed (set orders i (Some other)) unit ≡ false
+unclaimed_with : (orders : List (Option UnitKey)) (i : ℕ) (unit other : UnitKey) → same_unit other unit ≡ false → is_claimed orders unit ≡ false
+    → is_claimed (set orders i (Some other)) unit ≡ false
 unclaimed_with [] i unit other apart h = h
 unclaimed_with (o ∷ orders) zero unit other apart h = or_no (same_unit other unit) _ apart (no_or (is_for unit o) _ h).1
 unclaimed_with (o ∷ orders) (suc i) unit other apart h =
@@ -48,7 +49,8 @@ unclaimed_with (o ∷ orders) (suc i) unit other apart h =
 
 -- ---- orders taken and given back
 
-pub orders_with : (ledger : Ledger) (orders : List (Option UnitKey)) (i : ℕ) (unit : UnitKey) → AreOrders ledger orders → IsWaiting ledger unit → is_claimed orders unit ≡ false → AreOrders ledger (set orders i (Some unit))
+pub orders_with : (ledger : Ledger) (orders : List (Option UnitKey)) (i : ℕ) (unit : UnitKey) → AreOrders ledger orders → IsWaiting ledger unit
+    → is_claimed orders unit ≡ false → AreOrders ledger (set orders i (Some unit))
 orders_with ledger [] i unit h here free = tt
 orders_with ledger (None ∷ orders) zero unit h here free = (here, free, h)
 orders_with ledger (None ∷ orders) (suc i) unit h here free = orders_with ledger orders i unit h here free
@@ -66,14 +68,16 @@ orders_without ledger (Some other ∷ orders) (suc i) h = (h.0, unclaimed_withou
 
 -- ---- orders as the ledger grows
 
-pub orders_recorded : (ledger : Ledger) (unit : UnitOfWork) (orders : List (Option UnitKey)) → status_in ledger unit.key ≡ None → AreOrders ledger orders → AreOrders (with_unit ledger unit) orders
+pub orders_recorded : (ledger : Ledger) (unit : UnitOfWork) (orders : List (Option UnitKey)) → status_in ledger unit.key ≡ None → AreOrders ledger orders
+    → AreOrders (with_unit ledger unit) orders
 orders_recorded ledger unit [] fresh h = tt
 orders_recorded ledger unit (None ∷ orders) fresh h = orders_recorded ledger unit orders fresh h
 orders_recorded ledger unit (Some other ∷ orders) fresh h =
     (recorded_waiting ledger unit other fresh h.0, h.1, orders_recorded ledger unit orders fresh h.2)
 
 -- orders for other units than the one that is marked
-pub orders_marked : (ledger : Ledger) (key : UnitKey) (kind : MarkKind) (orders : List (Option UnitKey)) → is_claimed orders key ≡ false → AreOrders ledger orders → AreOrders (with_mark ledger key kind) orders
+pub orders_marked : (ledger : Ledger) (key : UnitKey) (kind : MarkKind) (orders : List (Option UnitKey)) → is_claimed orders key ≡ false
+    → AreOrders ledger orders → AreOrders (with_mark ledger key kind) orders
 orders_marked ledger key kind [] free h = tt
 orders_marked ledger key kind (None ∷ orders) free h = orders_marked ledger key kind orders free h
 orders_marked ledger key kind (Some other ∷ orders) free h =
@@ -99,7 +103,8 @@ claimed_at (Some other ∷ orders) zero key h =
     first_yes (same_unit other key) _ (subst (λ u. same_unit other u ≡ true) same (unit_refl other))
 claimed_at (o ∷ orders) (suc i) key h = ap (λ b. is_for key o || b) (claimed_at orders i key h) ∙ yes_or (is_for key o)
 
-apart_from_held : (orders : List (Option UnitKey)) (i : ℕ) (key other : UnitKey) → held_at orders i ≡ Some key → is_claimed orders other ≡ false → same_unit key other ≡ false
+apart_from_held : (orders : List (Option UnitKey)) (i : ℕ) (key other : UnitKey) → held_at orders i ≡ Some key → is_claimed orders other ≡ false
+    → same_unit key other ≡ false
 apart_from_held orders i key other e free =
     elim (same_unit key other) as (λ b. same_unit key other ≡ b → b ≡ false) [
       | true ↦ λ same.
@@ -109,7 +114,8 @@ apart_from_held orders i key other e free =
     ] refl
 
 -- the unit is marked, and its order goes
-pub orders_posted : (ledger : Ledger) (orders : List (Option UnitKey)) (i : ℕ) (key : UnitKey) (kind : MarkKind) → AreOrders ledger orders → held_at orders i ≡ Some key → AreOrders (with_mark ledger key kind) (set orders i None)
+pub orders_posted : (ledger : Ledger) (orders : List (Option UnitKey)) (i : ℕ) (key : UnitKey) (kind : MarkKind) → AreOrders ledger orders
+    → held_at orders i ≡ Some key → AreOrders (with_mark ledger key kind) (set orders i None)
 orders_posted ledger [] i key kind h e = cc
 orders_posted ledger (None ∷ orders) zero key kind h e = cc
 orders_posted ledger (Some other ∷ orders) zero key kind h e =

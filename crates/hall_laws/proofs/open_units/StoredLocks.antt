@@ -93,7 +93,8 @@ abbrev HaveTheirs : Ledger → List UnitKey → List Entry → Type 0
 HaveTheirs ledger keys locks = AllByRecursion (λ (key : UnitKey). filter (is_of (Upd key)) locks ≡ entries_of ledger.units key) keys
 
 -- and has them where those of another unit are gone
-theirs_without : (ledger : Ledger) (unit : UnitKey) (keys : List UnitKey) (locks : List Entry) → list_all (differ unit) keys ≡ true → HaveTheirs ledger keys locks
+theirs_without : (ledger : Ledger) (unit : UnitKey) (keys : List UnitKey) (locks : List Entry) → list_all (differ unit) keys ≡ true
+    → HaveTheirs ledger keys locks
     → HaveTheirs ledger keys (freed_owner locks (Upd unit))
 theirs_without ledger unit [] locks apart h = tt
 theirs_without ledger unit (key ∷ keys) locks apart h =
@@ -101,7 +102,8 @@ theirs_without ledger unit (key ∷ keys) locks apart h =
     let other : same_unit key unit ≡ false = flip key unit (apart_by_test (same_unit unit key) parts.0) in
     (its_freed_owner (Upd key) (Upd unit) locks other ∙ h.0, theirs_without ledger unit keys locks parts.1 h.1)
 
-theirs_fit : (ledger : Ledger) (keys : List UnitKey) (locks : List Entry) → all_pairs differ keys ≡ true → HaveTheirs ledger keys locks → length (entries_at ledger keys) ≤ length locks
+theirs_fit : (ledger : Ledger) (keys : List UnitKey) (locks : List Entry) → all_pairs differ keys ≡ true → HaveTheirs ledger keys locks
+    → length (entries_at ledger keys) ≤ length locks
 theirs_fit ledger [] locks apart h = omega arith
 theirs_fit ledger (key ∷ keys) locks apart h =
     let parts = and_parts (list_all (differ key) keys) (all_pairs differ keys) apart in
@@ -116,7 +118,8 @@ theirs_fit ledger (key ∷ keys) locks apart h =
 pub open_fit : (locks : List Entry) (ledger : Ledger) → HoldsOpenUnits locks ledger → length (open_entries ledger) ≤ length locks
 open_fit locks ledger h =
     theirs_fit ledger (waiting_for 1 ledger) locks (waiting_differ ledger)
-    (every_more (IsOpenUnit ledger) (λ key. filter (is_of (Upd key)) locks ≡ entries_of ledger.units key) (λ key waits. h.units key waits) (waiting_for 1 ledger) (all_open ledger))
+    (every_more (IsOpenUnit ledger) (λ key. filter (is_of (Upd key)) locks ≡ entries_of ledger.units key) (λ key waits. h.units key waits)
+    (waiting_for 1 ledger) (all_open ledger))
 
 -- ---- a table with just these
 

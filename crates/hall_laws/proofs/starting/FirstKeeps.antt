@@ -66,7 +66,8 @@ unmarked start key (m ∷ marks) later h = (
 none_of_start : (ledger : Ledger) (key : UnitKey) → IsSound ledger → ledger.start < key.start → status_of ledger.units ledger.marks key ≡ None
 none_of_start ledger key (inl none) later = subst (λ (l : Ledger). status_of l.units l.marks key ≡ None) (sym none) refl
 none_of_start ledger key (inr law) later =
-    no_status (has_no_v2 ledger.units key) key ledger.marks (unmarked ledger.start key ledger.marks later (recursion_from_All (IsMarkUnder ledger.start) ledger.marks law.marks))
+    no_status (has_no_v2 ledger.units key) key ledger.marks
+    (unmarked ledger.start key ledger.marks later (recursion_from_All (IsMarkUnder ledger.start) ledger.marks law.marks))
 
 -- a ledger at a start that has just been raised
 abbrev pub IsFirst : Ledger → Type 0
@@ -88,12 +89,15 @@ keys_under : (n : ℕ) (marks : List Mark) → AllByRecursion (IsMarkUnder n) ma
 keys_under n [] h = tt
 keys_under n (m ∷ marks) h =
     let rest = keys_under n marks h.1 in
-    elim (is_rec m.kind) as (λ b. AllByRecursion (λ (key : UnitKey). key.start ≤ n) (map (λ (x : Mark). x.unit) (cond b (m ∷ filter (λ (x : Mark). is_rec x.kind) marks) (filter (λ (x : Mark). is_rec x.kind) marks)))) [
+    elim (is_rec m.kind)
+    as (λ b. AllByRecursion (λ (key : UnitKey). key.start ≤ n)
+    (map (λ (x : Mark). x.unit) (cond b (m ∷ filter (λ (x : Mark). is_rec x.kind) marks) (filter (λ (x : Mark). is_rec x.kind) marks)))) [
       | true ↦ (h.0.last, rest)
       | false ↦ rest
     ]
 
-units_under : (n : ℕ) (units : List UnitOfWork) → AllByRecursion (λ (key : UnitKey). key.start ≤ n) (map (λ (unit : UnitOfWork). unit.key) units) → AllByRecursion (λ (unit : UnitOfWork). unit.key.start ≤ n) units
+units_under : (n : ℕ) (units : List UnitOfWork) → AllByRecursion (λ (key : UnitKey). key.start ≤ n) (map (λ (unit : UnitOfWork). unit.key) units)
+    → AllByRecursion (λ (unit : UnitOfWork). unit.key.start ≤ n) units
 units_under n [] h = tt
 units_under n (unit ∷ units) h = (h.0, units_under n units h.1)
 
@@ -106,7 +110,8 @@ earlier : (ledger : Ledger) → IsSound ledger → AllByRecursion (IsEarlier led
 earlier ledger (inl none) = subst (λ (l : Ledger). AllByRecursion (IsEarlier l.start) l.units) (sym none) tt
 earlier ledger (inr law) =
     let keys = keys_under ledger.start ledger.marks (recursion_from_All (IsMarkUnder ledger.start) ledger.marks law.marks) in
-    every_two (λ (unit : UnitOfWork). unit.key.start ≤ ledger.start) IsUnit (IsEarlier ledger.start) (λ unit under good. record { under = under; good = good }) ledger.units
+    every_two (λ (unit : UnitOfWork). unit.key.start ≤ ledger.start) IsUnit (IsEarlier ledger.start)
+    (λ unit under good. record { under = under; good = good }) ledger.units
     (units_under ledger.start ledger.units (subst (AllByRecursion (λ (key : UnitKey). key.start ≤ ledger.start)) (sym law.recorded) keys))
     (recursion_from_All IsUnit ledger.units law.units)
 
@@ -117,7 +122,8 @@ not_of_start m n false h = grind (arith, nat_tests)
 earlier_known : (start : ℕ) (unit : UnitOfWork) → IsEarlier start unit → OfStored (λ owner user. IsKnown (start + 1) 1 owner) unit
 earlier_known start unit h =
     every_more (IsEntryOf unit) (OfLock (λ owner user. IsKnown (start + 1) 1 owner))
-    (λ e own. subst (IsKnown (start + 1) 1) (sym own.owner) (λ number from. not_of_start unit.key.start (start + 1) _ (let under = h.under in omega (arith, under))))
+    (λ e own. subst (IsKnown (start + 1) 1) (sym own.owner)
+    (λ number from. not_of_start unit.key.start (start + 1) _ (let under = h.under in omega (arith, under))))
     unit.entries (recursion_from_All (IsEntryOf unit) unit.entries h.good.entries)
 
 every_any : {A : Type 0} (P : A → Type 0) → ((x : A) → P x) → (xs : List A) → AllByRecursion P xs
@@ -128,10 +134,12 @@ pub first_known : (ledger : Ledger) → IsFirst ledger → AllByRecursion (OfSto
 first_known ledger first =
     let before = first.0 in
     subst (λ (l : Ledger). AllByRecursion (OfStored (λ owner user. IsKnown l.start 1 owner)) l.units) (sym first.2)
-    (every_more (IsEarlier before.start) (OfStored (λ owner user. IsKnown (before.start + 1) 1 owner)) (λ unit h. earlier_known before.start unit h) before.units (earlier before first.1))
+    (every_more (IsEarlier before.start) (OfStored (λ owner user. IsKnown (before.start + 1) 1 owner))
+    (λ unit h. earlier_known before.start unit h) before.units (earlier before first.1))
 
 pub first_users : (ledger : Ledger) → AllByRecursion (OfStored (HasItsUser ledger.start [])) ledger.units
-first_users ledger = every_any (OfStored (HasItsUser ledger.start [])) (λ unit. every_any (OfLock (HasItsUser ledger.start [])) (λ e. tt) unit.entries) ledger.units
+first_users ledger = every_any (OfStored (HasItsUser ledger.start [])) (λ unit. every_any (OfLock (HasItsUser ledger.start [])) (λ e. tt) unit.entries)
+    ledger.units
 
 no_mode : (m : Mode) → is_optimistic m ≡ false → same_mode m O ≡ false
 no_mode S h = refl
@@ -201,7 +209,8 @@ first_agree ledger (inl none) = subst (λ (l : Ledger). LevelsAgree l.levels (nu
 first_agree ledger (inr law) = law.levels
 
 -- no session has drawn a number
-pub nothing_drawn : (ledger : Ledger) (intervals : List Interval) → AgreeWith intervals ledger → IsFirst ledger → AreDrawnRight (first_ranges ledger.levels intervals) ledger.levels [] (numbers_of ledger.units ledger.marks)
+pub nothing_drawn : (ledger : Ledger) (intervals : List Interval) → AgreeWith intervals ledger → IsFirst ledger
+    → AreDrawnRight (first_ranges ledger.levels intervals) ledger.levels [] (numbers_of ledger.units ledger.marks)
 nothing_drawn ledger intervals agree first =
     let before = first.0 in
     first_drawn intervals ledger.levels [] (numbers_of ledger.units ledger.marks) agree.good (fit_levels intervals ledger.levels agree.fit)

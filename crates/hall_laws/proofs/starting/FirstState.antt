@@ -22,7 +22,8 @@ use Rattle.hall_laws.proofs.open_units.StoredLocks.{first_held, first_owned}
 abbrev pub IsFirstTable : ℕ → Ledger → Type 0
 IsFirstTable limit ledger = IsTable (recovered limit (open_locks ledger))
 
-pub first_sound : (limit mark_limit : ℕ) (intervals : List Interval) (told link : Bool) (ledger : Ledger) → IsFirstTable limit ledger → IsFirst ledger → HasSoundLocks (opened limit mark_limit intervals told link ledger)
+pub first_sound : (limit mark_limit : ℕ) (intervals : List Interval) (told link : Bool) (ledger : Ledger) → IsFirstTable limit ledger → IsFirst ledger
+    → HasSoundLocks (opened limit mark_limit intervals told link ledger)
 first_sound limit mark_limit intervals told link ledger good first = record { table = good; stored = first_stored ledger first }
 
 up_to : (m n : ℕ) → nat_le m n ≡ true → m ≤ n
@@ -39,7 +40,8 @@ first_fits limit count h =
 under : (n m : ℕ) → n ≤ m → m < 2 ^ 32 → n < 2 ^ 32
 under n m h k = omega (arith, h, k)
 
-pub first_steady : (limit mark_limit : ℕ) (intervals : List Interval) (told link : Bool) (ledger : Ledger) → mark_limit ≤ 1048576 → IsFirstTable limit ledger → AgreeWith intervals ledger → IsFirst ledger → IsSteady (opened limit mark_limit intervals told link ledger)
+pub first_steady : (limit mark_limit : ℕ) (intervals : List Interval) (told link : Bool) (ledger : Ledger) → mark_limit ≤ 1048576 → IsFirstTable limit ledger
+    → AgreeWith intervals ledger → IsFirst ledger → IsSteady (opened limit mark_limit intervals told link ledger)
 first_steady limit mark_limit intervals told link ledger limited good agree first = record {
   started = first_started ledger first;
   limited = limited;
@@ -57,10 +59,12 @@ first_steady limit mark_limit intervals told link ledger limited good agree firs
   owned = first_owned ledger first;
 }
 
-pub first_few : (limit mark_limit : ℕ) (intervals : List Interval) (told link : Bool) (ledger : Ledger) → HasFew 0 (opened limit mark_limit intervals told link ledger)
+pub first_few : (limit mark_limit : ℕ) (intervals : List Interval) (told link : Bool) (ledger : Ledger)
+    → HasFew 0 (opened limit mark_limit intervals told link ledger)
 first_few limit mark_limit intervals told link ledger = record { sessions = omega arith; units = tt }
 
-pub first_open : (limit mark_limit : ℕ) (intervals : List Interval) (told link : Bool) (ledger : Ledger) → IsFirstTable limit ledger → IsFirst ledger → HasOpenUnits (opened limit mark_limit intervals told link ledger)
+pub first_open : (limit mark_limit : ℕ) (intervals : List Interval) (told link : Bool) (ledger : Ledger) → IsFirstTable limit ledger → IsFirst ledger
+    → HasOpenUnits (opened limit mark_limit intervals told link ledger)
 first_open limit mark_limit intervals told link ledger good first = record {
   held = first_held ledger (first_stored ledger first);
   stored = good.sound;
@@ -68,7 +72,8 @@ first_open limit mark_limit intervals told link ledger good first = record {
   pending = tt;
 }
 
-first_here : (told link : Bool) (max_locks mark_limit : ℕ) (intervals : List Interval) (ledger : Ledger) → mark_limit ≤ 1048576 → AgreeWith intervals ledger → IsFirst ledger → IsFirstTable max_locks ledger → IsKept (opened max_locks mark_limit intervals told link ledger)
+first_here : (told link : Bool) (max_locks mark_limit : ℕ) (intervals : List Interval) (ledger : Ledger) → mark_limit ≤ 1048576 → AgreeWith intervals ledger
+    → IsFirst ledger → IsFirstTable max_locks ledger → IsKept (opened max_locks mark_limit intervals told link ledger)
 first_here told link max_locks mark_limit intervals ledger limited agree first good =
     record {
       within = omega arith;
@@ -79,9 +84,13 @@ first_here told link max_locks mark_limit intervals ledger limited agree first g
       landing = tt;
     }
 
-pub first_kept : (told link : Bool) (table : Table) (max_locks mark_limit : ℕ) (intervals : List Interval) (ledger : Ledger) (sessions : List Session) (orders : List (Option UnitKey)) (past : List PastEntry) → mark_limit ≤ 1048576 → AgreeWith intervals ledger → IsFirst ledger → IsTable table → table ≡ recovered max_locks (open_locks ledger) → sessions ≡ [] → orders ≡ replicate 256 None → past ≡ []
-    → IsKept (state_of told link false condition.Up sessions 1 orders table max_locks mark_limit (first_ranges ledger.levels intervals) ledger None None None past)
+pub first_kept : (told link : Bool) (table : Table) (max_locks mark_limit : ℕ) (intervals : List Interval) (ledger : Ledger) (sessions : List Session)
+    (orders : List (Option UnitKey)) (past : List PastEntry) → mark_limit ≤ 1048576 → AgreeWith intervals ledger → IsFirst ledger → IsTable table
+    → table ≡ recovered max_locks (open_locks ledger) → sessions ≡ [] → orders ≡ replicate 256 None → past ≡ []
+    → IsKept (state_of told link false condition.Up sessions 1 orders table max_locks mark_limit
+    (first_ranges ledger.levels intervals) ledger None None None past)
 first_kept told link table max_locks mark_limit intervals ledger sessions orders past limited agree first good free none unclaimed new =
     let ranges = first_ranges ledger.levels intervals in
-    subst IsKept (λ i. state_of told link false condition.Up (sym none i) 1 (sym unclaimed i) (sym free i) max_locks mark_limit ranges ledger None None None (sym new i))
+    subst IsKept (λ i. state_of told link false condition.Up (sym none i) 1 (sym unclaimed i) (sym free i) max_locks mark_limit ranges ledger None None None
+    (sym new i))
     (first_here told link max_locks mark_limit intervals ledger limited agree first (subst IsTable free good))

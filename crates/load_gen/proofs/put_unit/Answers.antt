@@ -15,10 +15,13 @@ returns c =
     let header = line_text (header_line s k) ++ item in
     let number = line_text (number_line s) ++ header in
     weaker_ok c.put_work.result
-    (λ h. subst (λ x. end ≡ string_bytes c.args.text.now ++ text_of (lines_by x k)) c.session_of-session.ensures (in_turn (string_bytes c.args.text.now) (string_bytes c.put_lock.new.text) end (line_text (lock_line s k)) number c.in_ok-put_lock.ensures
+    (λ h. subst (λ x. end ≡ string_bytes c.args.text.now ++ text_of (lines_by x k)) c.session_of-session.ensures
+    (in_turn (string_bytes c.args.text.now) (string_bytes c.put_lock.new.text) end (line_text (lock_line s k)) number c.in_ok-put_lock.ensures
     (in_turn (string_bytes c.put_lock.new.text) (string_bytes c.put_number.new.text) end (line_text (number_line s)) header c.in_ok-put_number.ensures
     (in_turn (string_bytes c.put_number.new.text) (string_bytes c.put_header.new.text) end (line_text (header_line s k)) item c.in_ok-put_header.ensures
     (in_turn (string_bytes c.put_header.new.text) (string_bytes c.put_item.new.text) end (line_text (item_line s k)) statistics c.in_ok-put_item.ensures
-    (in_turn (string_bytes c.put_item.new.text) (string_bytes c.put_statistics.new.text) end (line_text (statistics_line s)) commit c.in_ok-put_statistics.ensures
-    (in_turn (string_bytes c.put_statistics.new.text) (string_bytes c.put_commit.new.text) end (line_text (commit_line s)) work c.in_ok-put_commit.ensures h)))))))
+    (in_turn (string_bytes c.put_item.new.text) (string_bytes c.put_statistics.new.text) end
+    (line_text (statistics_line s)) commit c.in_ok-put_statistics.ensures
+    (in_turn (string_bytes c.put_statistics.new.text) (string_bytes c.put_commit.new.text) end
+    (line_text (commit_line s)) work c.in_ok-put_commit.ensures h)))))))
     c.put_work.ensures

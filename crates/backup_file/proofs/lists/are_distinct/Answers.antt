@@ -8,14 +8,16 @@ pub returns-then-contains : goal.returns-then-contains
 returns-then-contains c =
     let e = c.index-entries-left.result in
     sym (repeated c.args.entries.now c.loop-left.left e c.loop-left-test.true c.loop-left.invariant.within c.index-entries-left.is
-    (sym (c.loop-left.invariant.seen (lock_id e)) ∙ sym (c.contains.ensures ∙ ap (λ n. list_any (same_lock n) c.loop-left.seen.keys) c.lock_id-name.ensures) ∙ c.if-contains.true))
+    (sym (c.loop-left.invariant.seen (lock_id e)) ∙ sym (c.contains.ensures ∙ ap (λ n. list_any (same_lock n) c.loop-left.seen.keys) c.lock_id-name.ensures)
+    ∙ c.if-contains.true))
 
 pub loop-left-preserved : goal.loop-left-preserved
 loop-left-preserved c =
     let es = c.args.entries.now in
     let left = c.loop-left.left in
     let e = c.index-entries-left.result in
-    let free = sym (c.loop-left.invariant.seen (lock_id e)) ∙ sym (c.contains.ensures ∙ ap (λ n. list_any (same_lock n) c.loop-left.seen.keys) c.lock_id-name.ensures) ∙ c.if-contains.false in
+    let free = sym (c.loop-left.invariant.seen (lock_id e))
+    ∙ sym (c.contains.ensures ∙ ap (λ n. list_any (same_lock n) c.loop-left.seen.keys) c.lock_id-name.ensures) ∙ c.if-contains.false in
     record {
       within = omega (arith, c.loop-left.invariant.within);
       seen = λ name.

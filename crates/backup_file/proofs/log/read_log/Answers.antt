@@ -24,7 +24,8 @@ loop-behind-init c =
     let none : fold after [] c.new-records.result.items ≡ [] = ap (fold after []) c.new-records.ensures.items in
     record {
       upto = subst (λ l. IsReadUpTo grammar bytes (take (length bytes - 8) (drop 8 bytes)) l) (sym none)
-          (rw (take_all (length bytes - 8) (drop 8 bytes) (omega (arith, length-drop 8 bytes))) (starts grammar bytes (c.has_name.ensures.0 c.if-not-has_name.false)));
+          (rw (take_all (length bytes - 8) (drop 8 bytes) (omega (arith, length-drop 8 bytes)))
+          (starts grammar bytes (c.has_name.ensures.0 c.if-not-has_name.false)));
       units = λ u. ap (is_known u) c.new-units.ensures.empty ∙ ap (has_unit u) (sym none);
     }
 
@@ -34,10 +35,12 @@ loop-behind-preserved c =
     let l = fold after [] c.loop-behind.records.items in
     let fits : IsBytes bytes = λ i. omega (arith, c.type_inv.bytes i) in
     let legal = (c.in_ok-may_follow-in-Ok.ensures l c.loop-behind.invariant.units).0 c.if-not-branch.false in
-    let next : fold after [] c.push.new.self.items ≡ after l c.in-Ok.step = after_push c.loop-behind.records.items c.in-Ok.step c.push.new.self.items c.in_ok-push-in-Ok.ensures.items in
+    let next : fold after [] c.push.new.self.items ≡ after l c.in-Ok.step =
+    after_push c.loop-behind.records.items c.in-Ok.step c.push.new.self.items c.in_ok-push-in-Ok.ensures.items in
     record {
       upto = subst (λ m. IsReadUpTo grammar bytes c.in-Ok.after.now m) (sym next)
-          (goes_on grammar record_at record_reader bytes c.loop-behind.rest.now l c.loop-behind.invariant.upto c.in-Some.behind.now c.in-Some.ensures.open_gate fits c.in-Ok.step c.in-Ok.after.now c.in-Ok.ensures legal);
+          (goes_on grammar record_at record_reader bytes c.loop-behind.rest.now l c.loop-behind.invariant.upto c.in-Some.behind.now c.in-Some.ensures.open_gate
+          fits c.in-Ok.step c.in-Ok.after.now c.in-Ok.ensures legal);
       units = subst (AreUnits c.follow.new.units.keys) (sym next) (c.in_ok-follow-in-Ok.ensures l c.loop-behind.invariant.units);
     }
 
@@ -45,20 +48,24 @@ pub loop-behind-smaller : goal.loop-behind-smaller
 loop-behind-smaller c =
     let bytes = c.args.bytes.now in
     let fits : IsBytes bytes = λ i. omega (arith, c.type_inv.bytes i) in
-    shorter grammar record_at record_reader bytes c.loop-behind.rest.now (fold after [] c.loop-behind.records.items) c.loop-behind.invariant.upto c.in-Some.behind.now c.in-Some.ensures.open_gate fits c.in-Ok.step c.in-Ok.after.now c.in-Ok.ensures
+    shorter grammar record_at record_reader bytes c.loop-behind.rest.now
+    (fold after [] c.loop-behind.records.items) c.loop-behind.invariant.upto c.in-Some.behind.now c.in-Some.ensures.open_gate fits c.in-Ok.step
+    c.in-Ok.after.now c.in-Ok.ensures
 
 pub returns-then-not-branch-clause-bad : goal.returns-then-not-branch-clause-bad
 returns-then-not-branch-clause-bad c =
     let bytes = c.args.bytes.now in
     let l = fold after [] c.loop-behind.records.items in
-    illegal_record grammar record_at record_reader bytes c.loop-behind.rest.now l c.loop-behind.invariant.upto c.in-Some.behind.now c.in-Some.ensures.open_gate c.requires c.in-Ok.step c.in-Ok.after.now c.in-Ok.ensures
+    illegal_record grammar record_at record_reader bytes c.loop-behind.rest.now l c.loop-behind.invariant.upto c.in-Some.behind.now c.in-Some.ensures.open_gate
+    c.requires c.in-Ok.step c.in-Ok.after.now c.in-Ok.ensures
     (λ legal. let yes = (c.in_ok-may_follow-in-Ok.ensures l c.loop-behind.invariant.units).1 legal in let no = c.if-not-branch.true in cc)
 
 pub returns-in-Err-Bad-clause-bad : goal.returns-in-Err-Bad-clause-bad
 returns-in-Err-Bad-clause-bad c =
     let bytes = c.args.bytes.now in
     let none = subst (λ (f : ReadFault). Fails f (record_at c.in-Some.behind.now)) c.in-Err-Bad.field-0-is c.in-Err-Bad.ensures in
-    no_record grammar record_at record_reader bytes c.loop-behind.rest.now (fold after [] c.loop-behind.records.items) c.loop-behind.invariant.upto c.in-Some.behind.now c.in-Some.ensures.open_gate c.requires none
+    no_record grammar record_at record_reader bytes c.loop-behind.rest.now
+    (fold after [] c.loop-behind.records.items) c.loop-behind.invariant.upto c.in-Some.behind.now c.in-Some.ensures.open_gate c.requires none
 
 pub returns-clause-shut : goal.returns-clause-shut
 returns-clause-shut c =

@@ -16,7 +16,10 @@ loop-asked-preserved c =
     let e = c.asked-item.result in
     let held = c.args.held.now.items in
     let takes : List Asked → Asked → List Asked = λ left a. replace_first (same_asked a) (λ b. []) left in
-    let longer : take i es ++ e ∷ [] ≡ take (i + 1) es = sym (take_more es i e c.loop-asked-test.true ∙ ap (λ (x : Asked). take i es ++ x ∷ []) (sym c.asked-item.is)) in (
-      c.in_ok-take_one.ensures.left ∙ ap (λ (l : List Asked). takes l e) c.loop-asked.invariant.0 ∙ sym (fold-append takes held (take i es) (e ∷ [])) ∙ ap (without held) longer,
-      λ w. step_moved (covering w held) (covering w c.loop-asked.held.items) (covering w c.take_one.new.held.items) (covering w c.loop-asked.freed.items) (covering w c.take_one.new.freed.items) (c.loop-asked.invariant.1 w) (c.in_ok-take_one.ensures.freed w),
+    let longer : take i es ++ e ∷ [] ≡ take (i + 1) es =
+    sym (take_more es i e c.loop-asked-test.true ∙ ap (λ (x : Asked). take i es ++ x ∷ []) (sym c.asked-item.is)) in (
+      c.in_ok-take_one.ensures.left ∙ ap (λ (l : List Asked). takes l e) c.loop-asked.invariant.0 ∙ sym (fold-append takes held (take i es) (e ∷ []))
+          ∙ ap (without held) longer,
+      λ w. step_moved (covering w held) (covering w c.loop-asked.held.items) (covering w c.take_one.new.held.items) (covering w c.loop-asked.freed.items)
+          (covering w c.take_one.new.freed.items) (c.loop-asked.invariant.1 w) (c.in_ok-take_one.ensures.freed w),
     )

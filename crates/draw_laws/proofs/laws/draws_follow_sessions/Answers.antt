@@ -21,13 +21,19 @@ pub returns-clause-commits : goal.returns-clause-commits
 returns-clause-commits g c = session_commits
 
 pub returns-clause-may_commit : goal.returns-clause-may_commit
-returns-clause-may_commit g c = λ draws_of test sessions x found ledger ranges h.
-    (session_may_commit draws_of test (λ s. s) sessions x found ledger ranges h, session_has_digits draws_of test (λ s. s) sessions x found ranges ledger.levels _ h)
+returns-clause-may_commit g c = λ draws_of test sessions x found ledger ranges h. (
+  session_may_commit draws_of test (λ s. s) sessions x found ledger ranges h,
+  session_has_digits draws_of test
+      (λ s. s) sessions x found ranges ledger.levels _ h,
+)
 
 pub returns-clause-commits_stock : goal.returns-clause-commits_stock
 returns-clause-commits_stock g c = λ draws_of test change sessions x found ranges levels committed stock none fits h.
     session_commits_stock draws_of test change sessions x found ranges levels committed stock fits h none
 
 pub returns-clause-may_commit_stock : goal.returns-clause-may_commit_stock
-returns-clause-may_commit_stock g c = λ draws_of test sessions x found ledger ranges stock fits h.
-    (session_may_commit_stock draws_of test (λ s. s) sessions x found ledger ranges stock fits h, session_stock_digits draws_of test (λ s. s) sessions x found ranges ledger.levels _ stock fits h)
+returns-clause-may_commit_stock g c = λ draws_of test sessions x found ledger ranges stock fits h. (
+  session_may_commit_stock draws_of test (λ s. s) sessions x found ledger ranges stock fits h,
+  session_stock_digits draws_of test
+      (λ s. s) sessions x found ranges ledger.levels _ stock fits h,
+)

@@ -22,13 +22,18 @@ returns-in-Ok-open_hall-clause-loaded g c =
     let kept = c.make_ended.ensures.keeper ∙ c.into_site-keeper.ensures.keeper in
     let kept_disk = c.make_ended.ensures.disk ∙ c.into_site-keeper.ensures.disk in
     let known = c.as_slice.result.now in
-    let run = load_run held g.K.Keeper.may_leave faults g.D.Disk.tells g.D.Disk.reads disk_faults g.L.Link.applied _ c.args.site.keeper c.args.site.disk c.args.site.link c.in-Ok-open_hall.hall c.in-Ok-open_hall.objects o
-    c.load-why.new.hall c.make_ended.result.site.keeper c.make_ended.result.site.disk kept kept_disk known c.as_slice.ensures c.make_ended.result.past (c.make_ended.ensures.past ∙ c.into_site-keeper.ensures.past)
+    let run = load_run held g.K.Keeper.may_leave faults g.D.Disk.tells g.D.Disk.reads disk_faults g.L.Link.applied _ c.args.site.keeper c.args.site.disk
+    c.args.site.link c.in-Ok-open_hall.hall c.in-Ok-open_hall.objects o
+    c.load-why.new.hall c.make_ended.result.site.keeper c.make_ended.result.site.disk kept kept_disk known c.as_slice.ensures c.make_ended.result.past
+    (c.make_ended.ensures.past ∙ c.into_site-keeper.ensures.past)
     c.in-Ok.source (script_of c.args.units) c.in-Ok.ensures _ _ _ _ _ r in
-    let served = served_by held g.K.Keeper.may_leave faults g.D.Disk.tells g.D.Disk.reads g.D.Disk.may_leave disk_faults g.L.Link.applied _ c.args.site.keeper c.args.site.disk c.args.site.link c.in-Ok-open_hall.hall c.in-Ok-open_hall.objects o
+    let served = served_by held g.K.Keeper.may_leave faults g.D.Disk.tells g.D.Disk.reads g.D.Disk.may_leave disk_faults g.L.Link.applied _ c.args.site.keeper
+    c.args.site.disk c.args.site.link c.in-Ok-open_hall.hall c.in-Ok-open_hall.objects o
     c.load-why.new.hall c.make_ended.result.site.keeper c.make_ended.result.site.disk kept kept_disk c.load-why.ensures.told
     c.into_site-keeper.ensures.left c.into_site-keeper.ensures.lists c.into_site-keeper.ensures.open_units
-    (g.L.Link.applied c.make_ended.result.site.link) (subst (λ l. c.load-why.new.hall.state.attached ≡ true → IfSome (g.L.Link.applied l) (λ list. list ≡ c.load-why.new.hall.state.locks)) (sym c.make_ended.ensures.link) c.into_site-keeper.ensures.copy)
+    (g.L.Link.applied c.make_ended.result.site.link)
+    (subst (λ l. c.load-why.new.hall.state.attached ≡ true → IfSome (g.L.Link.applied l) (λ list. list ≡ c.load-why.new.hall.state.locks))
+    (sym c.make_ended.ensures.link) c.into_site-keeper.ensures.copy)
     c.load-why.ensures.good_file c.load-why.ensures.good_store c.load-why.ensures.good_replica known _ _ c.make_ended.result.past r.end run in
     inl (record {
       land = o.land;
@@ -37,19 +42,23 @@ returns-in-Ok-open_hall-clause-loaded g c =
         end = r.end;
         rest = r.rest;
         served = served.0;
-        shown = subst (λ s. ShowsCounts r.end s (sink.written c.args.sink.now) (sink.written c.load-why.new.sink) (sink.faults c.args.sink.now) (sink.faults c.load-why.new.sink) c.make_ended.result.why) served.1
-            (subst (λ w. ShowsCounts r.end c.load-why.new.hall.state (sink.written c.args.sink.now) (sink.written c.load-why.new.sink) (sink.faults c.args.sink.now) (sink.faults c.load-why.new.sink) w) (sym c.make_ended.ensures.why) r.shown);
+        shown = subst (λ s. ShowsCounts r.end s (sink.written c.args.sink.now) (sink.written c.load-why.new.sink) (sink.faults c.args.sink.now)
+            (sink.faults c.load-why.new.sink) c.make_ended.result.why) served.1
+            (subst (λ w. ShowsCounts r.end c.load-why.new.hall.state (sink.written c.args.sink.now) (sink.written c.load-why.new.sink)
+            (sink.faults c.args.sink.now) (sink.faults c.load-why.new.sink) w) (sym c.make_ended.ensures.why) r.shown);
       });
     })
 
 pub returns-clause-loaded : goal.returns-clause-loaded
 returns-clause-loaded g c =
-    unloaded g.K.Keeper.held g.K.Keeper.may_leave g.K.Keeper.faults g.D.Disk.tells (g.D.Disk.reads c.args.site.disk) g.D.Disk.may_leave g.D.Disk.faults (is_some (g.L.Link.applied c.args.site.link)) (g.L.Link.applied c.in-Err.ended.site.link) c.args.units _ _ _ c.args.sink.now
+    unloaded g.K.Keeper.held g.K.Keeper.may_leave g.K.Keeper.faults g.D.Disk.tells g.D.Disk.reads g.D.Disk.may_leave g.D.Disk.faults
+    g.L.Link.applied c.args.units _ _ _ c.args.sink.now
     c.args.site.keeper c.in-Err.ended.site.keeper c.args.site.disk c.in-Err.ended.site.disk c.args.site.link c.in-Err.ended.site.link _ _ _ _
     c.in-Err.ensures.past c.in-Err.ensures.linked c.in-Err.ensures.unserved
 
 pub returns-in-Ok-open_hall-clause-unfit_interval : goal.returns-in-Ok-open_hall-clause-unfit_interval
-returns-in-Ok-open_hall-clause-unfit_interval g c = run_unfit _ _ _ c.make_ended.result.why (subst IsRunEnd (sym c.make_ended.ensures.why) c.load-why.ensures.kind)
+returns-in-Ok-open_hall-clause-unfit_interval g c = run_unfit _ _ _ c.make_ended.result.why
+    (subst IsRunEnd (sym c.make_ended.ensures.why) c.load-why.ensures.kind)
 
 pub returns-in-Ok-open_hall-clause-bad_store : goal.returns-in-Ok-open_hall-clause-bad_store
 returns-in-Ok-open_hall-clause-bad_store g c =
@@ -62,16 +71,19 @@ returns-in-Ok-open_hall-clause-bad_store g c =
     (λ yes table row is.
     let told = sym c.load-why.ensures.told ∙ ap (λ k. is_some (held k)) (sym (c.make_ended.ensures.keeper ∙ c.into_site-keeper.ensures.keeper)) ∙ yes in
     never_bad is_unsound_store o.land t linked before.stored before c.load-why.new.hall.state (bad.Store table row) refl o.first
-    (c.load-why.ensures.good_store told (first_sound is_unsound_store o.land t linked before.stored before o.first)) (c.load-why.ensures.bad_store table row (sym c.make_ended.ensures.why ∙ is)))
+    (c.load-why.ensures.good_store told (first_sound is_unsound_store o.land t linked before.stored before o.first))
+    (c.load-why.ensures.bad_store table row (sym c.make_ended.ensures.why ∙ is)))
 
 pub returns-in-Ok-open_hall-clause-no_landing : goal.returns-in-Ok-open_hall-clause-no_landing
 returns-in-Ok-open_hall-clause-no_landing g c (inl moved) = absurd (moved c.in-Ok-open_hall.ensures.steady)
-returns-in-Ok-open_hall-clause-no_landing g c (inr bad) = absurd (run_document c.make_ended.result.why (subst IsRunEnd (sym c.make_ended.ensures.why) c.load-why.ensures.kind) bad)
+returns-in-Ok-open_hall-clause-no_landing g c (inr bad) =
+    absurd (run_document c.make_ended.result.why (subst IsRunEnd (sym c.make_ended.ensures.why) c.load-why.ensures.kind) bad)
 
 pub returns-in-Ok-open_hall-clause-line_fault : goal.returns-in-Ok-open_hall-clause-line_fault
 returns-in-Ok-open_hall-clause-line_fault g c bytes =
     blameless (script_of c.args.units) bytes c.make_ended.result.why (is_script c.args.units c.requires.count)
-    (subst (λ w. IsToBlame w (script_of c.args.units)) (sym c.make_ended.ensures.why) (subst (IsToBlame c.load-why.result) c.in-Ok.ensures c.load-why.ensures.line_fault))
+    (subst (λ w. IsToBlame w (script_of c.args.units)) (sym c.make_ended.ensures.why)
+    (subst (IsToBlame c.load-why.result) c.in-Ok.ensures c.load-why.ensures.line_fault))
 
 pub returns-in-Ok-open_hall-clause-complete : goal.returns-in-Ok-open_hall-clause-complete
 returns-in-Ok-open_hall-clause-complete g c document told_document other gives told good fit tells file steady quiet kept still =
@@ -82,19 +94,29 @@ returns-in-Ok-open_hall-clause-complete g c document told_document other gives t
     let o = c.in-Ok-open_hall.ensures.opened in
     let r = c.load-why.ensures.run in
     let text = script_of c.args.units in
-    let run = load_run held g.K.Keeper.may_leave faults g.D.Disk.tells g.D.Disk.reads disk_faults g.L.Link.applied _ c.args.site.keeper c.args.site.disk c.args.site.link c.in-Ok-open_hall.hall c.in-Ok-open_hall.objects o
-    c.load-why.new.hall c.make_ended.result.site.keeper c.make_ended.result.site.disk (c.make_ended.ensures.keeper ∙ c.into_site-keeper.ensures.keeper) (c.make_ended.ensures.disk ∙ c.into_site-keeper.ensures.disk)
+    let run = load_run held g.K.Keeper.may_leave faults g.D.Disk.tells g.D.Disk.reads disk_faults g.L.Link.applied _ c.args.site.keeper c.args.site.disk
+    c.args.site.link c.in-Ok-open_hall.hall c.in-Ok-open_hall.objects o
+    c.load-why.new.hall c.make_ended.result.site.keeper c.make_ended.result.site.disk (c.make_ended.ensures.keeper ∙ c.into_site-keeper.ensures.keeper)
+    (c.make_ended.ensures.disk ∙ c.into_site-keeper.ensures.disk)
     c.as_slice.result.now c.as_slice.ensures c.make_ended.result.past (c.make_ended.ensures.past ∙ c.into_site-keeper.ensures.past)
     c.in-Ok.source text c.in-Ok.ensures _ _ _ _ _ r in
-    let end = completes_as (g.K.Keeper.may_leave c.args.site.keeper) o.land (is_some (held c.args.site.keeper)) (is_some (g.L.Link.applied c.args.site.link)) _ _ _ _ text _ _ r.end r.end o.first refl
-    (c.load-why.ensures.good_file tells (first_sound is_unsound_file o.land (is_some (held c.args.site.keeper)) (is_some (g.L.Link.applied c.args.site.link)) c.in-Ok-open_hall.hall.state.stored c.in-Ok-open_hall.hall.state o.first))
-    (c.load-why.ensures.good_store (o.told ∙ told) (first_sound is_unsound_store o.land (is_some (held c.args.site.keeper)) (is_some (g.L.Link.applied c.args.site.link)) c.in-Ok-open_hall.hall.state.stored c.in-Ok-open_hall.hall.state o.first))
+    let end = completes_as (g.K.Keeper.may_leave c.args.site.keeper) o.land (is_some (held c.args.site.keeper))
+    (is_some (g.L.Link.applied c.args.site.link)) _ _ _ _ text _ _ r.end r.end o.first refl
+    (c.load-why.ensures.good_file tells
+    (first_sound is_unsound_file o.land (is_some (held c.args.site.keeper))
+    (is_some (g.L.Link.applied c.args.site.link)) c.in-Ok-open_hall.hall.state.stored c.in-Ok-open_hall.hall.state o.first))
+    (c.load-why.ensures.good_store (o.told ∙ told)
+    (first_sound is_unsound_store o.land (is_some (held c.args.site.keeper))
+    (is_some (g.L.Link.applied c.args.site.link)) c.in-Ok-open_hall.hall.state.stored c.in-Ok-open_hall.hall.state o.first))
     (run.complete text refl (is_script c.args.units c.requires.count) (calm_load text r.rest _ _ _ _ kept still)) in
-    load_ends (g.K.Keeper.may_leave c.args.site.keeper) r.end c.make_ended.result.why c.load-why.new.hall.state (sink.written c.args.sink.now) (sink.written c.load-why.new.sink) (sink.faults c.args.sink.now) (sink.faults c.load-why.new.sink) end
-    (subst (ShowsCounts r.end c.load-why.new.hall.state (sink.written c.args.sink.now) (sink.written c.load-why.new.sink) (sink.faults c.args.sink.now) (sink.faults c.load-why.new.sink)) (sym c.make_ended.ensures.why) r.shown) quiet
+    load_ends (g.K.Keeper.may_leave c.args.site.keeper) r.end c.make_ended.result.why c.load-why.new.hall.state (sink.written c.args.sink.now)
+    (sink.written c.load-why.new.sink) (sink.faults c.args.sink.now) (sink.faults c.load-why.new.sink) end
+    (subst (ShowsCounts r.end c.load-why.new.hall.state (sink.written c.args.sink.now) (sink.written c.load-why.new.sink) (sink.faults c.args.sink.now)
+    (sink.faults c.load-why.new.sink)) (sym c.make_ended.ensures.why) r.shown) quiet
 
 pub returns-clause-complete : goal.returns-clause-complete
-returns-clause-complete g c document told_document other gives told good fit tells file steady quiet kept still = c.in-Err.ensures.complete document told_document other gives told good fit tells file steady kept still
+returns-clause-complete g c document told_document other gives told good fit tells file steady quiet kept still =
+    c.in-Err.ensures.complete document told_document other gives told good fit tells file steady kept still
 
 pub returns-in-Ok-open_hall-clause-bad_backup : goal.returns-in-Ok-open_hall-clause-bad_backup
 returns-in-Ok-open_hall-clause-bad_backup g c is_told place is =
@@ -103,7 +125,18 @@ returns-in-Ok-open_hall-clause-bad_backup g c is_told place is =
     let t = is_some (g.K.Keeper.held c.args.site.keeper) in
     let linked = is_some (g.L.Link.applied c.args.site.link) in
     absurd (never_bad is_unsound_file o.land t linked before.stored before c.load-why.new.hall.state (bad.Backup place) refl o.first
-    (c.load-why.ensures.good_file is_told (first_sound is_unsound_file o.land t linked before.stored before o.first)) (c.load-why.ensures.bad_backup place (sym c.make_ended.ensures.why ∙ is)))
+    (c.load-why.ensures.good_file is_told (first_sound is_unsound_file o.land t linked before.stored before o.first))
+    (c.load-why.ensures.bad_backup place (sym c.make_ended.ensures.why ∙ is)))
+
+pub returns-in-Ok-open_hall-clause-bad_file : goal.returns-in-Ok-open_hall-clause-bad_file
+returns-in-Ok-open_hall-clause-bad_file g c is_told place is =
+    let o = c.in-Ok-open_hall.ensures.opened in
+    let before = c.in-Ok-open_hall.hall.state in
+    let t = is_some (g.K.Keeper.held c.args.site.keeper) in
+    let linked = is_some (g.L.Link.applied c.args.site.link) in
+    absurd (never_bad is_unsound_file o.land t linked before.stored before c.load-why.new.hall.state (bad.Backup place) refl o.first
+    (c.load-why.ensures.good_file is_told (first_sound is_unsound_file o.land t linked before.stored before o.first))
+    (c.load-why.ensures.bad_backup place (sym c.make_ended.ensures.why ∙ is)))
 
 pub returns-in-Ok-open_hall-clause-link_told : goal.returns-in-Ok-open_hall-clause-link_told
 returns-in-Ok-open_hall-clause-link_told g c =
@@ -120,7 +153,8 @@ returns-in-Ok-open_hall-clause-link_fault g c =
     link_quiet o.land (is_some (g.K.Keeper.held c.args.site.keeper)) (is_some (g.L.Link.applied c.args.site.link)) c.in-Ok-open_hall.hall.state.stored
     c.in-Ok-open_hall.hall.state c.load-why.new.hall.state c.make_ended.result.past
     (faults c.in-Ok-open_hall.hall.follower.link) (faults c.load-why.new.hall.follower.link) (faults c.args.site.link) (faults c.make_ended.result.site.link)
-    o.first (c.make_ended.ensures.past ∙ c.into_site-keeper.ensures.past) (ap faults o.linked) (ap faults (sym (c.make_ended.ensures.link ∙ c.into_site-keeper.ensures.link)))
+    o.first (c.make_ended.ensures.past ∙ c.into_site-keeper.ensures.past) (ap faults o.linked)
+    (ap faults (sym (c.make_ended.ensures.link ∙ c.into_site-keeper.ensures.link)))
     c.load-why.ensures.link_fault
 
 pub returns-clause-link_fault : goal.returns-clause-link_fault
@@ -131,7 +165,8 @@ returns-in-Ok-open_hall-clause-link_counts g c =
     let o = c.in-Ok-open_hall.ensures.opened in
     let old = c.in-Ok-open_hall.hall in
     let new = c.load-why.new.hall in
-    run_linked g.L.Link.faults g.L.Link.refusals o.land (is_some (g.K.Keeper.held c.args.site.keeper)) (is_some (g.L.Link.applied c.args.site.link)) old.state.stored old.state new.state
+    run_linked g.L.Link.faults g.L.Link.refusals o.land (is_some (g.K.Keeper.held c.args.site.keeper))
+    (is_some (g.L.Link.applied c.args.site.link)) old.state.stored old.state new.state
     c.make_ended.result.past c.args.site.link old.follower.link new.follower.link c.make_ended.result.site.link
     o.first (c.make_ended.ensures.past ∙ c.into_site-keeper.ensures.past) o.linked (c.make_ended.ensures.link ∙ c.into_site-keeper.ensures.link)
     c.load-why.ensures.link_counts

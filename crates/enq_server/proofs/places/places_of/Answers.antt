@@ -12,6 +12,8 @@ loop-left-preserved c = record {
   within = omega (arith, c.loop-left.invariant.within);
   places = λ u.
       ap (entries_at c.args.lists.now) (c.in_ok-put.ensures u)
-      ∙ ap (λ (h : Handed). entries_at c.args.lists.now (if same_unit h.unit u then Some (c.loop-left.left - 1) else get same_id c.loop-left.places (id_of u))) (sym c.index-lists-left.is)
-      ∙ places_more c.args.lists.now c.loop-left.left c.index-lists-left.result u (get same_id c.loop-left.places (id_of u)) c.loop-left-test.true c.loop-left.invariant.within c.index-lists-left.is (c.loop-left.invariant.places u);
+      ∙ ap (λ (h : Handed). entries_at c.args.lists.now (if same_unit h.unit u then Some (c.loop-left.left - 1) else get same_id c.loop-left.places (id_of u)))
+      (sym c.index-lists-left.is)
+      ∙ places_more c.args.lists.now c.loop-left.left c.index-lists-left.result u
+      (get same_id c.loop-left.places (id_of u)) c.loop-left-test.true c.loop-left.invariant.within c.index-lists-left.is (c.loop-left.invariant.places u);
 }

@@ -26,12 +26,14 @@ loop-handed-preserved g c =
     let lists = c.args.lists.now in
     let gone = units_of (take c.loop-handed.handed-index lists) in
     let unit : UnitKey = c.handed-item.result.unit in
-    let more : units_of (take (c.loop-handed.handed-index + 1) lists) ≡ gone ++ unit ∷ [] = taken_units lists c.loop-handed.handed-index c.handed-item.result c.loop-handed-test.true c.handed-item.is in
+    let more : units_of (take (c.loop-handed.handed-index + 1) lists) ≡ gone ++ unit ∷ [] =
+    taken_units lists c.loop-handed.handed-index c.handed-item.result c.loop-handed-test.true c.handed-item.is in
     elim c.if-not-is_known.branch [
       | then-not-is_known+then-stands+in_ok-free w ↦ rw w.backup-is (record {
         usable = w.in_ok-free.ensures.usable;
         ready = λ t units are ready. subst (IsReady g.D.Disk.reads g.D.Disk.may_leave w.free.new.self)
-            (left_freed units gone lists unit (sym (are c.handed-item.result.unit) ∙ sym c.is_known.ensures ∙ w.if-not-is_known.true) ∙ ap (λ us. left units us lists) (sym more))
+            (left_freed units gone lists unit (sym (are c.handed-item.result.unit) ∙ sym c.is_known.ensures ∙ w.if-not-is_known.true)
+            ∙ ap (λ us. left units us lists) (sym more))
             (w.in_ok-free.ensures.freed t (left units gone lists) (c.loop-handed.invariant.ready t units are ready));
         quiet = w.in_ok-free.ensures.cause.quiet ∙ c.loop-handed.invariant.quiet;
       })
@@ -39,9 +41,11 @@ loop-handed-preserved g c =
         usable = c.loop-handed.invariant.usable;
         ready = λ t units are ready. subst (IsReady g.D.Disk.reads g.D.Disk.may_leave c.loop-handed.backup)
             (elim w.else-not-is_known.branch [
-              | else-not-is_known-via-then-not-is_known+else-stands w' ↦ left_absent units gone lists unit (sym (are c.handed-item.result.unit) ∙ sym c.is_known.ensures ∙ w'.if-not-is_known.true)
+              | else-not-is_known-via-then-not-is_known+else-stands w' ↦ left_absent units gone lists unit
+                  (sym (are c.handed-item.result.unit) ∙ sym c.is_known.ensures ∙ w'.if-not-is_known.true)
                   (sym (w'.if-stands.ensures.lists t (left units gone lists) (c.loop-handed.invariant.ready t units are ready)))
-              | else-not-is_known-via-else-not-is_known w' ↦ left_stays units gone lists unit (sym (are c.handed-item.result.unit) ∙ sym c.is_known.ensures ∙ w'.if-not-is_known.false)
+              | else-not-is_known-via-else-not-is_known w' ↦ left_stays units gone lists unit
+                  (sym (are c.handed-item.result.unit) ∙ sym c.is_known.ensures ∙ w'.if-not-is_known.false)
             ] ∙ ap (λ us. left units us lists) (sym more))
             (c.loop-handed.invariant.ready t units are ready);
         quiet = c.loop-handed.invariant.quiet;
@@ -51,7 +55,8 @@ loop-handed-preserved g c =
 pub returns-clause-freed : goal.returns-clause-freed
 returns-clause-freed g c = λ t units are ready.
     subst (IsReady g.D.Disk.reads g.D.Disk.may_leave c.loop-handed.backup)
-    (ap (λ l. left units (units_of l) c.args.lists.now) (take_all c.loop-handed.handed-index c.args.lists.now (omega (arith, c.loop-handed-test.false))) ∙ left_all units c.args.lists.now)
+    (ap (λ l. left units (units_of l) c.args.lists.now) (take_all c.loop-handed.handed-index c.args.lists.now (omega (arith, c.loop-handed-test.false)))
+    ∙ left_all units c.args.lists.now)
     (c.loop-handed.invariant.ready t units are ready)
 
 pub returns-clause-images : goal.returns-clause-images

@@ -10,8 +10,10 @@ use Rattle.enq_server.proofs.recovery.read_anew.Goals as goal
 
 pub returns-in-Err-clause-images : goal.returns-in-Err-clause-images
 returns-in-Err-clause-images g c = λ t.
-    subst (λ fault. Follows (Leaves c.args.units.now fault) (g.D.Disk.may_leave c.args.backup.now.disk) (g.D.Disk.may_leave c.reopen.new.self.disk)) (sym c.from.ensures)
-    (opening_leaves c.args.units.now c.in-Err.fault (g.D.Disk.may_leave c.args.backup.now.disk) (g.D.Disk.may_leave c.reopen.new.self.disk) (c.in-Err.ensures.images t))
+    subst (λ fault. Follows (Leaves c.args.units.now fault) (g.D.Disk.may_leave c.args.backup.now.disk) (g.D.Disk.may_leave c.reopen.new.self.disk))
+    (sym c.from.ensures)
+    (opening_leaves c.args.units.now c.in-Err.fault (g.D.Disk.may_leave c.args.backup.now.disk) (g.D.Disk.may_leave c.reopen.new.self.disk)
+    (c.in-Err.ensures.images t))
 
 pub returns-in-Ok-free_others-clause-file : goal.returns-in-Ok-free_others-clause-file
 returns-in-Ok-free_others-clause-file g c = λ t. record {
@@ -25,11 +27,15 @@ returns-in-Ok-free_others-clause-file g c = λ t. record {
 pub returns-in-Ok-free_others-clause-images : goal.returns-in-Ok-free_others-clause-images
 returns-in-Ok-free_others-clause-images g c = λ t.
     some_left c.args.units.now (g.D.Disk.reads c.args.backup.now.disk) c.as_slice-2.result.now (g.D.Disk.may_leave c.args.backup.now.disk) _
-    (subst (Stands (g.D.Disk.reads c.args.backup.now.disk)) (sym c.as_slice-2.ensures.value) (c.in-Ok.ensures.lists t)) (g.met.D.Disk.reads_left c.args.backup.now.disk t)
-    (c.in-Ok-free_others.ensures.images t c.args.units.now c.in-Ok-recover.ensures.known (subst (IsReady g.D.Disk.reads g.D.Disk.may_leave c.reopen.new.self) (sym c.as_slice-2.ensures.value) (c.in-Ok.ensures.ready t)))
+    (subst (Stands (g.D.Disk.reads c.args.backup.now.disk)) (sym c.as_slice-2.ensures.value) (c.in-Ok.ensures.lists t))
+    (g.met.D.Disk.reads_left c.args.backup.now.disk t)
+    (c.in-Ok-free_others.ensures.images t c.args.units.now c.in-Ok-recover.ensures.known
+    (subst (IsReady g.D.Disk.reads g.D.Disk.may_leave c.reopen.new.self) (sym c.as_slice-2.ensures.value) (c.in-Ok.ensures.ready t)))
 
 pub returns-clause-images : goal.returns-clause-images
 returns-clause-images g c = λ t.
     some_left c.args.units.now (g.D.Disk.reads c.args.backup.now.disk) c.as_slice-2.result.now (g.D.Disk.may_leave c.args.backup.now.disk) _
-    (subst (Stands (g.D.Disk.reads c.args.backup.now.disk)) (sym c.as_slice-2.ensures.value) (c.in-Ok.ensures.lists t)) (g.met.D.Disk.reads_left c.args.backup.now.disk t)
-    (c.in-Err-free_others.ensures.images t c.args.units.now c.in-Ok-recover.ensures.known (subst (IsReady g.D.Disk.reads g.D.Disk.may_leave c.reopen.new.self) (sym c.as_slice-2.ensures.value) (c.in-Ok.ensures.ready t)))
+    (subst (Stands (g.D.Disk.reads c.args.backup.now.disk)) (sym c.as_slice-2.ensures.value) (c.in-Ok.ensures.lists t))
+    (g.met.D.Disk.reads_left c.args.backup.now.disk t)
+    (c.in-Err-free_others.ensures.images t c.args.units.now c.in-Ok-recover.ensures.known
+    (subst (IsReady g.D.Disk.reads g.D.Disk.may_leave c.reopen.new.self) (sym c.as_slice-2.ensures.value) (c.in-Ok.ensures.ready t)))

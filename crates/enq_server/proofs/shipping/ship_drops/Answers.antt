@@ -12,8 +12,10 @@ loop-entry-preserved g c =
     let e = c.entry-item.result in
     record {
       at = λ list before.
-          at_more g.L.Link.applied c.ship.new.self list (map drop_of (take i es)) (drop_of e ∷ []) (map drop_of (take (i + 1) es)) (mapped_more drop_of es i e c.loop-entry-test.true c.entry-item.is)
+          at_more g.L.Link.applied c.ship.new.self list (map drop_of (take i es)) (drop_of e ∷ []) (map drop_of (take (i + 1) es))
+          (mapped_more drop_of es i e c.loop-entry-test.true c.entry-item.is)
           (subst (λ op. IsAt g.L.Link.applied c.ship.new.self (after_op (replica list (map drop_of (take i es))) op)) c.drop_of.ensures
           (c.ship.ensures.at (replica list (map drop_of (take i es))) (c.loop-entry.invariant.at list before)));
-      keeps = keeps_both g.L.Link.applied g.L.Link.faults g.L.Link.refusals c.args.follower.now c.loop-entry.follower c.ship.new.self c.loop-entry.invariant.keeps c.ship.ensures.keeps;
+      keeps = keeps_both g.L.Link.applied g.L.Link.faults g.L.Link.refusals c.args.follower.now c.loop-entry.follower c.ship.new.self
+          c.loop-entry.invariant.keeps c.ship.ensures.keeps;
     }

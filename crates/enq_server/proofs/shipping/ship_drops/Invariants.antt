@@ -7,6 +7,7 @@ use Rattle.enq_server.proofs.shipping.ship_drops.Given as goal
 
 abbrev pub invariant-loop-entry : goal.invariant-loop-entry
 invariant-loop-entry g l = record {
-  at : (list : List Entry) → IsAt g.L.Link.applied l.fn.follower list → IsAt g.L.Link.applied l.follower (replica list (map drop_of (take l.entry-index l.entries)));
+  at : (list : List Entry) → IsAt g.L.Link.applied l.fn.follower list → IsAt g.L.Link.applied l.follower
+      (replica list (map drop_of (take l.entry-index l.entries)));
   keeps : KeepsOn g.L.Link.applied g.L.Link.faults g.L.Link.refusals l.fn.follower l.follower;
 }

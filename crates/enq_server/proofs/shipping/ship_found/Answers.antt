@@ -14,14 +14,17 @@ loop-place-preserved g c =
     elim c.match-at.branch [
       | in-Some w ↦ rw w.follower-is (record {
         at = λ list before.
-            at_more g.L.Link.applied w.ship_own.new.follower list (owner_ops (take i es) owner) (owner_ops (w.in-Some.entry ∷ []) owner) (owner_ops (take (i + 1) es) owner)
+            at_more g.L.Link.applied w.ship_own.new.follower list (owner_ops (take i es) owner) (owner_ops (w.in-Some.entry ∷ []) owner)
+            (owner_ops (take (i + 1) es) owner)
             (owner_more es i w.in-Some.entry owner (sym c.at.ensures.entry ∙ w.in-Some.is))
             (w.ship_own.ensures.at (replica list (owner_ops (take i es) owner)) (c.loop-place.invariant.at list before));
-        keeps = keeps_both g.L.Link.applied g.L.Link.faults g.L.Link.refusals c.args.follower.now c.loop-place.follower w.ship_own.new.follower c.loop-place.invariant.keeps w.ship_own.ensures.keeps;
+        keeps = keeps_both g.L.Link.applied g.L.Link.faults g.L.Link.refusals c.args.follower.now c.loop-place.follower w.ship_own.new.follower
+            c.loop-place.invariant.keeps w.ship_own.ensures.keeps;
       })
       | in_default w ↦ rw w.follower-is (record {
         at = λ list before.
-            subst (λ ops. IsAt g.L.Link.applied c.loop-place.follower (replica list ops)) (sym (owner_end es i owner (sym c.at.ensures.entry ∙ w.in_default.is))) (c.loop-place.invariant.at list before);
+            subst (λ ops. IsAt g.L.Link.applied c.loop-place.follower (replica list ops))
+            (sym (owner_end es i owner (sym c.at.ensures.entry ∙ w.in_default.is))) (c.loop-place.invariant.at list before);
         keeps = c.loop-place.invariant.keeps;
       })
     ]

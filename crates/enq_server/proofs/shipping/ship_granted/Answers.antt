@@ -15,8 +15,11 @@ loop-request-preserved g c =
     let table = (g.T.LockStore.table c.args.table.now).entries in
     record {
       at = λ list before.
-          at_more g.L.Link.applied c.ship_halves.new.follower list (granted_ops table (halves asker (take i xs))) (granted_ops table (halves_of asker x)) (granted_ops table (halves asker (take (i + 1) xs)))
-          (ap (granted_ops table) (joined_more (halves_of asker) xs i x c.loop-request-test.true c.request-item.is) ∙ flat_map-append (put_ops table) (halves asker (take i xs)) (halves_of asker x))
+          at_more g.L.Link.applied c.ship_halves.new.follower list (granted_ops table (halves asker (take i xs))) (granted_ops table (halves_of asker x))
+          (granted_ops table (halves asker (take (i + 1) xs)))
+          (ap (granted_ops table) (joined_more (halves_of asker) xs i x c.loop-request-test.true c.request-item.is)
+          ∙ flat_map-append (put_ops table) (halves asker (take i xs)) (halves_of asker x))
           (c.ship_halves.ensures.at (replica list (granted_ops table (halves asker (take i xs)))) (c.loop-request.invariant.at list before));
-      keeps = keeps_both g.L.Link.applied g.L.Link.faults g.L.Link.refusals c.args.follower.now c.loop-request.follower c.ship_halves.new.follower c.loop-request.invariant.keeps c.ship_halves.ensures.keeps;
+      keeps = keeps_both g.L.Link.applied g.L.Link.faults g.L.Link.refusals c.args.follower.now c.loop-request.follower c.ship_halves.new.follower
+          c.loop-request.invariant.keeps c.ship_halves.ensures.keeps;
     }

@@ -8,6 +8,7 @@ use Rattle.enq_server.proofs.shipping.ship_granted.Given as goal
 
 abbrev pub invariant-loop-request : goal.invariant-loop-request
 invariant-loop-request g l = record {
-  at : (list : List Entry) → IsAt g.L.Link.applied l.fn.follower list → IsAt g.L.Link.applied l.follower (replica list (granted_ops (g.T.LockStore.table l.table).entries (halves l.asker (take l.request-index l.requests))));
+  at : (list : List Entry) → IsAt g.L.Link.applied l.fn.follower list → IsAt g.L.Link.applied l.follower
+      (replica list (granted_ops (g.T.LockStore.table l.table).entries (halves l.asker (take l.request-index l.requests))));
   keeps : KeepsOn g.L.Link.applied g.L.Link.faults g.L.Link.refusals l.fn.follower l.follower;
 }

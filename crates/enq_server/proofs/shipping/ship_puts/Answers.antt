@@ -11,7 +11,9 @@ loop-entry-preserved g c =
     let e = c.entry-item.result in
     record {
       at = λ list before.
-          at_more g.L.Link.applied c.ship.new.self list (map Put (take i es)) (Put e ∷ []) (map Put (take (i + 1) es)) (mapped_more Put es i e c.loop-entry-test.true c.entry-item.is)
+          at_more g.L.Link.applied c.ship.new.self list (map Put (take i es)) (Put e ∷ []) (map Put (take (i + 1) es))
+          (mapped_more Put es i e c.loop-entry-test.true c.entry-item.is)
           (c.ship.ensures.at (replica list (map Put (take i es))) (c.loop-entry.invariant.at list before));
-      keeps = keeps_both g.L.Link.applied g.L.Link.faults g.L.Link.refusals c.args.follower.now c.loop-entry.follower c.ship.new.self c.loop-entry.invariant.keeps c.ship.ensures.keeps;
+      keeps = keeps_both g.L.Link.applied g.L.Link.faults g.L.Link.refusals c.args.follower.now c.loop-entry.follower c.ship.new.self
+          c.loop-entry.invariant.keeps c.ship.ensures.keeps;
     }

@@ -13,7 +13,9 @@ loop-one-preserved g c =
     let f = turn_ops c.args.asker.now in
     record {
       at = λ list before.
-          at_more g.L.Link.applied c.ship_turn.new.follower list (flat_map f (take i xs)) (f x) (flat_map f (take (i + 1) xs)) (joined_more f xs i x c.loop-one-test.true c.one-item.is)
+          at_more g.L.Link.applied c.ship_turn.new.follower list (flat_map f (take i xs)) (f x) (flat_map f (take (i + 1) xs))
+          (joined_more f xs i x c.loop-one-test.true c.one-item.is)
           (c.ship_turn.ensures.at (replica list (flat_map f (take i xs))) (c.loop-one.invariant.at list before));
-      keeps = keeps_both g.L.Link.applied g.L.Link.faults g.L.Link.refusals c.args.follower.now c.loop-one.follower c.ship_turn.new.follower c.loop-one.invariant.keeps c.ship_turn.ensures.keeps;
+      keeps = keeps_both g.L.Link.applied g.L.Link.faults g.L.Link.refusals c.args.follower.now c.loop-one.follower c.ship_turn.new.follower
+          c.loop-one.invariant.keeps c.ship_turn.ensures.keeps;
     }

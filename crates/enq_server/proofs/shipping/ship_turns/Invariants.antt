@@ -8,6 +8,7 @@ use Rattle.enq_server.proofs.shipping.ship_turns.Given as goal
 
 abbrev pub invariant-loop-one : goal.invariant-loop-one
 invariant-loop-one g l = record {
-  at : (list : List Entry) → IsAt g.L.Link.applied l.fn.follower list → IsAt g.L.Link.applied l.follower (replica list (flat_map (turn_ops l.asker) (take l.one-index l.asked)));
+  at : (list : List Entry) → IsAt g.L.Link.applied l.fn.follower list → IsAt g.L.Link.applied l.follower
+      (replica list (flat_map (turn_ops l.asker) (take l.one-index l.asked)));
   keeps : KeepsOn g.L.Link.applied g.L.Link.faults g.L.Link.refusals l.fn.follower l.follower;
 }

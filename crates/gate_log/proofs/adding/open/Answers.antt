@@ -5,19 +5,23 @@ use Rattle.gate_log.proofs.adding.open.Goals as goal
 pub returns-in_err-write_at-clause-images : goal.returns-in_err-write_at-clause-images
 returns-in_err-write_at-clause-images g c = λ t front body synced is image left.
     let disk = c.args.disk.now in
-    opened_crash (g.D.Disk.reads disk) (g.D.Disk.may_leave disk) c.args.gate front body synced c.args.open_gate.now (g.D.Disk.may_leave c.write_at.new.self) is (c.write_at.ensures.left t) image left
+    opened_crash (g.D.Disk.reads disk) (g.D.Disk.may_leave disk) c.args.gate front body synced c.args.open_gate.now (g.D.Disk.may_leave c.write_at.new.self) is
+    (c.write_at.ensures.left t) image left
 
 pub returns-in_err-sync-clause-images : goal.returns-in_err-sync-clause-images
 returns-in_err-sync-clause-images g c = λ t front body synced is image left.
     let disk = c.args.disk.now in
-    opened_crash (g.D.Disk.reads disk) (g.D.Disk.may_leave disk) c.args.gate front body synced c.args.open_gate.now (g.D.Disk.may_leave c.write_at.new.self) is (c.write_at.ensures.left t) image (c.sync.ensures.left t image left)
+    opened_crash (g.D.Disk.reads disk) (g.D.Disk.may_leave disk) c.args.gate front body synced c.args.open_gate.now (g.D.Disk.may_leave c.write_at.new.self) is
+    (c.write_at.ensures.left t) image (c.sync.ensures.left t image left)
 
 pub returns-clause-images : goal.returns-clause-images
 returns-clause-images g c = λ t front body synced is image left.
     let disk = c.args.disk.now in
-    opened_crash (g.D.Disk.reads disk) (g.D.Disk.may_leave disk) c.args.gate front body synced c.args.open_gate.now (g.D.Disk.may_leave c.write_at.new.self) is (c.write_at.ensures.left t) image (c.sync.ensures.left t image left)
+    opened_crash (g.D.Disk.reads disk) (g.D.Disk.may_leave disk) c.args.gate front body synced c.args.open_gate.now (g.D.Disk.may_leave c.write_at.new.self) is
+    (c.write_at.ensures.left t) image (c.sync.ensures.left t image left)
 
 pub returns-clause-opened : goal.returns-clause-opened
 returns-clause-opened g c = λ t front body synced is.
     let disk = c.args.disk.now in
-    opened (g.D.Disk.reads disk) (g.D.Disk.may_leave disk) c.args.gate front body synced c.args.open_gate.now (g.D.Disk.reads c.sync.new.self) (g.D.Disk.may_leave c.sync.new.self) is (c.in_ok-sync.ensures.same t ∙ c.in_ok-write_at.ensures.value t) (c.in_ok-sync.ensures.durable t)
+    opened (g.D.Disk.reads disk) (g.D.Disk.may_leave disk) c.args.gate front body synced c.args.open_gate.now (g.D.Disk.reads c.sync.new.self)
+    (g.D.Disk.may_leave c.sync.new.self) is (c.in_ok-sync.ensures.same t ∙ c.in_ok-write_at.ensures.value t) (c.in_ok-sync.ensures.durable t)

@@ -6,22 +6,27 @@ pub returns-in_err-write_at-clause-images : goal.returns-in_err-write_at-clause-
 returns-in_err-write_at-clause-images g c = λ t front rest image left.
     let disk = c.args.disk.now in
     let at : c.saturating_add.result ≡ c.args.gate + 1 = omega (arith, rest.fits) in
-    staged_crash (g.D.Disk.reads disk) (g.D.Disk.may_leave disk) c.args.gate front rest c.saturating_add.result (length c.args.behind.now) (g.D.Disk.may_leave c.write_at.new.self) at (c.write_at.ensures.left t) image left
+    staged_crash (g.D.Disk.reads disk) (g.D.Disk.may_leave disk) c.args.gate front rest c.saturating_add.result (length c.args.behind.now)
+    (g.D.Disk.may_leave c.write_at.new.self) at (c.write_at.ensures.left t) image left
 
 pub returns-in_err-sync-clause-images : goal.returns-in_err-sync-clause-images
 returns-in_err-sync-clause-images g c = λ t front rest image left.
     let disk = c.args.disk.now in
     let at : c.saturating_add.result ≡ c.args.gate + 1 = omega (arith, rest.fits) in
-    staged_crash (g.D.Disk.reads disk) (g.D.Disk.may_leave disk) c.args.gate front rest c.saturating_add.result (length c.args.behind.now) (g.D.Disk.may_leave c.write_at.new.self) at (c.write_at.ensures.left t) image (c.sync.ensures.left t image left)
+    staged_crash (g.D.Disk.reads disk) (g.D.Disk.may_leave disk) c.args.gate front rest c.saturating_add.result (length c.args.behind.now)
+    (g.D.Disk.may_leave c.write_at.new.self) at (c.write_at.ensures.left t) image (c.sync.ensures.left t image left)
 
 pub returns-clause-images : goal.returns-clause-images
 returns-clause-images g c = λ t front rest image left.
     let disk = c.args.disk.now in
     let at : c.saturating_add.result ≡ c.args.gate + 1 = omega (arith, rest.fits) in
-    staged_crash (g.D.Disk.reads disk) (g.D.Disk.may_leave disk) c.args.gate front rest c.saturating_add.result (length c.args.behind.now) (g.D.Disk.may_leave c.write_at.new.self) at (c.write_at.ensures.left t) image (c.sync.ensures.left t image left)
+    staged_crash (g.D.Disk.reads disk) (g.D.Disk.may_leave disk) c.args.gate front rest c.saturating_add.result (length c.args.behind.now)
+    (g.D.Disk.may_leave c.write_at.new.self) at (c.write_at.ensures.left t) image (c.sync.ensures.left t image left)
 
 pub returns-clause-staged : goal.returns-clause-staged
 returns-clause-staged g c = λ t front rest.
     let disk = c.args.disk.now in
     let at : c.saturating_add.result ≡ c.args.gate + 1 = omega (arith, rest.fits) in
-    staged (g.D.Disk.reads disk) (g.D.Disk.may_leave disk) c.args.gate front rest c.saturating_add.result c.args.behind.now (g.D.Disk.reads c.sync.new.self) (g.D.Disk.may_leave c.sync.new.self) at (c.in_ok-sync.ensures.same t ∙ c.in_ok-write_at.ensures.value t) (omega (arith, c.in_ok-write_at.ensures.fits t)) (c.in_ok-sync.ensures.durable t)
+    staged (g.D.Disk.reads disk) (g.D.Disk.may_leave disk) c.args.gate front rest c.saturating_add.result c.args.behind.now (g.D.Disk.reads c.sync.new.self)
+    (g.D.Disk.may_leave c.sync.new.self) at (c.in_ok-sync.ensures.same t ∙ c.in_ok-write_at.ensures.value t)
+    (omega (arith, c.in_ok-write_at.ensures.fits t)) (c.in_ok-sync.ensures.durable t)

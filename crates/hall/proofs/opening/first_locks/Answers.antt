@@ -6,7 +6,8 @@ use Rattle.hall.proofs.opening.first_locks.Goals as goal
 pub returns-in-Err-clause-fault : goal.returns-in-Err-clause-fault
 returns-in-Err-clause-fault g c =
     let bytes = g.D.Disk.reads c.args.disk in
-    subst (IsFileFault g.D.Disk.tells bytes c.args.units.now) (sym c.file_fault_of.ensures) (file_why g.D.Disk.tells bytes c.args.units.now c.in-Err.fault c.in-Err.ensures.fault)
+    subst (IsFileFault g.D.Disk.tells bytes c.args.units.now) (sym c.file_fault_of.ensures)
+    (file_why g.D.Disk.tells bytes c.args.units.now c.in-Err.fault c.in-Err.ensures.fault)
 
 pub returns-in-Err-clause-cause : goal.returns-in-Err-clause-cause
 returns-in-Err-clause-cause g c =

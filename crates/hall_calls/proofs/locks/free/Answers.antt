@@ -9,7 +9,8 @@ pub returns-in_err-session-clause-act : goal.returns-in_err-session-clause-act
 returns-in_err-session-clause-act g c s started sessions locks room =
     let p = err_from_is_err_and c.from_residual.result c.from_residual.ensures.1 in
     let none = c.in_err-session.ensures.unknown in
-    unknown_session s c.args.sessions.now c.args.name.now _ _ _ c.from_residual.result _ refl sessions room none.0 (λ i. record s { locks = locks i }) p.1 (p.2 ∙ none.1)
+    unknown_session s c.args.sessions.now c.args.name.now _ _ _ c.from_residual.result _ refl sessions room none.0 (λ i. record s { locks = locks i }) p.1
+    (p.2 ∙ none.1)
 
 pub returns-clause-act : goal.returns-clause-act
 returns-clause-act g c s started sessions locks room =

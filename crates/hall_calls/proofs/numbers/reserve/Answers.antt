@@ -7,17 +7,21 @@ use Rattle.hall_calls.proofs.numbers.reserve.Goals as goal
 
 pub returns-in-Err-clause-store : goal.returns-in-Err-clause-store
 returns-in-Err-clause-store g c =
-    quiet_ends g.K.Keeper.held g.K.Keeper.is_open g.K.Keeper.may_leave g.K.Keeper.faults g.met.K.Keeper.settled c.args.books.now c.requires.usable (reply.Refused c.in-Err.refusal) c.in-Err.ensures.quiet
+    quiet_ends g.K.Keeper.held g.K.Keeper.is_open g.K.Keeper.may_leave g.K.Keeper.faults g.met.K.Keeper.settled c.args.books.now c.requires.usable
+    (reply.Refused c.in-Err.refusal) c.in-Err.ensures.quiet
     (λ k. untouched_keeps g.K.Keeper.held g.K.Keeper.may_leave k c.in-Err.refusal)
 
 pub raise-requires-clause-store : goal.raise-requires-clause-store
 raise-requires-clause-store g c =
-    reserve_stored c.args.sessions.now c.args.ranges.now c.args.books.now.ledger c.requires.drawn c.args.name.now c.args.object.now c.args.nr c.args.upto c.in-Ok.found.0 c.in-Ok.found.1 c.in-Ok.ensures.interval
+    reserve_stored c.args.sessions.now c.args.ranges.now c.args.books.now.ledger c.requires.drawn c.args.name.now c.args.object.now c.args.nr c.args.upto
+    c.in-Ok.found.0 c.in-Ok.found.1 c.in-Ok.ensures.interval
 
 pub returns-in-Ok-raise-clause-act : goal.returns-in-Ok-raise-clause-act
 returns-in-Ok-raise-clause-act g c s e f l room =
-    let is = reserve_is c.args.sessions.now c.args.ranges.now c.args.books.now.ledger c.requires.drawn c.args.name.now c.args.object.now c.args.nr c.args.upto c.in-Ok.found.0 c.in-Ok.found.1 c.in-Ok.ensures.interval in
-    let within = reserve_high c.args.sessions.now c.args.ranges.now c.args.books.now.ledger c.requires.drawn c.args.name.now c.args.object.now c.args.nr c.args.upto c.in-Ok.found.0 c.in-Ok.found.1 c.in-Ok.ensures.interval in
+    let is = reserve_is c.args.sessions.now c.args.ranges.now c.args.books.now.ledger c.requires.drawn c.args.name.now c.args.object.now c.args.nr c.args.upto
+    c.in-Ok.found.0 c.in-Ok.found.1 c.in-Ok.ensures.interval in
+    let within = reserve_high c.args.sessions.now c.args.ranges.now c.args.books.now.ledger c.requires.drawn c.args.name.now c.args.object.now c.args.nr
+    c.args.upto c.in-Ok.found.0 c.in-Ok.found.1 c.in-Ok.ensures.interval in
     reserves s c.args.sessions.now c.args.ranges.now c.args.books.now.ledger c.args.name.now c.args.object.now c.args.nr
     (record { own_sessions = e; own_ranges = f; own_ledger = l }) c.args.upto room c.in-Ok.found.0 c.in-Ok.found.1 c.in-Ok.ensures.interval
     is.within within c.raise.new.books.ledger c.in-Ok-raise.ensures.ledger
@@ -29,7 +33,12 @@ returns-in-Err-raise-clause-act g c s e f l room =
     c.in-Err-raise.failed c.in-Err-raise.ensures.fault c.raise.new.books.ledger c.in-Err-raise.ensures.kept
 
 pub returns-in-Ok-raise-clause-keeper : goal.returns-in-Ok-raise-clause-keeper
-returns-in-Ok-raise-clause-keeper g c s e l off = c.raise.ensures.still (reserve_still c.args.sessions.now c.args.ranges.now c.args.books.now.ledger c.args.name.now c.args.object.now c.args.nr c.args.upto c.in-Ok.found.0 c.in-Ok.found.1 c.in-Ok.ensures.interval s e l off)
+returns-in-Ok-raise-clause-keeper g c s e l off =
+    c.raise.ensures.still
+    (reserve_still c.args.sessions.now c.args.ranges.now c.args.books.now.ledger c.args.name.now c.args.object.now c.args.nr c.args.upto c.in-Ok.found.0
+    c.in-Ok.found.1 c.in-Ok.ensures.interval s e l off)
 
 pub returns-in-Err-raise-clause-keeper : goal.returns-in-Err-raise-clause-keeper
-returns-in-Err-raise-clause-keeper g c s e l off = c.raise.ensures.still (reserve_still c.args.sessions.now c.args.ranges.now c.args.books.now.ledger c.args.name.now c.args.object.now c.args.nr c.args.upto c.in-Ok.found.0 c.in-Ok.found.1 c.in-Ok.ensures.interval s e l off)
+returns-in-Err-raise-clause-keeper g c s e l off = c.raise.ensures.still
+    (reserve_still c.args.sessions.now c.args.ranges.now c.args.books.now.ledger c.args.name.now c.args.object.now c.args.nr c.args.upto c.in-Ok.found.0
+    c.in-Ok.found.1 c.in-Ok.ensures.interval s e l off)

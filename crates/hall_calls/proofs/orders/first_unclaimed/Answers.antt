@@ -12,7 +12,8 @@ returns-then-not-is_claimed g c =
 pub returns-in-None : goal.returns-in-None
 returns-in-None g c =
     let units = waiting_for c.args.part c.args.books.now.ledger in
-    none_here c.args.orders.now units c.loop-place.place c.loop-place.invariant.from (sym (at_next units c.loop-place.place) ∙ sym c.waiting_at.ensures ∙ c.in-None.is)
+    none_here c.args.orders.now units c.loop-place.place c.loop-place.invariant.from
+    (sym (at_next units c.loop-place.place) ∙ sym c.waiting_at.ensures ∙ c.in-None.is)
 
 pub loop-place-preserved : goal.loop-place-preserved
 loop-place-preserved g c =

@@ -111,21 +111,25 @@ returns-in-Ok-restart-clause-act g c = λ s is own stored flight found caller li
     (told_by sessions entries failure.caller c.start.result old.start c.as_slice-in-Ok-restart.result.now c.in-Ok.losing.items
     c.as_slice-in-Ok-restart.ensures.value c.in-Ok.ensures c.start.ensures)
     ∙ (λ i. map (bereft_if (sym stored i).start (unhanded entries) (sym caller i)) (sym own i)) in
-    subst (λ b. IsTelling s command.Restart b (remade_state s c.bereave.new.self c.drop_orders.new.orders.items c.restart.new.self.table c.adopt.new.books.ledger (Done b)) reply.Done)
+    subst (λ b. IsTelling s command.Restart b
+    (remade_state s c.bereave.new.self c.drop_orders.new.orders.items c.restart.new.self.table c.adopt.new.books.ledger (Done b)) reply.Done)
     (taken_same reread ∙ sym c.adopt.ensures.taken)
-    (remakes s c.args.condition is c.in_default.not-Up free read c.bereave.new.self c.drop_orders.new.orders.items c.restart.new.self.table entries c.adopt.new.books.ledger
+    (remakes s c.args.condition is c.in_default.not-Up free read c.bereave.new.self c.drop_orders.new.orders.items c.restart.new.self.table entries
+    c.adopt.new.books.ledger
     (may_have_read s old failure read of_s right)
     (record {
       stored = ledger ∙ read_ledger c.args.condition old failure reread was ∙ (λ i. stored_anew (is_taken read) (sym stored i) (sym flight i));
       gone = lost;
       bereaved = bereaved;
       idle = c.drop_orders.ensures ∙ ap (λ n. replicate n None) c.requires.places;
-      made = c.in-Ok-restart.ensures.table ∙ (λ i. recovered (sym limit i) ((c.as_slice.ensures.value ∙ c.in-Ok-read_waiting.ensures.units ∙ ap open_locks (sym ledger)) i));
+      made = c.in-Ok-restart.ensures.table
+          ∙ (λ i. recovered (sym limit i) ((c.as_slice.ensures.value ∙ c.in-Ok-read_waiting.ensures.units ∙ ap open_locks (sym ledger)) i));
     }))
 
 made_usable : goal.returns-in-Ok-restart-clause-usable
 made_usable g c =
-    usable_made g.K.Keeper.held g.K.Keeper.is_open g.K.Keeper.may_leave g.K.Keeper.faults c.args.condition c.args.failure.now c.args.books.now c.read_waiting.new.books c.adopt.new.books
+    usable_made g.K.Keeper.held g.K.Keeper.is_open g.K.Keeper.may_leave g.K.Keeper.faults c.args.condition c.args.failure.now c.args.books.now
+    c.read_waiting.new.books c.adopt.new.books
     c.in-Ok-read_waiting.waiting.reread c.in_default.not-Up c.in-Ok-read_waiting.ensures.read c.requires.usable c.read_waiting.ensures.apart
     c.in-Ok-read_waiting.ensures.usable c.adopt.ensures.apart c.adopt.ensures.ledger c.adopt.ensures.keeper
 
@@ -136,7 +140,8 @@ pub returns-in-Ok-restart-clause-store : goal.returns-in-Ok-restart-clause-store
 returns-in-Ok-restart-clause-store g c =
     let mid = c.read_waiting.new.books in
     let kept = c.adopt.ensures.keeper in
-    read_store g.K.Keeper.held g.K.Keeper.is_open g.K.Keeper.may_leave g.K.Keeper.faults c.args.condition c.args.books.now.keeper c.adopt.new.books.keeper reply.Done
+    read_store g.K.Keeper.held g.K.Keeper.is_open g.K.Keeper.may_leave g.K.Keeper.faults c.args.condition c.args.books.now.keeper c.adopt.new.books.keeper
+    reply.Done
     (λ off. kept ∙ ap (λ (x : BooksView g.row.K.Denot). x.keeper) (c.read_waiting.ensures.apart off))
     (λ on. subst (λ k. MayReread g.K.Keeper.held g.K.Keeper.may_leave g.K.Keeper.faults c.args.books.now.keeper k reply.Done) (sym kept)
     (record { told = c.read_waiting.ensures.told; cause = c.in-Ok-read_waiting.ensures.counts; within = c.read_waiting.ensures.within }))
@@ -150,7 +155,8 @@ returns-in-Ok-restart-clause-file g c =
     let reread = c.in-Ok-read_waiting.waiting.reread in
     remade_lists g.D.Disk.tells g.D.Disk.reads g.D.Disk.may_leave g.D.Disk.faults c.adopt.new.books.ledger c.as_slice.result.now
     (g.D.Disk.reads c.args.locks.now.file.disk) c.restart.new.self.file
-    (c.as_slice.ensures.value ∙ c.in-Ok-read_waiting.ensures.units ∙ ap (λ l. open_locks (ledger_read l reread)) (sym c.read_waiting.ensures.ledger) ∙ ap open_locks (sym c.adopt.ensures.ledger))
+    (c.as_slice.ensures.value ∙ c.in-Ok-read_waiting.ensures.units ∙ ap (λ l. open_locks (ledger_read l reread)) (sym c.read_waiting.ensures.ledger)
+    ∙ ap open_locks (sym c.adopt.ensures.ledger))
     c.in-Ok-restart.ensures.usable c.in-Ok-restart.ensures.file
 
 -- ---- where its backup file isn't read
@@ -161,13 +167,15 @@ returns-clause-act g c = λ s is own stored flight found caller limit lost free.
     let old = c.args.books.now.ledger in
     let reread = c.in-Ok-read_waiting.waiting.reread in
     let right = read_right c.args.condition old failure reread c.in_default.not-Up c.in-Ok-read_waiting.ensures.read c.requires.settled c.requires.unknown in
-    subst (λ read. IsTelling s command.Restart false (doubted s (OfAdmin Restarts) read s.pending) (reply.Refused c.remake_refusal.result)) (sym c.taken_in.ensures)
+    subst (λ read. IsTelling s command.Restart false (doubted s (OfAdmin Restarts) read s.pending) (reply.Refused c.remake_refusal.result))
+    (sym c.taken_in.ensures)
     (not_remade s c.args.condition is c.in_default.not-Up free c.in-Err-restart.fault c.remake_refusal.result (taken_in reread) c.remake_refusal.ensures
     (may_have_read s old failure (taken_in reread) (record { stored = stored; pending = flight; found = found }) right))
 
 pub returns-clause-store : goal.returns-clause-store
 returns-clause-store g c =
-    read_store g.K.Keeper.held g.K.Keeper.is_open g.K.Keeper.may_leave g.K.Keeper.faults c.args.condition c.args.books.now.keeper c.read_waiting.new.books.keeper _
+    read_store g.K.Keeper.held g.K.Keeper.is_open g.K.Keeper.may_leave g.K.Keeper.faults c.args.condition c.args.books.now.keeper
+    c.read_waiting.new.books.keeper _
     (λ off. ap (λ (x : BooksView g.row.K.Denot). x.keeper) (c.read_waiting.ensures.apart off))
     (λ on. record {
       told = c.read_waiting.ensures.told;
@@ -177,7 +185,8 @@ returns-clause-store g c =
 
 pub returns-clause-left : goal.returns-clause-left
 returns-clause-left g c =
-    subst (λ read. LeavesKnown g.K.Keeper.held g.K.Keeper.may_leave c.read_waiting.new.books.keeper (known_behind c.args.failure.now.found read) c.args.books.now.ledger (flight_over c.args.books.now.ledger c.args.failure.now))
+    subst (λ read. LeavesKnown g.K.Keeper.held g.K.Keeper.may_leave c.read_waiting.new.books.keeper
+    (known_behind c.args.failure.now.found read) c.args.books.now.ledger (flight_over c.args.books.now.ledger c.args.failure.now))
     (sym c.taken_in.ensures) c.in-Ok-read_waiting.ensures.left
 
 pub returns-clause-file : goal.returns-clause-file
@@ -187,9 +196,11 @@ returns-clause-file g c = λ calls.
     let reread = c.in-Ok-read_waiting.waiting.reread in
     let was = c.in-Ok-read_waiting.ensures.read in
     let right = read_right c.args.condition old failure reread c.in_default.not-Up was c.requires.settled c.requires.unknown in
-    subst (λ read. AllRecover g.D.Disk.tells g.D.Disk.may_leave (condition.Doubt (calls + 1)) old (flight_over old failure) (known_behind failure.found read) c.restart.new.self.file)
+    subst (λ read. AllRecover g.D.Disk.tells g.D.Disk.may_leave (condition.Doubt (calls + 1)) old (flight_over old failure)
+    (known_behind failure.found read) c.restart.new.self.file)
     (sym c.taken_in.ensures)
-    (left_recovers g.D.Disk.tells g.D.Disk.reads g.D.Disk.may_leave g.D.Disk.faults c.args.condition old (flight_over old failure) failure.found (taken_in reread) right
+    (left_recovers g.D.Disk.tells g.D.Disk.reads g.D.Disk.may_leave g.D.Disk.faults c.args.condition old (flight_over old failure) failure.found
+    (taken_in reread) right
     c.args.locks.now.file c.requires.lists c.as_slice.result.now c.restart.new.self.file c.in-Err-restart.fault
     (c.as_slice.ensures.value ∙ c.in-Ok-read_waiting.ensures.units ∙ ap open_locks (read_ledger c.args.condition old failure reread was))
     c.in-Err-restart.ensures.images calls)
@@ -209,7 +220,8 @@ returns-clause-good_file g c = λ yes sound landing.
     let right = read_right c.args.condition old failure reread c.in_default.not-Up was c.requires.settled c.requires.unknown in
     let file = c.args.locks.now.file in
     let found = stored_anew (is_taken read) old (flight_over old failure) in
-    let h = found_stands g.D.Disk.tells g.D.Disk.reads g.D.Disk.may_leave g.D.Disk.faults c.args.condition old (flight_over old failure) failure.found read right
+    let h = found_stands g.D.Disk.tells g.D.Disk.reads g.D.Disk.may_leave g.D.Disk.faults c.args.condition old
+    (flight_over old failure) failure.found read right
     file c.requires.lists yes (g.D.Disk.reads file.disk) (g.met.D.Disk.reads_left file.disk yes) in
     let units = c.as_slice.ensures.value ∙ c.in-Ok-read_waiting.ensures.units ∙ ap open_locks (read_ledger c.args.condition old failure reread was) in
     ready_sound (g.D.Disk.reads file.disk) (open_locks found) h.0 c.in-Err-restart.fault c.remake_refusal.result c.remake_refusal.ensures h.1 h.2

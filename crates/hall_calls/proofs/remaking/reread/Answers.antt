@@ -13,7 +13,8 @@ returns-in-Err-clause-good_store g c = λ told.
     let new = c.reread.new.self in
     read_sound (held new.keeper) (held old.keeper) (g.K.Keeper.may_leave old.keeper) old.ledger c.args.failure.now c.in-Err.fault c.store_refusal.result
     c.store_refusal.ensures c.reread.ensures.told told c.requires.left c.in-Err.ensures.found_rows c.in-Err.ensures.fault
-    (subst (λ change. OnOther c.in-Err.fault (IfSome (held new.keeper) (λ rows. StandForOther rows old.ledger change))) c.as_ref.ensures.value c.in-Err.ensures.other)
+    (subst (λ change. OnOther c.in-Err.fault (IfSome (held new.keeper) (λ rows. StandForOther rows old.ledger change))) c.as_ref.ensures.value
+    c.in-Err.ensures.other)
 
 not_both : (result : _) (P : Type 0) → result ≡ false → P → (P → IsTrue result) → ⊥
 not_both true P off h back = absurd (cc)

@@ -26,7 +26,8 @@ pub returns-in-Err-clause-told : goal.returns-in-Err-clause-told
 returns-in-Err-clause-told g c = refl
 
 pub returns-in-Err-clause-left : goal.returns-in-Err-clause-left
-returns-in-Err-clause-left g c = answered_leaves g.K.Keeper.held g.K.Keeper.is_open g.K.Keeper.may_leave c.args.books.now g.met.K.Keeper.settled c.requires.usable
+returns-in-Err-clause-left g c = answered_leaves g.K.Keeper.held g.K.Keeper.is_open g.K.Keeper.may_leave c.args.books.now g.met.K.Keeper.settled
+    c.requires.usable
 
 pub returns-in-Err-clause-cause : goal.returns-in-Err-clause-cause
 returns-in-Err-clause-cause g c =
@@ -35,7 +36,8 @@ returns-in-Err-clause-cause g c =
 
 pub prepare_mark-requires-clause-marks : goal.prepare_mark-requires-clause-marks
 prepare_mark-requires-clause-marks g c =
-    below_limit _ _ (can_be c.args.books.now.ledger c.args.orders.now c.args.max_marks c.args.unit c.in-Ok.status (sym c.to_cancel.ensures ∙ c.in-Ok.is)).room c.requires.limited
+    below_limit _ _ (can_be c.args.books.now.ledger c.args.orders.now c.args.max_marks c.args.unit c.in-Ok.status (sym c.to_cancel.ensures ∙ c.in-Ok.is)).room
+    c.requires.limited
 
 pub prepare_mark-requires-clause-follows : goal.prepare_mark-requires-clause-follows
 prepare_mark-requires-clause-follows g c =
@@ -47,7 +49,8 @@ prepare_mark-requires-clause-follows g c =
 
 pub returns-in_default-clause-act : goal.returns-in_default-clause-act
 returns-in_default-clause-act g c s e f l m room =
-    cancels_wanting s c.args.orders.now c.args.locks.now.table.entries c.args.books.now.ledger c.prepare_mark.new.self.ledger c.args.max_marks c.args.unit c.in-Ok.status e f l m room
+    cancels_wanting s c.args.orders.now c.args.locks.now.table.entries c.args.books.now.ledger c.prepare_mark.new.self.ledger c.args.max_marks c.args.unit
+    c.in-Ok.status e f l m room
     (sym c.to_cancel.ensures ∙ c.in-Ok.is) c.prepare_mark.ensures.unmoved.ledger
 
 pub returns-in-Ok-end_locks-clause-act : goal.returns-in-Ok-end_locks-clause-act
@@ -55,8 +58,11 @@ returns-in-Ok-end_locks-clause-act g c s e f l m room =
     let new =
     c.in-Ok-write.ensures.done ∙ ap (after_step c.prepare_mark.new.self.ledger) c.in-Ok-prepare_mark.ensures.step
     ∙ ap (λ ledger. with_mark ledger c.args.unit Gone) c.prepare_mark.ensures.unmoved.ledger in
-    cancels s c.args.orders.now c.args.locks.now.table.entries c.end_locks.new.locks.table.entries c.args.books.now.ledger c.write.new.self.ledger c.args.max_marks c.args.unit c.in-Ok.status e f l m room
-    (sym c.to_cancel.ensures ∙ c.in-Ok.is) (ap (λ t. t.entries) c.in-Ok-end_locks.ensures.table ∙ (ended_so c.in-Ok.status c.is_open.result c.args.locks.now.table.entries c.args.unit c.is_open.ensures)) new
+    cancels s c.args.orders.now c.args.locks.now.table.entries c.end_locks.new.locks.table.entries c.args.books.now.ledger c.write.new.self.ledger
+    c.args.max_marks c.args.unit c.in-Ok.status e f l m room
+    (sym c.to_cancel.ensures ∙ c.in-Ok.is)
+    (ap (λ t. t.entries) c.in-Ok-end_locks.ensures.table
+    ∙ (ended_so c.in-Ok.status c.is_open.result c.args.locks.now.table.entries c.args.unit c.is_open.ensures)) new
 
 pub returns-in-Err-end_locks-clause-act : goal.returns-in-Err-end_locks-clause-act
 returns-in-Err-end_locks-clause-act g c s e f l m room =
@@ -75,7 +81,8 @@ pub returns-in-Ok-end_locks-clause-told : goal.returns-in-Ok-end_locks-clause-to
 returns-in-Ok-end_locks-clause-told g c = c.write.ensures.told ∙ ap is_some c.prepare_mark.ensures.unmoved.rows
 
 pub returns-in-Ok-end_locks-clause-left : goal.returns-in-Ok-end_locks-clause-left
-returns-in-Ok-end_locks-clause-left g c = answered_leaves g.K.Keeper.held g.K.Keeper.is_open g.K.Keeper.may_leave c.write.new.self g.met.K.Keeper.settled c.in-Ok-write.ensures.usable
+returns-in-Ok-end_locks-clause-left g c = answered_leaves g.K.Keeper.held g.K.Keeper.is_open g.K.Keeper.may_leave c.write.new.self g.met.K.Keeper.settled
+    c.in-Ok-write.ensures.usable
 
 pub returns-in-Ok-end_locks-clause-cause : goal.returns-in-Ok-end_locks-clause-cause
 returns-in-Ok-end_locks-clause-cause g c = c.in-Ok-write.ensures.cause.quiet ∙ c.prepare_mark.ensures.unmoved.count
@@ -110,17 +117,20 @@ returns-in-Err-write-clause-kept g c = tt
 
 pub returns-in-Err-clause-file : goal.returns-in-Err-clause-file
 returns-in-Err-clause-file g c =
-    refused_files g.D.Disk.tells g.D.Disk.reads g.D.Disk.may_leave g.D.Disk.faults c.args.books.now.ledger c.args.books.now.ledger c.args.locks.now.file c.args.locks.now.file c.in-Err.refusal c.requires.filed (same_file c.args.locks.now.file) refl
+    refused_files g.D.Disk.tells g.D.Disk.reads g.D.Disk.may_leave g.D.Disk.faults c.args.books.now.ledger c.args.books.now.ledger c.args.locks.now.file
+    c.args.locks.now.file c.in-Err.refusal c.requires.filed (same_file c.args.locks.now.file) refl
     (inl (refused_plainly c.args.books.now.ledger c.args.orders.now c.args.max_marks c.args.unit c.in-Err.refusal (sym c.to_cancel.ensures ∙ c.in-Err.is)))
 
 pub returns-in_default-clause-file : goal.returns-in_default-clause-file
 returns-in_default-clause-file g c =
-    refused_files g.D.Disk.tells g.D.Disk.reads g.D.Disk.may_leave g.D.Disk.faults c.args.books.now.ledger c.prepare_mark.new.self.ledger c.args.locks.now.file c.args.locks.now.file refusal.NoMemory c.requires.filed (same_file c.args.locks.now.file) c.prepare_mark.ensures.unmoved.ledger (inr refl)
+    refused_files g.D.Disk.tells g.D.Disk.reads g.D.Disk.may_leave g.D.Disk.faults c.args.books.now.ledger c.prepare_mark.new.self.ledger c.args.locks.now.file
+    c.args.locks.now.file refusal.NoMemory c.requires.filed (same_file c.args.locks.now.file) c.prepare_mark.ensures.unmoved.ledger (inr refl)
 
 pub returns-in-Err-write-clause-file : goal.returns-in-Err-write-clause-file
 returns-in-Err-write-clause-file g c =
     let ledger = c.args.books.now.ledger in
-    failed_before g.D.Disk.tells g.D.Disk.reads g.D.Disk.may_leave g.D.Disk.faults ledger c.write.new.self.ledger c.args.locks.now.file (Some (Note c.args.unit Gone)) c.requires.filed (c.in-Err-write.ensures.kept ∙ c.prepare_mark.ensures.unmoved.ledger)
+    failed_before g.D.Disk.tells g.D.Disk.reads g.D.Disk.may_leave g.D.Disk.faults ledger c.write.new.self.ledger c.args.locks.now.file
+    (Some (Note c.args.unit Gone)) c.requires.filed (c.in-Err-write.ensures.kept ∙ c.prepare_mark.ensures.unmoved.ledger)
     (λ lists just. gone_agree ledger c.args.unit lists just.agree)
 
 pub returns-in-Ok-end_locks-clause-file : goal.returns-in-Ok-end_locks-clause-file
@@ -128,21 +138,27 @@ returns-in-Ok-end_locks-clause-file g c =
     let ledger = c.args.books.now.ledger in
     let unit = c.args.unit in
     let can = can_be ledger c.args.orders.now c.args.max_marks unit c.in-Ok.status (sym c.to_cancel.ensures ∙ c.in-Ok.is) in
-    let new = c.in-Ok-write.ensures.done ∙ ap (after_step c.prepare_mark.new.self.ledger) c.in-Ok-prepare_mark.ensures.step ∙ ap (λ l. with_mark l unit Gone) c.prepare_mark.ensures.unmoved.ledger in
+    let new = c.in-Ok-write.ensures.done ∙ ap (after_step c.prepare_mark.new.self.ledger) c.in-Ok-prepare_mark.ensures.step
+    ∙ ap (λ l. with_mark l unit Gone) c.prepare_mark.ensures.unmoved.ledger in
     let freed = c.in-Ok-end_locks.ensures.file in
-    written_files g.D.Disk.tells g.D.Disk.reads g.D.Disk.may_leave g.D.Disk.faults ledger c.write.new.self.ledger (λ lists. lists_ended c.is_open.result lists unit) c.args.locks.now.file c.end_locks.new.locks.file (reply.Unit unit) c.requires.filed
+    written_files g.D.Disk.tells g.D.Disk.reads g.D.Disk.may_leave g.D.Disk.faults ledger c.write.new.self.ledger
+    (λ lists. lists_ended c.is_open.result lists unit) c.args.locks.now.file c.end_locks.new.locks.file (reply.Unit unit) c.requires.filed
     freed.usable freed.freed
     (λ lists just.
     subst (λ b. AreOpenLists c.write.new.self.ledger (lists_ended b lists unit)) (sym c.is_open.ensures)
-    (subst (λ l. AreOpenLists l (lists_ended (is_open c.in-Ok.status) lists unit)) (sym new) (gone_lists ledger unit c.in-Ok.status can.recorded can.allowed lists just)))
+    (subst (λ l. AreOpenLists l (lists_ended (is_open c.in-Ok.status) lists unit)) (sym new)
+    (gone_lists ledger unit c.in-Ok.status can.recorded can.allowed lists just)))
     freed.cause.quiet (λ n m same. same) tt
 
 pub returns-in-Err-end_locks-clause-file : goal.returns-in-Err-end_locks-clause-file
 returns-in-Err-end_locks-clause-file g c =
     let ledger = c.args.books.now.ledger in
     let unit = c.args.unit in
-    let new = c.in-Ok-write.ensures.done ∙ ap (after_step c.prepare_mark.new.self.ledger) c.in-Ok-prepare_mark.ensures.step ∙ ap (λ l. with_mark l unit Gone) c.prepare_mark.ensures.unmoved.ledger in
+    let new = c.in-Ok-write.ensures.done ∙ ap (after_step c.prepare_mark.new.self.ledger) c.in-Ok-prepare_mark.ensures.step
+    ∙ ap (λ l. with_mark l unit Gone) c.prepare_mark.ensures.unmoved.ledger in
     let freed = c.in-Err-end_locks.ensures.file in
-    half_written_files g.D.Disk.tells g.D.Disk.reads g.D.Disk.may_leave g.D.Disk.faults ledger c.write.new.self.ledger (λ lists. lists_ended c.is_open.result lists unit) c.args.locks.now.file c.end_locks.new.locks.file c.requires.filed freed.images
-    (λ lists just. subst (λ l. AgreeAll l lists × AgreeAll l (lists_ended c.is_open.result lists unit)) (sym new) (gone_agree ledger unit lists just.agree, gone_half ledger unit c.is_open.result lists just.agree))
+    half_written_files g.D.Disk.tells g.D.Disk.reads g.D.Disk.may_leave g.D.Disk.faults ledger c.write.new.self.ledger
+    (λ lists. lists_ended c.is_open.result lists unit) c.args.locks.now.file c.end_locks.new.locks.file c.requires.filed freed.images
+    (λ lists just. subst (λ l. AgreeAll l lists × AgreeAll l (lists_ended c.is_open.result lists unit)) (sym new)
+    (gone_agree ledger unit lists just.agree, gone_half ledger unit c.is_open.result lists just.agree))
     (freed.cause.later, freed.cause.failed)

@@ -6,4 +6,5 @@ use Rattle.hall_calls.proofs.units.commit.Goals as goal
 pub pass_recorded-requires : goal.pass_recorded-requires
 pass_recorded-requires g c =
     let ledger = c.args.books.now.ledger in
-    stock_room c.args.ranges.now ledger.levels (draws_in c.args.sessions.now) (numbers_of ledger.units ledger.marks) c.args.stock.now c.requires.drawn c.requires.stock.reserved
+    stock_room c.args.ranges.now ledger.levels (draws_in c.args.sessions.now)
+    (numbers_of ledger.units ledger.marks) c.args.stock.now c.requires.drawn c.requires.stock.reserved

@@ -8,12 +8,14 @@ returns-in-Err-clause-act g c s e t l none room =
 
 pub returns-in-Ok-clause-act : goal.returns-in-Ok-clause-act
 returns-in-Ok-clause-act g c s e t l none room =
-    reads s (g.K.Keeper.held c.args.books.now.keeper) c.args.sessions.now c.args.books.now.ledger c.read.new.self.ledger c.args.name.now c.args.table.now c.args.key.now c.in_default.field-0.now c.in-Ok.text
+    reads s (g.K.Keeper.held c.args.books.now.keeper) c.args.sessions.now c.args.books.now.ledger c.read.new.self.ledger c.args.name.now c.args.table.now
+    c.args.key.now c.in_default.field-0.now c.in-Ok.text
     e t l room c.in_default.ensures.found c.in-Ok.ensures.text c.read.ensures.ledger
 
 pub returns-in-Err-NoMemory-clause-act : goal.returns-in-Err-NoMemory-clause-act
 returns-in-Err-NoMemory-clause-act g c s e t l none room =
-    reads_wanting s c.args.sessions.now c.args.books.now.ledger c.read.new.self.ledger c.args.name.now c.args.table.now c.args.key.now c.in_default.field-0.now e l room
+    reads_wanting s c.args.sessions.now c.args.books.now.ledger c.read.new.self.ledger c.args.name.now c.args.table.now c.args.key.now c.in_default.field-0.now
+    e l room
     c.in_default.ensures.found c.read.ensures.ledger
 
 pub returns-in-Err-Failed-clause-act : goal.returns-in-Err-Failed-clause-act

@@ -39,7 +39,8 @@ readmit-requires-clause-entries g c =
 pub readmit-requires-clause-handable : goal.readmit-requires-clause-handable
 readmit-requires-clause-handable g c = λ some.
     let given = c.as_slice.ensures.value ∙ c.in-Ok.ensures in
-    subst (IsHandable c.args.unit) (sym given) (stored_handable c.args.books.now.ledger.units c.args.unit c.requires.stored (subst (λ (es : List Entry). 1 ≤ length es) given some))
+    subst (IsHandable c.args.unit) (sym given)
+    (stored_handable c.args.books.now.ledger.units c.args.unit c.requires.stored (subst (λ (es : List Entry). 1 ≤ length es) given some))
 
 pub returns-in-Err-clause-act : goal.returns-in-Err-clause-act
 returns-in-Err-clause-act g c s f l q h room =
@@ -51,7 +52,8 @@ returns-in-Err-clause-act g c s f l q h room =
     subst (λ o. IsReadmission (readmitted t o (entries_of c.args.books.now.ledger.units c.args.unit)) t.entries left c.in-Err.fault) c.owners_of-owners.ensures
     (subst (λ es. IsReadmission (readmitted t c.owners_of-owners.result es) t.entries left c.in-Err.fault) given c.in-Err.ensures.refused) in
     subst (IsWritten s (command.Resubmit c.args.unit) (record s { locks = left; stored = c.prepare_mark.new.self.ledger })) (sym c.ungranted.ensures)
-    (ungranted_acts s t c.args.books.now.ledger c.prepare_mark.new.self.ledger s.mark_limit c.args.unit left c.in-Err.fault f l q refl room h refused c.prepare_mark.ensures.unmoved.ledger
+    (ungranted_acts s t c.args.books.now.ledger c.prepare_mark.new.self.ledger s.mark_limit c.args.unit left c.in-Err.fault f l q refl room h refused
+    c.prepare_mark.ensures.unmoved.ledger
     (λ failed. subst (λ (es : List Entry). 1 ≤ length es) given (c.in-Err.ensures.some (ap Err failed))))
 
 pub returns-in-Err-clause-usable : goal.returns-in-Err-clause-usable
@@ -74,15 +76,19 @@ returns-in-Err-clause-cause g c =
 
 pub returns-in-Err-clause-kept : goal.returns-in-Err-clause-kept
 returns-in-Err-clause-kept g c =
-    subst (λ w. KeepsStore g.K.Keeper.held g.K.Keeper.may_leave c.args.books.now.keeper c.prepare_mark.new.self.keeper (written_reply w)) (sym c.ungranted.ensures)
-    (ungranted_keeps g.K.Keeper.held g.K.Keeper.may_leave c.args.books.now.keeper c.prepare_mark.new.self.keeper c.in-Err.fault c.prepare_mark.ensures.unmoved.rows c.prepare_mark.ensures.unmoved.crash)
+    subst (λ w. KeepsStore g.K.Keeper.held g.K.Keeper.may_leave c.args.books.now.keeper c.prepare_mark.new.self.keeper (written_reply w))
+    (sym c.ungranted.ensures)
+    (ungranted_keeps g.K.Keeper.held g.K.Keeper.may_leave c.args.books.now.keeper c.prepare_mark.new.self.keeper c.in-Err.fault
+    c.prepare_mark.ensures.unmoved.rows c.prepare_mark.ensures.unmoved.crash)
 
 pub returns-in-Err-clause-file : goal.returns-in-Err-clause-file
 returns-in-Err-clause-file g c =
     let ledger = c.args.books.now.ledger in
     let given = c.as_slice.ensures.value ∙ c.in-Ok.ensures in
-    subst (FilesAs g.D.Disk.tells g.D.Disk.reads g.D.Disk.may_leave g.D.Disk.faults c.prepare_mark.new.self.ledger c.args.locks.now.file c.readmit.new.self.file) (sym c.ungranted.ensures)
-    (ungranted_files g.D.Disk.tells g.D.Disk.reads g.D.Disk.may_leave g.D.Disk.faults ledger c.prepare_mark.new.self.ledger c.args.unit c.as_slice.result.now c.args.locks.now.file c.readmit.new.self.file c.in-Err.fault c.requires.filed c.prepare_mark.ensures.unmoved.ledger
+    subst (FilesAs g.D.Disk.tells g.D.Disk.reads g.D.Disk.may_leave g.D.Disk.faults c.prepare_mark.new.self.ledger c.args.locks.now.file
+    c.readmit.new.self.file) (sym c.ungranted.ensures)
+    (ungranted_files g.D.Disk.tells g.D.Disk.reads g.D.Disk.may_leave g.D.Disk.faults ledger c.prepare_mark.new.self.ledger c.args.unit c.as_slice.result.now
+    c.args.locks.now.file c.readmit.new.self.file c.in-Err.fault c.requires.filed c.prepare_mark.ensures.unmoved.ledger
     c.requires.follows.follows c.in-Err.ensures.untouched (λ t lists ready image may. c.in-Err.ensures.images t lists ready image may) c.in-Err.ensures.cause)
 
 pub returns-in-Ok-write-clause-act : goal.returns-in-Ok-write-clause-act
@@ -128,26 +134,32 @@ returns-in_default-clause-act g c s f l q h room =
 
 pub returns-in_default-prepare_mark-clause-act : goal.returns-in_default-prepare_mark-clause-act
 returns-in_default-prepare_mark-clause-act g c s f l q h room =
-    resubmits_wanting s c.args.locks.now.table.entries c.args.books.now.ledger c.prepare_mark.new.self.ledger s.mark_limit c.args.unit Bad f q refl room h c.prepare_mark.ensures.unmoved.ledger
+    resubmits_wanting s c.args.locks.now.table.entries c.args.books.now.ledger c.prepare_mark.new.self.ledger s.mark_limit c.args.unit Bad f q refl room h
+    c.prepare_mark.ensures.unmoved.ledger
 
 pub returns-in_default-clause-file : goal.returns-in_default-clause-file
 returns-in_default-clause-file g c =
-    refused_files g.D.Disk.tells g.D.Disk.reads g.D.Disk.may_leave g.D.Disk.faults c.args.books.now.ledger c.args.books.now.ledger c.args.locks.now.file c.args.locks.now.file refusal.NoMemory c.requires.filed (same_file c.args.locks.now.file) refl (inr refl)
+    refused_files g.D.Disk.tells g.D.Disk.reads g.D.Disk.may_leave g.D.Disk.faults c.args.books.now.ledger c.args.books.now.ledger c.args.locks.now.file
+    c.args.locks.now.file refusal.NoMemory c.requires.filed (same_file c.args.locks.now.file) refl (inr refl)
 
 pub returns-in_default-prepare_mark-clause-file : goal.returns-in_default-prepare_mark-clause-file
 returns-in_default-prepare_mark-clause-file g c =
-    refused_files g.D.Disk.tells g.D.Disk.reads g.D.Disk.may_leave g.D.Disk.faults c.args.books.now.ledger c.prepare_mark.new.self.ledger c.args.locks.now.file c.args.locks.now.file refusal.NoMemory c.requires.filed (same_file c.args.locks.now.file) c.prepare_mark.ensures.unmoved.ledger (inr refl)
+    refused_files g.D.Disk.tells g.D.Disk.reads g.D.Disk.may_leave g.D.Disk.faults c.args.books.now.ledger c.prepare_mark.new.self.ledger c.args.locks.now.file
+    c.args.locks.now.file refusal.NoMemory c.requires.filed (same_file c.args.locks.now.file) c.prepare_mark.ensures.unmoved.ledger (inr refl)
 
 pub returns-in-Ok-write-clause-file : goal.returns-in-Ok-write-clause-file
 returns-in-Ok-write-clause-file g c =
     let ledger = c.args.books.now.ledger in
     let unit = c.args.unit in
     let given = c.as_slice.ensures.value ∙ c.in-Ok.ensures in
-    let new = c.in-Ok-write.ensures.done ∙ ap (after_step c.prepare_mark.new.self.ledger) c.in-Ok-prepare_mark.ensures.step ∙ ap (λ l. with_mark l unit Again1) c.prepare_mark.ensures.unmoved.ledger in
+    let new = c.in-Ok-write.ensures.done ∙ ap (after_step c.prepare_mark.new.self.ledger) c.in-Ok-prepare_mark.ensures.step
+    ∙ ap (λ l. with_mark l unit Again1) c.prepare_mark.ensures.unmoved.ledger in
     let h = c.in_default-readmit.ensures in
-    written_files g.D.Disk.tells g.D.Disk.reads g.D.Disk.may_leave g.D.Disk.faults ledger c.write.new.self.ledger (λ lists. with_list unit c.as_slice.result.now lists) c.args.locks.now.file c.readmit.new.self.file (reply.Unit unit) c.requires.filed
+    written_files g.D.Disk.tells g.D.Disk.reads g.D.Disk.may_leave g.D.Disk.faults ledger c.write.new.self.ledger
+    (λ lists. with_list unit c.as_slice.result.now lists) c.args.locks.now.file c.readmit.new.self.file (reply.Unit unit) c.requires.filed
     h.usable h.listed
-    (λ lists just. subst (λ es. AreOpenLists c.write.new.self.ledger (with_list unit es lists)) (sym given) (subst (λ l. AreOpenLists l (with_list unit (entries_of ledger.units unit) lists)) (sym new)
+    (λ lists just. subst (λ es. AreOpenLists c.write.new.self.ledger (with_list unit es lists)) (sym given)
+    (subst (λ l. AreOpenLists l (with_list unit (entries_of ledger.units unit) lists)) (sym new)
     (reopened_lists ledger unit lists (was_bad _ c.requires.follows.follows) c.requires.stored just)))
     h.cause (λ n m same. same) tt
 
@@ -156,7 +168,9 @@ returns-clause-file g c =
     let ledger = c.args.books.now.ledger in
     let given = c.as_slice.ensures.value ∙ c.in-Ok.ensures in
     let h = c.in_default-readmit.ensures in
-    failed_files g.D.Disk.tells g.D.Disk.reads g.D.Disk.may_leave g.D.Disk.faults c.write.new.self.ledger c.args.locks.now.file c.readmit.new.self.file (Some (Note c.args.unit Again1))
-    (again_agrees g.D.Disk.tells g.D.Disk.reads g.D.Disk.may_leave g.D.Disk.faults ledger c.write.new.self.ledger c.args.unit c.as_slice.result.now c.args.locks.now.file c.readmit.new.self.file c.requires.filed (c.in-Err-write.ensures.kept ∙ c.prepare_mark.ensures.unmoved.ledger)
+    failed_files g.D.Disk.tells g.D.Disk.reads g.D.Disk.may_leave g.D.Disk.faults c.write.new.self.ledger c.args.locks.now.file c.readmit.new.self.file
+    (Some (Note c.args.unit Again1))
+    (again_agrees g.D.Disk.tells g.D.Disk.reads g.D.Disk.may_leave g.D.Disk.faults ledger c.write.new.self.ledger c.args.unit c.as_slice.result.now
+    c.args.locks.now.file c.readmit.new.self.file c.requires.filed (c.in-Err-write.ensures.kept ∙ c.prepare_mark.ensures.unmoved.ledger)
     c.requires.follows.follows c.requires.stored given h.listed)
     h.cause

@@ -48,17 +48,23 @@ returns-in-Err-clause-kept g c = tt
 
 pub returns-in_default-clause-file : goal.returns-in_default-clause-file
 returns-in_default-clause-file g c =
-    refused_files g.D.Disk.tells g.D.Disk.reads g.D.Disk.may_leave g.D.Disk.faults c.args.books.now.ledger c.prepare_mark.new.self.ledger c.args.locks.now.file c.args.locks.now.file refusal.NoMemory c.requires.filed (same_file c.args.locks.now.file) c.prepare_mark.ensures.unmoved.ledger (inr refl)
+    refused_files g.D.Disk.tells g.D.Disk.reads g.D.Disk.may_leave g.D.Disk.faults c.args.books.now.ledger c.prepare_mark.new.self.ledger c.args.locks.now.file
+    c.args.locks.now.file refusal.NoMemory c.requires.filed (same_file c.args.locks.now.file) c.prepare_mark.ensures.unmoved.ledger (inr refl)
 
 pub returns-in-Ok-write-clause-file : goal.returns-in-Ok-write-clause-file
 returns-in-Ok-write-clause-file g c =
     let ledger = c.args.books.now.ledger in
-    let new = c.in-Ok-write.ensures.done ∙ ap (after_step c.prepare_mark.new.self.ledger) c.in-Ok.ensures.step ∙ ap (λ l. with_mark l c.args.unit Again2) c.prepare_mark.ensures.unmoved.ledger in
-    written_files g.D.Disk.tells g.D.Disk.reads g.D.Disk.may_leave g.D.Disk.faults ledger c.write.new.self.ledger (λ lists. lists) c.args.locks.now.file c.args.locks.now.file (reply.Unit c.args.unit) c.requires.filed
-    c.requires.filed.usable (λ t lists ready. ready) (λ lists just. subst (λ l. AreOpenLists l lists) (sym new) (again2_lists ledger c.args.unit c.requires.follows.follows lists just)) refl (λ n m same. same) tt
+    let new = c.in-Ok-write.ensures.done ∙ ap (after_step c.prepare_mark.new.self.ledger) c.in-Ok.ensures.step
+    ∙ ap (λ l. with_mark l c.args.unit Again2) c.prepare_mark.ensures.unmoved.ledger in
+    written_files g.D.Disk.tells g.D.Disk.reads g.D.Disk.may_leave g.D.Disk.faults ledger c.write.new.self.ledger
+    (λ lists. lists) c.args.locks.now.file c.args.locks.now.file (reply.Unit c.args.unit) c.requires.filed
+    c.requires.filed.usable (λ t lists ready. ready)
+    (λ lists just. subst (λ l. AreOpenLists l lists) (sym new) (again2_lists ledger c.args.unit c.requires.follows.follows lists just)) refl
+    (λ n m same. same) tt
 
 pub returns-in-Err-clause-file : goal.returns-in-Err-clause-file
 returns-in-Err-clause-file g c =
     let ledger = c.args.books.now.ledger in
-    failed_before g.D.Disk.tells g.D.Disk.reads g.D.Disk.may_leave g.D.Disk.faults ledger c.write.new.self.ledger c.args.locks.now.file (Some (Note c.args.unit Again2)) c.requires.filed (c.in-Err.ensures.kept ∙ c.prepare_mark.ensures.unmoved.ledger)
+    failed_before g.D.Disk.tells g.D.Disk.reads g.D.Disk.may_leave g.D.Disk.faults ledger c.write.new.self.ledger c.args.locks.now.file
+    (Some (Note c.args.unit Again2)) c.requires.filed (c.in-Err.ensures.kept ∙ c.prepare_mark.ensures.unmoved.ledger)
     (λ lists just. again2_agree ledger c.args.unit c.requires.follows.follows lists just.agree)

@@ -15,5 +15,6 @@ returns-in-Err-clause-kept g c = untouched_keeps g.K.Keeper.held g.K.Keeper.may_
 
 pub returns-in-Err-clause-file : goal.returns-in-Err-clause-file
 returns-in-Err-clause-file g c =
-    refused_files g.D.Disk.tells g.D.Disk.reads g.D.Disk.may_leave g.D.Disk.faults c.args.books.now.ledger c.args.books.now.ledger c.args.locks.now.file c.args.locks.now.file c.in-Err.refusal c.requires.filed (same_file c.args.locks.now.file) refl
+    refused_files g.D.Disk.tells g.D.Disk.reads g.D.Disk.may_leave g.D.Disk.faults c.args.books.now.ledger c.args.books.now.ledger c.args.locks.now.file
+    c.args.locks.now.file c.in-Err.refusal c.requires.filed (same_file c.args.locks.now.file) refl
     (inl (resubmit_refused_plainly c.args.books.now.ledger c.args.max_marks c.args.unit c.in-Err.refusal (sym c.to_resubmit.ensures ∙ c.in-Err.is)))

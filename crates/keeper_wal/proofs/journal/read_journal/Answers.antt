@@ -23,32 +23,38 @@ loop-behind-preserved c =
     let bytes = c.args.bytes.now in
     let fits : IsBytes bytes = λ i. omega (arith, c.type_inv.bytes i) in
     let legal = subst IsLegal c.deref.ensures.value (c.in_ok-is_legal-in-Ok.ensures.0 c.if-not-branch.false) in
-    subst (λ m. IsReadUpTo grammar bytes c.in-Ok.after.now m) (sym (c.in_ok-make_batch-in-Ok.ensures ∙ ap (λ b. changed b c.loop-behind.rows.rows) c.deref-in-Ok.ensures.value))
-    (goes_on grammar batch_at batch_reader bytes c.loop-behind.rest.now c.loop-behind.rows.rows c.loop-behind.invariant c.in-Some.behind.now c.in-Some.ensures.open_gate fits c.in-Ok.batch.items c.in-Ok.after.now c.in-Ok.ensures legal)
+    subst (λ m. IsReadUpTo grammar bytes c.in-Ok.after.now m)
+    (sym (c.in_ok-make_batch-in-Ok.ensures ∙ ap (λ b. changed b c.loop-behind.rows.rows) c.deref-in-Ok.ensures.value))
+    (goes_on grammar batch_at batch_reader bytes c.loop-behind.rest.now c.loop-behind.rows.rows c.loop-behind.invariant c.in-Some.behind.now
+    c.in-Some.ensures.open_gate fits c.in-Ok.batch.items c.in-Ok.after.now c.in-Ok.ensures legal)
 
 pub loop-behind-smaller : goal.loop-behind-smaller
 loop-behind-smaller c =
     let bytes = c.args.bytes.now in
     let fits : IsBytes bytes = λ i. omega (arith, c.type_inv.bytes i) in
-    shorter grammar batch_at batch_reader bytes c.loop-behind.rest.now c.loop-behind.rows.rows c.loop-behind.invariant c.in-Some.behind.now c.in-Some.ensures.open_gate fits c.in-Ok.batch.items c.in-Ok.after.now c.in-Ok.ensures
+    shorter grammar batch_at batch_reader bytes c.loop-behind.rest.now c.loop-behind.rows.rows c.loop-behind.invariant c.in-Some.behind.now
+    c.in-Some.ensures.open_gate fits c.in-Ok.batch.items c.in-Ok.after.now c.in-Ok.ensures
 
 pub returns-in-Err-Bad-clause-bad : goal.returns-in-Err-Bad-clause-bad
 returns-in-Err-Bad-clause-bad c =
     let bytes = c.args.bytes.now in
     let none = subst (λ (f : ReadFault). Fails f (batch_at c.in-Some.behind.now)) c.in-Err-Bad.field-0-is c.in-Err-Bad.ensures in
-    no_record grammar batch_at batch_reader bytes c.loop-behind.rest.now c.loop-behind.rows.rows c.loop-behind.invariant c.in-Some.behind.now c.in-Some.ensures.open_gate c.requires none
+    no_record grammar batch_at batch_reader bytes c.loop-behind.rest.now c.loop-behind.rows.rows c.loop-behind.invariant c.in-Some.behind.now
+    c.in-Some.ensures.open_gate c.requires none
 
 pub returns-then-not-branch-clause-bad : goal.returns-then-not-branch-clause-bad
 returns-then-not-branch-clause-bad c =
     let bytes = c.args.bytes.now in
-    illegal_record grammar batch_at batch_reader bytes c.loop-behind.rest.now c.loop-behind.rows.rows c.loop-behind.invariant c.in-Some.behind.now c.in-Some.ensures.open_gate c.requires c.in-Ok.batch.items c.in-Ok.after.now c.in-Ok.ensures
+    illegal_record grammar batch_at batch_reader bytes c.loop-behind.rest.now c.loop-behind.rows.rows c.loop-behind.invariant c.in-Some.behind.now
+    c.in-Some.ensures.open_gate c.requires c.in-Ok.batch.items c.in-Ok.after.now c.in-Ok.ensures
     (λ legal. let passes = c.in_ok-is_legal-in-Ok.ensures.1 (subst IsLegal (sym c.deref.ensures.value) legal) in let fails = c.if-not-branch.true in cc)
 
 pub returns-then-is_empty-clause-bad : goal.returns-then-is_empty-clause-bad
 returns-then-is_empty-clause-bad c =
     let rest = c.loop-behind.rest.now in
     let l = c.loop-behind.rows.rows in
-    breaks grammar c.args.bytes.now rest l c.loop-behind.invariant c.requires (no_gate grammar l rest (eqb-true (length rest) 0 (sym c.is_empty.ensures ∙ c.if-is_empty.true)))
+    breaks grammar c.args.bytes.now rest l c.loop-behind.invariant c.requires
+    (no_gate grammar l rest (eqb-true (length rest) 0 (sym c.is_empty.ensures ∙ c.if-is_empty.true)))
 
 pub returns-clause-shut : goal.returns-clause-shut
 returns-clause-shut c =

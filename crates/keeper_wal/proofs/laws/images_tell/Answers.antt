@@ -10,4 +10,5 @@ returns-clause-stands g c = stands_left g.D.Disk.tells g.D.Disk.may_leave c.args
 
 pub returns-clause-breaks : goal.returns-clause-breaks
 returns-clause-breaks g c = λ image left at bad.
-    nothing_left g.D.Disk.tells g.D.Disk.may_leave c.args.keeper.now c.remembers.ensures image left (λ others stands. stands_unbroken grammar batch_at batch_reader image others at stands bad)
+    nothing_left g.D.Disk.tells g.D.Disk.may_leave c.args.keeper.now c.remembers.ensures image left
+    (λ others stands. stands_unbroken grammar batch_at batch_reader image others at stands bad)

@@ -13,7 +13,8 @@ pub returns-in_err-read_key_table : goal.returns-in_err-read_key_table
 returns-in_err-read_key_table c =
     let q = next c.args.values.now c.loop-value.value-index c.value-item.result (omega arith) c.value-item.is in
     let p = err_from_is_err_and c.from_residual.result c.from_residual.ensures.1 in
-    rw (p.1, p.2) (each-halt (λ (t : KeyTable). t) (λ (v : Vec KeyTable). v.items) key_table_of 7 c.loop-value.tables.items _ _ _ _ _ q c.in_err-read_key_table.ensures c.loop-value.invariant)
+    rw (p.1, p.2) (each-halt (λ (t : KeyTable). t) (λ (v : Vec KeyTable). v.items) key_table_of 7 c.loop-value.tables.items _ _ _ _ _ q
+    c.in_err-read_key_table.ensures c.loop-value.invariant)
 
 pub loop-value-preserved : goal.loop-value-preserved
 loop-value-preserved c =

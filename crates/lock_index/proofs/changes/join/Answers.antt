@@ -13,7 +13,8 @@ returns-in-Some c =
     let o = c.args.other.now in
     ap live c.recount.ensures
     ∙ ap (λ (k : ℕ). live (set c.args.shelf.now c.in-Some.place (Some (record e { count = k })))) c.sum.ensures
-    ∙ ap (λ (b : Bool). live (set c.args.shelf.now c.in-Some.place (Some (cond b (record e { count = min 9999 (e.count + o.count) }) e)))) (sym c.in-Some.ensures.some.passes)
+    ∙ ap (λ (b : Bool). live (set c.args.shelf.now c.in-Some.place (Some (cond b (record e { count = min 9999 (e.count + o.count) }) e))))
+    (sym c.in-Some.ensures.some.passes)
     ∙ mapped-first n (joined n o) (joined-other n o) c.args.shelf.now c.in-Some.place e c.requires c.in-Some.ensures.some
 
 pub returns-in-None : goal.returns-in-None

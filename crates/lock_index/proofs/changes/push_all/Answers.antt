@@ -13,7 +13,8 @@ returns-clause-pushed c =
 
 pub returns-clause-added : goal.returns-clause-added
 returns-clause-added c =
-    let all : take c.loop-entry.entry-index c.args.added.now ≡ c.args.added.now = take_all c.loop-entry.entry-index c.args.added.now (c.loop-entry-test.false) in
+    let all : take c.loop-entry.entry-index c.args.added.now ≡ c.args.added.now =
+    take_all c.loop-entry.entry-index c.args.added.now (c.loop-entry-test.false) in
     ap live (c.loop-entry.invariant ∙ ap (λ es. c.args.shelf.now ++ map (λ (e : Entry). Some e) es) all)
     ∙ live-append c.args.shelf.now (map (λ (e : Entry). Some e) c.args.added.now)
     ∙ ap (λ (l : List Entry). live c.args.shelf.now ++ l) (live-some c.args.added.now)

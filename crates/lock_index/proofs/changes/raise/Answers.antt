@@ -15,10 +15,12 @@ pub returns-in-Some : goal.returns-in-Some
 returns-in-Some c =
     let e = c.in-Some.entry in
     let n = c.args.name.now in
-    let more : c.saturating_add.result ≡ min 65535 (e.count + 1) = c.saturating_add.ensures ∙ (let s : min (e.count + 1) 65535 ≡ min 65535 (e.count + 1) = omega arith in s) in
+    let more : c.saturating_add.result ≡ min 65535 (e.count + 1) = c.saturating_add.ensures
+    ∙ (let s : min (e.count + 1) 65535 ≡ min 65535 (e.count + 1) = omega arith in s) in
     ap live c.recount.ensures
     ∙ ap (λ (k : ℕ). live (set c.args.shelf.now c.in-Some.place (Some (record e { count = k })))) more
-    ∙ ap (λ (b : Bool). live (set c.args.shelf.now c.in-Some.place (Some (cond b (record e { count = min 65535 (e.count + 1) }) e)))) (sym c.in-Some.ensures.some.passes)
+    ∙ ap (λ (b : Bool). live (set c.args.shelf.now c.in-Some.place (Some (cond b (record e { count = min 65535 (e.count + 1) }) e))))
+    (sym c.in-Some.ensures.some.passes)
     ∙ mapped-first n (risen n) (stays n) c.args.shelf.now c.in-Some.place e c.requires c.in-Some.ensures.some
 
 pub returns-in-None : goal.returns-in-None

@@ -6,10 +6,12 @@ pub returns-then-is_lost-clause-refused : goal.returns-then-is_lost-clause-refus
 returns-then-is_lost-clause-refused c = converted-Lost (live c.args.shelf.now) c.args.asker.now c.args.asked.now c.if-is_lost.ensures
 
 pub returns-in-Some-clause-refused : goal.returns-in-Some-clause-refused
-returns-in-Some-clause-refused c = converted-Foreign (live c.args.shelf.now) c.args.asker.now c.args.asked.now c.in-Some.entry.now c.if-is_lost.ensures c.in-Some.ensures
+returns-in-Some-clause-refused c = converted-Foreign (live c.args.shelf.now) c.args.asker.now c.args.asked.now c.in-Some.entry.now c.if-is_lost.ensures
+    c.in-Some.ensures
 
 pub returns-then-sum_exceeds-clause-refused : goal.returns-then-sum_exceeds-clause-refused
-returns-then-sum_exceeds-clause-refused c = converted-Count (live c.args.shelf.now) c.args.asker.now c.args.asked.now c.if-is_lost.ensures c.in-None.ensures c.if-sum_exceeds.ensures
+returns-then-sum_exceeds-clause-refused c = converted-Count (live c.args.shelf.now) c.args.asker.now c.args.asked.now c.if-is_lost.ensures c.in-None.ensures
+    c.if-sum_exceeds.ensures
 
 pub returns-clause-ok : goal.returns-clause-ok
 returns-clause-ok c = converted-Ok (live c.args.shelf.now) c.args.asker.now c.args.asked.now c.if-is_lost.ensures c.in-None.ensures c.if-sum_exceeds.ensures

@@ -16,6 +16,7 @@ returns c =
     let had = contains nat_eq c.args.found.now i in
     let f = on_some (finds c.args.search.now) (slot_at c.args.slots.now i) in
     h i
-    ∙ ap (λ ns. had || (list_any (λ n. is_under c.args.map.now (candidates (place_of c.args.search.now) n) i) ns && f)) (c.members-lengths.ensures.members ∙ ap (members c.args.map.now) (c.lengths_key.ensures ∙ ap lengths_key c.table.ensures))
+    ∙ ap (λ ns. had || (list_any (λ n. is_under c.args.map.now (candidates (place_of c.args.search.now) n) i) ns && f))
+    (c.members-lengths.ensures.members ∙ ap (members c.args.map.now) (c.lengths_key.ensures ∙ ap lengths_key c.table.ensures))
     ∙ ap (λ b. had || b) (found-among c.args.slots.now c.args.map.now shown c.args.search.now i))
     c.add_found_over.ensures

@@ -16,5 +16,7 @@ loop-place-preserved c = λ i.
     let p = get_or c.args.places.now k 0 in
     c.in_ok-add_if.ensures i
     ∙ ap (λ b. b || (c.is_found.result && nat_eq i p)) (c.loop-place.invariant i)
-    ∙ ap (λ b. (contains nat_eq c.args.found.now i || (list_any (nat_eq i) (take k c.args.places.now) && on_some (finds c.args.search.now) (slot_at c.args.slots.now i))) || (b && nat_eq i p)) c.is_found.ensures
+    ∙ ap (λ b. (contains nat_eq c.args.found.now i
+    || (list_any (nat_eq i) (take k c.args.places.now) && on_some (finds c.args.search.now) (slot_at c.args.slots.now i))) || (b && nat_eq i p))
+    c.is_found.ensures
     ∙ place-more c.args.slots.now c.args.search.now c.args.places.now k (contains nat_eq c.args.found.now i) i c.loop-place-test.true

@@ -19,7 +19,8 @@ loop-length-preserved c = λ i.
     let f = on_some (finds c.args.search.now) (slot_at c.args.slots.now i) in
     c.in_ok-add_found_under.ensures i
     ∙ ap (λ b. b || (is_under c.args.map.now (candidates (place_of c.args.search.now) n) i && f)) (c.loop-length.invariant i)
-    ∙ length-more c.args.slots.now c.args.search.now (λ m. is_under c.args.map.now (candidates (place_of c.args.search.now) m) i) c.args.lengths.now k (contains nat_eq c.args.found.now i) i c.loop-length-test.true
+    ∙ length-more c.args.slots.now c.args.search.now (λ m. is_under c.args.map.now (candidates (place_of c.args.search.now) m) i) c.args.lengths.now k
+    (contains nat_eq c.args.found.now i) i c.loop-length-test.true
 
 pub returns : goal.returns
 returns c = λ i.
@@ -27,4 +28,5 @@ returns c = λ i.
     let f = on_some (finds c.args.search.now) (slot_at c.args.slots.now i) in
     let all : length c.args.lengths.now ≤ c.loop-length.length-index = omega arith in
     c.loop-length.invariant i
-    ∙ ap (λ ns. had || (list_any (λ n. is_under c.args.map.now (candidates (place_of c.args.search.now) n) i) ns && f)) (take_all c.loop-length.length-index c.args.lengths.now all)
+    ∙ ap (λ ns. had || (list_any (λ n. is_under c.args.map.now (candidates (place_of c.args.search.now) n) i) ns && f))
+    (take_all c.loop-length.length-index c.args.lengths.now all)

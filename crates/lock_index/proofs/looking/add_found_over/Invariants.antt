@@ -7,4 +7,8 @@ use Rattle.lock_index.specs.Slots.{on_some, slot_at}
 use Rattle.lock_index.proofs.looking.add_found_over.Given as goal
 
 abbrev pub invariant-loop-length : goal.invariant-loop-length
-invariant-loop-length l = (i : ℕ) → contains nat_eq l.found i ≡ (contains nat_eq l.fn.found i || (list_any (λ n. is_under l.map (searches.candidates (searches.place_of l.search) n) i) (take l.length-index l.lengths) && on_some (searches.finds l.search) (slot_at l.slots i)))
+invariant-loop-length l =
+    (i : ℕ) → contains nat_eq l.found
+    i ≡ (contains nat_eq l.fn.found i
+    || (list_any (λ n. is_under l.map (searches.candidates (searches.place_of l.search) n) i) (take l.length-index l.lengths)
+    && on_some (searches.finds l.search) (slot_at l.slots i)))

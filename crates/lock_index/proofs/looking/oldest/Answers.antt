@@ -8,5 +8,6 @@ use Rattle.lock_index.proofs.looking.oldest.Goals as goal
 pub returns : goal.returns
 returns c = λ shown.
     c.oldest_over.ensures
-    ∙ ap (λ ns. oldest_over c.args.slots.now c.args.map.now c.args.search.now None ns) (c.members-lengths.ensures.members ∙ ap (members c.args.map.now) (c.lengths_key.ensures ∙ ap lengths_key c.table.ensures))
+    ∙ ap (λ ns. oldest_over c.args.slots.now c.args.map.now c.args.search.now None ns)
+    (c.members-lengths.ensures.members ∙ ap (members c.args.map.now) (c.lengths_key.ensures ∙ ap lengths_key c.table.ensures))
     ∙ oldest-is c.args.slots.now c.args.map.now shown c.args.search.now

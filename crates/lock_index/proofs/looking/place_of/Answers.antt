@@ -10,5 +10,7 @@ pub returns : goal.returns
 returns c = λ shown.
     let n = c.args.name.now in
     c.oldest_of.ensures
-    ∙ ap (oldest_of c.args.slots.now (Named c.args.name) None) (c.members.ensures.members ∙ ap (members c.args.map.now) (c.spot_key-key.ensures ∙ ap (λ l. spot_at n.asked.table (take l n.asked.pattern)) c.literal.ensures.literal))
+    ∙ ap (oldest_of c.args.slots.now (Named c.args.name) None)
+    (c.members.ensures.members
+    ∙ ap (members c.args.map.now) (c.spot_key-key.ensures ∙ ap (λ l. spot_at n.asked.table (take l n.asked.pattern)) c.literal.ensures.literal))
     ∙ named-is c.args.slots.now c.args.map.now shown c.args.name

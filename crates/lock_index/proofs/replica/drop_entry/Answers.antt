@@ -11,7 +11,8 @@ returns-in-Some-clause-done c =
 
 pub returns-in-Some-clause-distinct : goal.returns-in-Some-clause-distinct
 returns-in-Some-clause-distinct c =
-    ap has_distinct_names (ap live c.clear.ensures ∙ without-first c.args.name.now c.args.shelf.now c.in-Some.place c.in-Some.entry c.requires c.in-Some.ensures.some)
+    ap has_distinct_names
+    (ap live c.clear.ensures ∙ without-first c.args.name.now c.args.shelf.now c.in-Some.place c.in-Some.entry c.requires c.in-Some.ensures.some)
     ∙ distinct-without c.args.name.now (live c.args.shelf.now) c.requires
 
 pub returns-in-None-clause-done : goal.returns-in-None-clause-done

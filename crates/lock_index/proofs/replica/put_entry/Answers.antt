@@ -19,7 +19,8 @@ returns-in-Some-clause-distinct c =
     ap has_distinct_names (ap live c.rewrite.ensures ∙ instead-first e c.in-Some.standing c.args.shelf.now c.in-Some.place c.requires first)
     ∙ distinct-instead e (live c.args.shelf.now) c.requires
 
-after : {T E : Type 0} (r : Result T E) (e : Entry) (old new : List Entry) → OnOk r (new ≡ old ++ e ∷ []) → OnErr r (new ≡ old) → has_distinct_names old ≡ true → has_distinct_names (old ++ e ∷ []) ≡ true → has_distinct_names new ≡ true
+after : {T E : Type 0} (r : Result T E) (e : Entry) (old new : List Entry) → OnOk r (new ≡ old ++ e ∷ []) → OnErr r (new ≡ old) → has_distinct_names old ≡ true
+    → has_distinct_names (old ++ e ∷ []) ≡ true → has_distinct_names new ≡ true
 after (Ok x) e old new put same h k = ap has_distinct_names put ∙ k
 after (Err x) e old new put same h k = ap has_distinct_names same ∙ h
 

@@ -8,7 +8,8 @@ pub returns-in-Some-clause-refused : goal.returns-in-Some-clause-refused
 returns-in-Some-clause-refused c = converted-Foreign c.args.entries.now c.args.asker.now c.args.asked.now c.in-Some.entry c.if-is_lost.ensures c.in-Some.ensures
 
 pub returns-then-sum_exceeds-clause-refused : goal.returns-then-sum_exceeds-clause-refused
-returns-then-sum_exceeds-clause-refused c = converted-Count c.args.entries.now c.args.asker.now c.args.asked.now c.if-is_lost.ensures c.in-None.ensures c.if-sum_exceeds.ensures
+returns-then-sum_exceeds-clause-refused c = converted-Count c.args.entries.now c.args.asker.now c.args.asked.now c.if-is_lost.ensures c.in-None.ensures
+    c.if-sum_exceeds.ensures
 
 pub returns-clause-ok : goal.returns-clause-ok
 returns-clause-ok c = converted-Ok c.args.entries.now c.args.asker.now c.args.asked.now c.if-is_lost.ensures c.in-None.ensures c.if-sum_exceeds.ensures

@@ -14,7 +14,8 @@ returns-in-Some c =
     let e = c.index-entries-i.result in
     let place : position (has_name n) es ≡ Some c.in-Some.i = sym c.requires ∙ c.in-Some.is in
     let within = (position-Some (has_name n) es c.in-Some.i place).1 in
-    let found : find (has_name n) es ≡ Some e = position-find_some (has_name n) es c.in-Some.i place ∙ slice_get_read es (length es) c.in-Some.i e refl within c.index-entries-i.is in
+    let found : find (has_name n) es ≡ Some e = position-find_some (has_name n) es c.in-Some.i place
+    ∙ slice_get_read es (length es) c.in-Some.i e refl within c.index-entries-i.is in
     let count : count_at es n ≡ e.count = ap (λ o. option_map_or (λ (x : Entry). x.count) o 0) found in
     let k = ap (λ (x : Entry). x.count) (sym c.index-entries-i.is) in
     λ i. record { name = n; place = sym place i; count = (k ∙ sym count) i }

@@ -8,12 +8,14 @@ use Rattle.lock_table.proofs.places.free_one.Goals as goal
 
 pub returns-in-Some-clause-stood : goal.returns-in-Some-clause-stood
 returns-in-Some-clause-stood c =
-    let found : position (has_name c.args.name.now) c.args.entries.now.items ≡ Some c.in-Some.place = rw c.as_slice.ensures.value at (sym c.in-Some.ensures.place) in
+    let found : position (has_name c.args.name.now) c.args.entries.now.items ≡ Some c.in-Some.place =
+    rw c.as_slice.ensures.value at (sym c.in-Some.ensures.place) in
     sym (position-any (has_name c.args.name.now) c.args.entries.now.items c.in-Some.place found)
 
 pub returns-in-Some-clause-after : goal.returns-in-Some-clause-after
 returns-in-Some-clause-after c =
-    let found : position (has_name c.args.name.now) c.args.entries.now.items ≡ Some c.in-Some.place = rw c.as_slice.ensures.value at (sym c.in-Some.ensures.place) in
+    let found : position (has_name c.args.name.now) c.args.entries.now.items ≡ Some c.in-Some.place =
+    rw c.as_slice.ensures.value at (sym c.in-Some.ensures.place) in
     c.lower_at.ensures some_entry ∙ sym (position-replace (has_name c.args.name.now) lowered c.args.entries.now.items c.in-Some.place some_entry found)
 
 pub returns-in-None-clause-stood : goal.returns-in-None-clause-stood

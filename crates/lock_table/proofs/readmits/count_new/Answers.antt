@@ -10,7 +10,8 @@ loop-e-preserved c =
     let gs = c.args.given.now in
     let i = c.loop-e.e-index in
     let e = c.e-item.result in
-    let one : c.loop-e.added + c.one_unless-added.result ≤ c.loop-e.added + 1 = one_at_most (is_some c.in-Ok.places.update) c.one_unless-added.result c.loop-e.added c.one_unless-added.ensures in
+    let one : c.loop-e.added + c.one_unless-added.result ≤ c.loop-e.added + 1 =
+    one_at_most (is_some c.in-Ok.places.update) c.one_unless-added.result c.loop-e.added c.one_unless-added.ensures in
     let few = c.loop-e.invariant.few in
     record {
       bars = c.loop-e.invariant.bars ∙ first_bar-more es c.args.asker.now gs i e c.loop-e-test.true c.e-item.is (rw c.asked.ensures at c.in-Ok.ensures.free);

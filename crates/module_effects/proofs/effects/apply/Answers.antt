@@ -23,9 +23,11 @@ unreachable-requires c =
 pub returns-in-Err-clause-only_refused : goal.returns-in-Err-clause-only_refused
 returns-in-Err-clause-only_refused c =
     subst (IsRefusedOver c.args.spots.now c.args.effects.now) (sym c.at.ensures)
-    (progress_refused c.args.spots.now c.args.effects.now c.loop-i.rows.items c.loop-i.i c.index-effects-i.result c.in-Some.place c.index_mut-row.result.now c.in-Err.fault
+    (progress_refused c.args.spots.now c.args.effects.now c.loop-i.rows.items c.loop-i.i c.index-effects-i.result c.in-Some.place c.index_mut-row.result.now
+    c.in-Err.fault
     c.loop-i-test.true c.index-effects-i.is
-    (first_from_position _ c.loop-i.rows.items _ _ (ap (position (is_at (row_of c.index-effects-i.result))) (sym c.as_slice.ensures.value) ∙ sym c.place_of.ensures ∙ c.in-Some.is))
+    (first_from_position _ c.loop-i.rows.items _ _
+    (ap (position (is_at (row_of c.index-effects-i.result))) (sym c.as_slice.ensures.value) ∙ sym c.place_of.ensures ∙ c.in-Some.is))
     c.index_mut-row.ensures.value c.in-Err.ensures c.loop-i.invariant)
 
 pub returns-in-Err-clause-refused : goal.returns-in-Err-clause-refused
@@ -33,9 +35,11 @@ returns-in-Err-clause-refused c = refused_from_over c.args.spots.now c.args.effe
 
 pub loop-i-preserved : goal.loop-i-preserved
 loop-i-preserved c =
-    progress_more c.args.spots.now c.args.effects.now c.loop-i.rows.items c.loop-i.i c.index-effects-i.result c.in-Some.place c.index_mut-row.result.now c.in-Ok.text
+    progress_more c.args.spots.now c.args.effects.now c.loop-i.rows.items c.loop-i.i c.index-effects-i.result c.in-Some.place c.index_mut-row.result.now
+    c.in-Ok.text
     c.loop-i-test.true c.index-effects-i.is
-    (first_from_position _ c.loop-i.rows.items _ _ (ap (position (is_at (row_of c.index-effects-i.result))) (sym c.as_slice.ensures.value) ∙ sym c.place_of.ensures ∙ c.in-Some.is))
+    (first_from_position _ c.loop-i.rows.items _ _
+    (ap (position (is_at (row_of c.index-effects-i.result))) (sym c.as_slice.ensures.value) ∙ sym c.place_of.ensures ∙ c.in-Some.is))
     c.index_mut-row.ensures.value c.in-Ok.ensures c.loop-i.invariant
 
 pub returns-clause-done : goal.returns-clause-done

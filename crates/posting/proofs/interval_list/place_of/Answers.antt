@@ -11,4 +11,5 @@ returns-clause-place c = λ kept.
     let name : RowName = (c.args.object.now, c.args.nr) in
     let items = c.args.items.now in
     place_found name items c.partition_point.result c.partition_point.ensures.bound
-    (IsPartitionPoint-from_clause (is_before name) items c.partition_point.result c.partition_point.ensures.partitioned (parted name items kept) (λ a r f called. search rules))
+    (IsPartitionPoint-from_clause (is_before name) items c.partition_point.result c.partition_point.ensures.partitioned (parted name items kept)
+    (λ a r f called. search rules))

@@ -8,7 +8,8 @@ pub follow-requires-clause-few : goal.follow-requires-clause-few
 follow-requires-clause-few c =
     let marks = c.args.marks.now in
     let i = c.loop-mark.mark-index in
-    let few : length (take i marks) < 1048576 = omega (arith, c.requires.few, c.loop-mark-test.true, length-take-le i marks (omega (arith, c.loop-mark-test.true))) in
+    let few : length (take i marks) < 1048576 =
+    omega (arith, c.requires.few, c.loop-mark-test.true, length-take-le i marks (omega (arith, c.loop-mark-test.true))) in
     turns_left c.make_room.new.self c.args.units.now (take i marks) (c.make_room.ensures.same c.args.units.now (take i marks) c.loop-mark.invariant) few
 
 pub follow-requires-clause-placed : goal.follow-requires-clause-placed

@@ -27,4 +27,5 @@ pub returns-in-Err-Refused-clause-possible : goal.returns-in-Err-Refused-clause-
 returns-in-Err-Refused-clause-possible g c =
     let spots = c.as_slice.result.now in
     let effects = c.args.effects.now in
-    refused_comes spots effects c.in-Err-Refused.index c.in-Err-Refused.reason (subst (IsRefusedOver spots effects) c.in-Err-Refused.field-0-is c.in-Err-Refused.ensures.only_refused)
+    refused_comes spots effects c.in-Err-Refused.index c.in-Err-Refused.reason
+    (subst (IsRefusedOver spots effects) c.in-Err-Refused.field-0-is c.in-Err-Refused.ensures.only_refused)

@@ -7,13 +7,16 @@ use Rattle.posting.proofs.AppliedParts.{any_last, distinct_more, read_more}
 use Rattle.posting.proofs.spots.read_once.Goals as goal
 
 pub returns-clause-covered : goal.returns-clause-covered
-returns-clause-covered g c = subst (λ ss. list_any (is_at (row_of c.args.effect.now)) ss ≡ true) (sym c.in_ok-push.ensures.items) (any_last c.args.spots.now.items c.args.effect.now c.in_ok-text.text)
+returns-clause-covered g c = subst (λ ss. list_any (is_at (row_of c.args.effect.now)) ss ≡ true) (sym c.in_ok-push.ensures.items)
+    (any_last c.args.spots.now.items c.args.effect.now c.in_ok-text.text)
 
 pub returns-clause-distinct : goal.returns-clause-distinct
 returns-clause-distinct g c h =
     let row = row_of c.args.effect.now in
-    let none : list_any (is_at row) c.args.spots.now.items ≡ false = ap (list_any (is_at row)) (sym c.as_slice.ensures.value) ∙ sym c.is_read.ensures ∙ c.if-is_read.false in
-    subst HasDistinctRows (sym c.in_ok-push.ensures.items) (distinct_more c.args.spots.now.items (record { table = row.0; key = row.1; text = c.in_ok-text.text }) none h)
+    let none : list_any (is_at row) c.args.spots.now.items ≡ false = ap (list_any (is_at row)) (sym c.as_slice.ensures.value) ∙ sym c.is_read.ensures
+    ∙ c.if-is_read.false in
+    subst HasDistinctRows (sym c.in_ok-push.ensures.items)
+    (distinct_more c.args.spots.now.items (record { table = row.0; key = row.1; text = c.in_ok-text.text }) none h)
 
 pub returns-clause-read : goal.returns-clause-read
 returns-clause-read g c =

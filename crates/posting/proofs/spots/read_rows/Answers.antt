@@ -24,11 +24,18 @@ loop-effect-preserved g c =
     let new = c.read_once.new.spots.items in
     let held = g.K.Keeper.held in
     record {
-      stays = record { rows = now.stays.rows ∙ before.stays.rows; opened = now.stays.opened; room = λ batch h. now.stays.room batch (before.stays.room batch h) };
+      stays = record {
+        rows = now.stays.rows ∙ before.stays.rows;
+        opened = now.stays.opened;
+        room =
+            λ batch h. now.stays.room batch (before.stays.room batch h);
+      };
       told = now.told ∙ before.told;
       crash = λ left h. before.crash left (now.crash left h);
       count = now.cause.quiet ∙ before.count;
-      covered = covers_more old new c.args.effects.now c.loop-effect.effect-index c.effect-item.result c.loop-effect-test.true c.effect-item.is now.covered now.kept before.covered;
+      covered = covers_more old new c.args.effects.now c.loop-effect.effect-index c.effect-item.result c.loop-effect-test.true c.effect-item.is now.covered
+          now.kept before.covered;
       distinct = now.distinct before.distinct;
-      read = read_on (held c.args.keeper.now) old new (subst (λ o. IfSome o (λ rows. AreRead rows old → AreRead rows new)) before.stays.rows now.read) before.read;
+      read = read_on (held c.args.keeper.now) old new (subst (λ o. IfSome o (λ rows. AreRead rows old → AreRead rows new)) before.stays.rows now.read)
+          before.read;
     }

@@ -10,9 +10,11 @@ loop-num-preserved c = record {
   none = λ k r from before at.
       let first : k < c.loop-num.next = grind (arith, c.min-next.ensures, before) in
       let second : k < c.place_from.result = grind (arith, c.min-next.ensures, before) in
-      none_more r.interval c.args.numbers.now c.loop-num.num-index c.num-item.result c.loop-num-test.true c.num-item.is (c.loop-num.invariant.none k r from first at) (c.place_from.ensures.none k r from second at);
+      none_more r.interval c.args.numbers.now c.loop-num.num-index c.num-item.result c.loop-num-test.true c.num-item.is
+      (c.loop-num.invariant.none k r from first at) (c.place_from.ensures.none k r from second at);
   some = λ r at.
-      some_more c.args.ranges.now c.args.numbers.now c.loop-num.num-index c.num-item.result c.loop-num.next c.place_from.result c.loop-num-test.true c.num-item.is c.loop-num.invariant.some
+      some_more c.args.ranges.now c.args.numbers.now c.loop-num.num-index c.num-item.result c.loop-num.next c.place_from.result c.loop-num-test.true
+      c.num-item.is c.loop-num.invariant.some
       c.place_from.ensures.some r (ap (slice_get c.args.ranges.now) (sym c.min-next.ensures) ∙ at);
 }
 

@@ -9,5 +9,7 @@ loop-left-preserved c = record {
   within = omega (arith, c.loop-left.invariant.within);
   places = λ object nr.
       c.in_ok-put.ensures object nr
-      ∙ places_more c.args.intervals.now c.loop-left.left c.index-intervals-left.result object nr (get same_range c.loop-left.places (range_id object nr)) c.loop-left-test.true c.loop-left.invariant.within c.index-intervals-left.is (c.loop-left.invariant.places object nr);
+      ∙ places_more c.args.intervals.now c.loop-left.left c.index-intervals-left.result object nr
+      (get same_range c.loop-left.places (range_id object nr)) c.loop-left-test.true c.loop-left.invariant.within c.index-intervals-left.is
+      (c.loop-left.invariant.places object nr);
 }

@@ -18,4 +18,5 @@ loop-range-preserved g c =
     (c.start.ensures.next ∙ ap (λ (r : NumberRange). level_in c.args.books.now.ledger.levels r.interval + 1) (sym c.range-item.is))
 
 pub returns : goal.returns
-returns g c = started_all c.args.books.now.ledger.levels c.args.ranges.now c.loop-range.ranges c.loop-range.range-index c.loop-range-test.false c.loop-range.invariant
+returns g c = started_all c.args.books.now.ledger.levels c.args.ranges.now c.loop-range.ranges c.loop-range.range-index c.loop-range-test.false
+    c.loop-range.invariant

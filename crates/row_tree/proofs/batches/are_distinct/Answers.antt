@@ -7,8 +7,10 @@ use Rattle.row_tree.proofs.batches.are_distinct.Goals as goal
 
 pub loop-first-preserved : goal.loop-first-preserved
 loop-first-preserved c =
-    goes_on (λ s. contains key_cmp c.loop-first.seen (key_at s)) (λ s. contains key_cmp c.add_key.new.seen (key_at s)) c.args.batch.now c.loop-first.rest.now c.in-Some.first.now c.in-Some.after.now c.in-Some.ensures.cases.0
+    goes_on (λ s. contains key_cmp c.loop-first.seen (key_at s)) (λ s. contains key_cmp c.add_key.new.seen (key_at s)) c.args.batch.now c.loop-first.rest.now
+    c.in-Some.first.now c.in-Some.after.now c.in-Some.ensures.cases.0
     c.in_ok-add_key.ensures.seen (sym c.if-not-branch.false ∙ c.in_ok-add_key.ensures.new) c.loop-first.invariant
 
 pub returns : goal.returns
-returns c = ends (λ s. contains key_cmp c.loop-first.seen (key_at s)) c.args.batch.now c.loop-first.rest.now (nil_from_length c.loop-first.rest.now c.in_default.ensures.cases) c.loop-first.invariant
+returns c = ends (λ s. contains key_cmp c.loop-first.seen (key_at s)) c.args.batch.now c.loop-first.rest.now
+    (nil_from_length c.loop-first.rest.now c.in_default.ensures.cases) c.loop-first.invariant

@@ -8,7 +8,8 @@ loop-step-preserved c =
     let rest = c.pop_front.new.self.items in
     let old = c.loop-step.places.entries in
     let new = c.make_step.new.places.entries in
-    let after = after_step old new steps rest c.in-Some.step c.in-Some.ensures.items c.make_step.ensures.others c.loop-step.invariant.placed c.loop-step.invariant.apart in
+    let after = after_step old new steps rest c.in-Some.step c.in-Some.ensures.items c.make_step.ensures.others c.loop-step.invariant.placed
+    c.loop-step.invariant.apart in
     record {
       order = c.make_step.ensures.order;
       placed = after.0;

@@ -9,7 +9,8 @@ invariant-loop-step l = record {
   order : AreInOrder l.places.entries;
   placed : ArePlaced l.places.entries l.waiting.items;
   apart : AreApart l.waiting.items;
-  rows : changed (map change_of l.waiting.items) (rows_of l.places.entries) ≡ changed (map change_of l.initial.waiting.items) (rows_of l.initial.places.entries);
+  rows : changed (map change_of l.waiting.items) (rows_of l.places.entries) ≡ changed (map change_of l.initial.waiting.items)
+      (rows_of l.initial.places.entries);
 }
 
 abbrev pub decreases-loop-step : goal.decreases-loop-step

@@ -8,7 +8,8 @@ use Rattle.script_actors.proofs.actor.actor_lines.Given as goal
 
 abbrev pub invariant-rest : goal.invariant-rest
 invariant-rest g l = record {
-  done : GoesOn l.objects (lines_of_actor l.who l.lines) (lines_of_actor l.who l.rest) (no_deeds (desk_view g.K.Desk.calls g.K.Desk.full_at l.fn.desk)) (deeds l.sides.items (desk_view g.K.Desk.calls g.K.Desk.full_at l.desk) l.said.items false);
+  done : GoesOn l.objects (lines_of_actor l.who l.lines) (lines_of_actor l.who l.rest) (no_deeds (desk_view g.K.Desk.calls g.K.Desk.full_at l.fn.desk))
+      (deeds l.sides.items (desk_view g.K.Desk.calls g.K.Desk.full_at l.desk) l.said.items false);
   parts : AllByRecursion (λ (x : NumberedLine). has_part x.line ≡ true) l.rest;
 }
 

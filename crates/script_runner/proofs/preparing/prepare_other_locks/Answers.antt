@@ -8,11 +8,15 @@ use Rattle.script_runner.proofs.preparing.prepare_other_locks.Goals as goal
 pub returns-in-Collect : goal.returns-in-Collect
 returns-in-Collect c = λ hall.
     rw c.in-Collect.is
-    (subst (λ vs. IsPrepared (meaning (world c.args.objects.now hall c.args.sides.now.items) (line.Collect c.in-Collect.session c.in-Collect.object c.in-Collect.mode c.in-Collect.scope vs)) true c.args.sides.now.items c.collect.new.sides.items c.collect.result)
+    (subst (λ vs. IsPrepared
+    (meaning (world c.args.objects.now hall c.args.sides.now.items)
+    (line.Collect c.in-Collect.session c.in-Collect.object c.in-Collect.mode c.in-Collect.scope vs)) true c.args.sides.now.items c.collect.new.sides.items
+    c.collect.result)
     c.as_slice-values.ensures (c.collect.ensures hall))
 
 pub returns-in-Convert : goal.returns-in-Convert
 returns-in-Convert c = λ hall.
     rw c.in-Convert.is
-    (subst (λ vs. IsPrepared (meaning (world c.args.objects.now hall c.args.sides.now.items) (line.Convert c.in-Convert.session c.in-Convert.object vs)) true c.args.sides.now.items c.args.sides.now.items c.convert.result)
+    (subst (λ vs. IsPrepared (meaning (world c.args.objects.now hall c.args.sides.now.items) (line.Convert c.in-Convert.session c.in-Convert.object vs)) true
+    c.args.sides.now.items c.args.sides.now.items c.convert.result)
     c.as_slice.ensures (c.convert.ensures hall))

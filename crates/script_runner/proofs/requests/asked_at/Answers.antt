@@ -24,7 +24,8 @@ returns c =
     let o = c.index-objects-place.result in
     let at = sym c.place_of.ensures.place ∙ c.in-Some.is in
     let found : object_at objects c.args.object.now ≡ Some o =
-    position-find_some test objects c.in-Some.place at ∙ slice_get_read objects (length objects) c.in-Some.place o refl c.in-Some.ensures.within c.index-objects-place.is in
+    position-find_some test objects c.in-Some.place at ∙ slice_get_read objects
+    (length objects) c.in-Some.place o refl c.in-Some.ensures.within c.index-objects-place.is in
     let rule : asked_at objects c.args.object.now c.args.mode values ≡ arguments_at o values c.args.mode =
     ap (λ (o : Option Object). elim o [ None ↦ Err refusal.UnknownObject | Some x ↦ arguments_at x values c.args.mode ]) found in
     subst (λ r. IsGivenBy (λ (v : Vec Asked). v.items) r c.arguments_at.result) (sym rule) c.arguments_at.ensures

@@ -10,7 +10,16 @@ use Rattle.script_runner.proofs.TurnLemmas.{taken_at}
 use Rattle.script_runner.proofs.runner.replay_lines.Goals as goal
 
 pub lines-init : goal.lines-init
-lines-init g c = (begins _ _ _ c.new-reader.ensures.number c.new-reader.ensures.reading, refl, λ yes none. none, λ yes none. none, same_link _ _ _ _, λ quiet none. none, λ yes none. none, λ attached first h. h)
+lines-init g c = (
+  begins _ _ _ c.new-reader.ensures.number c.new-reader.ensures.reading,
+  refl,
+  λ yes none. none,
+  λ yes none. none,
+  same_link _ _ _ _,
+  λ quiet none. none,
+  λ yes none. none,
+  λ attached first h. h,
+)
 
 pub take_turn-requires : goal.take_turn-requires
 take_turn-requires g c =
@@ -31,7 +40,8 @@ lines-preserved g c = (
   λ yes none. c.take_turn.ensures.good_file yes (c.lines.invariant.2 yes none),
   λ yes none. c.take_turn.ensures.good_store (c.lines.invariant.1 ∙ yes) (c.lines.invariant.3 yes none),
   link_on _ _ _ _ _ _ c.lines.invariant.4 c.take_turn.ensures.link,
-  tells_on _ _ _ c.args.hall.now.state.past c.lines.hall.state.past c.take_turn.new.hall.state.past c.lines.invariant.4.faults_later c.take_turn.ensures.link.faults_later c.lines.invariant.5 c.take_turn.ensures.good_link,
+  tells_on _ _ _ c.args.hall.now.state.past c.lines.hall.state.past c.take_turn.new.hall.state.past c.lines.invariant.4.faults_later
+      c.take_turn.ensures.link.faults_later c.lines.invariant.5 c.take_turn.ensures.good_link,
   λ yes none. c.take_turn.ensures.good_replica (c.lines.invariant.4.told ∙ yes) (c.lines.invariant.6 yes none),
   λ attached first h. c.take_turn.ensures.link_counts attached first (c.lines.invariant.7 attached first h),
 )
@@ -93,7 +103,8 @@ returns-in-Err-clause-link_fault g c = c.lines.invariant.5
 
 pub returns-in-Err-take_turn-clause-link_fault : goal.returns-in-Err-take_turn-clause-link_fault
 returns-in-Err-take_turn-clause-link_fault g c =
-    tells_on _ _ _ c.args.hall.now.state.past c.lines.hall.state.past c.take_turn.new.hall.state.past c.lines.invariant.4.faults_later c.take_turn.ensures.link.faults_later c.lines.invariant.5 c.take_turn.ensures.good_link
+    tells_on _ _ _ c.args.hall.now.state.past c.lines.hall.state.past c.take_turn.new.hall.state.past c.lines.invariant.4.faults_later
+    c.take_turn.ensures.link.faults_later c.lines.invariant.5 c.take_turn.ensures.good_link
 
 pub returns-in-Ok-false-clause-good_replica : goal.returns-in-Ok-false-clause-good_replica
 returns-in-Ok-false-clause-good_replica g c = c.lines.invariant.6

@@ -11,8 +11,10 @@ use Rattle.script_runner.proofs.runner.replay_lines.Given as goal
 abbrev pub invariant-lines : goal.invariant-lines
 invariant-lines g l =
     GoesOn (world l.objects l.initial.hall.state l.initial.sides.items) (world l.objects l.hall.state l.sides.items)
-    (seen (g.S.Source.left l.initial.source) (g.W.Sink.written l.initial.sink) (g.S.Source.faults l.initial.source) (g.W.Sink.faults l.initial.sink) (g.K.Keeper.faults l.initial.hall.keeper) (g.D.Disk.faults l.initial.hall.file.disk))
-    (seen (g.S.Source.left l.source) (g.W.Sink.written l.sink) (g.S.Source.faults l.source) (g.W.Sink.faults l.sink) (g.K.Keeper.faults l.hall.keeper) (g.D.Disk.faults l.hall.file.disk))
+    (seen (g.S.Source.left l.initial.source) (g.W.Sink.written l.initial.sink) (g.S.Source.faults l.initial.source) (g.W.Sink.faults l.initial.sink)
+    (g.K.Keeper.faults l.initial.hall.keeper) (g.D.Disk.faults l.initial.hall.file.disk))
+    (seen (g.S.Source.left l.source) (g.W.Sink.written l.sink) (g.S.Source.faults l.source) (g.W.Sink.faults l.sink) (g.K.Keeper.faults l.hall.keeper)
+    (g.D.Disk.faults l.hall.file.disk))
     l.reader
     × (is_some (g.K.Keeper.held l.hall.keeper) ≡ is_some (g.K.Keeper.held l.initial.hall.keeper))
     × (IsTrue g.D.Disk.tells → NoneUnsound l.initial.hall.state.past → NoneUnsound l.hall.state.past)
@@ -20,7 +22,8 @@ invariant-lines g l =
     × IsLater g.L.Link.applied g.L.Link.faults g.L.Link.refusals l.initial.hall.follower l.hall.follower
     × TellsNoFault (g.L.Link.faults l.initial.hall.follower.link) (g.L.Link.faults l.hall.follower.link) l.initial.hall.state.past l.hall.state.past
     × (is_some (g.L.Link.applied l.initial.hall.follower.link) ≡ true → NoneUnsoundReplica l.initial.hall.state.past → NoneUnsoundReplica l.hall.state.past)
-    × GoesOnLinked l.initial.hall.state l.hall.state (link_counts g.L.Link.faults g.L.Link.refusals l.initial.hall.follower.link) (link_counts g.L.Link.faults g.L.Link.refusals l.hall.follower.link)
+    × GoesOnLinked l.initial.hall.state l.hall.state (link_counts g.L.Link.faults g.L.Link.refusals l.initial.hall.follower.link)
+    (link_counts g.L.Link.faults g.L.Link.refusals l.hall.follower.link)
 
 abbrev pub decreases-lines : goal.decreases-lines
 decreases-lines g l = 200000 - l.reader.number

@@ -6,4 +6,5 @@ use Rattle.sorted_rows.proofs.table.count_before.Goals as goal
 
 pub returns-clause-parted : goal.returns-clause-parted
 returns-clause-parted c = λ kept.
-    IsPartitionPoint-from_clause (λ (row : Row). is_below row.key c.args.key.now) c.args.rows.now c.partition_point.result c.partition_point.ensures.partitioned kept (λ a r f called. search rules)
+    IsPartitionPoint-from_clause (λ (row : Row). is_below row.key c.args.key.now) c.args.rows.now c.partition_point.result c.partition_point.ensures.partitioned
+    kept (λ a r f called. search rules)

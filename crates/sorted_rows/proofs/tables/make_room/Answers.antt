@@ -15,7 +15,8 @@ loop-change-preserved c =
     let change = c.change-item.result in
     record {
       taken = subst (λ cs. HasRoom n cs new) (ap (λ x. take i batch ++ x ∷ []) c.change-item.is ∙ sym (take_more batch i change c.loop-change-test.true))
-          (room_more n (take i batch) change new (room_kept n n (take i batch) old new (c.make_place.ensures.room n) before.taken) (subst (λ t. HasPlace n t new) c.table_of.ensures c.in_ok-make_place.ensures.place));
+          (room_more n (take i batch) change new (room_kept n n (take i batch) old new (c.make_place.ensures.room n) before.taken)
+          (subst (λ t. HasPlace n t new) c.table_of.ensures c.in_ok-make_place.ensures.place));
       same = c.make_place.ensures.same ∙ before.same;
       room = λ m other place. c.make_place.ensures.room m other (before.room m other place);
     }

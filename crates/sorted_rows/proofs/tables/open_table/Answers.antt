@@ -8,5 +8,6 @@ loop-alloc-preserved c =
     let tables = c.loop-alloc.tables.items in
     record {
       same = ap (entries_from 0) c.in_ok-push.ensures.items ∙ entries_push 0 tables c.new.result c.new.ensures.items ∙ c.loop-alloc.invariant.same;
-      room = λ n other place. subst (HasPlace n other) (sym c.in_ok-push.ensures.items) (place_push n other tables c.new.result (c.loop-alloc.invariant.room n other place));
+      room = λ n other place. subst (HasPlace n other) (sym c.in_ok-push.ensures.items)
+          (place_push n other tables c.new.result (c.loop-alloc.invariant.room n other place));
     }

@@ -5,7 +5,8 @@ use Rattle.sorted_rows.proofs.Numbered.{remove_table, sorted_table}
 use Rattle.sorted_rows.proofs.tables.remove_from.Goals as goal
 
 pub index_mut-requires : goal.index_mut-requires
-index_mut-requires c = let within : c.args.table < length c.args.tables.now.items = place_within 1 c.args.table c.args.tables.now.items c.requires.room in omega arith
+index_mut-requires c = let within : c.args.table < length c.args.tables.now.items = place_within 1 c.args.table c.args.tables.now.items c.requires.room in
+    omega arith
 
 pub returns-clause-gone : goal.returns-clause-gone
 returns-clause-gone c =
@@ -18,4 +19,5 @@ returns-clause-gone c =
 
 pub returns-clause-room : goal.returns-clause-room
 returns-clause-room c = λ n other place.
-    place_set (n + 1) n c.args.table other c.args.tables.now.items c.index_mut.result.now c.remove_row.new.rows (omega arith) c.index_mut.ensures.value (λ h. omega (arith, c.remove_row.ensures.less, c.remove_row.ensures.room)) place
+    place_set (n + 1) n c.args.table other c.args.tables.now.items c.index_mut.result.now c.remove_row.new.rows (omega arith) c.index_mut.ensures.value
+    (λ h. omega (arith, c.remove_row.ensures.less, c.remove_row.ensures.room)) place

@@ -14,4 +14,6 @@ loop-stored-preserved c = λ key.
     ∙ c.loop-stored.invariant key
 
 pub returns : goal.returns
-returns c = λ key. sym (ap (counts_after key (counts_for c.loop-stored.counts key)) (drop_all c.loop-stored.stored-index c.args.headers.now c.loop-stored-test.false)) ∙ c.loop-stored.invariant key
+returns c = λ key. sym
+    (ap (counts_after key (counts_for c.loop-stored.counts key)) (drop_all c.loop-stored.stored-index c.args.headers.now c.loop-stored-test.false))
+    ∙ c.loop-stored.invariant key

@@ -8,7 +8,8 @@ returns-clause-numbered c = λ marks h. numbered marks (all_right (λ before. ha
 
 pub returns-clause-under : goal.returns-clause-under
 returns-clause-under c = λ start headers modules steps marks locks each h whole.
-    under_from start headers modules steps locks [] marks each (all_right (is_right_mark start headers) 4 [] marks h) (no_wrong_unit headers modules steps marks locks whole)
+    under_from start headers modules steps locks [] marks each (all_right (is_right_mark start headers) 4 [] marks h)
+    (no_wrong_unit headers modules steps marks locks whole)
 
 pub returns-clause-legal : goal.returns-clause-legal
 returns-clause-legal c = λ start headers marks units same h. legal_from start headers units [] marks same (all_right (is_right_mark start headers) 4 [] marks h)

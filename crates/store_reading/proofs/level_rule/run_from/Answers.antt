@@ -18,4 +18,5 @@ loop-number-preserved c = record {
 }
 
 pub returns : goal.returns
-returns c = run_done c.args.numbers.now c.args.from c.args.count c.loop-number.done _ _ (omega (arith, c.loop-number-test.false, c.loop-number.invariant.place)) c.loop-number.invariant.few refl c.loop-number.invariant.rest
+returns c = run_done c.args.numbers.now c.args.from c.args.count c.loop-number.done _ _
+    (omega (arith, c.loop-number-test.false, c.loop-number.invariant.place)) c.loop-number.invariant.few refl c.loop-number.invariant.rest

@@ -15,4 +15,5 @@ loop-stored-preserved c = λ headers counts.
 
 pub returns : goal.returns
 returns c = λ headers counts.
-    subst (λ xs. AreTwins c.loop-stored.twins (flat_map (names_in headers) xs)) (take_all c.loop-stored.stored-index c.args.locks.now c.loop-stored-test.false) (c.loop-stored.invariant headers counts).1
+    subst (λ xs. AreTwins c.loop-stored.twins (flat_map (names_in headers) xs)) (take_all c.loop-stored.stored-index c.args.locks.now c.loop-stored-test.false)
+    (c.loop-stored.invariant headers counts).1

@@ -9,7 +9,8 @@ returns-in_default c =
 pub returns-then-not-is_row : goal.returns-then-not-is_row
 returns-then-not-is_row c =
     for_tables c.args.texts.now c.args.business.now _ c.into_iter-id-iterator.ensures.into_iter_gives.5
-    (other_here c.loop-id.row _ _ _ c.in-Some-split_first.stored.now _ c.loop-id.rest.now _ _ c.in-Some.ensures.steps c.in-Some-split_first.ensures.cases.0 c.is_row.ensures c.if-not-is_row.true c.loop-id.invariant.tail)
+    (other_here c.loop-id.row _ _ _ c.in-Some-split_first.stored.now _ c.loop-id.rest.now _ _ c.in-Some.ensures.steps c.in-Some-split_first.ensures.cases.0
+    c.is_row.ensures c.if-not-is_row.true c.loop-id.invariant.tail)
 
 pub returns-then-is_empty : goal.returns-then-is_empty
 returns-then-is_empty c =

@@ -10,9 +10,11 @@ returns-then-eq c =
     let told = c.in-Business in
     c.eq-then-eq.ensures
     ∙ (λ i. bytes_eq (c.bytes.ensures.same i) (c.bytes-then-eq.ensures.same i))
-    ∙ named_row c.args.id.now c.args.text.now c.args.stored.now told.table told.key told.told _ told.is (c.eq.ensures ∙ ap (eq_by_cmp text_cmp c.args.id.now) c.text_id.ensures) c.if-eq.true
+    ∙ named_row c.args.id.now c.args.text.now c.args.stored.now told.table told.key told.told _ told.is
+    (c.eq.ensures ∙ ap (eq_by_cmp text_cmp c.args.id.now) c.text_id.ensures) c.if-eq.true
 
 pub returns-else-eq : goal.returns-else-eq
 returns-else-eq c =
     let told = c.in-Business in
-    other_row c.args.id.now c.args.text.now c.args.stored.now told.table told.key told.told _ told.is (c.eq.ensures ∙ ap (eq_by_cmp text_cmp c.args.id.now) c.text_id.ensures) c.if-eq.false
+    other_row c.args.id.now c.args.text.now c.args.stored.now told.table told.key told.told _ told.is
+    (c.eq.ensures ∙ ap (eq_by_cmp text_cmp c.args.id.now) c.text_id.ensures) c.if-eq.false

@@ -14,7 +14,8 @@ loop-stored-preserved c =
     let marks = c.args.marks.now in
     let followed = c.in_ok-follow_post.ensures steps (take c.loop-stored.stored-index marks) c.in_ok-parts.ensures c.loop-stored.invariant.texts in
     let front : take c.loop-stored.stored-index marks ++ c.stored-item.result ∷ [] ≡ take (c.loop-stored.stored-index + 1) marks =
-    ap (λ x. take c.loop-stored.stored-index marks ++ x ∷ []) c.stored-item.is ∙ sym (take_more marks c.loop-stored.stored-index c.stored-item.result c.loop-stored-test.true) in
+    ap (λ x. take c.loop-stored.stored-index marks ++ x ∷ []) c.stored-item.is
+    ∙ sym (take_more marks c.loop-stored.stored-index c.stored-item.result c.loop-stored-test.true) in
     record {
       place = omega arith;
       texts = subst (λ before. AreTexts c.follow_post.new.texts (tables_by steps before)) front (followed.1 c.if-not-branch.false);

@@ -5,7 +5,8 @@ use Rattle.store_reading.proofs.Causes.{decoded_bad, decoded_cause, decoded_read
 use Rattle.store_reading.proofs.reading.records_of.Goals as goal
 
 pub returns-in-Err-clause-bad : goal.returns-in-Err-clause-bad
-returns-in-Err-clause-bad g c = fault_not_bad_in _ (λ rows t row. (t ≡ c.args.table) × IsFirstBad c.args.table (rows_in rows c.args.table) row) c.in-Err.fault c.fault_of.result c.fault_of.ensures
+returns-in-Err-clause-bad g c = fault_not_bad_in _ (λ rows t row. (t ≡ c.args.table) × IsFirstBad c.args.table (rows_in rows c.args.table) row) c.in-Err.fault
+    c.fault_of.result c.fault_of.ensures
 
 pub returns-in-Err-clause-untold_bad : goal.returns-in-Err-clause-untold_bad
 returns-in-Err-clause-untold_bad g c = fault_not_bad _ c.in-Err.fault c.fault_of.result c.fault_of.ensures
@@ -17,13 +18,16 @@ pub returns-in-Err-clause-cause : goal.returns-in-Err-clause-cause
 returns-in-Err-clause-cause g c = fault_cause _ _ c.in-Err.fault c.fault_of.result c.fault_of.ensures c.in-Err.ensures.cause
 
 pub returns-clause-records : goal.returns-clause-records
-returns-clause-records g c = decoded_records _ c.args.table _ c.as_slice.result.now c.decode_rows.result c.as_slice.ensures.value c.in-Ok.ensures.rows c.decode_rows.ensures.records
+returns-clause-records g c = decoded_records _ c.args.table _ c.as_slice.result.now c.decode_rows.result c.as_slice.ensures.value c.in-Ok.ensures.rows
+    c.decode_rows.ensures.records
 
 pub returns-clause-read : goal.returns-clause-read
-returns-clause-read g c = decoded_read c.args.table _ c.as_slice.result.now c.decode_rows.result c.as_slice.ensures.value c.in-Ok.ensures.rise c.decode_rows.ensures.records
+returns-clause-read g c = decoded_read c.args.table _ c.as_slice.result.now c.decode_rows.result c.as_slice.ensures.value c.in-Ok.ensures.rise
+    c.decode_rows.ensures.records
 
 pub returns-clause-bad : goal.returns-clause-bad
-returns-clause-bad g c = decoded_bad _ c.args.table _ c.as_slice.result.now c.decode_rows.result c.as_slice.ensures.value c.in-Ok.ensures.rows c.decode_rows.ensures.bad
+returns-clause-bad g c = decoded_bad _ c.args.table _ c.as_slice.result.now c.decode_rows.result c.as_slice.ensures.value c.in-Ok.ensures.rows
+    c.decode_rows.ensures.bad
 
 pub returns-clause-untold_bad : goal.returns-clause-untold_bad
 returns-clause-untold_bad g c = decoded_untold c.args.table c.as_slice.result.now c.decode_rows.result c.requires.own c.decode_rows.ensures.bad

@@ -11,7 +11,8 @@ loop-init g c = record {
   crash = λ left h. h;
   count = refl;
   rise = subst (RiseFrom []) (sym c.new-all.ensures.items) tt;
-  front = subst (λ xs. IfSome (g.K.Keeper.held c.args.keeper.now) (λ rows. IsFront xs (rows_in rows c.args.table))) (sym c.new-all.ensures.items) (no_front (g.K.Keeper.held c.args.keeper.now) c.args.table);
+  front = subst (λ xs. IfSome (g.K.Keeper.held c.args.keeper.now) (λ rows. IsFront xs (rows_in rows c.args.table))) (sym c.new-all.ensures.items)
+      (no_front (g.K.Keeper.held c.args.keeper.now) c.args.table);
 }
 
 pub loop-preserved : goal.loop-preserved
@@ -26,15 +27,19 @@ loop-preserved g c = record {
   count = c.in_ok-page.ensures.cause.quiet ∙ c.loop.invariant.count;
   rise = subst (RiseFrom []) (sym c.in_ok-append.ensures.items) (rise_append [] c.loop.all.items c.in_ok-page.page.items c.loop.invariant.rise
       (subst (λ k. RiseFrom k c.in_ok-page.page.items) (c.last_key.ensures ∙ ap (last_key []) c.as_slice.ensures.value) c.in_ok-page.ensures.shape.rise));
-  front = more_rows (g.K.Keeper.held c.args.keeper.now) (g.K.Keeper.held c.loop.keeper) c.args.table 1000 c.last_key.result.now c.loop.all.items c.in_ok-page.page.items c.append.new.self.items
-      c.loop.invariant.stays.rows (c.last_key.ensures ∙ ap (last_key []) c.as_slice.ensures.value) c.in_ok-append.ensures.items c.loop.invariant.front c.in_ok-page.ensures.rows;
+  front = more_rows (g.K.Keeper.held c.args.keeper.now) (g.K.Keeper.held c.loop.keeper) c.args.table 1000 c.last_key.result.now c.loop.all.items
+      c.in_ok-page.page.items c.append.new.self.items
+      c.loop.invariant.stays.rows (c.last_key.ensures ∙ ap (last_key []) c.as_slice.ensures.value) c.in_ok-append.ensures.items c.loop.invariant.front
+      c.in_ok-page.ensures.rows;
 }
 
 pub returns-then-is_last-clause-rows : goal.returns-then-is_last-clause-rows
 returns-then-is_last-clause-rows g c =
     let short : length c.in_ok-page.page.items < 1000 = omega arith in
-    all_rows (g.K.Keeper.held c.args.keeper.now) (g.K.Keeper.held c.loop.keeper) c.args.table 1000 c.last_key.result.now c.loop.all.items c.in_ok-page.page.items c.append.new.self.items
-    c.loop.invariant.stays.rows (c.last_key.ensures ∙ ap (last_key []) c.as_slice.ensures.value) c.in_ok-append.ensures.items short c.loop.invariant.front c.in_ok-page.ensures.rows
+    all_rows (g.K.Keeper.held c.args.keeper.now) (g.K.Keeper.held c.loop.keeper) c.args.table 1000 c.last_key.result.now c.loop.all.items
+    c.in_ok-page.page.items c.append.new.self.items
+    c.loop.invariant.stays.rows (c.last_key.ensures ∙ ap (last_key []) c.as_slice.ensures.value) c.in_ok-append.ensures.items short c.loop.invariant.front
+    c.in_ok-page.ensures.rows
 
 pub returns-then-is_last-clause-rise : goal.returns-then-is_last-clause-rise
 returns-then-is_last-clause-rise g c =

@@ -10,7 +10,8 @@ apply-requires c =
 pub returns-clause-done : goal.returns-clause-done
 returns-clause-done c =
     done_for c.args.texts.now c.args.effects.now c.apply.result
-    (subst (λ ss. IfOk c.apply.result (λ after. IsDone ss c.args.effects.now after.items)) (c.as_slice.ensures.value ∙ c.in_ok-spots.ensures) c.apply.ensures.done)
+    (subst (λ ss. IfOk c.apply.result (λ after. IsDone ss c.args.effects.now after.items))
+    (c.as_slice.ensures.value ∙ c.in_ok-spots.ensures) c.apply.ensures.done)
 
 pub returns-clause-refused : goal.returns-clause-refused
 returns-clause-refused c =

@@ -17,8 +17,10 @@ unreachable-requires c =
     let i = c.loop-stored.stored-index in
     let marks = c.table-stored-items.ensures in
     let low : i < length (records_in records 4) = subst (λ xs. i < length xs) marks c.loop-stored-test.true in
-    let is : c.stored-item.result ≡ get_or (records_in records 4) i c.stored-item.result = subst (λ xs. c.stored-item.result ≡ get_or xs i c.stored-item.result) marks c.stored-item.is in
-    let some = c.requires.headers c.in-Some.key (recorded_at (records_in records 4) i c.stored-item.result c.in-Some.key low is (sym c.key_in.ensures ∙ c.in-Some.is)) in
+    let is : c.stored-item.result ≡ get_or (records_in records 4) i c.stored-item.result =
+    subst (λ xs. c.stored-item.result ≡ get_or xs i c.stored-item.result) marks c.stored-item.is in
+    let some = c.requires.headers c.in-Some.key
+    (recorded_at (records_in records 4) i c.stored-item.result c.in-Some.key low is (sym c.key_in.ensures ∙ c.in-Some.is)) in
     no_user (find (is_header c.in-Some.key) (records_in records 1)) some
     (ap (λ hs. option_map user_told (find (is_header c.in-Some.key) hs)) (sym c.table-headers.ensures) ∙ sym (c.in_ok-told.ensures.users c.in-Some.key)
     ∙ ap (get same_id c.in_ok-told.told.users) (sym c.id_of.ensures) ∙ sym c.get.ensures.value ∙ sym c.copied.ensures ∙ c.in_default-copied.is)
@@ -29,7 +31,8 @@ loop-stored-preserved c =
     let i = c.loop-stored.stored-index in
     let marks = c.table-stored-items.ensures in
     let low : i < length (records_in records 4) = subst (λ xs. i < length xs) marks c.loop-stored-test.true in
-    let is : c.stored-item.result ≡ get_or (records_in records 4) i c.stored-item.result = subst (λ xs. c.stored-item.result ≡ get_or xs i c.stored-item.result) marks c.stored-item.is in
+    let is : c.stored-item.result ≡ get_or (records_in records 4) i c.stored-item.result =
+    subst (λ xs. c.stored-item.result ≡ get_or xs i c.stored-item.result) marks c.stored-item.is in
     let f = unit_in (records_in records 1) (records_in records 3) (records_in records 7) in
     elim c.match-key_in.branch [
       | in-Some+in-Some-copied+in_ok-unit_for+in_ok-push w ↦
@@ -40,9 +43,11 @@ loop-stored-preserved c =
           ∙ ap (λ steps. unit_in (records_in records 1) steps c.table-2.result.now key) c.table.ensures
           ∙ ap (λ locks. unit_in (records_in records 1) (records_in records 3) locks key) c.table-2.ensures in
           ap (λ (units : Vec UnitOfWork). units.items) w.units-is
-          ∙ units_more f (records_in records 4) i c.stored-item.result key w.in_ok-unit_for.field-0 c.loop-stored.units.items w.push.new.self.items low is (sym c.key_in.ensures ∙ w.in-Some.is)
+          ∙ units_more f (records_in records 4) i c.stored-item.result key w.in_ok-unit_for.field-0 c.loop-stored.units.items w.push.new.self.items low is
+          (sym c.key_in.ensures ∙ w.in-Some.is)
           made w.in_ok-push.ensures.items c.loop-stored.invariant
       | in_default w ↦
           ap (λ (units : Vec UnitOfWork). units.items) w.units-is
-          ∙ units_same f (records_in records 4) i c.stored-item.result c.loop-stored.units.items low is (sym c.key_in.ensures ∙ w.in_default.is) c.loop-stored.invariant
+          ∙ units_same f (records_in records 4) i c.stored-item.result c.loop-stored.units.items low is
+          (sym c.key_in.ensures ∙ w.in_default.is) c.loop-stored.invariant
     ]

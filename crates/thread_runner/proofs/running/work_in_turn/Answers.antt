@@ -74,4 +74,5 @@ returns-clause-long g c =
     let order = refilled c.gather-pass.result.1.len turned c.gather-pass.result.1.items (c.reverse.auto.self ∙ c.as_mut_slice-2.ensures.len)
     ∙ (c.reverse.ensures.after ∙ ap reverse c.as_mut_slice-2.ensures.value) in
     subst (AllByRecursion (IsLong pass.seen)) (sym order)
-    (long_by past c.args.objects.now c.args.script.now.lines.items _ pass.seen c.gather-pass.result.1.items c.gather-pass.ensures.seen c.gather-pass.ensures.deeds)
+    (long_by past c.args.objects.now c.args.script.now.lines.items _ pass.seen c.gather-pass.result.1.items c.gather-pass.ensures.seen
+    c.gather-pass.ensures.deeds)

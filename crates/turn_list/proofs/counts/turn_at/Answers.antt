@@ -28,7 +28,8 @@ loop-level-preserved c =
     let end = turn + c.width_of.result in
     let one : level ≡ level - 1 + 1 = omega (arith, c.loop-level-test.true) in
     let near = subst (λ l. IsNear c.args.slots.now c.args.place l turn left) one c.loop-level.invariant.near in
-    let same = λ (past : (length c.args.slots.now < end) ⊎ ((end ≤ length c.args.slots.now) × (left < get_or c.args.counts.now (end - 1) 0))). near_same c.args.slots.now c.args.counts.now c.args.place (level - 1) turn left end c.requires.counted
+    let same = λ (past : (length c.args.slots.now < end) ⊎ ((end ≤ length c.args.slots.now) × (left < get_or c.args.counts.now (end - 1) 0))). near_same
+    c.args.slots.now c.args.counts.now c.args.place (level - 1) turn left end c.requires.counted
     (ap (λ w. turn + w) c.width_of.ensures) past near in
     record {
       low = omega (arith, c.loop-level.invariant.low);

@@ -16,14 +16,16 @@ pub returns-clause-second : goal.returns-clause-second
 returns-clause-second c = subst (All IsEffect) c.as_slice-2.ensures c.in_ok-push_part-2.ensures.grammar
 
 pub returns-clause-locks : goal.returns-clause-locks
-returns-clause-locks c = held_are c.args.unit.now c.args.unit.now.entries c.requires.held (subst (All HasNames) c.as_slice-3.ensures c.in_ok-push_locks.ensures.grammar)
+returns-clause-locks c = held_are c.args.unit.now c.args.unit.now.entries c.requires.held
+    (subst (All HasNames) c.as_slice-3.ensures c.in_ok-push_locks.ensures.grammar)
 
 pub returns-clause-records : goal.returns-clause-records
 returns-clause-records c = returns-clause-rows c ∙ sym (unit_is c.args.unit.now)
 
 pub returns-clause-grammar : goal.returns-clause-grammar
 returns-clause-grammar c =
-    unit_fits c.args.unit.now c.in_ok-encode_header.ensures.key c.in_ok-encode_header.ensures.user c.requires.effects (returns-clause-first c) (returns-clause-second c)
+    unit_fits c.args.unit.now c.in_ok-encode_header.ensures.key c.in_ok-encode_header.ensures.user c.requires.effects (returns-clause-first c)
+    (returns-clause-second c)
     c.requires.numbers c.in_ok-encode_header.ensures.spelt c.requires.entries (returns-clause-locks c)
 
 pub returns-clause-batch : goal.returns-clause-batch

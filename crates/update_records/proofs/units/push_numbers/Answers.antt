@@ -9,7 +9,8 @@ pub loop-number-preserved : goal.loop-number-preserved
 loop-number-preserved c = record {
   whole = numbers_go_on c.loop-number.number-index c.args.numbers.now c.number-item.result c.loop-number.out.items _ _
       c.loop-number-test.true c.number-item.is c.in_ok-push_number.ensures.bytes c.loop-number.invariant.whole;
-  spelt = all_more IsNumber c.args.numbers.now c.loop-number.number-index c.number-item.result c.loop-number-test.true c.number-item.is c.loop-number.invariant.spelt c.in_ok-push_number.ensures.grammar;
+  spelt = all_more IsNumber c.args.numbers.now c.loop-number.number-index c.number-item.result c.loop-number-test.true c.number-item.is
+      c.loop-number.invariant.spelt c.in_ok-push_number.ensures.grammar;
 }
 
 pub returns-clause-grammar : goal.returns-clause-grammar

@@ -11,13 +11,15 @@ use Rattle.backup_file.proofs.backup.Backup.free.Goals as goal
 pub returns-in_err-add-clause-images : goal.returns-in_err-add-clause-images
 returns-in_err-add-clause-images g c = λ t l ready image left.
     let r : Record = Free c.args.unit.now in
-    either l r ready.front ready.is_front c.free_text.ensures.is_record (stands_among c.args.unit.now l c.args.self.now.units ready.units c.requires.stands) image (c.add.ensures.images t ready.front (spelling r) ready.at_rest c.free_text.ensures.spelled image left)
+    either l r ready.front ready.is_front c.free_text.ensures.is_record (stands_among c.args.unit.now l c.args.self.now.units ready.units c.requires.stands)
+    image (c.add.ensures.images t ready.front (spelling r) ready.at_rest c.free_text.ensures.spelled image left)
 
 pub returns-clause-images : goal.returns-clause-images
 returns-clause-images g c = λ t l ready image left.
     let r : Record = Free c.args.unit.now in
     let before = subst (λ d. g.D.Disk.may_leave d image) c.forget.ensures.disk left in
-    either l r ready.front ready.is_front c.free_text.ensures.is_record (stands_among c.args.unit.now l c.args.self.now.units ready.units c.requires.stands) image (c.add.ensures.images t ready.front (spelling r) ready.at_rest c.free_text.ensures.spelled image before)
+    either l r ready.front ready.is_front c.free_text.ensures.is_record (stands_among c.args.unit.now l c.args.self.now.units ready.units c.requires.stands)
+    image (c.add.ensures.images t ready.front (spelling r) ready.at_rest c.free_text.ensures.spelled image before)
 
 pub returns-clause-units : goal.returns-clause-units
 returns-clause-units g c = λ other.
@@ -28,5 +30,6 @@ returns-clause-freed g c = λ t l ready.
     let unit = c.args.unit.now in
     let r : Record = Free unit in
     let added = c.in_ok-add.ensures.added t ready.front (spelling r) ready.at_rest c.free_text.ensures.spelled in
-    ready_after g.D.Disk.reads g.D.Disk.may_leave l r ready.front ready.is_front c.free_text.ensures.is_record (stands_among unit l c.args.self.now.units ready.units c.requires.stands) c.forget.new.self (rw (c.forget.ensures.disk, c.forget.ensures.gate) added)
+    ready_after g.D.Disk.reads g.D.Disk.may_leave l r ready.front ready.is_front c.free_text.ensures.is_record
+    (stands_among unit l c.args.self.now.units ready.units c.requires.stands) c.forget.new.self (rw (c.forget.ensures.disk, c.forget.ensures.gate) added)
     (units-free c.args.self.now.units c.forget.new.self.units l unit ready.units (returns-clause-units g c))

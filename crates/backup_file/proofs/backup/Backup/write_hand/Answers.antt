@@ -15,14 +15,16 @@ pub returns-in_err-add-clause-images : goal.returns-in_err-add-clause-images
 returns-in_err-add-clause-images g c = λ t unit es ready_for l ready image left.
     let r : Record = Hand (handed_of unit es) in
     let text = c.deref.ensures.value ∙ ap (λ r. r.text) c.ready.view_is ∙ ready_for.text in
-    either l r ready.front ready.is_front ready_for.is_record (distinct_handed (user_of es) es ready_for.distinct) image (c.add.ensures.images t ready.front (spelling r) ready.at_rest text image left)
+    either l r ready.front ready.is_front ready_for.is_record (distinct_handed (user_of es) es ready_for.distinct) image
+    (c.add.ensures.images t ready.front (spelling r) ready.at_rest text image left)
 
 pub returns-clause-images : goal.returns-clause-images
 returns-clause-images g c = λ t unit es ready_for l ready image left.
     let r : Record = Hand (handed_of unit es) in
     let text = c.deref.ensures.value ∙ ap (λ r. r.text) c.ready.view_is ∙ ready_for.text in
     let before = subst (λ d. g.D.Disk.may_leave d image) c.keep.ensures.disk left in
-    either l r ready.front ready.is_front ready_for.is_record (distinct_handed (user_of es) es ready_for.distinct) image (c.add.ensures.images t ready.front (spelling r) ready.at_rest text image before)
+    either l r ready.front ready.is_front ready_for.is_record (distinct_handed (user_of es) es ready_for.distinct) image
+    (c.add.ensures.images t ready.front (spelling r) ready.at_rest text image before)
 
 pub returns-clause-units : goal.returns-clause-units
 returns-clause-units g c = λ unit es ready_for other.
@@ -36,5 +38,6 @@ returns-clause-handed g c = λ t unit es ready_for l ready.
     let r : Record = Hand h in
     let text = c.deref.ensures.value ∙ ap (λ r. r.text) c.ready.view_is ∙ ready_for.text in
     let added = c.in_ok-add.ensures.added t ready.front (spelling r) ready.at_rest text in
-    ready_after g.D.Disk.reads g.D.Disk.may_leave l r ready.front ready.is_front ready_for.is_record (distinct_handed (user_of es) es ready_for.distinct) c.keep.new.self (rw (c.keep.ensures.disk, c.keep.ensures.gate) added)
+    ready_after g.D.Disk.reads g.D.Disk.may_leave l r ready.front ready.is_front ready_for.is_record
+    (distinct_handed (user_of es) es ready_for.distinct) c.keep.new.self (rw (c.keep.ensures.disk, c.keep.ensures.gate) added)
     (units-hand c.args.self.now.units c.keep.new.self.units l h ready.units (returns-clause-units g c unit es ready_for))

@@ -7,7 +7,8 @@ use Rattle.bk_disk.specs.declared.change.Change.{Change}
 use Rattle.bk_disk.proofs.Images.{LeftBy-base, LeftBy-filled}
 use Rattle.bk_disk.proofs.mem_disk.MemDisk.image.Goals as goal
 
-is_filled : (byte : ℕ) (r : Result (Vec ℕ Global) NoMemory) (bytes base : List ℕ) (cs : List Change) → IfOk r (λ v. v.items ≡ all_filled byte base cs) → IfOk r (λ v. IsImage bytes base cs v.items)
+is_filled : (byte : ℕ) (r : Result (Vec ℕ Global) NoMemory) (bytes base : List ℕ) (cs : List Change) → IfOk r (λ v. v.items ≡ all_filled byte base cs)
+    → IfOk r (λ v. IsImage bytes base cs v.items)
 is_filled byte (Ok v) bytes base cs is = inr (subst (λ (l : List ℕ). LeftBy cs base l) (sym is) (LeftBy-filled byte cs base))
 is_filled byte (Err e) bytes base cs is = tt
 

@@ -12,4 +12,5 @@ returns-clause-left c =
     let mid = c.fails_now-fails.new.self in
     let next = c.in-Some.next.items in
     let counted = c.fails_now-fails.ensures.counted in
-    change_left (Resize c.args.length) old mid c.change.new.self next c.fails_now-fails.result c.change.result (cut_may_leave c.args.length old mid next counted c.in-Some.ensures.value) counted c.change.ensures.done c.change.ensures.failed
+    change_left (Resize c.args.length) old mid c.change.new.self next c.fails_now-fails.result c.change.result
+    (cut_may_leave c.args.length old mid next counted c.in-Some.ensures.value) counted c.change.ensures.done c.change.ensures.failed

@@ -5,7 +5,8 @@ use Rattle.bk_disk.proofs.mem_disk.MemDiskDisk.write_at.Goals as goal
 
 pub returns-in_default-clause-left : goal.returns-in_default-clause-left
 returns-in_default-clause-left c =
-    refused_left (Write c.args.at (length c.args.from.now)) c.args.self.now c.fails_now-fails.new.self c.refuse.new.self c.fails_now-fails.ensures.counted c.refuse.ensures.refused
+    refused_left (Write c.args.at (length c.args.from.now)) c.args.self.now c.fails_now-fails.new.self c.refuse.new.self c.fails_now-fails.ensures.counted
+    c.refuse.ensures.refused
 
 pub returns-clause-left : goal.returns-clause-left
 returns-clause-left c =
@@ -14,4 +15,5 @@ returns-clause-left c =
     let from = c.args.from.now in
     let next = c.in-Some.next.items in
     let counted = c.fails_now-fails.ensures.counted in
-    change_left (Write c.args.at (length from)) old mid c.change.new.self next c.fails_now-fails.result c.change.result (write_may_leave c.args.at old mid from next counted c.in-Some.ensures.value) counted c.change.ensures.done c.change.ensures.failed
+    change_left (Write c.args.at (length from)) old mid c.change.new.self next c.fails_now-fails.result c.change.result
+    (write_may_leave c.args.at old mid from next counted c.in-Some.ensures.value) counted c.change.ensures.done c.change.ensures.failed

@@ -3,4 +3,4 @@ use Rattle.posting.specs.BooksView.{IsUsable}
 use Rattle.books_tests.proofs.books.steps.do_each.Given as goal
 
 abbrev pub invariant-loop-place : goal.invariant-loop-place
-invariant-loop-place g l = IsUsable held_rows IsSettled l.books
+invariant-loop-place l = IsUsable held_rows IsSettled l.books

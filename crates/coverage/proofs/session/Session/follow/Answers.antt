@@ -14,7 +14,8 @@ invariant_of-result c =
     let ts = c.self.inside.tallies.items in
     let moved = c.in_ok-moved.moved.items in
     let ends = c.ends_unit-ends.result in
-    (follows os st l moved ts c.self.invariant c.args.place (wish_in os (c.args.number, l)) ends c.follow.new.self c.turn_tallies.new.tallies.items c.add_tally.new.tallies.items
+    (follows os st l moved ts c.self.invariant c.args.place (wish_in os (c.args.number, l)) ends c.follow.new.self c.turn_tallies.new.tallies.items
+    c.add_tally.new.tallies.items
     c.ends_unit-ends.ensures c.in_ok-moved.ensures.after c.in_ok-moved.ensures.moved
     (subst (λ (x : Standing). length x.held < 2 ^ 63) c.holding.view_is (vec_fits c.holding.inside.held))
     (subst (λ (x : Standing). length x.container < 2 ^ 63) c.holding.view_is (vec_fits c.holding.inside.container))

@@ -8,7 +8,8 @@ use Rattle.dialogue_session.specs.Private.{DialogueView, refused}
 use Rattle.dialogue_session.proofs.dialogue.Dialogue.collect.Goals as goal
 
 -- the container's answer tells that it would be too full, and so does the session's
-told : (n : ℕ) (answer : Result Unit CollectFault) → (64 < n) ↔ IsErrOf answer (Full 64) → IfErr answer (λ f. (f ≡ Full 64) ⊎ (f ≡ NoMemory)) → (64 < n) ↔ IsErrOf (refused answer) refusal.ContainerFull
+told : (n : ℕ) (answer : Result Unit CollectFault) → (64 < n) ↔ IsErrOf answer (Full 64) → IfErr answer (λ f. (f ≡ Full 64) ⊎ (f ≡ NoMemory))
+    → (64 < n) ↔ IsErrOf (refused answer) refusal.ContainerFull
 told n (Ok done) full fault = (λ h. let e = full.0 h in absurd (cc), λ e. absurd (cc))
 told n (Err (Full most)) full (inl e) = (λ h. refl, λ h. full.1 (ap Err e))
 told n (Err (Full most)) full (inr e) = absurd (cc)

@@ -14,6 +14,8 @@ invariant_of-self-2 g c =
       c.in_ok-removed.ensures.good,
       subst (IsAt g.L.Link.applied c.ship_drops.new.follower)
           (ap (λ xs. replica turned (map drop_of xs)) c.as_slice.ensures.value
-          ∙ converted_at table.entries c.args.asker.now c.args.asked.now (record { entries = (g.T.LockStore.table c.convert.new.self).entries; removed = c.in_ok-removed.removed.items }) c.in_ok-removed.ensures.converted)
+          ∙ converted_at table.entries c.args.asker.now c.args.asked.now
+          (record { entries = (g.T.LockStore.table c.convert.new.self).entries; removed = c.in_ok-removed.removed.items })
+          c.in_ok-removed.ensures.converted)
           (c.ship_drops.ensures.at turned (c.ship_turns.ensures.at table.entries c.self.invariant.1)),
     )

@@ -11,7 +11,8 @@ returns-in_err-hand-clause-images g c = λ t l ready bytes may.
     let inside = subst (λ s. IsReady g.D.Disk.reads g.D.Disk.may_leave s.file l) (sym c.self.view_is) ready in
     let are = c.as_slice.ensures.value ∙ c.in_ok-entries.ensures.entries ∙ ap (λ s. lasting c.args.unit.now s.table.entries) c.self.view_is in
     subst (λ es. Stands bytes l ⊎ Stands bytes (with_list c.args.unit.now es l)) are
-    (listed_either c.args.unit.now c.as_slice.result.now l bytes (omega (arith, c.as_slice.ensures.len, c.len.ensures, c.in-Ok.ensures.1, c.if-count-gt0.true)) (c.hand.ensures.images t l inside bytes may))
+    (listed_either c.args.unit.now c.as_slice.result.now l bytes (omega (arith, c.as_slice.ensures.len, c.len.ensures, c.in-Ok.ensures.1, c.if-count-gt0.true))
+    (c.hand.ensures.images t l inside bytes may))
 
 pub returns-clause-images : goal.returns-clause-images
 returns-clause-images g c = λ t l ready bytes may.
@@ -21,7 +22,8 @@ returns-clause-images g c = λ t l ready bytes may.
           let are = w.as_slice.ensures.value ∙ c.in_ok-entries.ensures.entries ∙ ap (λ s. lasting c.args.unit.now s.table.entries) c.self.view_is in
           let may_here = subst (λ s. g.D.Disk.may_leave s.file.disk bytes) w.self-is may in
           subst (λ es. Stands bytes l ⊎ Stands bytes (with_list c.args.unit.now es l)) are
-          (listed_either c.args.unit.now w.as_slice.result.now l bytes (omega (arith, w.as_slice.ensures.len, c.len.ensures, c.in-Ok.ensures.1, w.if-count-gt0.true)) (w.hand.ensures.images t l inside bytes may_here))
+          (listed_either c.args.unit.now w.as_slice.result.now l bytes
+          (omega (arith, w.as_slice.ensures.len, c.len.ensures, c.in-Ok.ensures.1, w.if-count-gt0.true)) (w.hand.ensures.images t l inside bytes may_here))
       | else-count-gt0 w ↦
           let may_here = subst (λ s. g.D.Disk.may_leave s.file.disk bytes) w.self-is may in
           inl (subst (λ b. Stands b l) (sym (ready.at_rest.durable bytes may_here)) ready.stands)

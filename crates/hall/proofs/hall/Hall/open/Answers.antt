@@ -21,7 +21,8 @@ returns-in-Ok-open-clause-state g c =
     let are : intervals_of c.in-Ok-new.ranges ≡ intervals = c.in-Ok-new.ensures ∙ c.as_slice.ensures.value in
     ok_more c.over.result _ _
     (λ hall h.
-    let is : hall.state ≡ opened locks marks intervals told link books.ledger = h ∙ (λ i. opened locks marks (are i) (c.in-Ok-open.ensures.told i) link books.ledger) in
+    let is : hall.state ≡ opened locks marks intervals told link books.ledger =
+    h ∙ (λ i. opened locks marks (are i) (c.in-Ok-open.ensures.told i) link books.ledger) in
     is ∙ ap (λ (s : State). opened locks marks intervals told link s.stored) (sym is))
     c.over.ensures.state
 
@@ -65,20 +66,23 @@ returns-in-Ok-open-clause-untold_fault g c =
 pub returns-in-Ok-open-clause-found : goal.returns-in-Ok-open-clause-found
 returns-in-Ok-open-clause-found g c =
     err_more c.over.result _ _
-    (λ e f. late_bad (intervals_of c.in-Ok-new.ranges) c.in-Ok-open.books.ledger g.D.Disk.tells (g.D.Disk.reads c.args.disk) e.0 (IfSome (g.K.Keeper.held e.1) (g.K.Keeper.may_leave c.args.keeper)) f)
+    (λ e f. late_bad (intervals_of c.in-Ok-new.ranges) c.in-Ok-open.books.ledger g.D.Disk.tells (g.D.Disk.reads c.args.disk) e.0
+    (IfSome (g.K.Keeper.held e.1) (g.K.Keeper.may_leave c.args.keeper)) f)
     c.over.ensures.fault
 
 pub returns-in-Ok-open-clause-unchanged : goal.returns-in-Ok-open-clause-unchanged
 returns-in-Ok-open-clause-unchanged g c =
     err_more c.over.result _ _
-    (λ e f. late_kept (intervals_of c.in-Ok-new.ranges) c.in-Ok-open.books.ledger g.D.Disk.tells (g.D.Disk.reads c.args.disk) e.0 (IsWithin (g.K.Keeper.may_leave e.1) (g.K.Keeper.may_leave c.args.keeper)) f)
+    (λ e f. late_kept (intervals_of c.in-Ok-new.ranges) c.in-Ok-open.books.ledger g.D.Disk.tells (g.D.Disk.reads c.args.disk) e.0
+    (IsWithin (g.K.Keeper.may_leave e.1) (g.K.Keeper.may_leave c.args.keeper)) f)
     c.over.ensures.fault
 
 pub returns-in-Ok-open-clause-cause : goal.returns-in-Ok-open-clause-cause
 returns-in-Ok-open-clause-cause g c =
     let faults = g.K.Keeper.faults in
     err_two c.over.result _ _ _
-    (λ e f k. late_counts (intervals_of c.in-Ok-new.ranges) c.in-Ok-open.books.ledger g.D.Disk.tells (g.D.Disk.reads c.args.disk) e.0 (faults c.args.keeper) (faults e.1) f
+    (λ e f k. late_counts (intervals_of c.in-Ok-new.ranges) c.in-Ok-open.books.ledger g.D.Disk.tells (g.D.Disk.reads c.args.disk) e.0 (faults c.args.keeper)
+    (faults e.1) f
     (ap faults k ∙ c.in-Ok-open.ensures.counts))
     c.over.ensures.fault c.over.ensures.kept
 
@@ -87,9 +91,11 @@ returns-in-Ok-open-clause-file_fault g c = λ t.
     let held = g.K.Keeper.held in
     let before = g.K.Keeper.may_leave c.args.keeper in
     let books = c.in-Ok-open.books in
+    let are : intervals_of c.in-Ok-new.ranges ≡ c.args.intervals.items = c.in-Ok-new.ensures ∙ c.as_slice.ensures.value in
     err_two c.over.result _ _ _
-    (λ e f k. late_file (intervals_of c.in-Ok-new.ranges) books.ledger (held e.1) before g.D.Disk.tells (g.D.Disk.reads c.args.disk) e.0 c.in-Ok-open.ensures.sound
-    (subst (λ q. IfSome (held q) (λ _. IsRaised (HasStood before) true books.ledger)) (sym k) c.in-Ok-open.ensures.ledger) t f)
+    (λ e f k. subst (λ is. IsBadFile is (held e.1) before (g.D.Disk.reads c.args.disk) e.0) are
+    (late_file (intervals_of c.in-Ok-new.ranges) books.ledger (held e.1) before g.D.Disk.tells (g.D.Disk.reads c.args.disk) e.0 c.in-Ok-open.ensures.sound
+    (subst (λ q. IfSome (held q) (λ _. IsRaised (HasStood before) true books.ledger)) (sym k) c.in-Ok-open.ensures.ledger) t f))
     c.over.ensures.fault c.over.ensures.kept
 
 pub returns-in-Ok-open-clause-images : goal.returns-in-Ok-open-clause-images
@@ -108,7 +114,8 @@ returns-clause-file_fault g c = λ t.
     let told = g.K.Keeper.held c.in-Err.keeper in
     let before = g.K.Keeper.may_leave c.args.keeper in
     let bytes = g.D.Disk.reads c.args.disk in
-    subst (IsBadFile told before bytes) (sym c.fault_of.ensures) (books_file told before bytes c.in-Err.fault)
+    let intervals = c.args.intervals.items in
+    subst (IsBadFile intervals told before bytes) (sym c.fault_of.ensures) (books_file intervals told before bytes c.in-Err.fault)
 
 pub returns-clause-file_cause : goal.returns-clause-file_cause
 returns-clause-file_cause g c =

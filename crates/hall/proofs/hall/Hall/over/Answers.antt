@@ -1,8 +1,9 @@
-use Rattle.std.proofs.Common.{inl, refl, subst, ◌∙◌, is_some}
+use Rattle.std.proofs.Common.{rules, inl, inr, refl, subst, ◌∙◌, is_some}
 use Rattle.enq_server.specs.Server.{IsRecovered}
-use Rattle.ledger_steps.specs.Levels.{intervals_of}
+use Rattle.ledger_steps.specs.Levels.{FitRows, intervals_of}
 use Rattle.hall_calls.proofs.lists.OfOpenUnits.{recovered_lists}
 use Rattle.ledger_steps.specs.Views.{open_locks}
+use Rattle.hall.specs.Faults.{IsFileFault}
 use Rattle.hall.proofs.Refused.{ranges_file_counts, ranges_left}
 use Rattle.hall_model.specs.State.{opened}
 use Rattle.hall.proofs.hall.Hall.over.Goals as goal
@@ -34,7 +35,8 @@ first-requires-clause-filed g c =
     record {
       usable = c.in-Ok-first_locks.ensures.usable;
       ready = λ t.
-          let h = recovered_lists reads may_leave bytes ledger file (subst (λ us. IsRecovered reads may_leave bytes us file) are (c.in-Ok-first_locks.ensures.file t)) in
+          let h = recovered_lists reads may_leave bytes ledger file
+          (subst (λ us. IsRecovered reads may_leave bytes us file) are (c.in-Ok-first_locks.ensures.file t)) in
           record { lists = h.0; ready = h.1; just = h.2 };
     }
 
@@ -43,3 +45,11 @@ returns-in-Ok-first_locks-clause-state g c =
     c.first.ensures.state
     ∙ (λ i. opened c.args.max_locks c.args.max_marks (c.take_levels.ensures.intervals i) (is_some (g.K.Keeper.held c.args.books.keeper))
     (is_some (g.L.Link.applied (c.in-Ok-first_locks.ensures.link i))) c.args.books.ledger)
+
+pub returns-in-Err-first_locks-clause-fault : goal.returns-in-Err-first_locks-clause-fault
+returns-in-Err-first_locks-clause-fault g c =
+    let tells = g.D.Disk.tells in
+    let bytes = g.D.Disk.reads c.args.disk in
+    let are = c.as_slice.ensures.value ∙ c.in-Ok.ensures in
+    let fit : FitRows (intervals_of c.args.ranges) c.args.books.ledger.levels = search rules in
+    inr (fit, subst (λ us. IsFileFault tells bytes us c.in-Err-first_locks.fault) are c.in-Err-first_locks.ensures.fault)

@@ -19,8 +19,11 @@ invariant_of-self g c =
     let past = c.self.inside.past.items in
     let s = with_calls c.self.inside.present.state past in
     let after = with_calls c.serve-answer.new.self.state past in
-    let off = sym c.is_unrecorded.ensures ∙ c.if-is_unrecorded.true in
-    (c.self.invariant.0, subst IsKept (sym (unrecorded_same s c.args.command after c.serve-answer.result.reply c.serve-answer.ensures.call.act off)) c.self.invariant.1)
+    let off = sym c.is_unrecorded.ensures ∙ c.if-is_unrecorded.true in (
+      c.self.invariant.0,
+      subst IsKept (sym (unrecorded_same s c.args.command after c.serve-answer.result.reply c.serve-answer.ensures.call.act off))
+          c.self.invariant.1,
+    )
 
 pub invariant_of-self-2 : goal.invariant_of-self-2
 invariant_of-self-2 g c =
@@ -29,8 +32,10 @@ invariant_of-self-2 g c =
     let after = with_calls c.serve-answer.new.self.state past in
     let given = c.told_twice-noted.result.1 in
     let on = sym c.is_unrecorded.ensures ∙ c.if-is_unrecorded.false in
-    let asked : MayCall s (call_of c.args.command) = subst (λ (v : View g.row.K.Denot g.row.D.Denot g.row.L.Denot). MayCall v.state (call_of c.args.command)) (sym c.self.view_is) c.requires in
-    let act = given_telling s c.args.command c.serve-answer.result.taken after c.serve-answer.result.reply given c.told_twice-noted.ensures.given c.serve-answer.ensures.call in
+    let asked : MayCall s (call_of c.args.command) = subst (λ (v : View g.row.K.Denot g.row.D.Denot g.row.L.Denot). MayCall v.state (call_of c.args.command))
+    (sym c.self.view_is) c.requires in
+    let act = given_telling s c.args.command c.serve-answer.result.taken after c.serve-answer.result.reply given c.told_twice-noted.ensures.given
+    c.serve-answer.ensures.call in
     let noted = c.note.ensures.noted ∙ (λ i. past ++ entry_of c.args.line c.args.command (c.told_twice-noted.ensures.twice i) (c.after-after.ensures i) ∷ []) in (
       search rules,
       subst (λ p. IsKept (with_calls c.serve-answer.new.self.state p)) (sym noted)
@@ -44,21 +49,27 @@ returns-clause-step g c =
     let after = with_calls c.serve-answer.new.self.state past in
     let given = c.told_twice-noted.result.1 in
     let on = sym c.is_unrecorded.ensures ∙ c.if-is_unrecorded.false in
-    let asked : MayCall s (call_of c.args.command) = subst (λ (v : View g.row.K.Denot g.row.D.Denot g.row.L.Denot). MayCall v.state (call_of c.args.command)) (sym c.self.view_is) c.requires in
-    let act = given_telling s c.args.command c.serve-answer.result.taken after c.serve-answer.result.reply given c.told_twice-noted.ensures.given c.serve-answer.ensures.call in
+    let asked : MayCall s (call_of c.args.command) = subst (λ (v : View g.row.K.Denot g.row.D.Denot g.row.L.Denot). MayCall v.state (call_of c.args.command))
+    (sym c.self.view_is) c.requires in
+    let act = given_telling s c.args.command c.serve-answer.result.taken after c.serve-answer.result.reply given c.told_twice-noted.ensures.given
+    c.serve-answer.ensures.call in
     let noted = c.note.ensures.noted ∙ (λ i. past ++ entry_of c.args.line c.args.command (c.told_twice-noted.ensures.twice i) (c.after-after.ensures i) ∷ []) in
     subst (λ v. IsStep v.state (with_calls c.serve-answer.new.self.state c.note.new.past.items) c.args.line c.args.command given) c.self.view_is
     (subst (λ p. IsStep s (with_calls c.serve-answer.new.self.state p) c.args.line c.args.command given) (sym noted)
-    (noted_step s c.args.line c.args.command c.serve-answer.result.taken after given asked act (given_noted c.serve-answer.result.reply given c.told_twice-noted.ensures.given on)))
+    (noted_step s c.args.line c.args.command c.serve-answer.result.taken after given asked act
+    (given_noted c.serve-answer.result.reply given c.told_twice-noted.ensures.given on)))
 
 pub returns-clause-good_file : goal.returns-clause-good_file
 returns-clause-good_file g c = λ yes.
-    given_sound is_unsound_file c.serve-answer.result.reply c.told_twice-noted.result.1 refl c.told_twice-noted.ensures.given (c.serve-answer.ensures.good_file yes)
+    given_sound is_unsound_file c.serve-answer.result.reply c.told_twice-noted.result.1 refl c.told_twice-noted.ensures.given
+    (c.serve-answer.ensures.good_file yes)
 
 pub returns-clause-good_replica : goal.returns-clause-good_replica
 returns-clause-good_replica g c =
-    subst (λ (v : View g.row.K.Denot g.row.D.Denot g.row.L.Denot). is_some (g.L.Link.applied v.follower.link) ≡ true → is_unsound_replica c.told_twice-noted.result.1 ≡ false) c.self.view_is
-    (λ yes. given_sound is_unsound_replica c.serve-answer.result.reply c.told_twice-noted.result.1 refl c.told_twice-noted.ensures.given (c.serve-answer.ensures.good_replica yes))
+    subst (λ (v : View g.row.K.Denot g.row.D.Denot g.row.L.Denot). is_some (g.L.Link.applied v.follower.link) ≡ true
+    → is_unsound_replica c.told_twice-noted.result.1 ≡ false) c.self.view_is
+    (λ yes. given_sound is_unsound_replica c.serve-answer.result.reply c.told_twice-noted.result.1 refl c.told_twice-noted.ensures.given
+    (c.serve-answer.ensures.good_replica yes))
 
 pub returns-clause-lost : goal.returns-clause-lost
 returns-clause-lost g c =
@@ -66,6 +77,8 @@ returns-clause-lost g c =
     let refusals = g.L.Link.refusals in
     let now = c.serve-answer.new.self in
     let after = with_calls now.state c.note.new.past.items in
-    subst (λ (v : View g.row.K.Denot g.row.D.Denot g.row.L.Denot). renews_replica (call_of c.args.command) ≡ false → LosesOnly (faults v.follower.link) (faults now.follower.link) (refusals v.follower.link) (refusals now.follower.link) v.state after) c.self.view_is
-    (λ other. loses_only g.L.Link.applied faults refusals c.self.inside.present.follower now.follower (with_calls c.self.inside.present.state c.self.inside.past.items) after
+    subst (λ (v : View g.row.K.Denot g.row.D.Denot g.row.L.Denot). renews_replica (call_of c.args.command) ≡ false
+    → LosesOnly (faults v.follower.link) (faults now.follower.link) (refusals v.follower.link) (refusals now.follower.link) v.state after) c.self.view_is
+    (λ other. loses_only g.L.Link.applied faults refusals c.self.inside.present.follower now.follower
+    (with_calls c.self.inside.present.state c.self.inside.past.items) after
     c.read_invariant.ensures.attached c.read_invariant-2.ensures.attached (c.serve-answer.ensures.follower other))

@@ -22,11 +22,15 @@ invariant_of-self g c =
     let called = c.cancel-written in
     let ended = c.ended in
     let due = subst (λ v. IsDue v.state c.args.past.now.items (command.Cancel c.args.unit)) (sym c.self.view_is) c.requires in
-    let none = no_flight (is_some (g.K.Keeper.held old.books.keeper)) (is_some (g.L.Link.applied old.locks.copy.link)) old.locks.copy.attached old.condition old.sessions old.next_session old.orders.items old.locks.table old.max_locks old.max_marks old.ranges old.books.ledger old.failure c.args.past.now.items _ refl due in (
+    let none = no_flight (is_some (g.K.Keeper.held old.books.keeper)) (is_some (g.L.Link.applied old.locks.copy.link)) old.locks.copy.attached old.condition
+    old.sessions old.next_session old.orders.items old.locks.table old.max_locks old.max_marks old.ranges old.books.ledger old.failure c.args.past.now.items
+    _ refl due in (
       usable_after _ old.condition ended.new.condition _ called.result ended.ensures.condition called.ensures.usable,
-      leaves_after g.K.Keeper.held g.K.Keeper.may_leave called.new.books old.failure ended.new.failure None called.result ended.ensures.failure none.0 none.1 called.ensures.left,
+      leaves_after g.K.Keeper.held g.K.Keeper.may_leave called.new.books old.failure ended.new.failure None called.result ended.ensures.failure none.0 none.1
+          called.ensures.left,
       usable_after _ old.condition ended.new.condition _ called.result ended.ensures.condition called.ensures.file.lists,
-      recovers_after g.D.Disk.tells g.D.Disk.reads g.D.Disk.may_leave g.D.Disk.faults called.new.books.ledger called.new.locks.file old.failure ended.new.failure None old.condition ended.new.condition _ called.result
+      recovers_after g.D.Disk.tells g.D.Disk.reads g.D.Disk.may_leave g.D.Disk.faults called.new.books.ledger called.new.locks.file old.failure
+          ended.new.failure None old.condition ended.new.condition _ called.result
           none
           ended.ensures.failure ended.ensures.condition called.ensures.file.images,
     )
@@ -41,13 +45,25 @@ returns g c =
     let ended = c.ended in
     let past = c.args.past.now.items in
     let due = subst (λ v. IsDue v.state past (command.Cancel c.args.unit)) (sym c.self.view_is) c.requires in
-    let before : Condition → State = λ k. state_with (is_some (held old.books.keeper)) (is_some (g.L.Link.applied old.locks.copy.link)) old.locks.copy.attached k old.sessions old.next_session old.orders.items old.locks.table old.max_locks old.max_marks old.ranges old.books.ledger old.failure past in
-    let new : State = state_with (is_some (held called.new.books.keeper)) (is_some (g.L.Link.applied called.new.locks.copy.link)) called.new.locks.copy.attached ended.new.condition old.sessions old.next_session old.orders.items called.new.locks.table old.max_locks old.max_marks old.ranges called.new.books.ledger ended.new.failure [] in
-    subst (λ v. Serves held may_leave faults g.D.Disk.faults g.L.Link.gives g.L.Link.applied g.L.Link.faults g.L.Link.refusals v (record { state = new; keeper = called.new.books.keeper; file = called.new.locks.file; follower = called.new.locks.copy }) past (command.Cancel c.args.unit) ended.result) c.self.view_is
-    (serves_as held may_leave faults g.D.Disk.faults g.L.Link.gives g.L.Link.applied g.L.Link.faults g.L.Link.refusals _ _ past (command.Cancel c.args.unit) ended.result refl
-    (written_up (is_some (held old.books.keeper)) (is_some (held called.new.books.keeper)) (is_some (g.L.Link.applied old.locks.copy.link)) (is_some (g.L.Link.applied called.new.locks.copy.link)) old.locks.copy.attached called.new.locks.copy.attached old.condition ended.new.condition old.sessions old.sessions old.next_session old.orders.items old.orders.items old.locks.table called.new.locks.table old.max_locks old.max_marks old.ranges old.ranges old.books.ledger called.new.books.ledger
+    let before : Condition → State = λ k. state_with (is_some (held old.books.keeper))
+    (is_some (g.L.Link.applied old.locks.copy.link)) old.locks.copy.attached k old.sessions old.next_session old.orders.items old.locks.table old.max_locks
+    old.max_marks old.ranges old.books.ledger old.failure past in
+    let new : State = state_with (is_some (held called.new.books.keeper))
+    (is_some (g.L.Link.applied called.new.locks.copy.link)) called.new.locks.copy.attached ended.new.condition old.sessions old.next_session
+    old.orders.items called.new.locks.table old.max_locks old.max_marks old.ranges called.new.books.ledger ended.new.failure [] in
+    subst (λ v. Serves held may_leave faults g.D.Disk.faults g.L.Link.gives g.L.Link.applied g.L.Link.faults g.L.Link.refusals v
+    (record { state = new; keeper = called.new.books.keeper; file = called.new.locks.file; follower = called.new.locks.copy }) past
+    (command.Cancel c.args.unit) ended.result) c.self.view_is
+    (serves_as held may_leave faults g.D.Disk.faults g.L.Link.gives g.L.Link.applied g.L.Link.faults g.L.Link.refusals _ _ past
+    (command.Cancel c.args.unit) ended.result refl
+    (written_up (is_some (held old.books.keeper)) (is_some (held called.new.books.keeper)) (is_some (g.L.Link.applied old.locks.copy.link))
+    (is_some (g.L.Link.applied called.new.locks.copy.link)) old.locks.copy.attached called.new.locks.copy.attached old.condition ended.new.condition
+    old.sessions old.sessions old.next_session old.orders.items old.orders.items old.locks.table called.new.locks.table old.max_locks old.max_marks
+    old.ranges old.ranges old.books.ledger called.new.books.ledger
     old.failure ended.new.failure past called.result (command.Cancel c.args.unit) ended.result refl due
-    called.ensures.told called.ensures.follower.told (stays_shipped _ _ _ refl called.ensures.follower.kept) ended.ensures.condition ended.ensures.failure ended.ensures.reply called.ensures.limit (lost_none _ _ called.result called.ensures.table) (also_failed _ called.result refl) (also_failed _ called.result refl) called.ensures.ledger
+    called.ensures.told called.ensures.follower.told (stays_shipped _ _ _ refl called.ensures.follower.kept) ended.ensures.condition ended.ensures.failure
+    ended.ensures.reply called.ensures.limit (lost_none _ _ called.result called.ensures.table) (also_failed _ called.result refl)
+    (also_failed _ called.result refl) called.ensures.ledger
     (same_ranges (call_of (command.Cancel c.args.unit)) called.result old.ranges refl)
     (λ none room. called.ensures.act (before Up) (sym c.as_slice.ensures.value) refl refl refl room))
     (record {

@@ -17,21 +17,28 @@ returns g c =
     let old = c.self.inside in
     let told = is_some (g.K.Keeper.held old.books.keeper) in
     let before : Condition → View g.row.K.Denot g.row.D.Denot g.row.L.Denot = λ k. record {
-      state = state_with told (is_some (g.L.Link.applied old.locks.copy.link)) old.locks.copy.attached k old.sessions old.next_session old.orders.items old.locks.table old.max_locks old.max_marks old.ranges old.books.ledger old.failure [];
+      state = state_with told (is_some (g.L.Link.applied old.locks.copy.link)) old.locks.copy.attached k old.sessions old.next_session old.orders.items
+          old.locks.table old.max_locks old.max_marks old.ranges old.books.ledger old.failure [];
       keeper = old.books.keeper;
       file = old.locks.file;
       follower = old.locks.copy;
     } in
     let after : Condition → View g.row.K.Denot g.row.D.Denot g.row.L.Denot = λ k. record {
-      state = state_with told (is_some (g.L.Link.applied c.convert.new.locks.copy.link)) c.convert.new.locks.copy.attached k old.sessions old.next_session old.orders.items c.convert.new.locks.table old.max_locks old.max_marks old.ranges old.books.ledger old.failure [];
+      state = state_with told (is_some (g.L.Link.applied c.convert.new.locks.copy.link)) c.convert.new.locks.copy.attached k old.sessions old.next_session
+          old.orders.items c.convert.new.locks.table old.max_locks old.max_marks old.ranges old.books.ledger old.failure [];
       keeper = old.books.keeper;
       file = c.convert.new.locks.file;
       follower = c.convert.new.locks.copy;
     } in
     let s = with_calls (before Up).state c.args.past.now.items in
-    serves_beside g.K.Keeper.held g.K.Keeper.may_leave g.K.Keeper.faults g.D.Disk.faults g.L.Link.gives g.L.Link.applied g.L.Link.faults g.L.Link.refusals before after old.condition c.args.self.now c.args.past.now.items (command.Convert c.args.session.now c.args.asked.now) _ _
+    serves_beside g.K.Keeper.held g.K.Keeper.may_leave g.K.Keeper.faults g.D.Disk.faults g.L.Link.gives g.L.Link.applied g.L.Link.faults g.L.Link.refusals
+    before after old.condition c.args.self.now c.args.past.now.items (command.Convert c.args.session.now c.args.asked.now) _ _
     c.self.view_is refl refl c.convert.ensures.file c.convert.ensures.follower refl c.requires refl refl refl c.of.ensures
-    (λ room. at_state _ _ _ _ _ (λ i. record (with_calls (after Up).state c.args.past.now.items) { limit = sym c.convert.ensures.limit i; link_told = sym c.convert.ensures.follower.told i })
-    (shipped s (command.Convert c.args.session.now c.args.asked.now) (record s { locks = c.convert.new.locks.table.entries }) _ c.convert.new.locks.copy.attached (stays_shipped _ _ _ refl c.convert.ensures.follower.kept) room refl
-    (subst (λ xs. Admits s (command.Convert c.args.session.now xs) → IsAct s (command.Convert c.args.session.now xs) (record s { locks = c.convert.new.locks.table.entries }) (answer_of c.convert.result)) c.as_slice.ensures
+    (λ room. at_state _ _ _ _ _
+    (λ i. record (with_calls (after Up).state c.args.past.now.items)
+    { limit = sym c.convert.ensures.limit i; link_told = sym c.convert.ensures.follower.told i })
+    (shipped s (command.Convert c.args.session.now c.args.asked.now) (record s { locks = c.convert.new.locks.table.entries }) _
+    c.convert.new.locks.copy.attached (stays_shipped _ _ _ refl c.convert.ensures.follower.kept) room refl
+    (subst (λ xs. Admits s (command.Convert c.args.session.now xs) → IsAct s (command.Convert c.args.session.now xs)
+    (record s { locks = c.convert.new.locks.table.entries }) (answer_of c.convert.result)) c.as_slice.ensures
     (c.convert.ensures.act s (sym c.start-start.ensures) refl refl) room)))

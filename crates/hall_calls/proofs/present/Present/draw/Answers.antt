@@ -22,17 +22,25 @@ invariant_of-self g c =
     let old = c.self.inside in
     let called = c.draw-written in
     let ended = c.ended in
-    let due = subst (λ v. IsDue v.state c.args.past.now.items (command.Number c.args.session.now c.args.object.now c.args.nr)) (sym c.self.view_is) c.requires in
-    let filed = outside old.condition (HasOpenLists g.D.Disk.tells g.D.Disk.reads g.D.Disk.may_leave old.books.ledger old.locks.file) (due_serving _ _ _ refl due) c.self.invariant.2 in
-    let none = no_flight (is_some (g.K.Keeper.held old.books.keeper)) (is_some (g.L.Link.applied old.locks.copy.link)) old.locks.copy.attached old.condition old.sessions old.next_session old.orders.items old.locks.table old.max_locks old.max_marks old.ranges old.books.ledger old.failure c.args.past.now.items _ refl due in (
+    let due = subst (λ v. IsDue v.state c.args.past.now.items (command.Number c.args.session.now c.args.object.now c.args.nr))
+    (sym c.self.view_is) c.requires in
+    let filed = outside old.condition (HasOpenLists g.D.Disk.tells g.D.Disk.reads g.D.Disk.may_leave old.books.ledger old.locks.file)
+    (due_serving _ _ _ refl due) c.self.invariant.2 in
+    let none = no_flight (is_some (g.K.Keeper.held old.books.keeper)) (is_some (g.L.Link.applied old.locks.copy.link)) old.locks.copy.attached old.condition
+    old.sessions old.next_session old.orders.items old.locks.table old.max_locks old.max_marks old.ranges old.books.ledger old.failure c.args.past.now.items
+    _ refl due in (
       usable_after _ old.condition ended.new.condition _ called.result ended.ensures.condition called.ensures.store.usable,
-      leaves_after g.K.Keeper.held g.K.Keeper.may_leave called.new.books old.failure ended.new.failure (Some c.args.session.now) called.result ended.ensures.failure none.0 none.1 called.ensures.store.left,
+      leaves_after g.K.Keeper.held g.K.Keeper.may_leave called.new.books old.failure ended.new.failure
+          (Some c.args.session.now) called.result ended.ensures.failure none.0 none.1 called.ensures.store.left,
       usable_after _ old.condition ended.new.condition _ called.result ended.ensures.condition
-          (beside_lists g.D.Disk.tells g.D.Disk.reads g.D.Disk.may_leave g.D.Disk.faults old.books.ledger called.new.books.ledger old.locks.file called.result called.ensures.levels filed),
-      recovers_after g.D.Disk.tells g.D.Disk.reads g.D.Disk.may_leave g.D.Disk.faults called.new.books.ledger old.locks.file old.failure ended.new.failure (Some c.args.session.now) old.condition ended.new.condition _ called.result
+          (beside_lists g.D.Disk.tells g.D.Disk.reads g.D.Disk.may_leave g.D.Disk.faults old.books.ledger called.new.books.ledger old.locks.file called.result
+          called.ensures.levels filed),
+      recovers_after g.D.Disk.tells g.D.Disk.reads g.D.Disk.may_leave g.D.Disk.faults called.new.books.ledger old.locks.file old.failure ended.new.failure
+          (Some c.args.session.now) old.condition ended.new.condition _ called.result
           none
           ended.ensures.failure ended.ensures.condition
-          (beside_images g.D.Disk.tells g.D.Disk.reads g.D.Disk.may_leave g.D.Disk.faults old.books.ledger called.new.books.ledger old.locks.file called.result called.ensures.levels filed),
+          (beside_images g.D.Disk.tells g.D.Disk.reads g.D.Disk.may_leave g.D.Disk.faults old.books.ledger called.new.books.ledger old.locks.file called.result
+          called.ensures.levels filed),
     )
 
 pub returns : goal.returns
@@ -45,17 +53,31 @@ returns g c =
     let ended = c.ended in
     let past = c.args.past.now.items in
     let due = subst (λ v. IsDue v.state past (command.Number c.args.session.now c.args.object.now c.args.nr)) (sym c.self.view_is) c.requires in
-    let before : Condition → State = λ k. state_with (is_some (held old.books.keeper)) (is_some (g.L.Link.applied old.locks.copy.link)) old.locks.copy.attached k old.sessions old.next_session old.orders.items old.locks.table old.max_locks old.max_marks old.ranges old.books.ledger old.failure past in
-    let start : State = state_with (is_some (held old.books.keeper)) (is_some (g.L.Link.applied old.locks.copy.link)) old.locks.copy.attached old.condition old.sessions old.next_session old.orders.items old.locks.table old.max_locks old.max_marks old.ranges old.books.ledger old.failure [] in
-    let new : State = state_with (is_some (held called.new.books.keeper)) (is_some (g.L.Link.applied old.locks.copy.link)) old.locks.copy.attached ended.new.condition called.new.sessions old.next_session old.orders.items old.locks.table old.max_locks old.max_marks called.new.ranges called.new.books.ledger ended.new.failure [] in
-    subst (λ v. Serves held may_leave faults g.D.Disk.faults g.L.Link.gives g.L.Link.applied g.L.Link.faults g.L.Link.refusals v (record { state = new; keeper = called.new.books.keeper; file = old.locks.file; follower = old.locks.copy }) past (command.Number c.args.session.now c.args.object.now c.args.nr) ended.result) c.self.view_is
-    (serves_as held may_leave faults g.D.Disk.faults g.L.Link.gives g.L.Link.applied g.L.Link.faults g.L.Link.refusals _ _ past (command.Number c.args.session.now c.args.object.now c.args.nr) ended.result refl
-    (written_call (is_some (held old.books.keeper)) (is_some (held called.new.books.keeper)) (is_some (g.L.Link.applied old.locks.copy.link)) (is_some (g.L.Link.applied old.locks.copy.link)) old.locks.copy.attached old.locks.copy.attached old.condition ended.new.condition old.sessions called.new.sessions old.next_session old.orders.items old.orders.items old.locks.table old.locks.table old.max_locks old.max_marks old.ranges called.new.ranges old.books.ledger called.new.books.ledger
+    let before : Condition → State = λ k. state_with (is_some (held old.books.keeper))
+    (is_some (g.L.Link.applied old.locks.copy.link)) old.locks.copy.attached k old.sessions old.next_session old.orders.items old.locks.table old.max_locks
+    old.max_marks old.ranges old.books.ledger old.failure past in
+    let start : State = state_with (is_some (held old.books.keeper)) (is_some (g.L.Link.applied old.locks.copy.link)) old.locks.copy.attached old.condition
+    old.sessions old.next_session old.orders.items old.locks.table old.max_locks old.max_marks old.ranges old.books.ledger old.failure [] in
+    let new : State = state_with (is_some (held called.new.books.keeper))
+    (is_some (g.L.Link.applied old.locks.copy.link)) old.locks.copy.attached ended.new.condition called.new.sessions old.next_session old.orders.items
+    old.locks.table old.max_locks old.max_marks called.new.ranges called.new.books.ledger ended.new.failure [] in
+    subst (λ v. Serves held may_leave faults g.D.Disk.faults g.L.Link.gives g.L.Link.applied g.L.Link.faults g.L.Link.refusals v
+    (record { state = new; keeper = called.new.books.keeper; file = old.locks.file; follower = old.locks.copy }) past
+    (command.Number c.args.session.now c.args.object.now c.args.nr) ended.result) c.self.view_is
+    (serves_as held may_leave faults g.D.Disk.faults g.L.Link.gives g.L.Link.applied g.L.Link.faults g.L.Link.refusals _ _ past
+    (command.Number c.args.session.now c.args.object.now c.args.nr) ended.result refl
+    (written_call (is_some (held old.books.keeper)) (is_some (held called.new.books.keeper)) (is_some (g.L.Link.applied old.locks.copy.link))
+    (is_some (g.L.Link.applied old.locks.copy.link)) old.locks.copy.attached old.locks.copy.attached old.condition ended.new.condition old.sessions
+    called.new.sessions old.next_session old.orders.items old.orders.items old.locks.table old.locks.table old.max_locks old.max_marks old.ranges
+    called.new.ranges old.books.ledger called.new.books.ledger
     old.failure ended.new.failure past called.result (command.Number c.args.session.now c.args.object.now c.args.nr) ended.result refl due
-    called.ensures.store.told refl (stays_same _ _) ended.ensures.condition ended.ensures.failure ended.ensures.reply refl (also_answered _ called.result refl) (also_failed _ called.result refl) called.ensures.sessions (also_failed _ called.result refl) called.ensures.store.ledger
-    (kept_ranges (call_of (command.Number c.args.session.now c.args.object.now c.args.nr)) called.result old.ranges called.new.ranges refl called.ensures.ranges)
+    called.ensures.store.told refl (stays_same _ _) ended.ensures.condition ended.ensures.failure ended.ensures.reply refl (also_answered _ called.result refl)
+    (also_failed _ called.result refl) called.ensures.sessions (also_failed _ called.result refl) called.ensures.store.ledger
+    (kept_ranges (call_of (command.Number c.args.session.now c.args.object.now c.args.nr)) called.result old.ranges called.new.ranges refl
+    called.ensures.ranges)
     (λ none room. called.ensures.act (before old.condition) refl refl refl room))
-    (does_store held may_leave faults (reaches_store start (OfSession c.args.session.now (Draws c.args.object.now c.args.nr))) old.books.keeper called.new.books.keeper ended.result (record {
+    (does_store held may_leave faults (reaches_store start (OfSession c.args.session.now (Draws c.args.object.now c.args.nr))) old.books.keeper
+    called.new.books.keeper ended.result (record {
       told = called.ensures.store.told;
       cause = subst (HasStoreCause (faults old.books.keeper) (faults called.new.books.keeper)) (sym ended.ensures.reply) called.ensures.store.cause;
       kept = subst (KeepsStore held may_leave old.books.keeper called.new.books.keeper) (sym ended.ensures.reply) called.ensures.store.kept;

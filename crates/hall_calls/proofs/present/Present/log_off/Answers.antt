@@ -15,20 +15,26 @@ returns g c =
     let old = c.self.inside in
     let told = is_some (g.K.Keeper.held old.books.keeper) in
     let before : Condition → View g.row.K.Denot g.row.D.Denot g.row.L.Denot = λ k. record {
-      state = state_with told (is_some (g.L.Link.applied old.locks.copy.link)) old.locks.copy.attached k old.sessions old.next_session old.orders.items old.locks.table old.max_locks old.max_marks old.ranges old.books.ledger old.failure [];
+      state = state_with told (is_some (g.L.Link.applied old.locks.copy.link)) old.locks.copy.attached k old.sessions old.next_session old.orders.items
+          old.locks.table old.max_locks old.max_marks old.ranges old.books.ledger old.failure [];
       keeper = old.books.keeper;
       file = old.locks.file;
       follower = old.locks.copy;
     } in
     let after : Condition → View g.row.K.Denot g.row.D.Denot g.row.L.Denot = λ k. record {
-      state = state_with told (is_some (g.L.Link.applied c.log_off.new.locks.copy.link)) c.log_off.new.locks.copy.attached k c.log_off.new.sessions old.next_session old.orders.items c.log_off.new.locks.table old.max_locks old.max_marks old.ranges old.books.ledger old.failure [];
+      state = state_with told (is_some (g.L.Link.applied c.log_off.new.locks.copy.link)) c.log_off.new.locks.copy.attached k c.log_off.new.sessions
+          old.next_session old.orders.items c.log_off.new.locks.table old.max_locks old.max_marks old.ranges old.books.ledger old.failure [];
       keeper = old.books.keeper;
       file = c.log_off.new.locks.file;
       follower = c.log_off.new.locks.copy;
     } in
     let s = with_calls (before Up).state c.args.past.now.items in
-    serves_beside g.K.Keeper.held g.K.Keeper.may_leave g.K.Keeper.faults g.D.Disk.faults g.L.Link.gives g.L.Link.applied g.L.Link.faults g.L.Link.refusals before after old.condition c.args.self.now c.args.past.now.items (command.Logoff c.args.session.now) _ _
+    serves_beside g.K.Keeper.held g.K.Keeper.may_leave g.K.Keeper.faults g.D.Disk.faults g.L.Link.gives g.L.Link.applied g.L.Link.faults g.L.Link.refusals
+    before after old.condition c.args.self.now c.args.past.now.items (command.Logoff c.args.session.now) _ _
     c.self.view_is refl refl c.log_off.ensures.file c.log_off.ensures.follower refl c.requires refl refl refl c.of.ensures
-    (λ room. at_state _ _ _ _ _ (λ i. record (with_calls (after Up).state c.args.past.now.items) { limit = sym c.log_off.ensures.limit i; link_told = sym c.log_off.ensures.follower.told i })
-    (shipped s (command.Logoff c.args.session.now) (record s { sessions = c.log_off.new.sessions; locks = c.log_off.new.locks.table.entries }) _ c.log_off.new.locks.copy.attached (stays_shipped _ _ _ refl c.log_off.ensures.follower.kept) room refl
+    (λ room. at_state _ _ _ _ _
+    (λ i. record (with_calls (after Up).state c.args.past.now.items)
+    { limit = sym c.log_off.ensures.limit i; link_told = sym c.log_off.ensures.follower.told i })
+    (shipped s (command.Logoff c.args.session.now) (record s { sessions = c.log_off.new.sessions; locks = c.log_off.new.locks.table.entries }) _
+    c.log_off.new.locks.copy.attached (stays_shipped _ _ _ refl c.log_off.ensures.follower.kept) room refl
     (c.log_off.ensures.act s (sym c.start-start.ensures) refl refl room)))

@@ -21,17 +21,25 @@ invariant_of-self g c =
     let old = c.self.inside in
     let called = c.read-written in
     let ended = c.ended in
-    let due = subst (λ v. IsDue v.state c.args.past.now.items (command.Read c.args.session.now c.args.table.now c.args.key.now)) (sym c.self.view_is) c.requires in
-    let filed = outside old.condition (HasOpenLists g.D.Disk.tells g.D.Disk.reads g.D.Disk.may_leave old.books.ledger old.locks.file) (due_serving _ _ _ refl due) c.self.invariant.2 in
-    let none = no_flight (is_some (g.K.Keeper.held old.books.keeper)) (is_some (g.L.Link.applied old.locks.copy.link)) old.locks.copy.attached old.condition old.sessions old.next_session old.orders.items old.locks.table old.max_locks old.max_marks old.ranges old.books.ledger old.failure c.args.past.now.items _ refl due in (
+    let due = subst (λ v. IsDue v.state c.args.past.now.items (command.Read c.args.session.now c.args.table.now c.args.key.now))
+    (sym c.self.view_is) c.requires in
+    let filed = outside old.condition (HasOpenLists g.D.Disk.tells g.D.Disk.reads g.D.Disk.may_leave old.books.ledger old.locks.file)
+    (due_serving _ _ _ refl due) c.self.invariant.2 in
+    let none = no_flight (is_some (g.K.Keeper.held old.books.keeper)) (is_some (g.L.Link.applied old.locks.copy.link)) old.locks.copy.attached old.condition
+    old.sessions old.next_session old.orders.items old.locks.table old.max_locks old.max_marks old.ranges old.books.ledger old.failure c.args.past.now.items
+    _ refl due in (
       usable_after _ old.condition ended.new.condition _ called.result ended.ensures.condition called.ensures.usable,
-      leaves_after g.K.Keeper.held g.K.Keeper.may_leave called.new.books old.failure ended.new.failure (Some c.args.session.now) called.result ended.ensures.failure none.0 none.1 called.ensures.left,
+      leaves_after g.K.Keeper.held g.K.Keeper.may_leave called.new.books old.failure ended.new.failure
+          (Some c.args.session.now) called.result ended.ensures.failure none.0 none.1 called.ensures.left,
       usable_after _ old.condition ended.new.condition _ called.result ended.ensures.condition
-          (beside_lists g.D.Disk.tells g.D.Disk.reads g.D.Disk.may_leave g.D.Disk.faults old.books.ledger called.new.books.ledger old.locks.file called.result called.ensures.levels filed),
-      recovers_after g.D.Disk.tells g.D.Disk.reads g.D.Disk.may_leave g.D.Disk.faults called.new.books.ledger old.locks.file old.failure ended.new.failure (Some c.args.session.now) old.condition ended.new.condition _ called.result
+          (beside_lists g.D.Disk.tells g.D.Disk.reads g.D.Disk.may_leave g.D.Disk.faults old.books.ledger called.new.books.ledger old.locks.file called.result
+          called.ensures.levels filed),
+      recovers_after g.D.Disk.tells g.D.Disk.reads g.D.Disk.may_leave g.D.Disk.faults called.new.books.ledger old.locks.file old.failure ended.new.failure
+          (Some c.args.session.now) old.condition ended.new.condition _ called.result
           none
           ended.ensures.failure ended.ensures.condition
-          (beside_images g.D.Disk.tells g.D.Disk.reads g.D.Disk.may_leave g.D.Disk.faults old.books.ledger called.new.books.ledger old.locks.file called.result called.ensures.levels filed),
+          (beside_images g.D.Disk.tells g.D.Disk.reads g.D.Disk.may_leave g.D.Disk.faults old.books.ledger called.new.books.ledger old.locks.file called.result
+          called.ensures.levels filed),
     )
 
 pub returns : goal.returns
@@ -44,13 +52,25 @@ returns g c =
     let ended = c.ended in
     let past = c.args.past.now.items in
     let due = subst (λ v. IsDue v.state past (command.Read c.args.session.now c.args.table.now c.args.key.now)) (sym c.self.view_is) c.requires in
-    let before : Condition → State = λ k. state_with (is_some (held old.books.keeper)) (is_some (g.L.Link.applied old.locks.copy.link)) old.locks.copy.attached k old.sessions old.next_session old.orders.items old.locks.table old.max_locks old.max_marks old.ranges old.books.ledger old.failure past in
-    let new : State = state_with (is_some (held called.new.books.keeper)) (is_some (g.L.Link.applied old.locks.copy.link)) old.locks.copy.attached ended.new.condition old.sessions old.next_session old.orders.items old.locks.table old.max_locks old.max_marks old.ranges called.new.books.ledger ended.new.failure [] in
-    subst (λ v. Serves held may_leave faults g.D.Disk.faults g.L.Link.gives g.L.Link.applied g.L.Link.faults g.L.Link.refusals v (record { state = new; keeper = called.new.books.keeper; file = old.locks.file; follower = old.locks.copy }) past (command.Read c.args.session.now c.args.table.now c.args.key.now) ended.result) c.self.view_is
-    (serves_as held may_leave faults g.D.Disk.faults g.L.Link.gives g.L.Link.applied g.L.Link.faults g.L.Link.refusals _ _ past (command.Read c.args.session.now c.args.table.now c.args.key.now) ended.result refl
-    (written_call (is_some (held old.books.keeper)) (is_some (held called.new.books.keeper)) (is_some (g.L.Link.applied old.locks.copy.link)) (is_some (g.L.Link.applied old.locks.copy.link)) old.locks.copy.attached old.locks.copy.attached old.condition ended.new.condition old.sessions old.sessions old.next_session old.orders.items old.orders.items old.locks.table old.locks.table old.max_locks old.max_marks old.ranges old.ranges old.books.ledger called.new.books.ledger
+    let before : Condition → State = λ k. state_with (is_some (held old.books.keeper))
+    (is_some (g.L.Link.applied old.locks.copy.link)) old.locks.copy.attached k old.sessions old.next_session old.orders.items old.locks.table old.max_locks
+    old.max_marks old.ranges old.books.ledger old.failure past in
+    let new : State = state_with (is_some (held called.new.books.keeper))
+    (is_some (g.L.Link.applied old.locks.copy.link)) old.locks.copy.attached ended.new.condition old.sessions old.next_session old.orders.items
+    old.locks.table old.max_locks old.max_marks old.ranges called.new.books.ledger ended.new.failure [] in
+    subst (λ v. Serves held may_leave faults g.D.Disk.faults g.L.Link.gives g.L.Link.applied g.L.Link.faults g.L.Link.refusals v
+    (record { state = new; keeper = called.new.books.keeper; file = old.locks.file; follower = old.locks.copy }) past
+    (command.Read c.args.session.now c.args.table.now c.args.key.now) ended.result) c.self.view_is
+    (serves_as held may_leave faults g.D.Disk.faults g.L.Link.gives g.L.Link.applied g.L.Link.faults g.L.Link.refusals _ _ past
+    (command.Read c.args.session.now c.args.table.now c.args.key.now) ended.result refl
+    (written_call (is_some (held old.books.keeper)) (is_some (held called.new.books.keeper)) (is_some (g.L.Link.applied old.locks.copy.link))
+    (is_some (g.L.Link.applied old.locks.copy.link)) old.locks.copy.attached old.locks.copy.attached old.condition ended.new.condition old.sessions
+    old.sessions old.next_session old.orders.items old.orders.items old.locks.table old.locks.table old.max_locks old.max_marks old.ranges old.ranges
+    old.books.ledger called.new.books.ledger
     old.failure ended.new.failure past called.result (command.Read c.args.session.now c.args.table.now c.args.key.now) ended.result refl due
-    called.ensures.told refl (stays_same _ _) ended.ensures.condition ended.ensures.failure ended.ensures.reply refl (also_answered _ called.result refl) (also_failed _ called.result refl) (also_failed _ called.result refl) (also_failed _ called.result refl) (also_store_failed _ called.result called.ensures.ledger)
+    called.ensures.told refl (stays_same _ _) ended.ensures.condition ended.ensures.failure ended.ensures.reply refl (also_answered _ called.result refl)
+    (also_failed _ called.result refl) (also_failed _ called.result refl) (also_failed _ called.result refl)
+    (also_store_failed _ called.result called.ensures.ledger)
     (same_ranges (call_of (command.Read c.args.session.now c.args.table.now c.args.key.now)) called.result old.ranges refl)
     (λ none room. called.ensures.act (before old.condition) refl refl refl none room))
     (record {

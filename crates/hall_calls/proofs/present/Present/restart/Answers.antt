@@ -22,11 +22,16 @@ invariant_of-self g c =
     let past = c.args.past.now.items in
     let called = c.remake-remade in
     let ended = c.settled in (
-      remade_usable g.K.Keeper.held g.K.Keeper.is_open called.result old.condition ended.new.condition _ old.books called.new.books ended.ensures.condition called.ensures.usable called.ensures.apart c.self.invariant.0,
-      remade_leaves g.K.Keeper.held g.K.Keeper.may_leave called.result old.books.ledger called.new.books.ledger old.failure ended.new.failure called.new.books.keeper ended.ensures.failure called.ensures.ledger called.ensures.left,
-      subst (λ k. OutsideDoubt k (HasOpenLists g.D.Disk.tells g.D.Disk.reads g.D.Disk.may_leave called.new.books.ledger called.new.locks.file)) (sym ended.ensures.condition)
-          (remade_filed g.D.Disk.tells g.D.Disk.reads g.D.Disk.may_leave g.D.Disk.faults called.result old.condition _ old.books.ledger called.new.books.ledger old.failure old.locks.file called.new.locks.file called.ensures.file called.ensures.ledger c.self.invariant.2),
-      remade_recovers g.D.Disk.tells g.D.Disk.reads g.D.Disk.may_leave g.D.Disk.faults called.result old.condition ended.new.condition _ old.books.ledger called.new.books.ledger old.failure ended.new.failure old.locks.file called.new.locks.file
+      remade_usable g.K.Keeper.held g.K.Keeper.is_open called.result old.condition ended.new.condition _ old.books called.new.books ended.ensures.condition
+          called.ensures.usable called.ensures.apart c.self.invariant.0,
+      remade_leaves g.K.Keeper.held g.K.Keeper.may_leave called.result old.books.ledger called.new.books.ledger old.failure ended.new.failure
+          called.new.books.keeper ended.ensures.failure called.ensures.ledger called.ensures.left,
+      subst (λ k. OutsideDoubt k (HasOpenLists g.D.Disk.tells g.D.Disk.reads g.D.Disk.may_leave called.new.books.ledger called.new.locks.file))
+          (sym ended.ensures.condition)
+          (remade_filed g.D.Disk.tells g.D.Disk.reads g.D.Disk.may_leave g.D.Disk.faults called.result old.condition _ old.books.ledger called.new.books.ledger
+          old.failure old.locks.file called.new.locks.file called.ensures.file called.ensures.ledger c.self.invariant.2),
+      remade_recovers g.D.Disk.tells g.D.Disk.reads g.D.Disk.may_leave g.D.Disk.faults called.result old.condition ended.new.condition _ old.books.ledger
+          called.new.books.ledger old.failure ended.new.failure old.locks.file called.new.locks.file
           ended.ensures.condition ended.ensures.failure called.ensures.file called.ensures.ledger c.self.invariant.3,
     )
 
@@ -39,14 +44,22 @@ told_so g c =
     let called = c.remake-remade in
     let ended = c.settled in
     let due = subst (λ v. IsDue v.state past command.Restart) (sym c.self.view_is) c.requires in
-    let s : State = state_with (is_some (held old.books.keeper)) (is_some (g.L.Link.applied old.locks.copy.link)) old.locks.copy.attached old.condition old.sessions old.next_session old.orders.items old.locks.table old.max_locks old.max_marks old.ranges old.books.ledger old.failure past in
-    let new : State = state_with (is_some (held called.new.books.keeper)) (is_some (g.L.Link.applied called.new.locks.copy.link)) called.new.locks.copy.attached ended.new.condition called.new.sessions old.next_session called.new.orders.items called.new.locks.table old.max_locks old.max_marks old.ranges called.new.books.ledger ended.new.failure past in
+    let s : State = state_with (is_some (held old.books.keeper)) (is_some (g.L.Link.applied old.locks.copy.link)) old.locks.copy.attached old.condition
+    old.sessions old.next_session old.orders.items old.locks.table old.max_locks old.max_marks old.ranges old.books.ledger old.failure past in
+    let new : State = state_with (is_some (held called.new.books.keeper))
+    (is_some (g.L.Link.applied called.new.locks.copy.link)) called.new.locks.copy.attached ended.new.condition called.new.sessions old.next_session
+    called.new.orders.items called.new.locks.table old.max_locks old.max_marks old.ranges called.new.books.ledger ended.new.failure past in
     let told = store_told held g.K.Keeper.may_leave g.K.Keeper.faults old.books.keeper called.new.books.keeper s command.Restart _ called.ensures.store in
     let is =
-    remade_as called.result (is_some (held old.books.keeper)) (is_some (held called.new.books.keeper)) (is_some (g.L.Link.applied old.locks.copy.link)) (is_some (g.L.Link.applied called.new.locks.copy.link)) old.locks.copy.attached called.new.locks.copy.attached old.condition ended.new.condition old.sessions called.new.sessions old.next_session old.orders.items called.new.orders.items old.locks.table called.new.locks.table
-    old.max_locks old.max_marks old.ranges old.books.ledger called.new.books.ledger old.failure ended.new.failure past told called.ensures.follower.told called.ensures.detached (unshipped_still called.result old.locks.copy called.new.locks.copy called.ensures.unshipped) ended.ensures.condition ended.ensures.failure
+    remade_as called.result (is_some (held old.books.keeper)) (is_some (held called.new.books.keeper)) (is_some (g.L.Link.applied old.locks.copy.link))
+    (is_some (g.L.Link.applied called.new.locks.copy.link)) old.locks.copy.attached called.new.locks.copy.attached old.condition ended.new.condition
+    old.sessions called.new.sessions old.next_session old.orders.items called.new.orders.items old.locks.table called.new.locks.table
+    old.max_locks old.max_marks old.ranges old.books.ledger called.new.books.ledger old.failure ended.new.failure past told called.ensures.follower.told
+    called.ensures.detached (unshipped_still called.result old.locks.copy called.new.locks.copy called.ensures.unshipped) ended.ensures.condition
+    ended.ensures.failure
     called.ensures.sessions called.ensures.orders called.ensures.table called.ensures.ledger in
-    subst (λ (v : View g.row.K.Denot g.row.D.Denot g.row.L.Denot). IsTelling (with_calls v.state past) command.Restart ended.result.taken new ended.result.reply) c.self.view_is
+    subst (λ (v : View g.row.K.Denot g.row.D.Denot g.row.L.Denot). IsTelling
+    (with_calls v.state past) command.Restart ended.result.taken new ended.result.reply) c.self.view_is
     (subst (λ b. IsTelling s command.Restart b new ended.result.reply) (sym ended.ensures.taken)
     (subst (IsTelling s command.Restart (remade_taken called.result) new) (sym ended.ensures.reply)
     (subst (λ t. IsTelling s command.Restart (remade_taken called.result) t (remade_reply called.result)) (sym is)
@@ -62,17 +75,25 @@ returns-clause-serves g c =
     let past = c.args.past.now.items in
     let called = c.remake-remade in
     let ended = c.settled in
-    let new : State = state_with (is_some (held called.new.books.keeper)) (is_some (g.L.Link.applied called.new.locks.copy.link)) called.new.locks.copy.attached ended.new.condition called.new.sessions old.next_session called.new.orders.items called.new.locks.table old.max_locks old.max_marks old.ranges called.new.books.ledger ended.new.failure [] in
+    let new : State = state_with (is_some (held called.new.books.keeper))
+    (is_some (g.L.Link.applied called.new.locks.copy.link)) called.new.locks.copy.attached ended.new.condition called.new.sessions old.next_session
+    called.new.orders.items called.new.locks.table old.max_locks old.max_marks old.ranges called.new.books.ledger ended.new.failure [] in
     let act = (told_so g c).act in
-    let after : View g.row.K.Denot g.row.D.Denot g.row.L.Denot = record { state = new; keeper = called.new.books.keeper; file = called.new.locks.file; follower = called.new.locks.copy } in
-    subst (λ (v : View g.row.K.Denot g.row.D.Denot g.row.L.Denot). IsAct (with_calls v.state past) command.Restart (with_calls new past) ended.result.reply → Serves held g.K.Keeper.may_leave g.K.Keeper.faults g.D.Disk.faults g.L.Link.gives g.L.Link.applied g.L.Link.faults g.L.Link.refusals v after past command.Restart ended.result.reply) c.self.view_is
+    let after : View g.row.K.Denot g.row.D.Denot g.row.L.Denot =
+    record { state = new; keeper = called.new.books.keeper; file = called.new.locks.file; follower = called.new.locks.copy } in
+    subst (λ (v : View g.row.K.Denot g.row.D.Denot g.row.L.Denot). IsAct (with_calls v.state past) command.Restart (with_calls new past) ended.result.reply
+    → Serves held g.K.Keeper.may_leave g.K.Keeper.faults g.D.Disk.faults g.L.Link.gives g.L.Link.applied g.L.Link.faults g.L.Link.refusals v after past
+    command.Restart ended.result.reply) c.self.view_is
     (λ a. record {
       call = a;
-      store = subst (λ r. DoesStore held g.K.Keeper.may_leave g.K.Keeper.faults true (is_doubt old.condition) old.books.keeper called.new.books.keeper r) (sym ended.ensures.reply) called.ensures.store;
-      file = subst (HasFileCause (g.D.Disk.faults old.locks.file.disk) (g.D.Disk.faults called.new.locks.file.disk)) (sym ended.ensures.reply) called.ensures.cause;
+      store = subst (λ r. DoesStore held g.K.Keeper.may_leave g.K.Keeper.faults true (is_doubt old.condition) old.books.keeper called.new.books.keeper r)
+          (sym ended.ensures.reply) called.ensures.store;
+      file = subst (HasFileCause (g.D.Disk.faults old.locks.file.disk) (g.D.Disk.faults called.new.locks.file.disk))
+          (sym ended.ensures.reply) called.ensures.cause;
       follower = called.ensures.follower;
       over = tt;
-      link = quiet_link _ command.Restart (with_calls new past) ended.result.reply (g.L.Link.faults old.locks.copy.link) (g.L.Link.faults called.new.locks.copy.link) refl a;
+      link = quiet_link _ command.Restart (with_calls new past) ended.result.reply (g.L.Link.faults old.locks.copy.link)
+          (g.L.Link.faults called.new.locks.copy.link) refl a;
     }) act
 
 pub returns-clause-good_file : goal.returns-clause-good_file
@@ -80,9 +101,11 @@ returns-clause-good_file g c = λ yes.
     let old = c.self.inside in
     let past = c.args.past.now.items in
     let due = subst (λ v. IsDue v.state past command.Restart) (sym c.self.view_is) c.requires in
-    subst (λ r. is_unsound_file r ≡ false) (sym c.settled.ensures.reply) (c.remake-remade.ensures.good_file yes due.kept.open_units.stored due.kept.open_units.pending)
+    subst (λ r. is_unsound_file r ≡ false) (sym c.settled.ensures.reply)
+    (c.remake-remade.ensures.good_file yes due.kept.open_units.stored due.kept.open_units.pending)
 
 pub returns-clause-good_store : goal.returns-clause-good_store
 returns-clause-good_store g c =
-    subst (λ (v : View g.row.K.Denot g.row.D.Denot g.row.L.Denot). is_some (g.K.Keeper.held v.keeper) ≡ true → is_unsound_store c.settled.result.reply ≡ false) c.self.view_is
+    subst (λ (v : View g.row.K.Denot g.row.D.Denot g.row.L.Denot). is_some (g.K.Keeper.held v.keeper) ≡ true → is_unsound_store c.settled.result.reply ≡ false)
+    c.self.view_is
     (λ yes. subst (λ r. is_unsound_store r ≡ false) (sym c.settled.ensures.reply) (c.remake-remade.ensures.good_store yes))

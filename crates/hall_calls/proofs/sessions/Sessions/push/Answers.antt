@@ -11,7 +11,8 @@ invariant_of-self-2 c =
     let name = c.args.session.name in
     let kept = c.reserve.ensures.entries in
     let own = subst (AreNamed (λ x. x.name)) (sym kept) c.self.invariant in
-    let free = found_by_name (λ x. x.name) name m.entries own ∙ ap (λ es. session_at (values_of es) name) kept ∙ ap (λ xs. session_at xs name) c.self.view_is ∙ c.requires in
+    let free = found_by_name (λ x. x.name) name m.entries own ∙ ap (λ es. session_at (values_of es) name) kept ∙ ap (λ xs. session_at xs name) c.self.view_is
+    ∙ c.requires in
     let room = c.in_default.ensures.ok in
     let is = where_done c.insert.result (c.insert.ensures.succeeds (omega (arith, room))) c.insert.ensures.entries in
     subst (AreNamed (λ x. x.name)) (sym is) (are_named_added (λ x. x.name) m c.args.session free own)
@@ -22,7 +23,9 @@ returns-clause-pushed c =
     let name = c.args.session.name in
     let kept = c.reserve.ensures.entries in
     let own = subst (AreNamed (λ x. x.name)) (sym kept) c.self.invariant in
-    let free = found_by_name (λ x. x.name) name m.entries own ∙ ap (λ es. session_at (values_of es) name) kept ∙ ap (λ xs. session_at xs name) c.self.view_is ∙ c.requires in
+    let free = found_by_name (λ x. x.name) name m.entries own ∙ ap (λ es. session_at (values_of es) name) kept ∙ ap (λ xs. session_at xs name) c.self.view_is
+    ∙ c.requires in
     let room = c.in_default.ensures.ok in
     let is = where_done c.insert.result (c.insert.ensures.succeeds (omega (arith, room))) c.insert.ensures.entries in
-    ap values_of is ∙ added_by_name (λ x. x.name) m c.args.session free ∙ ap (λ es. values_of es ++ c.args.session ∷ []) kept ∙ ap (λ xs. xs ++ c.args.session ∷ []) c.self.view_is
+    ap values_of is ∙ added_by_name (λ x. x.name) m c.args.session free ∙ ap (λ es. values_of es ++ c.args.session ∷ []) kept
+    ∙ ap (λ xs. xs ++ c.args.session ∷ []) c.self.view_is

@@ -23,7 +23,8 @@ invariant_of-self c =
           ap (λ s. s.by_name.entries) w.self-inside-is
           ∙ ap (λ d. (c.get_mut.follows.lender (record x { draws = d })).entries) w.from_vec.ensures
           ∙ (c.get_mut.follows.holds (with_draws c.args.draws.items x)).0 in
-          subst (AreNamed (λ x. x.name)) (sym is) (are_named_changed (λ x. x.name) c.args.name.now es x (with_draws c.args.draws.items x) c.self.invariant at refl)
+          subst (AreNamed (λ x. x.name)) (sym is)
+          (are_named_changed (λ x. x.name) c.args.name.now es x (with_draws c.args.draws.items x) c.self.invariant at refl)
       | in_default w ↦
           let is = ap (λ s. s.by_name.entries) w.self-inside-is ∙ ap (λ m. m.entries) c.get_mut.follows.holds-at-none in
           subst (AreNamed (λ x. x.name)) (sym is) c.self.invariant
@@ -40,7 +41,8 @@ returns c =
           ap (λ s. s.by_name.entries) w.self-inside-is
           ∙ ap (λ d. (c.get_mut.follows.lender (record x { draws = d })).entries) w.from_vec.ensures
           ∙ (c.get_mut.follows.holds (with_draws c.args.draws.items x)).0 in
-          ap values_of is ∙ changed_by_name (λ x. x.name) c.args.name.now (with_draws c.args.draws.items) es x (with_draws c.args.draws.items x) c.self.invariant at refl
+          ap values_of is ∙ changed_by_name (λ x. x.name) c.args.name.now (with_draws c.args.draws.items) es x
+          (with_draws c.args.draws.items x) c.self.invariant at refl
           ∙ ap (with_session c.args.name.now (with_draws c.args.draws.items)) c.self.view_is
       | in_default w ↦
           let none : lookup (name_eq c.args.name.now) es ≡ None = sym c.get_mut.ensures.value ∙ ap option_copied_mut w.in_default.is in

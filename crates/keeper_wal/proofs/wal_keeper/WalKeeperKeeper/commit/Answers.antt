@@ -39,7 +39,8 @@ returns-in_err-add-clause-either g c =
 pub returns-in_err-add-clause-both : goal.returns-in_err-add-clause-both
 returns-in_err-add-clause-both g c =
     let p = err_from_is_err_and c.from_residual.result c.from_residual.ensures.1 in
-    rw p.1 (both_left g.D.Disk.tells g.D.Disk.may_leave c.args._batch.now c.args.self.now.rows c.args.self.now.made c.add.new.self c.requires.room.made c.add.ensures.rows c.add.ensures.made c.in_err-add.ensures.doubt)
+    rw p.1 (both_left g.D.Disk.tells g.D.Disk.may_leave c.args._batch.now c.args.self.now.rows c.args.self.now.made c.add.new.self c.requires.room.made
+    c.add.ensures.rows c.add.ensures.made c.in_err-add.ensures.doubt)
 
 pub returns-clause-images : goal.returns-clause-images
 returns-clause-images g c = λ t image left.
@@ -61,7 +62,8 @@ returns-clause-either g c =
     let made = c.make.ensures in
     before_or_after g.D.Disk.tells g.D.Disk.may_leave c.args._batch.now c.args.self.now.rows c.make.new.self
     (kept (λ k. k.since) made ∙ c.add.ensures.since ∙ sym (kept (λ k. k.disk) made))
-    (done_hand c.args._batch.now c.args.self.now.rows c.make.new.self (kept (λ k. k.rows) made ∙ c.add.ensures.made ∙ c.requires.room.made) (kept (λ k. k.in_doubt) made ∙ c.in_ok-add.ensures.sure))
+    (done_hand c.args._batch.now c.args.self.now.rows c.make.new.self (kept (λ k. k.rows) made ∙ c.add.ensures.made ∙ c.requires.room.made)
+    (kept (λ k. k.in_doubt) made ∙ c.in_ok-add.ensures.sure))
     (returns-clause-images g c)
 
 pub returns-clause-opened : goal.returns-clause-opened
@@ -71,7 +73,8 @@ returns-clause-opened g c =
     let batch = c.args._batch.now in
     let some : 1 ≤ length k.text = c.waits.ensures.0 c.if-not-waits.false in
     let made = c.make.ensures in
-    is_open D.tells D.reads D.may_leave c.make.new.self (kept (λ k. k.is_open) made ∙ c.in_ok-add.ensures.opened) (kept (λ k. k.is_known) made ∙ c.add.ensures.still_read) (kept (λ k. k.in_doubt) made ∙ c.in_ok-add.ensures.sure)
+    is_open D.tells D.reads D.may_leave c.make.new.self (kept (λ k. k.is_open) made ∙ c.in_ok-add.ensures.opened)
+    (kept (λ k. k.is_known) made ∙ c.add.ensures.still_read) (kept (λ k. k.in_doubt) made ∙ c.in_ok-add.ensures.sure)
     (kept (λ k. k.since) made ∙ c.add.ensures.since ∙ sym (kept (λ k. k.disk) made)) (λ t.
     let ready = c.requires.opened.ready t in
     let rest = c.in_ok-add.ensures.added t ready.front (spelling batch) ready.at_rest (spelled D.reads D.may_leave k batch c.requires.room some) in

@@ -15,7 +15,8 @@ pub invariant_of-self-2 : goal.invariant_of-self-2
 invariant_of-self-2 c =
     let t : Table = record { entries = live c.self.inside.shelf; limit = c.self.inside.limit } in
     let done : converted t.entries c.args.asker.now c.args.asked.now ≡ Ok (conversion t.entries c.args.asker.now c.args.asked.now) = c.in_ok-test.ensures.ok in
-    rw c.in_ok-removed.ensures.after (IsTable-converted t c.args.asker.now c.args.asked.now (conversion t.entries c.args.asker.now c.args.asked.now) c.self.invariant c.requires done)
+    rw c.in_ok-removed.ensures.after
+    (IsTable-converted t c.args.asker.now c.args.asked.now (conversion t.entries c.args.asker.now c.args.asked.now) c.self.invariant c.requires done)
 
 pub returns-clause-good : goal.returns-clause-good
 returns-clause-good c = invariant_of-self-2 c

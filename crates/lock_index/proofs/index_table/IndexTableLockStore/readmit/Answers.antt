@@ -9,7 +9,8 @@ use Rattle.lock_index.proofs.index_table.IndexTableLockStore.readmit.Goals as go
 pub invariant_of-self-2 : goal.invariant_of-self-2
 invariant_of-self-2 c =
     let t : Table = record { entries = live c.self.inside.shelf; limit = c.self.inside.limit } in
-    let done : readmitted t c.args.asker.now c.args.entries.now ≡ Ok (live c.replace.new.shelf) = c.in_ok-test.ensures.granted ∙ ap (λ (l : List Entry). Ok l) (sym c.in_ok-replace.ensures.replaced) in
+    let done : readmitted t c.args.asker.now c.args.entries.now ≡ Ok (live c.replace.new.shelf) =
+    c.in_ok-test.ensures.granted ∙ ap (λ (l : List Entry). Ok l) (sym c.in_ok-replace.ensures.replaced) in
     IsTable-readmitted t c.args.asker.now c.args.entries.now (live c.replace.new.shelf) c.self.invariant c.requires.pair c.requires.entries done
 
 pub returns-clause-good : goal.returns-clause-good

@@ -12,6 +12,7 @@ returns c =
     IfOk-weaker c.entries_at.result _ _
     (λ v h.
     h q c.members.ensures.distinct
-    (λ j. ap (list_any (nat_eq j)) c.members.ensures.members ∙ c.self.invariant.shown.exact c.args.key.now j c.requires ∙ ap (λ ss. on_some q (slot_at ss j)) (sym slots))
+    (λ j. ap (list_any (nat_eq j)) c.members.ensures.members ∙ c.self.invariant.shown.exact c.args.key.now j c.requires
+    ∙ ap (λ ss. on_some q (slot_at ss j)) (sym slots))
     ∙ ap (λ ss. filter q (live ss)) (slots ∙ c.self.view_is))
     c.entries_at.ensures

@@ -9,7 +9,8 @@ invariant_of-self c =
     let ss = c.self.inside.slots.items in
     let k = c.args.key.now in
     let is : c.flag_places.new.slots.items ≡ map (flag_slot k) ss =
-    flagged-is k ss c.flag_places.new.slots.items c.members.result.now c.flag_places.ensures.long c.flag_places.ensures.flagged (λ j. ap (list_any (nat_eq j)) c.members.ensures.members ∙ c.self.invariant.shown.exact k j c.requires) in
+    flagged-is k ss c.flag_places.new.slots.items c.members.result.now c.flag_places.ensures.long c.flag_places.ensures.flagged
+    (λ j. ap (list_any (nat_eq j)) c.members.ensures.members ∙ c.self.invariant.shown.exact k j c.requires) in
     record {
       shown = rw is (shown-flagged k ss c.self.inside.map c.self.invariant.shown);
       counted = rw is (c.self.invariant.counted ∙ sym (length-flagged k ss));
@@ -19,5 +20,6 @@ pub returns : goal.returns
 returns c =
     let ss = c.self.inside.slots.items in
     let k = c.args.key.now in
-    flagged-is k ss c.flag_places.new.slots.items c.members.result.now c.flag_places.ensures.long c.flag_places.ensures.flagged (λ j. ap (list_any (nat_eq j)) c.members.ensures.members ∙ c.self.invariant.shown.exact k j c.requires)
+    flagged-is k ss c.flag_places.new.slots.items c.members.result.now c.flag_places.ensures.long c.flag_places.ensures.flagged
+    (λ j. ap (list_any (nat_eq j)) c.members.ensures.members ∙ c.self.invariant.shown.exact k j c.requires)
     ∙ ap (map (flag_slot k)) c.self.view_is

@@ -16,6 +16,7 @@ invariant_of-self c =
     let at : slot_at ss c.args.place ≡ Some e = rw c.self.view_is c.requires.stands in
     let name : name_of new ≡ name_of e = same_name-same (name_of new) (name_of e) c.requires.same in
     record {
-      shown = shown-written ss c.self.inside.map c.self.invariant.shown e new c.args.place at (λ k. same-keys k new e name) (ap (λ (n : LockName). n.asked.table) name) (ap (λ (n : LockName). n.asked.pattern) name);
+      shown = shown-written ss c.self.inside.map c.self.invariant.shown e new c.args.place at (λ k. same-keys k new e name)
+          (ap (λ (n : LockName). n.asked.table) name) (ap (λ (n : LockName). n.asked.pattern) name);
       counted = c.self.invariant.counted ∙ sym (live-as_many ss c.args.place e new at);
     }

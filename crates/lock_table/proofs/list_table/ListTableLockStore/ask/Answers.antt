@@ -28,7 +28,8 @@ returns-clause-granted c =
     let is : c.as_slice-2.result.now ≡ map (half_at t.entries) (halves c.args.asker.now c.args.requests.now) =
     c.as_slice-2.ensures.value ∙ rw c.as_slice.ensures.value at c.in_ok-plan.ensures.halves in
     let done : asked t c.args.asker.now c.args.user.now c.args.requests.now ≡ Ok c.grant.new.entries.items =
-    granted_is t c.args.asker.now c.args.user.now c.args.requests.now c.as_slice-2.result.now c.in_ok-plan.plan.added.items c.as_slice-3.result.now c.grant.new.entries.items
+    granted_is t c.args.asker.now c.args.user.now c.args.requests.now c.as_slice-2.result.now c.in_ok-plan.plan.added.items c.as_slice-3.result.now
+    c.grant.new.entries.items
     is c.as_slice-3.ensures.value c.in_ok-grant.ensures.granted (rw c.as_slice.ensures.value at c.in_ok-plan.ensures.granted) in
     ap (λ s. asked s c.args.asker.now c.args.user.now c.args.requests.now) (sym c.self.view_is) ∙ done
 
@@ -38,7 +39,8 @@ invariant_of-self-2 c =
     let is : c.as_slice-2.result.now ≡ map (half_at t.entries) (halves c.args.asker.now c.args.requests.now) =
     c.as_slice-2.ensures.value ∙ rw c.as_slice.ensures.value at c.in_ok-plan.ensures.halves in
     let done : asked t c.args.asker.now c.args.user.now c.args.requests.now ≡ Ok c.grant.new.entries.items =
-    granted_is t c.args.asker.now c.args.user.now c.args.requests.now c.as_slice-2.result.now c.in_ok-plan.plan.added.items c.as_slice-3.result.now c.grant.new.entries.items
+    granted_is t c.args.asker.now c.args.user.now c.args.requests.now c.as_slice-2.result.now c.in_ok-plan.plan.added.items c.as_slice-3.result.now
+    c.grant.new.entries.items
     is c.as_slice-3.ensures.value c.in_ok-grant.ensures.granted (rw c.as_slice.ensures.value at c.in_ok-plan.ensures.granted) in
     IsTable-asked t c.args.asker.now c.args.user.now c.args.requests.now c.self.invariant c.requires c.grant.new.entries.items done
 

@@ -8,7 +8,8 @@ pub invariant_of-self-2 : goal.invariant_of-self-2
 invariant_of-self-2 c =
     let t : Table = record { entries = c.self.inside.entries.items; limit = c.self.inside.limit } in
     let done : converted t.entries c.args.asker.now c.args.asked.now ≡ Ok (conversion t.entries c.args.asker.now c.args.asked.now) = search rules in
-    rw c.convert.ensures (IsTable-converted t c.args.asker.now c.args.asked.now (conversion t.entries c.args.asker.now c.args.asked.now) c.self.invariant c.requires done)
+    rw c.convert.ensures
+    (IsTable-converted t c.args.asker.now c.args.asked.now (conversion t.entries c.args.asker.now c.args.asked.now) c.self.invariant c.requires done)
 
 pub returns-clause-good : goal.returns-clause-good
 returns-clause-good c = invariant_of-self-2 c

@@ -7,4 +7,5 @@ prepare-requires-clause-batch g c = level_is_batch (c.args.interval.now ∷ []) 
 
 pub prepare-requires-clause-makes : goal.prepare-requires-clause-makes
 prepare-requires-clause-makes g c =
-    level_makes (g.K.Keeper.held c.args.self.now.keeper) c.args.self.now.ledger c.args.interval.now c.in_ok-batch.batch.items c.requires.started c.requires.store c.in_ok-batch.ensures c.requires.usable.stands
+    level_makes (g.K.Keeper.held c.args.self.now.keeper) c.args.self.now.ledger c.args.interval.now c.in_ok-batch.batch.items c.requires.started
+    c.requires.store c.in_ok-batch.ensures c.requires.usable.stands

@@ -8,7 +8,8 @@ use Rattle.posting.proofs.BatchRows.{note_is_batch, note_makes}
 use Rattle.posting.proofs.books.Books.prepare_note.Goals as goal
 
 pub prepare-requires-clause-batch : goal.prepare-requires-clause-batch
-prepare-requires-clause-batch g c = note_is_batch c.start.result c.args.spots.now c.mark_behind-mark.result c.in_ok-batch.batch.items c.requires.distinct c.in_ok-batch.ensures.rows
+prepare-requires-clause-batch g c = note_is_batch c.start.result c.args.spots.now c.mark_behind-mark.result c.in_ok-batch.batch.items c.requires.distinct
+    c.in_ok-batch.ensures.rows
 
 pub prepare-requires-clause-makes : goal.prepare-requires-clause-makes
 prepare-requires-clause-makes g c =
@@ -19,5 +20,6 @@ prepare-requires-clause-makes g c =
     let batch = c.in_ok-batch.batch.items in
     let is = c.mark_behind-mark.ensures ∙ ap (λ (n : ℕ). record { seq = n + 1; unit = unit; kind = kind }) c.marks.ensures in
     subst (λ (m : Mark). IfSome held (λ rows. StandFor (changed batch rows) (with_mark ledger m.unit m.kind))) (sym is)
-    (note_makes held ledger unit kind c.args.spots.now batch c.start.result c.mark_behind-mark.result c.requires.marks c.requires.follows (subst (λ (m : Mark). HasFields m.kind) is c.in_ok-batch.ensures.fields) c.requires.distinct
+    (note_makes held ledger unit kind c.args.spots.now batch c.start.result c.mark_behind-mark.result c.requires.marks c.requires.follows
+    (subst (λ (m : Mark). HasFields m.kind) is c.in_ok-batch.ensures.fields) c.requires.distinct
     c.start.ensures is c.in_ok-batch.ensures.rows c.requires.note c.requires.usable.stands)

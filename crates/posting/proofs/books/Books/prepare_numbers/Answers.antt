@@ -6,7 +6,8 @@ use Rattle.posting.proofs.BatchRows.{draw_is_batch, draw_makes}
 use Rattle.posting.proofs.books.Books.prepare_numbers.Goals as goal
 
 pub prepare-requires-clause-batch : goal.prepare-requires-clause-batch
-prepare-requires-clause-batch g c = draw_is_batch c.start.result c.mark_behind-mark.result c.args.levels.now c.in_ok-batch.batch.items c.requires.store.distinct c.in_ok-batch.ensures.rows
+prepare-requires-clause-batch g c = draw_is_batch c.start.result c.mark_behind-mark.result c.args.levels.now c.in_ok-batch.batch.items c.requires.store.distinct
+    c.in_ok-batch.ensures.rows
 
 pub prepare-requires-clause-makes : goal.prepare-requires-clause-makes
 prepare-requires-clause-makes g c =
@@ -15,7 +16,10 @@ prepare-requires-clause-makes g c =
     let numbers = c.args.numbers.now in
     let drawn = c.from_vec-drawn.ensures ∙ c.in_ok-from_slice.ensures.items in
     let is : c.mark_behind-mark.result ≡ next_mark ledger key (Num numbers) =
-    c.mark_behind-mark.ensures ∙ ap (λ (n : ℕ). record { seq = n + 1; unit = key; kind = Num c.from_vec-drawn.result }) c.marks.ensures ∙ ap (λ (ns : List Number). next_mark ledger key (Num ns)) drawn in
-    draw_makes (g.K.Keeper.held c.args.self.now.keeper) ledger key numbers c.from_vec.result c.args.levels.now c.from_vec-2.result c.in_ok-batch.batch.items c.start.result c.mark_behind-mark.result
+    c.mark_behind-mark.ensures ∙ ap (λ (n : ℕ). record { seq = n + 1; unit = key; kind = Num c.from_vec-drawn.result }) c.marks.ensures
+    ∙ ap (λ (ns : List Number). next_mark ledger key (Num ns)) drawn in
+    draw_makes (g.K.Keeper.held c.args.self.now.keeper) ledger key numbers c.from_vec.result c.args.levels.now c.from_vec-2.result c.in_ok-batch.batch.items
+    c.start.result c.mark_behind-mark.result
     c.requires.marks c.requires.drawing c.requires.store c.in_ok-batch.ensures.key c.in_ok-batch.ensures.fields c.start.ensures is
-    (c.from_vec.ensures ∙ c.in_ok-from_slice-2.ensures.items) (c.from_vec-2.ensures ∙ c.in_ok-from_slice-3.ensures.items) c.in_ok-batch.ensures.rows c.requires.usable.stands
+    (c.from_vec.ensures ∙ c.in_ok-from_slice-2.ensures.items) (c.from_vec-2.ensures ∙ c.in_ok-from_slice-3.ensures.items) c.in_ok-batch.ensures.rows
+    c.requires.usable.stands

@@ -13,19 +13,22 @@ prepare-requires-clause-batch g c = one_batch (c.start-start.result + 1) c.marks
 pub prepare-requires-clause-makes : goal.prepare-requires-clause-makes
 prepare-requires-clause-makes g c =
     let small : c.start-start.result + 1 < 2 ^ 32 = omega (arith, c.if-start.false) in
-    start_makes (g.K.Keeper.held c.args.self.now.keeper) c.in-Ok.batch.items c.args.self.now.ledger (c.start-start.result + 1) (ap (λ n. n + 1) c.start-start.ensures) small
+    start_makes (g.K.Keeper.held c.args.self.now.keeper) c.in-Ok.batch.items c.args.self.now.ledger (c.start-start.result + 1)
+    (ap (λ n. n + 1) c.start-start.ensures) small
     (c.in-Ok.ensures ∙ ap (λ n. meta_row (c.start-start.result + 1) n ∷ []) c.marks.ensures) c.requires.usable.stands
 
 pub returns-in-Ok-write-clause-left : goal.returns-in-Ok-write-clause-left
 returns-in-Ok-write-clause-left g c =
-    raised_from _ _ (g.K.Keeper.may_leave c.args.self.now.keeper) (g.K.Keeper.may_leave c.write.new.self.keeper) _ (raised true c.args.self.now.ledger) c.in-Ok-prepare.ensures.unmoved.rows
+    raised_from _ _ (g.K.Keeper.may_leave c.args.self.now.keeper) (g.K.Keeper.may_leave c.write.new.self.keeper) _
+    (raised true c.args.self.now.ledger) c.in-Ok-prepare.ensures.unmoved.rows
     (ap (after_step c.prepare.new.self.ledger) c.in-Ok-prepare.ensures.step ∙ ap (λ n. with_start c.prepare.new.self.ledger (n + 1)) c.start-start.ensures
     ∙ ap (λ l. with_start l (c.args.self.now.ledger.start + 1)) c.in-Ok-prepare.ensures.unmoved.ledger)
     (g.met.K.Keeper.settled c.args.self.now.keeper c.requires.usable.opened) c.in-Ok-write.ensures.same
 
 pub returns-in-Err-clause-left : goal.returns-in-Err-clause-left
 returns-in-Err-clause-left g c =
-    raised_from _ _ (g.K.Keeper.may_leave c.args.self.now.keeper) (g.K.Keeper.may_leave c.write.new.self.keeper) _ (raised true c.args.self.now.ledger) c.in-Ok-prepare.ensures.unmoved.rows
+    raised_from _ _ (g.K.Keeper.may_leave c.args.self.now.keeper) (g.K.Keeper.may_leave c.write.new.self.keeper) _
+    (raised true c.args.self.now.ledger) c.in-Ok-prepare.ensures.unmoved.rows
     (ap (after_step c.prepare.new.self.ledger) c.in-Ok-prepare.ensures.step ∙ ap (λ n. with_start c.prepare.new.self.ledger (n + 1)) c.start-start.ensures
     ∙ ap (λ l. with_start l (c.args.self.now.ledger.start + 1)) c.in-Ok-prepare.ensures.unmoved.ledger)
     (g.met.K.Keeper.settled c.args.self.now.keeper c.requires.usable.opened) c.in-Err.ensures.same

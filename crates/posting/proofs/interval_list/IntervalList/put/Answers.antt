@@ -13,8 +13,10 @@ invariant_of-self c =
     let new = c.args.interval.now in
     let items = c.self.inside.items.items in
     let n = c.place_of-place.result in
-    let at = c.place_of-place.ensures.place (subst AreInOrder (sym c.as_slice.ensures.value) c.self.invariant) ∙ ap (position_or_len (is_past (named new))) c.as_slice.ensures.value in
-    let here : Here new items n ≡ true = ap (λ is. option_map_or (is_called (named new)) (slice_get is n) false) (sym c.as_slice-2.ensures.value) ∙ sym c.is_at.ensures ∙ c.if-is_at.true in
+    let at = c.place_of-place.ensures.place (subst AreInOrder (sym c.as_slice.ensures.value) c.self.invariant)
+    ∙ ap (position_or_len (is_past (named new))) c.as_slice.ensures.value in
+    let here : Here new items n ≡ true = ap (λ is. option_map_or (is_called (named new)) (slice_get is n) false) (sym c.as_slice-2.ensures.value)
+    ∙ sym c.is_at.ensures ∙ c.if-is_at.true in
     kept_put new items (slice_set items n new) (replaced_at new items n at here) c.self.invariant
 
 pub insert-requires : goal.insert-requires
@@ -28,8 +30,10 @@ invariant_of-self-else-is_at c =
     let new = c.args.interval.now in
     let items = c.self.inside.items.items in
     let n = c.place_of-place.result in
-    let at = c.place_of-place.ensures.place (subst AreInOrder (sym c.as_slice.ensures.value) c.self.invariant) ∙ ap (position_or_len (is_past (named new))) c.as_slice.ensures.value in
-    let here : Here new items n ≡ false = ap (λ is. option_map_or (is_called (named new)) (slice_get is n) false) (sym c.as_slice-2.ensures.value) ∙ sym c.is_at.ensures ∙ c.if-is_at.false in
+    let at = c.place_of-place.ensures.place (subst AreInOrder (sym c.as_slice.ensures.value) c.self.invariant)
+    ∙ ap (position_or_len (is_past (named new))) c.as_slice.ensures.value in
+    let here : Here new items n ≡ false = ap (λ is. option_map_or (is_called (named new)) (slice_get is n) false) (sym c.as_slice-2.ensures.value)
+    ∙ sym c.is_at.ensures ∙ c.if-is_at.false in
     let spare = ap (λ (v : IntervalsView). v.spare) c.self.view_is in
     let room : vec_len c.self.inside.items < vec_capacity c.self.inside.items = omega (arith, spare, c.requires) in
     let done = c.insert.ensures.items ∙ ap (λ b. if b then list_insert items n new else items) (c.insert.ensures.succeeds room) in
@@ -40,8 +44,10 @@ returns-then-is_at-clause-levels c =
     let new = c.args.interval.now in
     let items = c.self.inside.items.items in
     let n = c.place_of-place.result in
-    let at = c.place_of-place.ensures.place (subst AreInOrder (sym c.as_slice.ensures.value) c.self.invariant) ∙ ap (position_or_len (is_past (named new))) c.as_slice.ensures.value in
-    let here : Here new items n ≡ true = ap (λ is. option_map_or (is_called (named new)) (slice_get is n) false) (sym c.as_slice-2.ensures.value) ∙ sym c.is_at.ensures ∙ c.if-is_at.true in
+    let at = c.place_of-place.ensures.place (subst AreInOrder (sym c.as_slice.ensures.value) c.self.invariant)
+    ∙ ap (position_or_len (is_past (named new))) c.as_slice.ensures.value in
+    let here : Here new items n ≡ true = ap (λ is. option_map_or (is_called (named new)) (slice_get is n) false) (sym c.as_slice-2.ensures.value)
+    ∙ sym c.is_at.ensures ∙ c.if-is_at.true in
     levels_put new items (slice_set items n new) (replaced_at new items n at here)
     ∙ ap (λ (m : Levels). insert m (named new) (level_of new)) (ap (λ (v : IntervalsView). v.levels) c.self.view_is)
 
@@ -50,8 +56,10 @@ returns-else-is_at-clause-levels c =
     let new = c.args.interval.now in
     let items = c.self.inside.items.items in
     let n = c.place_of-place.result in
-    let at = c.place_of-place.ensures.place (subst AreInOrder (sym c.as_slice.ensures.value) c.self.invariant) ∙ ap (position_or_len (is_past (named new))) c.as_slice.ensures.value in
-    let here : Here new items n ≡ false = ap (λ is. option_map_or (is_called (named new)) (slice_get is n) false) (sym c.as_slice-2.ensures.value) ∙ sym c.is_at.ensures ∙ c.if-is_at.false in
+    let at = c.place_of-place.ensures.place (subst AreInOrder (sym c.as_slice.ensures.value) c.self.invariant)
+    ∙ ap (position_or_len (is_past (named new))) c.as_slice.ensures.value in
+    let here : Here new items n ≡ false = ap (λ is. option_map_or (is_called (named new)) (slice_get is n) false) (sym c.as_slice-2.ensures.value)
+    ∙ sym c.is_at.ensures ∙ c.if-is_at.false in
     let spare = ap (λ (v : IntervalsView). v.spare) c.self.view_is in
     let room : vec_len c.self.inside.items < vec_capacity c.self.inside.items = omega (arith, spare, c.requires) in
     let done = c.insert.ensures.items ∙ ap (λ b. if b then list_insert items n new else items) (c.insert.ensures.succeeds room) in

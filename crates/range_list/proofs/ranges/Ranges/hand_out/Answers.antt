@@ -12,5 +12,6 @@ invariant_of-self c =
     ap (λ n. take n (c.hand_out.new.ranges ++ drop (length c.hand_out.new.ranges) c.self.inside.list.items)) long
     ∙ take-append_seam c.hand_out.new.ranges (drop (length c.hand_out.new.ranges) c.self.inside.list.items) in
     let same : intervals_of c.hand_out.new.ranges ≡ intervals_of c.self.inside.list.items =
-    ap intervals_of c.hand_out.ensures ∙ handed_intervals c.args.object.now c.args.nr c.as_mut_slice.result.now ∙ ap intervals_of c.as_mut_slice.ensures.value in
+    ap intervals_of c.hand_out.ensures ∙ handed_intervals c.args.object.now c.args.nr c.as_mut_slice.result.now
+    ∙ ap intervals_of c.as_mut_slice.ensures.value in
     subst (λ is. AreIntervals is × ArePlaces c.self.inside.places is) (sym (ap intervals_of whole ∙ same)) c.self.invariant

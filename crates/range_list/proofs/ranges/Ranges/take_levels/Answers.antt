@@ -12,7 +12,8 @@ invariant_of-self g c =
     ap (λ n. take n (c.start_all.new.ranges ++ drop (length c.start_all.new.ranges) c.self.inside.list.items)) long
     ∙ take-append_seam c.start_all.new.ranges (drop (length c.start_all.new.ranges) c.self.inside.list.items) in
     let same : intervals_of c.start_all.new.ranges ≡ intervals_of c.self.inside.list.items =
-    ap intervals_of c.start_all.ensures ∙ first_intervals c.args.books.now.ledger.levels (intervals_of c.as_mut_slice.result.now) ∙ ap intervals_of c.as_mut_slice.ensures.value in
+    ap intervals_of c.start_all.ensures ∙ first_intervals c.args.books.now.ledger.levels (intervals_of c.as_mut_slice.result.now)
+    ∙ ap intervals_of c.as_mut_slice.ensures.value in
     subst (λ is. AreIntervals is × ArePlaces c.self.inside.places is) (sym (ap intervals_of whole ∙ same)) c.self.invariant
 
 pub returns-clause-intervals : goal.returns-clause-intervals

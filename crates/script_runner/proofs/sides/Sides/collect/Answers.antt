@@ -20,7 +20,8 @@ invariant_of-self c =
     let x = c.in-Some.side.now in
     let y = c.collect.new.self in
     let at = sym (ap option_copied_mut c.in-Some.is) ∙ c.get_mut.ensures.value in
-    let same : y.side.session ≡ x.side.session = either_way c.collect.result c.collect.ensures.collected c.collect.ensures.unchanged (λ e. ap (λ (p : Private). p.session) e) (λ e. ap (λ (d : DialogueView). d.side.session) e) in
+    let same : y.side.session ≡ x.side.session = either_way c.collect.result c.collect.ensures.collected c.collect.ensures.unchanged
+    (λ e. ap (λ (p : Private). p.session) e) (λ e. ap (λ (d : DialogueView). d.side.session) e) in
     subst (AreNamed owner) (sym (c.get_mut.follows.holds y).0)
     (are_named_changed owner c.args.name.now c.self.inside.by_name.entries x y c.self.invariant at same)
 
@@ -47,5 +48,6 @@ returns-clause-unchanged c =
     let at = sym (ap option_copied_mut c.in-Some.is) ∙ c.get_mut.ensures.value in
     when_refused c.collect.result
     (λ (e : y ≡ x).
-    ap sides_in ((c.get_mut.follows.holds y).0 ∙ ap (set_value (name_eq n) es) e) ∙ ap (map side) (kept_by_name owner n es x at) ∙ ap (λ v. v.items) c.self.view_is)
+    ap sides_in ((c.get_mut.follows.holds y).0 ∙ ap (set_value (name_eq n) es) e) ∙ ap (map side) (kept_by_name owner n es x at)
+    ∙ ap (λ v. v.items) c.self.view_is)
     c.collect.ensures.unchanged

@@ -17,7 +17,8 @@ invariant_of-self c =
           let at = sym (ap option_copied_mut w.in-Some.is) ∙ c.get_mut.ensures.value in
           let is = ap (λ s. s.by_name.entries) w.self-inside-is ∙ (c.get_mut.follows.holds w.drop_effects.new.self).0 in
           subst (AreNamed owner) (sym is)
-          (are_named_changed owner c.args.name.now es w.in-Some.side.now w.drop_effects.new.self c.self.invariant at (ap (λ (p : Private). p.session) w.drop_effects.ensures))
+          (are_named_changed owner c.args.name.now es w.in-Some.side.now w.drop_effects.new.self c.self.invariant at
+          (ap (λ (p : Private). p.session) w.drop_effects.ensures))
       | in_default w ↦
           let is = ap (λ s. s.by_name.entries) w.self-inside-is ∙ ap (λ m. m.entries) c.get_mut.follows.holds-at-none in
           subst (AreNamed owner) (sym is) c.self.invariant

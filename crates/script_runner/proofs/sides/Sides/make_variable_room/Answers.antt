@@ -37,5 +37,6 @@ returns-clause-room c =
     let x = c.in-Some.side.now in
     let y = c.make_room.new.self in
     let at = sym (ap option_copied_mut c.in-Some.is) ∙ c.get_mut.ensures.value in
-    room_made c.args.name.now c.self.inside.by_name.entries (c.get_mut.follows.lender y).entries x y c.make_room.result c.self.invariant at c.make_room.ensures.side
+    room_made c.args.name.now c.self.inside.by_name.entries (c.get_mut.follows.lender y).entries x y c.make_room.result c.self.invariant at
+    c.make_room.ensures.side
     (c.get_mut.follows.holds y).0 c.make_room.ensures.room

@@ -14,14 +14,16 @@ pub unreachable-requires : goal.unreachable-requires
 unreachable-requires c =
     let n = c.args.name.now in
     let found = side_found n c.self.inside.by_name.entries c.self.invariant ∙ ap (λ v. side_of v.items n) c.self.view_is in
-    side_is_missing n c.args.self.now.items (sym found ∙ ap (option_map side) (sym c.get_mut.ensures.value ∙ ap option_copied_mut c.in_default.is)) c.requires.side
+    side_is_missing n c.args.self.now.items (sym found ∙ ap (option_map side) (sym c.get_mut.ensures.value ∙ ap option_copied_mut c.in_default.is))
+    c.requires.side
 
 pub invariant_of-self : goal.invariant_of-self
 invariant_of-self c =
     let x = c.in-Some.side.now in
     let y = c.effect.new.self in
     let at = sym (ap option_copied_mut c.in-Some.is) ∙ c.get_mut.ensures.value in
-    let same : y.side.session ≡ x.side.session = either_way c.effect.result c.effect.ensures.registered c.effect.ensures.unchanged (λ e. ap (λ (p : Private). p.session) e ∙ effect_session c.args.part c.args.effect x.side) (λ e. ap (λ (d : DialogueView). d.side.session) e) in
+    let same : y.side.session ≡ x.side.session = either_way c.effect.result c.effect.ensures.registered c.effect.ensures.unchanged
+    (λ e. ap (λ (p : Private). p.session) e ∙ effect_session c.args.part c.args.effect x.side) (λ e. ap (λ (d : DialogueView). d.side.session) e) in
     subst (AreNamed owner) (sym (c.get_mut.follows.holds y).0)
     (are_named_changed owner c.args.name.now c.self.inside.by_name.entries x y c.self.invariant at same)
 
@@ -48,5 +50,6 @@ returns-clause-unchanged c =
     let at = sym (ap option_copied_mut c.in-Some.is) ∙ c.get_mut.ensures.value in
     when_refused c.effect.result
     (λ (e : y ≡ x).
-    ap sides_in ((c.get_mut.follows.holds y).0 ∙ ap (set_value (name_eq n) es) e) ∙ ap (map side) (kept_by_name owner n es x at) ∙ ap (λ v. v.items) c.self.view_is)
+    ap sides_in ((c.get_mut.follows.holds y).0 ∙ ap (set_value (name_eq n) es) e) ∙ ap (map side) (kept_by_name owner n es x at)
+    ∙ ap (λ v. v.items) c.self.view_is)
     c.effect.ensures.unchanged

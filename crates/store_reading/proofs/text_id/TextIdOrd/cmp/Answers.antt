@@ -6,4 +6,16 @@ pub returns : goal.returns
 returns c =
     let own = c.args.self.now in
     let other = c.args.other.now in
-    grind (arith, c.then-2.ensures, c.then.ensures, c.cmp.ensures, c.cmp-2.ensures, c.cmp-3.ensures, c.bytes-own.ensures.same, c.bytes-others.ensures.same, c.bytes.ensures.same, c.bytes-2.ensures.same, name_cmp own.table other.table own.key other.key)
+    grind (
+      arith,
+      c.then-2.ensures,
+      c.then.ensures,
+      c.cmp.ensures,
+      c.cmp-2.ensures,
+      c.cmp-3.ensures,
+      c.bytes-own.ensures.same,
+      c.bytes-others.ensures.same,
+      c.bytes.ensures.same,
+      c.bytes-2.ensures.same,
+      name_cmp own.table other.table own.key other.key,
+    )

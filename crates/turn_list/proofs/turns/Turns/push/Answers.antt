@@ -17,10 +17,12 @@ invariant_of-self c =
     let counts = c.self.inside.counts.items in
     let unit = c.args.unit in
     let count = c.new_count-count.result in
-    let few : length slots < 1048576 = subst (λ (ts : List (Option UnitKey)). length ts < 1048576) (sym (ap (λ (v : TurnsView). v.turns) c.self.view_is)) c.requires.few in
+    let few : length slots < 1048576 = subst (λ (ts : List (Option UnitKey)). length ts < 1048576)
+    (sym (ap (λ (v : TurnsView). v.turns) c.self.view_is)) c.requires.few in
     let counted : IsCounted (slots ++ unit ∷ []) (counts ++ count ∷ []) =
     subst (λ (ts : List (Option UnitKey)). IsCounted (ts ++ unit ∷ []) (counts ++ count ∷ [])) c.as_slice.ensures.value
     (subst (λ (ns : List ℕ). IsCounted (c.as_slice.result.now ++ unit ∷ []) (ns ++ count ∷ [])) c.as_slice-2.ensures.value c.new_count-count.ensures) in
-    subst (λ (ts : List (Option UnitKey)). IsTurns ts c.push_reserved.new.self.items (c.self.inside.waiting + c.waits.result)) (sym c.push_reserved-2.ensures.items)
+    subst (λ (ts : List (Option UnitKey)). IsTurns ts c.push_reserved.new.self.items (c.self.inside.waiting + c.waits.result))
+    (sym c.push_reserved-2.ensures.items)
     (subst (λ (ns : List ℕ). IsTurns (slots ++ unit ∷ []) ns (c.self.inside.waiting + c.waits.result)) (sym c.push_reserved.ensures.items)
     (turned_push slots unit counts count c.self.inside.waiting c.waits.result few c.self.invariant counted c.waits.ensures))

@@ -9,7 +9,8 @@ pub returns-clause-entries : goal.returns-clause-entries
 returns-clause-entries g c =
     let E : Type 0 = g.row.S-Entry.Denot in
     let view = ap (λ (m : SeatState g.row.S.Denot E). m.0) c.glue.ensures.both in
-    ap own_entries view ∙ both_entries c.args.a.seat.me.0 c.args.b.seat.me.0 c.args.a.own_seen c.args.b.own_seen (subst (λ (u : View E). IsPrefix u.shorter u.seen) view c.glue.ensures.learned.1)
+    ap own_entries view ∙ both_entries c.args.a.seat.me.0 c.args.b.seat.me.0 c.args.a.own_seen c.args.b.own_seen
+    (subst (λ (u : View E). IsPrefix u.shorter u.seen) view c.glue.ensures.learned.1)
 
 pub returns-clause-places : goal.returns-clause-places
 returns-clause-places g c =

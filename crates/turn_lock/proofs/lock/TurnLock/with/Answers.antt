@@ -14,9 +14,12 @@ invariant_of-pass-clause-own_seen g c =
     let before : List E = g.S.History.past c.enter-state.result in
     let after : List E = g.S.History.past c.act-answer.new.state in
     let v = c.args.pass.now.seat.me.0 in
-    let view = call_steps c.take_ticket-ticket.result before after c.args.pass.now.seat.me _ _ _ c.take_ticket-ticket.ensures.waits c.enter-state.ensures.took c.leave.ensures.gave in
-    let seen : IsPrefix v.seen before = subst (λ (m : SeatState g.row.S.Denot E). IsPrefix m.0.seen before) c.take_ticket-ticket.ensures.waits c.enter-state.ensures.seen in
-    subst (λ (u : View E). All (λ k. k < length u.seen) u.own) (sym view) (own_called_below v.seen before after v.own c.args.pass.now.own_seen seen c.act-answer.ensures.grows)
+    let view = call_steps c.take_ticket-ticket.result before after c.args.pass.now.seat.me _ _ _ c.take_ticket-ticket.ensures.waits c.enter-state.ensures.took
+    c.leave.ensures.gave in
+    let seen : IsPrefix v.seen before = subst (λ (m : SeatState g.row.S.Denot E). IsPrefix m.0.seen before) c.take_ticket-ticket.ensures.waits
+    c.enter-state.ensures.seen in
+    subst (λ (u : View E). All (λ k. k < length u.seen) u.own) (sym view)
+    (own_called_below v.seen before after v.own c.args.pass.now.own_seen seen c.act-answer.ensures.grows)
 
 pub returns-clause-ran : goal.returns-clause-ran
 returns-clause-ran g c =
@@ -24,8 +27,10 @@ returns-clause-ran g c =
     let before : List E = g.S.History.past c.enter-state.result in
     let after : List E = g.S.History.past c.act-answer.new.state in
     let v = c.args.pass.now.seat.me.0 in
-    let view = call_steps c.take_ticket-ticket.result before after c.args.pass.now.seat.me _ _ _ c.take_ticket-ticket.ensures.waits c.enter-state.ensures.took c.leave.ensures.gave in
-    let seen : IsPrefix v.seen before = subst (λ (m : SeatState g.row.S.Denot E). IsPrefix m.0.seen before) c.take_ticket-ticket.ensures.waits c.enter-state.ensures.seen in record {
+    let view = call_steps c.take_ticket-ticket.result before after c.args.pass.now.seat.me _ _ _ c.take_ticket-ticket.ensures.waits c.enter-state.ensures.took
+    c.leave.ensures.gave in
+    let seen : IsPrefix v.seen before = subst (λ (m : SeatState g.row.S.Denot E). IsPrefix m.0.seen before) c.take_ticket-ticket.ensures.waits
+    c.enter-state.ensures.seen in record {
       before = c.enter-state.result;
       after = c.act-answer.new.state;
       ran = c.act-answer.ensures.does;

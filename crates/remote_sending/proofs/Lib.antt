@@ -1,0 +1,12 @@
+mod TableRows
+mod Spelled
+mod Grown
+mod Leaves
+mod Asked
+mod Lines
+mod Steps
+mod Ends
+mod Reading
+mod Batches
+mod Faults
+mod IfOpen

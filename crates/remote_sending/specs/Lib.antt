@@ -1,0 +1,4 @@
+pub mod Outbox
+pub mod Growing
+pub mod Report
+pub mod Sends

@@ -1,0 +1,7 @@
+use Rattle.std.proofs.Common.{None, Ok, refl}
+use Rattle.remote_target.specs.Carrying.{executed_by}
+use Rattle.remote_target.proofs.Lines.{carries_none}
+use Rattle.remote_target.proofs.mem_carrier.deliver_old.Goals as goal
+
+pub returns-then-n-eq0 : goal.returns-then-n-eq0
+returns-then-n-eq0 g c = carries_none (executed_by g.K.Keeper.held c.args.line.now) (executed_by g.K.Keeper.held c.args.line.now) (Ok None) refl refl

@@ -1,7 +1,0 @@
-use Rattle.std.proofs.Common.{◌∙◌}
-use Rattle.store_reading.proofs.Batches.{one_put}
-use Rattle.store_tests.proofs.lines.put_line.Goals as goal
-
-pub put-requires-clause-batch : goal.put-requires-clause-batch
-put-requires-clause-batch c =
-    one_put c.as_slice.result.now _ _ c.args.line.now.key.now _ _ (c.as_slice.ensures.value ∙ c.in_ok-batch.ensures.items) (c.from_vec.ensures ∙ c.in_ok-from_slice.ensures.items) c.is_empty.ensures c.if-is_empty.false
