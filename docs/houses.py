@@ -59,7 +59,7 @@ HOUSES = {
     "Tests and loads": (
         "nothing stands on them",
         "base_tests table_tests wire_tests books_tests "
-        "wal_tests journal_tests sqlite_tests device_tests hall_tests script_tests turn_tests thread_tests remote_tests script_rows wire_rows coverage_rows "
+        "wal_tests journal_tests sqlite_tests device_tests hall_tests script_tests turn_tests thread_tests remote_tests sending_tests script_rows wire_rows coverage_rows "
         "turn_load lock_load run_load",
     ),
 }

@@ -4,10 +4,11 @@ use Rattle.std.specs.List.{AllByRecursion}
 use Rattle.enq_base.specs.declared.condition.Condition.{Condition}
 use Rattle.enq_base.specs.declared.condition.Condition.TheVariants as condition
 use Rattle.hall_model.specs.Calls.{call_of}
-use Rattle.hall_model.specs.Devices.{all_well}
+use Rattle.hall_model.specs.Devices.{MayBeDone, all_well}
 use Rattle.hall_model.specs.History.{Served, after_of, entry_of, step}
 use Rattle.hall_model.specs.Recall.{AreModelAnswers, IsModelAnswer, Made, recalled, state_after}
 use Rattle.hall_model.specs.State.{State}
+use Rattle.hall_model.specs.Step.{Verdict}
 use Rattle.hall_model.specs.Stocks.{IsStockIn, MayCall}
 use Rattle.hall_model.specs.declared.command.Command.{Command}
 use Rattle.hall_model.specs.declared.command.Reply.{Reply}
@@ -35,9 +36,10 @@ abbrev pub AreRight : State → List Asked → Type 0
 AreRight s [] = Unit {0}
 AreRight s (x ∷ xs) = ((answer s x).reply ≡ x.reply) × AreRight (recalled s (made_at s x)) xs
 
--- a call that may be made in any state
-abbrev pub MayAlways : Asked → Type 0
-MayAlways x = (s : State) → MayCall s (call_of x.command)
+-- a call that may be made in any state, and may be done
+pub record MayAlways (x : Asked) : Type 0 where
+  pub call : (s : State) → MayCall s (call_of x.command)
+  pub done : (v : Verdict) → MayBeDone (call_of x.command) v
 
 -- a commit without numbers of a stock is one
 pub no_stock : (s : State) → IsStockIn s []
@@ -48,7 +50,7 @@ made_right s x may right = record {
   who = refl;
   reply = right;
   after = refl;
-  allowed = record { call = may s; possible = record { reading = tt; event = tt; lost = tt } };
+  allowed = record { call = may.call s; possible = record { reading = tt; event = may.done _; lost = tt } };
 }
 
 pub chain_right : (s : State) (xs : List Asked) → AllByRecursion MayAlways xs → AreRight s xs → AreModelAnswers s (chain s xs)

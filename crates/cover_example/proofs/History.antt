@@ -3,7 +3,7 @@ use Rattle.std.proofs.Common.{◌≡◌, ℕ, true, Bool, false, List, [], ◌�
 use Rattle.std.specs.Prelude.{◌||◌, cond, map, None, Some}
 use Rattle.std.specs.Cmp.Lexicographic.{bytes_decides, slice_cmp}
 use Rattle.std.specs.FinMap.{empty, entries, from_entries, get-empty, len-empty, len-entries, values}
-use Rattle.std.specs.List.{filter, list_all, list_any}
+use Rattle.std.specs.List.{AllByRecursion, filter, list_all, list_any}
 use Rattle.std.specs.Ordering.{nat_cmp}
 use Rattle.std.specs.declared.cmp.Ordering.{Ordering}
 use Rattle.std.proofs.lemmas.List.{nil_from_length}
@@ -28,7 +28,7 @@ use Rattle.cover_laws.specs.Histories.{is_by, open_unit}
 use Rattle.cover_example.specs.Met.{CoveredHistory, ReadsAndPosts}
 use Rattle.cover_laws.specs.Own.{own_lines}
 use Rattle.cover_laws.specs.Safe.{AreCallsOf, IsBegun, IsWithin, calls_by}
-use Rattle.cover_example.proofs.Chains.{StaysUp, answer, chain, chain_right, made_at, no_stock, stays_sure}
+use Rattle.cover_example.proofs.Chains.{MayAlways, StaysUp, answer, chain, chain_right, made_at, no_stock, stays_sure}
 use Rattle.cover_example.proofs.Script.{ask, calls, commit, covered, lines, logon, objects, order, orders, parts, post, read, session, take, unit}
 use Rattle.cover_example.proofs.Lists.{by_case}
 
@@ -148,10 +148,25 @@ all_up : StaysUp first made
 unfolding call_verdict asked
 all_up = (refl, (refl, (refl, (refl, (refl, (refl, refl))))))
 
+may_be_made : AllByRecursion MayAlways calls
+may_be_made = (
+  record { call = λ s. tt; done = λ v. tt },
+  (
+    record { call = λ s. tt; done = λ v. tt },
+    (
+      record { call = λ s. tt; done = λ v. tt },
+      (
+        record { call = λ s. no_stock s; done = λ v. tt },
+        (record { call = λ s. tt; done = λ v. tt }, (record { call = λ s. tt; done = λ v. tt }, tt)),
+      ),
+    ),
+  ),
+)
+
 within : IsWithin objects lines first made
 within = record {
   begun = begun;
-  answers = chain_right first calls ((λ s. tt), ((λ s. tt), ((λ s. tt), ((λ s. no_stock s), ((λ s. tt), ((λ s. tt), tt))))))
+  answers = chain_right first calls may_be_made
       (logon_right, (ask_right, (read_right, (commit_right, (take_right, (post_right, tt))))));
   own = each_own;
   served = refl;

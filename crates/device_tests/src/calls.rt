@@ -25,6 +25,7 @@ pub enum Answer {
     NotTakenOver(OverFault),
     Attached,
     Detached,
+    /// Another answer; or no call, since it wants a table where none stands, or none where one does.
     Other,
 }
 
@@ -37,6 +38,9 @@ pub fn ask<T: LockStore, D: Disk, L: Link>(
 ) -> Result<Answer, Fail>
     ensures { server.new.file ≡ server.old.file }
 {
+    if !server.stands() {
+        return Ok(Answer::Other);
+    }
     let user = user()?;
     let request = Request {
         asked: *asked,
@@ -60,6 +64,9 @@ pub fn convert<T: LockStore, D: Disk, L: Link>(
 ) -> Result<Answer, Fail>
     ensures { server.new.file ≡ server.old.file }
 {
+    if !server.stands() {
+        return Ok(Answer::Other);
+    }
     let asked = asked(argument, Mode::O)?;
     match server.convert(alloc, &asker(1), &[asked]) {
         Ok(()) => Ok(Answer::Done),
@@ -77,6 +84,9 @@ pub fn readmit<T: LockStore, D: Disk, L: Link>(
     requires { server.old.file.failed ≡ false }
     ensures { OnOk result (server.new.file.failed ≡ false) }
 {
+    if !server.stands() {
+        return Err(Fail::from("no table"));
+    }
     let unit = UnitKey {
         start: 1,
         session,
@@ -112,13 +122,59 @@ pub fn save<T: LockStore, D: Disk, L: Link>(
     requires { server.old.file.failed ≡ false }
     ensures { OnOk result (server.new.file.failed ≡ false) }
 {
-    match server.save(alloc, unit) {
+    let user = user()?;
+    match server.save(alloc, unit, &user) {
         Ok(count) => Ok(Answer::Saved(count)),
         Err(_) => Err(Fail::from("not saved")),
     }
 }
 
-/// Makes the table anew.
+/// Ends the server, where one stands.
+pub fn kill<T: LockStore, D: Disk, L: Link>(server: &mut EnqServer<T, D, L>) -> Answer
+    ensures ended { server.new.stands ≡ false }
+    ensures file { server.new.file ≡ server.old.file }
+{
+    if server.stands() {
+        server.kill();
+        Answer::Done
+    } else {
+        Answer::Other
+    }
+}
+
+/// Has a replica follow the table.
+pub fn attach<T: LockStore, D: Disk, L: Link>(
+    alloc: Global,
+    server: &mut EnqServer<T, D, L>,
+) -> Answer
+    ensures { server.new.file ≡ server.old.file }
+{
+    if !server.stands() {
+        return Answer::Other;
+    }
+    match server.attach(alloc) {
+        Ok(()) => Answer::Done,
+        Err(_) => Answer::Other,
+    }
+}
+
+/// Takes the replica's list over.
+pub fn fail_over<T: LockStore, D: Disk, L: Link>(
+    alloc: Global,
+    server: &mut EnqServer<T, D, L>,
+) -> Answer
+    ensures { server.new.file ≡ server.old.file }
+{
+    if server.stands() {
+        return Answer::Other;
+    }
+    match server.fail_over(alloc, LIMIT) {
+        Ok(()) => Answer::Done,
+        Err(fault) => Answer::NotTakenOver(fault),
+    }
+}
+
+/// Makes the table anew, where none stands.
 pub fn restart<T: LockStore, D: Disk, L: Link>(
     alloc: Global,
     server: &mut EnqServer<T, D, L>,
@@ -126,6 +182,9 @@ pub fn restart<T: LockStore, D: Disk, L: Link>(
 ) -> Result<Answer, Fail>
     ensures { OnOk result (server.new.file.failed ≡ false) }
 {
+    if server.stands() {
+        return Err(Fail::from("a table"));
+    }
     let units = units_of(alloc, units)?;
     match server.restart(alloc, LIMIT, units.as_slice()) {
         Ok(()) => Ok(Answer::Done),
@@ -133,7 +192,7 @@ pub fn restart<T: LockStore, D: Disk, L: Link>(
     }
 }
 
-/// Writes a unit's list, which fails, and makes the table anew for no unit.
+/// Writes a unit's list, which fails, ends the server, and makes the table anew for no unit.
 pub fn save_and_restart<T: LockStore, D: Disk, L: Link>(
     alloc: Global,
     server: &mut EnqServer<T, D, L>,
@@ -142,22 +201,27 @@ pub fn save_and_restart<T: LockStore, D: Disk, L: Link>(
     requires { server.old.file.failed ≡ false }
     ensures { OnOk result (server.new.file.failed ≡ false) }
 {
-    match server.save(alloc, unit) {
-        Err(WriteFault::Failed) => restart(alloc, server, &[]),
-        _ => Err(Fail::from("saved")),
+    let user = user()?;
+    match server.save(alloc, unit, &user) {
+        Err(WriteFault::Failed) => {}
+        _ => return Err(Fail::from("saved")),
     }
+    let _ = kill(server);
+    restart(alloc, server, &[])
 }
 
-/// Why the table isn't made anew. It stays then.
+/// Why the table isn't made anew. None stands then.
 fn refused<T: LockStore, D: Disk, L: Link>(
     alloc: Global,
     server: &mut EnqServer<T, D, L>,
     units: &[Unit],
 ) -> Result<OpenFault, Fail> {
-    let locks = server.len();
+    if server.stands() {
+        return Err(Fail::from("a table"));
+    }
     let units = units_of(alloc, units)?;
     match server.restart(alloc, LIMIT, units.as_slice()) {
-        Err(fault) if server.len() == locks => Ok(fault),
+        Err(fault) if !server.stands() => Ok(fault),
         _ => Err(Fail::from("made anew")),
     }
 }

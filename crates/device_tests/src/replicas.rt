@@ -40,11 +40,13 @@ const STEPS: [Step; 8] = [
     (Act::FreeAll(1), Answer::Done, &[]),
 ];
 
-/// These steps, and behind them those of a takeover that leaves the table.
+/// These steps, and behind them those of a takeover that brings the table back.
 fn with_takeover(alloc: Global, steps: &[Step]) -> Result<Vec<Step>, Fail> {
     let (_, _, rows) = *steps.last().ok_or("a step")?;
     let takeover = [
         (Act::IsAttached, Answer::Attached, rows),
+        (Act::Kill, Answer::Done, &[]),
+        (Act::IsAttached, Answer::Attached, &[]),
         (Act::FailOver, Answer::Done, rows),
         (Act::IsAttached, Answer::Detached, rows),
     ];
@@ -78,8 +80,9 @@ fn the_table_is_taken_over_from_the_replica(rt: HostRuntime) -> Result<(), Fail>
     Ok(())
 }
 
-const MISSED: [Step; 2] = [
+const MISSED: [Step; 3] = [
     (Act::IsAttached, Answer::Detached, &[]),
+    (Act::Kill, Answer::Done, &[]),
     (
         Act::FailOver,
         Answer::NotTakenOver(OverFault::NotAttached),
@@ -94,13 +97,15 @@ fn a_replica_that_missed_a_change_is_not_asked(rt: HostRuntime) -> Result<(), Fa
     check_one(&rt, alloc, &FAILING, steps.as_slice())
 }
 
-const WITHOUT_LINK: [Step; 4] = [
+const WITHOUT_LINK: [Step; 6] = [
     ATTACH,
     ASK,
+    (Act::Kill, Answer::Done, &[]),
+    (Act::FailOver, Answer::NotTakenOver(OverFault::Link), &[]),
     (
         Act::FailOver,
-        Answer::NotTakenOver(OverFault::Link),
-        &[OPTIMISTIC],
+        Answer::NotTakenOver(OverFault::NotAttached),
+        &[],
     ),
     (Act::Restart(&[]), Answer::Done, &[]),
 ];

@@ -22,6 +22,8 @@ const SAVE: Step = (Act::Save, Answer::Saved(1), &[ASKED]);
 
 const FLAG: Step = (Act::Flag, Answer::Done, &[HANDED]);
 
+const KILL: Step = (Act::Kill, Answer::Done, &[]);
+
 // The table has an E lock of unit 1 of session 1, which stands in the file too.
 const HAND: Life = (&[], None, &[ASK, SAVE, FLAG]);
 
@@ -143,8 +145,11 @@ const MADE_ANEW: [Life; 1] = [(
         ASK,
         SAVE,
         FLAG,
+        KILL,
         (Act::Restart(WITH_LOCK), Answer::Done, &[HANDED]),
+        KILL,
         (Act::Restart(&[]), Answer::Done, &[]),
+        KILL,
         (
             Act::FailToRestart(WITH_LOCK),
             Answer::NotOpened(MISSING),

@@ -1,7 +1,8 @@
 ghost use Rattle.std.specs.Prelude.{◌≡◌, false, OnOk};
 
 use crate::calls::{
-    Answer, LIMIT, ask, convert, end, readmit, restart, restart_twice, save, save_and_restart,
+    Answer, LIMIT, ask, attach, convert, end, fail_over, kill, readmit, restart, restart_twice,
+    save, save_and_restart,
 };
 use crate::locks::{F1, Row, Unit, asked, disk_of, link_of, list_of, unit_key, units_of};
 use bk_disk::{Disk, MemDisk};
@@ -26,9 +27,11 @@ pub enum Act {
     /// The owner is granted an exclusive lock again.
     Readmit(u32),
     Save,
-    /// The list isn't saved, and the table made anew for no unit.
+    /// The list isn't saved, and the server is ended and its table made anew for no unit.
     FailToSave,
     End(u32),
+    /// The server is ended: no lock stands.
+    Kill,
     Restart(&'static [Unit]),
     /// The table isn't made anew for these units, but for none.
     FailToRestart(&'static [Unit]),
@@ -44,7 +47,7 @@ pub type Step = (Act, Answer, &'static [Row]);
 /// The units for which a server is opened, why it isn't opened, and steps of one that is.
 pub type Life<'a> = (&'static [Unit], Option<OpenFault>, &'a [Step]);
 
-/// Attaches a replica, or takes its list over.
+/// Attaches a replica, ends the server, or takes the replica's list over.
 fn follow<T: LockStore, D: Disk, L: Link>(
     alloc: Global,
     server: &mut EnqServer<T, D, L>,
@@ -53,14 +56,9 @@ fn follow<T: LockStore, D: Disk, L: Link>(
     ensures { server.new.file ≡ server.old.file }
 {
     match act {
-        Act::Attach => match server.attach(alloc) {
-            Ok(()) => Answer::Done,
-            Err(_) => Answer::Other,
-        },
-        Act::FailOver => match server.fail_over(alloc, LIMIT) {
-            Ok(()) => Answer::Done,
-            Err(fault) => Answer::NotTakenOver(fault),
-        },
+        Act::Attach => attach(alloc, server),
+        Act::Kill => kill(server),
+        Act::FailOver => fail_over(alloc, server),
         Act::IsAttached if server.attached() => Answer::Attached,
         Act::IsAttached => Answer::Detached,
         _ => Answer::Done,

@@ -164,7 +164,7 @@ each-agreed found s steady h flight = record {
   posts = λ worker part unit e may. agreed_marked s.stored unit (kind_for part (found.part part unit)) (post_commits_none part (found.part part unit)) h;
   drops = λ worker unit e may. h;
   kills = λ up may. h;
-  fails_over = λ list can may. h;
+  fails_over = λ can may. h;
   strays = λ first second none may. h;
   attaches = λ up may. h;
   restarts = λ off may. agreed_anew (is_taken found.anew) s.stored s.pending h flight;
@@ -336,11 +336,11 @@ numbers_right limit mark_limit intervals told linked ledger made fits limited ag
     agreed_right (state_after (opened limit mark_limit intervals told linked ledger) made).stored
     (reached limit mark_limit intervals told linked ledger made fits limited agree first answers).agreed
 
--- and while the server is up the locks that were handed over are just those of the units that wait
+-- and while the server is up, where the locks can be told from the calls, those that were handed over are just those of the units that wait
 pub handed_held : (limit mark_limit : ℕ) (intervals : List Interval) (told linked : Bool) (ledger : Ledger) (made : List Made) → IsFirstTable limit ledger
     → mark_limit ≤ 1048576 → AgreeWith intervals ledger → IsFirst ledger → AnswersFrom (opened limit mark_limit intervals told linked ledger) made
     → HandedAreOpen (state_after (opened limit mark_limit intervals told linked ledger) made)
 handed_held limit mark_limit intervals told linked ledger made fits limited agree first answers =
     let now = state_after (opened limit mark_limit intervals told linked ledger) made in
     let units = (reached limit mark_limit intervals told linked ledger made fits limited agree first answers).all.open_units in
-    while_up now.condition (HoldsOpenUnits now.locks now.stored) (λ up. holds_up now units up)
+    λ honest. while_up now.condition (HoldsOpenUnits now.locks now.stored) (λ up. holds_up now units up honest)

@@ -47,7 +47,7 @@ module _ {K D L : Type 0} (held : K → Option Rows) (may_leave : K → Rows →
       → is_some (held after.keeper) ≡ is_some (held hall.keeper)
       → LeavesState held may_leave after → LeavesLists tells images after → HasOpenUnits after.state
       → (copy : Option (List Entry)) → (after.state.attached ≡ true → IfSome copy (λ list. list ≡ after.state.locks))
-      → (IsTrue tells → NoneUnsound after.state.past)
+      → (is_some (applied hall.follower.link) ≡ true → IsTrue tells → NoneUnsound after.state.past)
       → (is_some (held hall.keeper) ≡ true → NoneUnsoundStore after.state.past)
       → (is_some (applied hall.follower.link) ≡ true → NoneUnsoundReplica after.state.past)
       → (past : List PastEntry) → past ≡ after.state.past → (made : List Made) → past ≡ calls_of made
@@ -65,7 +65,7 @@ module _ {K D L : Type 0} (held : K → Option Rows) (may_leave : K → Rows →
       (subst (λ d. AllRecover tells images after.state.condition after.state.stored after.state.pending after.state.found (record after.file { disk = d }))
       (sym kept_disk) lists)
       units follows
-      (λ yes. subst NoneUnsound (sym history) (files yes))
+      (λ on yes. subst NoneUnsound (sym history) (files (ap (λ l. is_some (applied l)) o.linked ∙ on) yes))
       (λ yes. subst NoneUnsoundStore (sym history) (stores (o.told ∙ yes)))
       (λ yes. subst NoneUnsoundReplica (sym history) (replicas (ap (λ l. is_some (applied l)) o.linked ∙ yes)))
 
@@ -74,7 +74,7 @@ module _ {K D L : Type 0} (held : K → Option Rows) (may_leave : K → Rows →
       → is_some (held after.keeper) ≡ is_some (held hall.keeper)
       → LeavesState held may_leave after → LeavesLists tells images after → HasOpenUnits after.state
       → (copy : Option (List Entry)) → (after.state.attached ≡ true → IfSome copy (λ list. list ≡ after.state.locks))
-      → (IsTrue tells → NoneUnsound hall.state.past → NoneUnsound after.state.past)
+      → (is_some (applied hall.follower.link) ≡ true → IsTrue tells → NoneUnsound hall.state.past → NoneUnsound after.state.past)
       → (is_some (held hall.keeper) ≡ true → NoneUnsoundStore hall.state.past → NoneUnsoundStore after.state.past)
       → (is_some (applied hall.follower.link) ≡ true → NoneUnsoundReplica hall.state.past → NoneUnsoundReplica after.state.past)
       → (known : List Object) (old new : Seen) (past : List PastEntry) (why : Why)
@@ -84,7 +84,7 @@ module _ {K D L : Type 0} (held : K → Option Rows) (may_leave : K → Rows →
   served_by after keeper_now disk_now kept kept_disk told leaves lists units copy follows files stores replicas known old new past why run =
       served_with o.land site (left_with keeper_now disk_now copy) hall.state.stored hall.state after.state known old new past why
       (promises_by after keeper_now disk_now kept kept_disk told leaves lists units copy follows
-      (λ yes. files yes (first_sound is_unsound_file o.land (is_some (held keeper)) (is_some (applied link)) hall.state.stored hall.state o.first))
+      (λ on yes. files on yes (first_sound is_unsound_file o.land (is_some (held keeper)) (is_some (applied link)) hall.state.stored hall.state o.first))
       (λ yes. stores yes (first_sound is_unsound_store o.land (is_some (held keeper)) (is_some (applied link)) hall.state.stored hall.state o.first))
       (λ yes. replicas yes (first_sound is_unsound_replica o.land (is_some (held keeper)) (is_some (applied link)) hall.state.stored hall.state o.first))
       past run.history)

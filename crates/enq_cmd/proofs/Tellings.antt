@@ -10,10 +10,11 @@ use Rattle.hall_model.specs.declared.command.Reply.TheVariants as reply
 use Rattle.hall_model.specs.Devices.{DeviceOutcome, IsAllowed}
 use Rattle.hall_model.specs.History.{step}
 use Rattle.hall_model.specs.Recall.{AreModelAnswers, Made, calls_of, state_after}
-use Rattle.hall_model.specs.State.{State}
+use Rattle.hall_model.specs.State.{State, is_honest}
 use Rattle.hall_laws.proofs.starting.FirstKeeps.{AgreeWith}
 use Rattle.hall_laws.proofs.starting.FirstState.{IsFirstTable}
 use Rattle.hall_calls.proofs.lists.GoodFiles.{no_bad_place}
+use Rattle.hall_laws.proofs.histories.FlaggedSessions.{just_losers}
 use Rattle.hall_laws.proofs.histories.ToldLosers.{losers_told}
 use Rattle.hall_laws.proofs.histories.StandingLocks.{locks_return, locks_stand, stays_sound}
 use Rattle.hall_laws.proofs.histories.NotedSteps.{IsTold, answers_before, told_first, told-answers}
@@ -218,9 +219,9 @@ agree_pending : (s : State) (lists : List Handed) (ledger : Ledger) → s.pendin
     → AgreeAll ledger lists
 agree_pending s lists ledger is h = subst (λ p. OfPending p (λ l. AgreeAll l lists)) is h
 
-together_pending : (s : State) (ledger : Ledger) → s.pending ≡ Some ledger → OfPending s.pending (λ l. IsSoundTable (open_entries l))
-    → IsSoundTable (open_entries ledger)
-together_pending s ledger is h = subst (λ p. OfPending p (λ l. IsSoundTable (open_entries l))) is h
+together_pending : (s : State) (ledger : Ledger) → s.pending ≡ Some ledger
+    → OfPending s.pending (λ l. IsTrue (is_honest s) → IsSoundTable (open_entries l)) → IsTrue (is_honest s) → IsSoundTable (open_entries ledger)
+together_pending s ledger is h = subst (λ p. OfPending p (λ l. IsTrue (is_honest s) → IsSoundTable (open_entries l))) is h
 
 -- by what is known of the change in flight
 agree_by : (s : State) (lists : List Handed) (ledger : Ledger) (found : Option Bool) → UnlessTaken found (AgreeAll s.stored lists)
@@ -230,11 +231,12 @@ agree_by s lists ledger None agree landed (inr is) = agree_pending s lists ledge
 agree_by s lists ledger (Some false) agree landed is = subst (λ l. AgreeAll l lists) (sym is) agree
 agree_by s lists ledger (Some true) agree landed is = agree_pending s lists ledger is landed
 
-together_by : (s : State) (ledger : Ledger) (found : Option Bool) → HasOpenUnits s → IsLedgerBy found s ledger → IsSoundTable (open_entries ledger)
-together_by s ledger None units (inl is) = subst (λ l. IsSoundTable (open_entries l)) (sym is) units.stored
-together_by s ledger None units (inr is) = together_pending s ledger is units.pending
-together_by s ledger (Some false) units is = subst (λ l. IsSoundTable (open_entries l)) (sym is) units.stored
-together_by s ledger (Some true) units is = together_pending s ledger is units.pending
+together_by : (s : State) (ledger : Ledger) (found : Option Bool) → IsTrue (is_honest s) → HasOpenUnits s → IsLedgerBy found s ledger
+    → IsSoundTable (open_entries ledger)
+together_by s ledger None honest units (inl is) = subst (λ l. IsSoundTable (open_entries l)) (sym is) (units.stored honest).together
+together_by s ledger None honest units (inr is) = together_pending s ledger is units.pending honest
+together_by s ledger (Some false) honest units is = subst (λ l. IsSoundTable (open_entries l)) (sym is) (units.stored honest).together
+together_by s ledger (Some true) honest units is = together_pending s ledger is units.pending honest
 
 -- an image of the file from which a state is recovered is what a stop may leave of it
 handed_in : (image : List ℕ) (s : State) → HasOpenUnits s → RecoversFrom s.condition s.stored s.pending s.found image → HasHanded image s
@@ -243,17 +245,17 @@ handed_in image s units h = record {
   stands = h.stands;
   agree = λ ledger known. agree_by s h.lists ledger s.found h.agree h.landed known;
   only = h.only;
-  together = λ ledger known. together_by s ledger s.found units known;
+  together = λ honest ledger known. together_by s ledger s.found honest units known;
 }
 
 -- the next start finds a file that has the locks of the units that wait in the store
-good_next : (may_leave : Rows → Type 0) (s : State) (image : List ℕ) → ((rows : Rows) → may_leave rows → SurvivesStop rows s) → HasHanded image s
-    → IsGoodFile may_leave image
-good_next may_leave s image left handed ledger stood place bad =
+good_next : (may_leave : Rows → Type 0) (s : State) (image : List ℕ) → IsTrue (is_honest s) → ((rows : Rows) → may_leave rows → SurvivesStop rows s)
+    → HasHanded image s → IsGoodFile may_leave image
+good_next may_leave s image honest left handed ledger stood place bad =
     let survives = left stood.0 stood.1 in
     let one : ledger ≡ survives.ledger = one_ledger stood.0 ledger survives.ledger stood.2 survives.stand in
     let known = subst (IsLedgerOf s) (sym one) survives.known in
-    no_bad_place image (open_locks ledger) handed.lists place handed.stands (handed.agree ledger known) (handed.together ledger known) bad
+    no_bad_place image (open_locks ledger) handed.lists place handed.stands (handed.agree ledger known) (handed.together honest ledger known) bad
 
 -- the next start finds the ledger that the rows stand for, and there is one
 follows_on : (may_leave : Rows → Type 0) (s : State) → ((rows : Rows) → may_leave rows → SurvivesStop rows s) → (next : Ledger)
@@ -273,7 +275,8 @@ pub promises_with : (land : Landscape) (site : SiteFound) (site_now : SiteLeft) 
     → (IsTrue site.told → (rows : Rows) → site_now.rows rows → StandForState rows after)
     → (IsTrue site.tells → (image : List ℕ) → site_now.images image → RecoversFrom after.condition after.stored after.pending after.found image)
     → HasOpenUnits after → (after.attached ≡ true → IfSome site_now.list (λ list. list ≡ after.locks))
-    → (IsTrue site.tells → NoneUnsound past) → (IsTrue site.told → NoneUnsoundStore past) → (IsTrue site.linked → NoneUnsoundReplica past)
+    → (IsTrue site.linked → IsTrue site.tells → NoneUnsound past) → (IsTrue site.told → NoneUnsoundStore past)
+    → (IsTrue site.linked → NoneUnsoundReplica past)
     → AreServed land site site_now l made past
 promises_with land site site_now l after past made limits good found fit table filed calls answers leads left lists units follows files stores replicas =
     let t = site.told in
@@ -296,6 +299,7 @@ promises_with land site site_now l after past made limits good found fit table f
           handed_held land.max_locks land.max_marks land.ranges t linked l earlier table limits.marks agree good
           (answers_before first made earlier later answers whole);
       lost = losers_told first made answers;
+      flagged = just_losers first made answers;
       numbers = λ earlier later whole.
           numbers_right land.max_locks land.max_marks land.ranges t linked l earlier table limits.marks agree good
           (answers_before first made earlier later answers whole);
@@ -305,7 +309,7 @@ promises_with land site site_now l after past made limits good found fit table f
       good_file = files;
       good_store = stores;
       good_replica = replicas;
-      opens = λ yes tells image may. good_next site_now.rows (state_after first made) image (left_after yes)
+      opens = λ yes tells honest image may. good_next site_now.rows (state_after first made) image honest (left_after yes)
           (subst (HasHanded image) leads (handed_in image after units (lists tells image may)));
       next = λ yes. follows_on site_now.rows (state_after first made) (left_after yes);
     }

@@ -87,8 +87,8 @@ module _ {K D L : Type 0} (held : K → Option Rows) (may_leave : K → Rows →
         (∥∥₁_map leads (linked_past (counted keeper disk link) (counted keeper_now disk_now link_now)))
 
     -- what the calls found of devices that tell what they hold
-    pub threads_good : IsTrue tells → ∥ NoneUnsound after.state.past ∥₁
-    threads_good is_told = ∥∥₁_map led (λ h. h.good_file is_told)
+    pub threads_good : is_some (applied hall.follower.link) ≡ true → IsTrue tells → ∥ NoneUnsound after.state.past ∥₁
+    threads_good on is_told = ∥∥₁_map led (λ h. h.good_file on is_told)
 
     pub threads_sound : is_some (held hall.keeper) ≡ true → ∥ NoneUnsoundStore after.state.past ∥₁
     threads_sound is_told = ∥∥₁_map led (λ h. h.good_store is_told)

@@ -67,6 +67,7 @@ pub(crate) fn load_site<A: Source, T: Sink, K: Keeper, D: Disk, L: Link>(
         → landscape_of document ≡ Ok land
         → IsTrue (is_some (K.held site.keeper)) → ((rows : Rows) → K.may_leave site.keeper rows → IsGood rows)
         → FitAll land (K.may_leave site.keeper)
+        → IsTrue (is_some (L.applied site.link))
         → IsTrue D.tells → IsGoodFile (K.may_leave site.keeper) (D.reads site.disk)
         → ¬ Rose (A.faults landscape.old) (A.faults landscape.new) → ¬ Rose (T.faults sink.old) (T.faults sink.new)
         → ¬ Rose (K.faults site.keeper) (K.faults result.site.keeper)
@@ -82,8 +83,9 @@ pub(crate) fn load_site<A: Source, T: Sink, K: Keeper, D: Disk, L: Link>(
     ensures link_counts { CountsLinkEach false result.past (link_counts L.faults L.refusals site.link)
         (link_counts L.faults L.refusals result.site.link) }
     ensures bad_store { IfSome (K.held result.site.keeper) (λ rows. IsBadStore rows result.why) }
-    ensures bad_backup { IsTrue D.tells → (place : BackupBad) → result.why ≡ Why.BadBackup place → result.past ≡ [] }
-    ensures bad_file { IsTrue D.tells → (place : BackupBad) → result.why ≡ Why.BadBackup place
+    ensures bad_backup { IsTrue (is_some (L.applied site.link)) → IsTrue D.tells → (place : BackupBad)
+        → result.why ≡ Why.BadBackup place → result.past ≡ [] }
+    ensures bad_file { IsTrue D.tells → result.past ≡ [] → (place : BackupBad) → result.why ≡ Why.BadBackup place
         → TellsBadFile (A.left landscape.old) (K.held result.site.keeper) (K.may_leave site.keeper) (D.reads site.disk)
         place }
     ensures no_start { IfSome (K.held result.site.keeper) (λ rows. HasNoStart rows result.why) }
@@ -133,7 +135,8 @@ fn load<T: Sink, K: Keeper, D: Disk, L: Link>(
         → HasBadCause hall.old.state hall.new.state (bad.Store table row) }
     ensures bad_backup { (place : BackupBad) → result ≡ Why.BadBackup place
         → HasBadCause hall.old.state hall.new.state (bad.Backup place) }
-    ensures good_file { IsTrue D.tells → NoneUnsound hall.old.state.past → NoneUnsound hall.new.state.past }
+    ensures good_file { is_some (L.applied hall.old.follower.link) ≡ true → IsTrue D.tells
+        → NoneUnsound hall.old.state.past → NoneUnsound hall.new.state.past }
     ensures good_store { is_some (K.held hall.old.keeper) ≡ true → NoneUnsoundStore hall.old.state.past
         → NoneUnsoundStore hall.new.state.past }
     ensures good_replica { is_some (L.applied hall.old.follower.link) ≡ true → NoneUnsoundReplica hall.old.state.past

@@ -63,6 +63,7 @@ pub(crate) fn replay_site<A: Source, S: Source, T: Sink, K: Keeper, D: Disk, L: 
         → landscape_of document ≡ Ok land
         → IsTrue (is_some (K.held site.keeper)) → ((rows : Rows) → K.may_leave site.keeper rows → IsGood rows)
         → FitAll land (K.may_leave site.keeper)
+        → IsTrue (is_some (L.applied site.link))
         → IsTrue D.tells → IsGoodFile (K.may_leave site.keeper) (D.reads site.disk)
         → ¬ Rose (A.faults landscape.old) (A.faults landscape.new)
         → ¬ Rose (S.faults script.old) (S.faults script.new) → ¬ Rose (T.faults sink.old) (T.faults sink.new)
@@ -80,8 +81,9 @@ pub(crate) fn replay_site<A: Source, S: Source, T: Sink, K: Keeper, D: Disk, L: 
     ensures link_counts { CountsLinkEach false result.past (link_counts L.faults L.refusals site.link)
         (link_counts L.faults L.refusals result.site.link) }
     ensures bad_store { IfSome (K.held result.site.keeper) (λ rows. IsBadStore rows result.why) }
-    ensures bad_backup { IsTrue D.tells → (place : BackupBad) → result.why ≡ Why.BadBackup place → result.past ≡ [] }
-    ensures bad_file { IsTrue D.tells → (place : BackupBad) → result.why ≡ Why.BadBackup place
+    ensures bad_backup { IsTrue (is_some (L.applied site.link)) → IsTrue D.tells → (place : BackupBad)
+        → result.why ≡ Why.BadBackup place → result.past ≡ [] }
+    ensures bad_file { IsTrue D.tells → result.past ≡ [] → (place : BackupBad) → result.why ≡ Why.BadBackup place
         → TellsBadFile (A.left landscape.old) (K.held result.site.keeper) (K.may_leave site.keeper) (D.reads site.disk)
         place }
     ensures no_start { IfSome (K.held result.site.keeper) (λ rows. HasNoStart rows result.why) }

@@ -6,4 +6,4 @@ pub mod Listed
 pub mod Following
 pub mod Copies
 pub mod Held
-pub mod Replacing
+pub mod Stores

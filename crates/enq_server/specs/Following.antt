@@ -1,10 +1,8 @@
 -- A replica that follows the lock table.
-use Rattle.std.specs.Prelude.{◌≡◌, ◌⊎◌, ◌≤◌, ◌&&◌, ℕ, Bool, true, false, not, nat_eq, if◌then◌else◌, List, [], ◌∷◌}
+use Rattle.std.specs.Prelude.{◌≡◌, ◌⊎◌, ◌≤◌, ℕ, Bool, true, false, if◌then◌else◌, List, []}
 use Rattle.std.specs.Prelude.{Option, Some, IfSome, is_some}
-use Rattle.std.specs.Bool.{beq}
-use Rattle.std.specs.Str.{bytes_eq}
+use Rattle.std.specs.Option.{unwrap_or}
 use Rattle.enq_base.specs.Causes.{Rose}
-use Rattle.lock_entry.specs.Names.{has_name, name_of}
 use Rattle.lock_entry.specs.Sound.{IsSound, first_clash}
 use Rattle.lock_entry.specs.declared.entry.Entry.{Entry}
 use Rattle.replica_link.specs.declared.fault.LinkFault.{LinkFault}
@@ -21,6 +19,10 @@ pub record Following (L : Type 0) : Type 0 where
 -- where it follows and the link tells its list, that is this one
 abbrev pub IsAt : {L : Type 0} → (L → Option (List Entry)) → Following L → List Entry → Type 0
 IsAt applied f list = f.attached ≡ true → IfSome (applied f.link) (λ l. l ≡ list)
+
+-- the list of a replica that follows, where the link tells it
+abbrev pub told_list : {L : Type 0} → (L → Option (List Entry)) → Following L → List Entry
+told_list applied f = if f.attached then unwrap_or (applied f.link) [] else []
 
 -- neither count has fallen, what followed before is lost only where one of them rose, and the link tells its list just
 -- where it did
@@ -53,29 +55,14 @@ pub record StillFollows {L : Type 0} (gives : L → List Entry) (applied : L →
   pub given : gives new.link ≡ gives old.link
   pub told : applied new.link ≡ applied old.link
 
--- the same lock
-abbrev pub same_entry : Entry → Entry → Bool
-same_entry a b = has_name (name_of a) b && (bytes_eq a.user b.user && (nat_eq a.count b.count && beq a.handed b.handed))
-
--- The list may take the place of the table: it has the table's locks in their order, and lacks at most some that
--- weren't handed over.
-abbrev pub may_replace : (table list : List Entry) → Bool
-may_replace [] [] = true
-may_replace [] (x ∷ xs) = false
-may_replace (e ∷ es) [] = not e.handed && may_replace es []
-may_replace (e ∷ es) (x ∷ xs) = if same_entry e x then may_replace es xs else (not e.handed && may_replace es (x ∷ xs))
-
--- why no table was taken over from the replica: none followed, the link failed, what it gives isn't sound or may not
--- replace the table, or memory ran out, after which it may be asked again
+-- why no table was taken over from the replica: none followed, the link failed, what it gives isn't sound, or memory
+-- ran out, after which it may be asked again
 abbrev pub IsOverFault : {L : Type 0} → (faults : L → ℕ) → (gives : L → List Entry)
-    → (applied : L → Option (List Entry)) → (table : List Entry) → (old new : Following L) → OverFault → Type 0
-IsOverFault faults gives applied table old new over.NotAttached = (old.attached ≡ false) × (new ≡ old)
-IsOverFault faults gives applied table old new over.Link =
+    → (applied : L → Option (List Entry)) → (old new : Following L) → OverFault → Type 0
+IsOverFault faults gives applied old new over.NotAttached = (old.attached ≡ false) × (new ≡ old)
+IsOverFault faults gives applied old new over.Link =
     (old.attached ≡ true) × (new.attached ≡ false) × Rose (faults old.link) (faults new.link)
-IsOverFault faults gives applied table old new (over.Clash first second) =
+IsOverFault faults gives applied old new (over.Clash first second) =
     (old.attached ≡ true) × (new.attached ≡ false) × (IsSound (gives old.link) → ⊥)
     × (first_clash (gives old.link) ≡ Some (first, second))
-IsOverFault faults gives applied table old new over.Other =
-    (old.attached ≡ true) × (new.attached ≡ false) × IsSound (gives old.link)
-    × (may_replace table (gives old.link) ≡ false)
-IsOverFault faults gives applied table old new over.NoMemory = StillFollows gives applied old new
+IsOverFault faults gives applied old new over.NoMemory = StillFollows gives applied old new

@@ -1,6 +1,7 @@
 -- A lock table and its backup file.
-use Rattle.std.specs.Prelude.{ℕ, ◌≡◌, Bool, ◌&&◌, not, [], ◌∷◌, List, length, if◌then◌else◌, nat_le, Ok}
+use Rattle.std.specs.Prelude.{ℕ, ◌≡◌, Bool, ◌&&◌, not, [], ◌∷◌, List, length, if◌then◌else◌, map, nat_le, Ok, Option}
 use Rattle.std.specs.List.{All, filter}
+use Rattle.std.specs.Option.{option_map_or}
 use Rattle.enq_base.specs.declared.owner.Owner.TheVariants.{Upd}
 use Rattle.enq_base.specs.declared.owner.UnitKey.{UnitKey}
 use Rattle.mode_rules.specs.declared.Mode.TheVariants.{O}
@@ -21,10 +22,24 @@ use Rattle.backup_file.specs.declared.handed.Record.TheVariants.{Hand}
 use Rattle.enq_server.specs.Following.{Following}
 use Rattle.enq_server.specs.Recovery.{Agrees, joined, lists_among}
 
+-- `table` is `no_table` where none stands
 pub record Server (D L : Type 0) : Type 0 where
+  pub stands : Bool
   pub table : Table
   pub file : BackupView D
   pub copy : Following L
+
+-- what a lock server has beside its table
+pub record Remains (D L : Type 0) : Type 0 where
+  pub file : BackupView D
+  pub copy : Following L
+
+abbrev pub no_table : Table
+no_table = record { entries = []; limit = 0 }
+
+-- the table of a store, where one stands
+abbrev pub table_of : {T : Type 0} → (T → Table) → Option T → Table
+table_of table store = option_map_or table store no_table
 
 abbrev pub larger : ℕ → ℕ → ℕ
 larger a b = if nat_le a b then b else a
@@ -52,6 +67,13 @@ is_lasting unit e = is_of (Upd unit) e && not (same_mode e.mode O)
 -- the unit's S, E and X entries
 abbrev pub lasting : UnitKey → List Entry → List Entry
 lasting unit entries = filter (is_lasting unit) entries
+
+-- the entry under this user
+abbrev pub with_user : List ℕ → Entry → Entry
+with_user user e = record e { user = user }
+
+abbrev pub of_user : List ℕ → List Entry → List Entry
+of_user user entries = map (with_user user) entries
 
 -- the lists with that of the unit last, where it has entries
 abbrev pub with_list : UnitKey → List Entry → List Handed → List Handed

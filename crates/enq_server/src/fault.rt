@@ -39,8 +39,6 @@ pub enum OverFault {
     Link,
     /// Two entries of the replica's list can't stand together.
     Clash { first: u32, second: u32 },
-    /// The replica's list has another lock than the table had, or lacks one that was handed over.
-    Other,
     NoMemory,
 }
 

@@ -8,6 +8,7 @@ mod places;
 mod recovery;
 mod server;
 mod shipping;
+mod wreck;
 
 pub use fault::{OpenFault, OverFault, ServerFault};
 pub use laws::{entries_follow_lists, one_user_is_kept, what_a_table_held_stands_together};

@@ -1,14 +1,12 @@
-ghost use Rattle.std.specs.Prelude.{◌≡◌, ◌↔◌, ◌&&◌, ◌∷◌, not, ℕ, List, true, false, None, IsTrue, IfOk, IfErr, IfSome, OnOk, OnErr, MatchResult};
+ghost use Rattle.std.specs.Prelude.{◌≡◌, ◌↔◌, ℕ, List, true, false, None, IsTrue, IfOk, IfErr, IfSome, OnOk, OnErr, MatchResult};
 ghost use Rattle.std.specs.List.{All};
 ghost use Rattle.enq_base.specs.Causes.{HasCause};
 ghost use Rattle.bk_disk.specs.Disk.{Follows};
 ghost use Rattle.lock_entry.specs.Table.{IsLoadFault, IsTable};
 ghost use Rattle.backup_file.specs.Backup.{IsReady};
 ghost use Rattle.backup_file.specs.declared.handed.Handed.{Handed};
-ghost use Rattle.lock_entry.specs.declared.entry.Entry.{Entry};
 ghost use Rattle.lock_entry.specs.declared.entry.UnitLocks.{UnitLocks};
 ghost use Rattle.enq_server.specs.Faults.{CountsFault, IsOpenFault, IsRecoveryFault, Leaves, OnBytes};
-ghost use Rattle.enq_server.specs.Following.{may_replace};
 ghost use Rattle.enq_server.specs.Recovery.{Agrees, AreKnown, ArePlaces, FreesOthers, IsFirstDifference, IsMissing, StandsLess, joined, lists_among};
 ghost use Rattle.enq_server.specs.Server.{IsRecovered, larger, recovered, replicated};
 
@@ -26,37 +24,6 @@ fn is_same(a: &Entry, b: &Entry) -> bool
     ensures { IsTrue result ↔ (a.now ≡ b.now) }
 {
     a.name().is(&b.name()) && (a.user.is(&b.user) && (a.count == b.count && a.handed == b.handed))
-}
-
-/// What of the list stands behind the entry, where it begins with this one.
-fn behind<'a>(entry: &Entry, list: &'a [Entry]) -> Option<&'a [Entry]>
-    ensures first { IfSome result
-        (λ rest. (entries : List Entry) → may_replace (entry.now ∷ entries) list.now ≡ may_replace entries rest.now) }
-    ensures other { result ≡ None → (entries : List Entry)
-        → may_replace (entry.now ∷ entries) list.now ≡ (not entry.now.handed && may_replace entries list.now) }
-{
-    let (first, rest) = list.split_first()?;
-    if is_same(entry, first) {
-        Some(rest)
-    } else {
-        None
-    }
-}
-
-/// Whether the list may take the place of the table: it has the table's entries in their order, and lacks at most some
-/// that weren't handed over.
-pub fn may_replace(table: &[Entry], list: &[Entry]) -> bool
-    ensures { result ≡ may_replace table.now list.now }
-{
-    let mut rest = list;
-    for entry in table {
-        match behind(entry, rest) {
-            Some(left) => rest = left,
-            None if entry.handed => return false,
-            None => {}
-        }
-    }
-    rest.is_empty()
 }
 
 /// The first place, counted from 1, where two lists of entries differ.

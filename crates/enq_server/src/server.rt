@@ -1,4 +1,4 @@
-ghost use Rattle.std.specs.Prelude.{◌≡◌, ◌⊎◌, ◌≤◌, ℕ, List, false, true, length, not, IsTrue, IfOk, IfErr, IfSome, OnOk, OnErr, Ok, IsErrOf, MatchResult};
+ghost use Rattle.std.specs.Prelude.{◌≡◌, ◌⊎◌, ◌≤◌, ◌&&◌, ℕ, [], List, false, true, length, not, if◌then◌else◌, is_some, IsTrue, IfOk, IfErr, IfSome, OnOk, OnErr, Ok, IsErrOf, MatchResult};
 ghost use Rattle.std.specs.List.{filter};
 ghost use Rattle.enq_base.specs.Causes.{HasCause, Rose};
 ghost use Rattle.enq_base.specs.declared.owner.Owner.TheVariants.{Upd};
@@ -6,12 +6,12 @@ ghost use Rattle.mode_rules.specs.Modes.{same_mode};
 ghost use Rattle.mode_rules.specs.declared.Mode.TheVariants.{O};
 ghost use Rattle.bk_disk.specs.Disk.{Follows};
 ghost use Rattle.lock_entry.specs.Converting.{converted};
-ghost use Rattle.lock_entry.specs.Freeing.{freed, freed_owner, handed_over};
+ghost use Rattle.lock_entry.specs.Freeing.{freed, freed_owner, handed_over, has_unhanded};
 ghost use Rattle.lock_entry.specs.Granting as granting;
 ghost use Rattle.lock_entry.specs.Names.{is_of, named};
-ghost use Rattle.enq_server.specs.Following.{IsLater, IsOverFault, KeepsOn, may_replace};
+ghost use Rattle.enq_server.specs.Following.{IsLater, IsOverFault, KeepsOn, told_list};
 ghost use Rattle.lock_entry.specs.Pairs.{IsPair};
-ghost use Rattle.lock_entry.specs.Sound.{ReadmitsOnly};
+ghost use Rattle.lock_entry.specs.Sound.{IsSound, ReadmitsOnly};
 ghost use Rattle.lock_entry.specs.Table.{IsTable, entry_at, with_entries};
 ghost use Rattle.backup_file.specs.Backup.{HasWriteCause, IsReady, IsSame};
 ghost use Rattle.backup_file.specs.File.{Stands};
@@ -21,41 +21,45 @@ ghost use Rattle.backup_file.specs.declared.handed.Handed.{Handed};
 ghost use Rattle.enq_server.specs.Faults.{CountsFault, HasCallCause, IsOpenFault, IsReadmission, IsRefusal, Leaves, OnBytes};
 ghost use Rattle.enq_server.specs.declared.fault.ServerFault.TheVariants as server;
 ghost use Rattle.enq_server.specs.Recovery.{FreesOthers};
-ghost use Rattle.enq_server.specs.Server.{IsConverted, IsRecovered, lasting, recovered, replicated, with_list};
+ghost use Rattle.enq_server.specs.Server.{IsConverted, IsRecovered, lasting, no_table, of_user, recovered, replicated, table_of, with_list};
 
 use crate::fault::{OpenFault, OverFault, ServerFault};
 use crate::follower::Follower;
-use crate::recovery::{load_list, may_replace, read_anew};
+use crate::recovery::read_anew;
 use crate::shipping::{ship_drops, ship_freed, ship_granted, ship_owner, ship_puts, ship_turns};
+use crate::wreck::Wreck;
 use backup_file::{Backup, WriteFault};
 use bk_disk::Disk;
 use enq_base::{Failed, Name, NoMemory, Owner, UnitKey};
-use lock_entry::{Asked, Asker, Entry, LoadFault, LockStore, Mode, Request, UnitLocks};
+use lock_entry::{Asked, Asker, Entry, LockStore, Mode, Request, UnitLocks};
 use replica_link::{Link, LinkFault, TableOp};
 use std::alloc::Global;
 use std::marker::Model;
 
 /// A lock table, the backup file of the locks that were handed to the update, and a replica that follows the table
-/// once it is attached (Standalone Enqueue Server). Calls without an allocator take memory for what is sent to the
-/// replica at most: where there is none they do all else.
+/// once it is attached (Standalone Enqueue Server). Once the server is ended no table stands, until the replica's list
+/// or the backup file's lists become one. Calls without an allocator take memory for what is sent to the replica at
+/// most: where there is none they do all else.
 #[derive(Drop)]
 pub struct EnqServer<T: LockStore, D: Disk, L: Link> {
-    table: T,
-    backup: Backup<D>,
-    follower: Follower<L>,
+    table: Option<T>,
+    rest: Wreck<D, L>,
 }
 
 impl<T: LockStore, D: Disk, L: Link> Model for EnqServer<T, D, L> {
-    ghost use Rattle.enq_server.specs.Server.{Server};
+    ghost use Rattle.std.specs.Prelude.{◌≡◌, is_some, true};
+    ghost use Rattle.enq_server.specs.Server.{Server, table_of};
 
     ghost Value = { Server D L };
 
-    ghost view = { λ s. record { table = T.table s.table; file = s.backup; copy = s.follower } };
+    ghost view = { λ s. record
+        { stands = is_some s.table; table = table_of T.table s.table; file = s.rest.file; copy = s.rest.copy } };
 
     ghost use Rattle.lock_entry.specs.Table.{IsTable};
     ghost use Rattle.enq_server.specs.Following.{IsAt};
 
-    ghost invariant = { λ s. IsTable (T.table s.table) × IsAt L.applied s.follower (T.table s.table).entries };
+    ghost invariant = { λ s. IsTable (table_of T.table s.table)
+        × (is_some s.table ≡ true → IsAt L.applied s.rest.copy (table_of T.table s.table).entries) };
 }
 
 impl<T: LockStore, D: Disk, L: Link> EnqServer<T, D, L> {
@@ -69,6 +73,7 @@ impl<T: LockStore, D: Disk, L: Link> EnqServer<T, D, L> {
         limit: u32,
         units: &[UnitLocks],
     ) -> Result<EnqServer<T, D, L>, (OpenFault, D, L)>
+        ensures stands { IfOk result (λ s. s.stands ≡ true) }
         ensures table { IfOk result (λ s. s.table ≡ recovered limit units.now) }
         ensures good { IfOk result (λ s. IsTable s.table) }
         ensures usable { IfOk result (λ s. s.file.failed ≡ false) }
@@ -90,25 +95,77 @@ impl<T: LockStore, D: Disk, L: Link> EnqServer<T, D, L> {
         let mut backup = Backup::unread(alloc, disk);
         match read_anew(alloc, &mut backup, limit, units) {
             Ok(table) => Ok(EnqServer {
-                table,
-                backup,
-                follower: Follower::new(alloc, link),
+                table: Some(table),
+                rest: Wreck {
+                    backup,
+                    follower: Follower::new(alloc, link),
+                },
             }),
             Err(fault) => Err((fault, backup.into_disk(), link)),
         }
     }
 
+    /// Whether a table stands. It takes no memory.
+    pub fn stands(&self) -> bool
+        ensures flag { result ≡ self.now.stands }
+        ensures bare { self.now.stands ≡ false → self.now.table ≡ no_table }
+    {
+        self.table.is_some()
+    }
+
+    /// Ends the server: its table goes, and backup file and replica stay as they are. It takes no memory.
+    pub fn kill(&mut self)
+        requires stands { self.old.stands ≡ true }
+        ensures ended { self.new.stands ≡ false }
+        ensures table { self.new.table ≡ no_table }
+        ensures file { self.new.file ≡ self.old.file }
+        ensures copy { self.new.copy ≡ self.old.copy }
+        // While a replica follows, a link that tells its list has that of the table that goes.
+        ensures told { told_list L.applied self.new.copy
+            ≡ (if self.old.copy.attached && is_some (L.applied self.old.copy.link)
+            then self.old.table.entries else []) }
+    {
+        self.table = None;
+    }
+
+    /// Takes the replica's list over as the table, whatever the table was that went. The limit is the larger of `limit`
+    /// and the number of entries. No replica follows then, nor after `Link` and `Clash`. After an error no table
+    /// stands.
+    pub fn fail_over(&mut self, alloc: Global, limit: u32) -> Result<(), OverFault>
+        requires ended { self.old.stands ≡ false }
+        ensures stands { OnOk result (self.new.stands ≡ true) }
+        ensures kept { OnErr result (self.new.stands ≡ false) }
+        ensures bare { OnErr result (self.new.table ≡ no_table) }
+        ensures table { OnOk result (self.new.table ≡ replicated limit (L.gives self.old.copy.link)) }
+        ensures sound { OnOk result (IsSound (L.gives self.old.copy.link)) }
+        ensures good { IsTable self.new.table }
+        ensures followed { OnOk result (self.old.copy.attached ≡ true) }
+        ensures detached { OnOk result (self.new.copy.attached ≡ false) }
+        // A link that tells its list gives just that.
+        ensures told { IfSome (L.applied self.old.copy.link) (λ list. L.gives self.old.copy.link ≡ list) }
+        ensures file { self.new.file ≡ self.old.file }
+        ensures fault { IfErr result (IsOverFault L.faults L.gives L.applied self.old.copy self.new.copy) }
+        ensures later { IsLater L.applied L.faults L.refusals self.old.copy self.new.copy }
+    {
+        let table = self.rest.fail_over(alloc, limit)?;
+        self.table = Some(table);
+        Ok(())
+    }
+
     /// Makes the table and the backup file anew from the file's lists and these units, as `open` does, also where the
-    /// file failed. No replica follows then, whatever the answer is; the link isn't called. After an error the table
-    /// stays, and the file takes no write until it is made anew.
+    /// file failed. No replica follows then, whatever the answer is; the link isn't called. After an error no table
+    /// stands, and the file takes no write until it is made anew.
     pub fn restart(
         &mut self,
         alloc: Global,
         limit: u32,
         units: &[UnitLocks],
     ) -> Result<(), OpenFault>
+        requires ended { self.old.stands ≡ false }
+        ensures stands { OnOk result (self.new.stands ≡ true) }
+        ensures kept { OnErr result (self.new.stands ≡ false) }
+        ensures bare { OnErr result (self.new.table ≡ no_table) }
         ensures table { OnOk result (self.new.table ≡ recovered limit units.now) }
-        ensures kept { OnErr result (self.new.table ≡ self.old.table) }
         ensures good { IsTable self.new.table }
         ensures usable { OnOk result (self.new.file.failed ≡ false) }
         ensures shut { OnErr result (self.new.file.failed ≡ true) }
@@ -127,53 +184,9 @@ impl<T: LockStore, D: Disk, L: Link> EnqServer<T, D, L> {
         ensures cause { IfErr result
             (λ fault. CountsFault fault (D.faults self.old.file.disk) (D.faults self.new.file.disk)) }
     {
-        self.follower.detach();
-        self.table = read_anew(alloc, &mut self.backup, limit, units)?;
+        let table = self.rest.restart(alloc, limit, units)?;
+        self.table = Some(table);
         Ok(())
-    }
-
-    /// Takes the table over from the replica, which then follows no longer, where its list may take the place of the
-    /// table that stood: it has the same locks in their order, and lacks at most some that weren't handed over. The
-    /// limit is the larger of `limit` and the number of entries. After an error the table stays; after `Link`, `Clash`
-    /// and `Other` the replica follows no longer either.
-    pub fn fail_over(&mut self, alloc: Global, limit: u32) -> Result<(), OverFault>
-        ensures table { OnOk result (self.new.table ≡ replicated limit (L.gives self.old.copy.link)) }
-        ensures replaces { OnOk result (may_replace self.old.table.entries (L.gives self.old.copy.link) ≡ true) }
-        ensures kept { OnErr result (self.new.table ≡ self.old.table) }
-        ensures good { IsTable self.new.table }
-        ensures followed { OnOk result (self.old.copy.attached ≡ true) }
-        ensures detached { OnOk result (self.new.copy.attached ≡ false) }
-        // A link that tells its list gives that of the table.
-        ensures told { self.old.copy.attached ≡ true
-            → IfSome (L.applied self.old.copy.link) (λ _. L.gives self.old.copy.link ≡ self.old.table.entries) }
-        ensures file { self.new.file ≡ self.old.file }
-        ensures fault { IfErr result
-            (IsOverFault L.faults L.gives L.applied self.old.table.entries self.old.copy self.new.copy) }
-        ensures later { IsLater L.applied L.faults L.refusals self.old.copy self.new.copy }
-    {
-        if !self.follower.attached() {
-            return Err(OverFault::NotAttached);
-        }
-        let list = self.follower.hand_over()?;
-        let Ok(own) = self.table.list(alloc) else {
-            return Err(OverFault::NoMemory);
-        };
-        let replaces = may_replace(own.as_slice(), list.as_slice());
-        match load_list(alloc, limit, list) {
-            Ok(table) => {
-                self.follower.detach();
-                if !replaces {
-                    return Err(OverFault::Other);
-                }
-                self.table = table;
-                Ok(())
-            }
-            Err(LoadFault::Clash { first, second }) => {
-                self.follower.detach();
-                Err(OverFault::Clash { first, second })
-            }
-            Err(LoadFault::NoMemory) => Err(OverFault::NoMemory),
-        }
     }
 
     /// Grants all requests or none.
@@ -184,7 +197,9 @@ impl<T: LockStore, D: Disk, L: Link> EnqServer<T, D, L> {
         user: &Name,
         requests: &[Request],
     ) -> Result<(), ServerFault>
-        requires { IsPair asker.now }
+        requires stands { self.old.stands ≡ true }
+        requires pair { IsPair asker.now }
+        ensures standing { self.new.stands ≡ true }
         ensures granted { OnOk result
             (granting.asked self.old.table asker.now user.now requests.now ≡ Ok self.new.table.entries) }
         ensures refused { IfErr result (IsRefusal (granting.asked self.old.table asker.now user.now requests.now)) }
@@ -195,32 +210,41 @@ impl<T: LockStore, D: Disk, L: Link> EnqServer<T, D, L> {
         ensures file { self.new.file ≡ self.old.file }
         ensures copy { KeepsOn L.applied L.faults L.refusals self.old.copy self.new.copy }
     {
-        self.table.ask(alloc, asker, user, requests)?;
-        ship_granted(&mut self.follower, &self.table, asker, requests);
+        let Some(table) = &mut self.table else {
+            unreachable!();
+        };
+        table.ask(alloc, asker, user, requests)?;
+        ship_granted(&mut self.rest.follower, table, asker, requests);
         Ok(())
     }
 
     /// Takes one from the entry of this name, which goes at 0.
     pub fn free_one(&mut self, owner: &Owner, asked: &Asked)
+        ensures standing { self.new.stands ≡ self.old.stands }
         ensures after { self.new.table ≡ with_entries self.old.table
             (freed self.old.table.entries (named owner.now asked.now)) }
         ensures good { IsTable self.new.table }
         ensures file { self.new.file ≡ self.old.file }
         ensures copy { KeepsOn L.applied L.faults L.refusals self.old.copy self.new.copy }
     {
-        ship_freed(&mut self.follower, &self.table, owner, asked);
-        self.table.free_one(owner, asked);
+        if let Some(table) = &mut self.table {
+            ship_freed(&mut self.rest.follower, table, owner, asked);
+            table.free_one(owner, asked);
+        }
     }
 
     /// Removes the owner's entries.
     pub fn free_owner(&mut self, owner: &Owner)
+        ensures standing { self.new.stands ≡ self.old.stands }
         ensures after { self.new.table ≡ with_entries self.old.table (freed_owner self.old.table.entries owner.now) }
         ensures good { IsTable self.new.table }
         ensures file { self.new.file ≡ self.old.file }
         ensures copy { KeepsOn L.applied L.faults L.refusals self.old.copy self.new.copy }
     {
-        ship_owner(&mut self.follower, &self.table, owner);
-        self.table.free_owner(owner);
+        if let Some(table) = &mut self.table {
+            ship_owner(&mut self.rest.follower, table, owner);
+            table.free_owner(owner);
+        }
     }
 
     /// Turns the pair's optimistic entries at these tables and arguments into exclusive ones, all or none, and removes
@@ -231,7 +255,9 @@ impl<T: LockStore, D: Disk, L: Link> EnqServer<T, D, L> {
         asker: &Asker,
         asked: &[Asked],
     ) -> Result<(), ServerFault>
-        requires { IsPair asker.now }
+        requires stands { self.old.stands ≡ true }
+        requires pair { IsPair asker.now }
+        ensures standing { self.new.stands ≡ true }
         ensures converted { OnOk result
             (IsConverted self.old.table.entries asker.now asked.now self.new.table.entries) }
         ensures refused { IfErr result (IsRefusal (converted self.old.table.entries asker.now asked.now)) }
@@ -242,25 +268,30 @@ impl<T: LockStore, D: Disk, L: Link> EnqServer<T, D, L> {
         ensures file { self.new.file ≡ self.old.file }
         ensures copy { KeepsOn L.applied L.faults L.refusals self.old.copy self.new.copy }
     {
-        let removed = self.table.convert(alloc, asker, asked)?;
-        ship_turns(&mut self.follower, asker, asked);
-        ship_drops(&mut self.follower, removed.as_slice());
+        let Some(table) = &mut self.table else {
+            unreachable!();
+        };
+        let removed = table.convert(alloc, asker, asked)?;
+        ship_turns(&mut self.rest.follower, asker, asked);
+        ship_drops(&mut self.rest.follower, removed.as_slice());
         Ok(())
     }
 
-    /// Writes the list of the unit's S, E and X entries into the file, and tells how many there are. Where there are
-    /// none nothing is written. The table is as before: `flag` is the rest of the handover. It takes its memory before
-    /// any write. After `Failed` the file takes no write until `restart`.
-    pub fn save(&mut self, alloc: Global, unit: &UnitKey) -> Result<u32, WriteFault>
+    /// Writes the list of the unit's S, E and X entries, under this user, into the file, and tells how many there are.
+    /// Where there are none nothing is written. The table is as before: `flag` is the rest of the handover. It takes
+    /// its memory before any write. After `Failed` the file takes no write: the server has to be ended.
+    pub fn save(&mut self, alloc: Global, unit: &UnitKey, user: &Name) -> Result<u32, WriteFault>
         requires usable { self.old.file.failed ≡ false }
+        ensures standing { self.new.stands ≡ self.old.stands }
         ensures count { IfOk result (λ n. n ≡ length (lasting unit.now self.old.table.entries)) }
         ensures table { self.new.table ≡ self.old.table }
         ensures saved { IsTrue D.tells → (l : List Handed) → IsReady D.reads D.may_leave self.old.file l
             → OnOk result (IsReady D.reads D.may_leave self.new.file
-            (with_list unit.now (lasting unit.now self.old.table.entries) l)) }
+            (with_list unit.now (of_user user.now (lasting unit.now self.old.table.entries)) l)) }
         ensures images { IsTrue D.tells → (l : List Handed) → IsReady D.reads D.may_leave self.old.file l
             → (c : List ℕ) → D.may_leave self.new.file.disk c
-            → Stands c l ⊎ Stands c (with_list unit.now (lasting unit.now self.old.table.entries) l) }
+            → Stands c l
+            ⊎ Stands c (with_list unit.now (of_user user.now (lasting unit.now self.old.table.entries)) l) }
         ensures usable { OnOk result (self.new.file.failed ≡ false) }
         ensures failed { IsErrOf result WriteFault.Failed → self.new.file.failed ≡ true }
         ensures no_memory { IsErrOf result WriteFault.NoMemory → IsSame self.old.file self.new.file }
@@ -269,12 +300,12 @@ impl<T: LockStore, D: Disk, L: Link> EnqServer<T, D, L> {
         ensures cause { HasWriteCause (D.faults self.old.file.disk) (D.faults self.new.file.disk) result }
         ensures copy { self.new.copy ≡ self.old.copy }
     {
-        let entries = lasting(alloc, &self.table, unit)?;
+        let entries = lasting(alloc, &self.table, unit, user)?;
         let Ok(count) = u32::try_from(entries.len()) else {
             return Err(WriteFault::NoMemory);
         };
         if count > 0 {
-            self.backup.hand(alloc, unit, entries.as_slice())?;
+            self.rest.backup.hand(alloc, unit, entries.as_slice())?;
         }
         Ok(count)
     }
@@ -283,21 +314,30 @@ impl<T: LockStore, D: Disk, L: Link> EnqServer<T, D, L> {
     pub fn at(&self, place: u32) -> Option<Entry>
         ensures { result ≡ entry_at self.now.table.entries place }
     {
-        self.table.at(place)
+        match &self.table {
+            Some(table) => table.at(place),
+            None => None,
+        }
     }
 
     /// How many entries stand. It takes no memory.
     pub fn len(&self) -> u32
         ensures { result ≡ length self.now.table.entries }
     {
-        self.table.len()
+        match &self.table {
+            Some(table) => table.len(),
+            None => 0,
+        }
     }
 
     /// The entries in order of granting.
     pub fn list(&self, alloc: Global) -> Result<Vec<Entry>, NoMemory>
         ensures { IfOk result (λ entries. entries.items ≡ self.now.table.entries) }
     {
-        self.table.list(alloc)
+        match &self.table {
+            Some(table) => table.list(alloc),
+            None => Ok(Vec::new(alloc)),
+        }
     }
 
     /// The owner's entries in order of granting.
@@ -305,23 +345,36 @@ impl<T: LockStore, D: Disk, L: Link> EnqServer<T, D, L> {
         ensures entries { IfOk result (λ entries. entries.items ≡ filter (is_of owner.now) self.now.table.entries) }
         ensures good { IsTable self.now.table }
     {
-        self.table.entries_of(alloc, owner)
+        entries_of(alloc, &self.table, owner)
+    }
+
+    /// Whether the owner has an entry that wasn't handed over. It takes no memory.
+    pub fn has_unhanded(&self, owner: &Owner) -> bool
+        ensures { result ≡ has_unhanded owner.now self.now.table.entries }
+    {
+        match &self.table {
+            Some(table) => table.has_unhanded(owner),
+            None => false,
+        }
     }
 
     /// Flags the unit's S, E and X entries as handed and removes its O entries: the rest of a handover, behind `save`.
     pub fn flag(&mut self, unit: &UnitKey)
+        ensures standing { self.new.stands ≡ self.old.stands }
         ensures after { self.new.table ≡ with_entries self.old.table (handed_over self.old.table.entries unit.now) }
         ensures good { IsTable self.new.table }
         ensures file { self.new.file ≡ self.old.file }
         ensures copy { KeepsOn L.applied L.faults L.refusals self.old.copy self.new.copy }
     {
-        self.follower.ship(&TableOp::Handed(*unit));
-        self.table.hand(unit);
+        if let Some(table) = &mut self.table {
+            self.rest.follower.ship(&TableOp::Handed(*unit));
+            table.hand(unit);
+        }
     }
 
     /// Grants the entries as they are, in place of those of the asker's update owner, all or none, and writes them as
     /// the list of its unit. Where there are none nothing is written. It takes its memory before it grants. After
-    /// `Failed` the entries are granted, and the file takes no write until `restart`.
+    /// `Failed` the entries are granted, and the file takes no write: the server has to be ended.
     pub fn readmit(
         &mut self,
         alloc: Global,
@@ -329,11 +382,13 @@ impl<T: LockStore, D: Disk, L: Link> EnqServer<T, D, L> {
         unit: &UnitKey,
         entries: &[Entry],
     ) -> Result<(), ServerFault>
+        requires stands { self.old.stands ≡ true }
         requires usable { self.old.file.failed ≡ false }
         requires pair { IsPair asker.now }
         requires unit { asker.now.update ≡ Upd unit.now }
         requires entries { ReadmitsOnly asker.now entries.now }
         requires handable { 1 ≤ length entries.now → IsHandable unit.now entries.now }
+        ensures standing { self.new.stands ≡ true }
         ensures granted { OnOk result
             (granting.readmitted self.old.table asker.now entries.now ≡ Ok self.new.table.entries) }
         ensures refused { IfErr result
@@ -355,21 +410,22 @@ impl<T: LockStore, D: Disk, L: Link> EnqServer<T, D, L> {
         ensures cause { HasCallCause (D.faults self.old.file.disk) (D.faults self.new.file.disk) result }
         ensures copy { KeepsOn L.applied L.faults L.refusals self.old.copy self.new.copy }
     {
-        let own = self.table.entries_of(alloc, &asker.update)?;
+        let own = self.entries_of(alloc, &asker.update)?;
         if entries.is_empty() {
             self.grant_again(alloc, asker, entries, own.as_slice())?;
             return Ok(());
         }
-        let ready = self.backup.ready_hand(alloc, unit, entries)?;
+        let ready = self.rest.backup.ready_hand(alloc, unit, entries)?;
         self.grant_again(alloc, asker, entries, own.as_slice())?;
-        self.backup.write_hand(ready)?;
+        self.rest.backup.write_hand(ready)?;
         Ok(())
     }
 
     /// Frees the unit's list in the file, where it stands, and then removes the entries of its update owner. After
-    /// `Failed` the file takes no write until `restart`.
+    /// `Failed` the file takes no write: the server has to be ended.
     pub fn end_unit(&mut self, unit: &UnitKey) -> Result<(), Failed>
         requires usable { self.old.file.failed ≡ false }
+        ensures standing { self.new.stands ≡ self.old.stands }
         ensures table { OnOk result
             (self.new.table ≡ with_entries self.old.table (freed_owner self.old.table.entries (Upd unit.now))) }
         ensures kept { OnErr result (self.new.table ≡ self.old.table) }
@@ -383,11 +439,10 @@ impl<T: LockStore, D: Disk, L: Link> EnqServer<T, D, L> {
         ensures cause { HasCause (D.faults self.old.file.disk) (D.faults self.new.file.disk) result }
         ensures copy { KeepsOn L.applied L.faults L.refusals self.old.copy self.new.copy }
     {
-        if self.backup.stands(unit) {
-            self.backup.free(unit)?;
+        if self.rest.backup.stands(unit) {
+            self.rest.backup.free(unit)?;
         }
-        ship_owner(&mut self.follower, &self.table, &Owner::Upd(*unit));
-        self.table.free_owner(&Owner::Upd(*unit));
+        self.free_owner(&Owner::Upd(*unit));
         Ok(())
     }
 
@@ -399,9 +454,11 @@ impl<T: LockStore, D: Disk, L: Link> EnqServer<T, D, L> {
         entries: &[Entry],
         own: &[Entry],
     ) -> Result<(), ServerFault>
+        requires stands { self.old.stands ≡ true }
         requires pair { IsPair asker.now }
         requires entries { ReadmitsOnly asker.now entries.now }
         requires own { own.now ≡ filter (is_of asker.now.update) self.old.table.entries }
+        ensures standing { self.new.stands ≡ true }
         ensures granted { OnOk result
             (granting.readmitted self.old.table asker.now entries.now ≡ Ok self.new.table.entries) }
         ensures refused { IfErr result (IsRefusal (granting.readmitted self.old.table asker.now entries.now)) }
@@ -412,14 +469,19 @@ impl<T: LockStore, D: Disk, L: Link> EnqServer<T, D, L> {
         ensures file { self.new.file ≡ self.old.file }
         ensures copy { KeepsOn L.applied L.faults L.refusals self.old.copy self.new.copy }
     {
-        self.table.readmit(alloc, asker, entries)?;
-        ship_drops(&mut self.follower, own);
-        ship_puts(&mut self.follower, entries);
+        let Some(table) = &mut self.table else {
+            unreachable!();
+        };
+        table.readmit(alloc, asker, entries)?;
+        ship_drops(&mut self.rest.follower, own);
+        ship_puts(&mut self.rest.follower, entries);
         Ok(())
     }
 
     /// Sends the replica a snapshot of the table, which it follows from then on. After an error it doesn't.
     pub fn attach(&mut self, alloc: Global) -> Result<(), LinkFault>
+        requires stands { self.old.stands ≡ true }
+        ensures standing { self.new.stands ≡ true }
         ensures attached { OnOk result (self.new.copy.attached ≡ true) }
         ensures detached { OnErr result (self.new.copy.attached ≡ false) }
         ensures later { IsLater L.applied L.faults L.refusals self.old.copy self.new.copy }
@@ -428,22 +490,24 @@ impl<T: LockStore, D: Disk, L: Link> EnqServer<T, D, L> {
         ensures table { self.new.table ≡ self.old.table }
         ensures file { self.new.file ≡ self.old.file }
     {
-        match self.table.list(alloc) {
-            Ok(entries) => self.follower.attach(entries.as_slice()),
+        match self.list(alloc) {
+            Ok(entries) => self.rest.follower.attach(entries.as_slice()),
             Err(NoMemory) => {
-                self.follower.detach();
+                self.rest.follower.detach();
                 Err(LinkFault::NoMemory)
             }
         }
     }
 
-    /// Whether a replica follows the table. It takes no memory.
+    /// Whether a replica follows the table, or followed the one that went. It takes no memory.
     pub fn attached(&self) -> bool
         ensures flag { result ≡ self.now.copy.attached }
-        ensures given { IsTrue result
+        ensures given { IsTrue result → self.now.stands ≡ true
             → IfSome (L.applied self.now.copy.link) (λ _. L.gives self.now.copy.link ≡ self.now.table.entries) }
+        ensures listed { IsTrue result
+            → IfSome (L.applied self.now.copy.link) (λ list. told_list L.applied self.now.copy ≡ list) }
     {
-        self.follower.attached()
+        self.rest.attached()
     }
 
     /// The disk and the link. It takes no memory.
@@ -451,13 +515,9 @@ impl<T: LockStore, D: Disk, L: Link> EnqServer<T, D, L> {
         ensures disk { result.0 ≡ self.file.disk }
         ensures link { result.1 ≡ self.copy.link }
     {
-        let EnqServer {
-            table,
-            backup,
-            follower,
-        } = self;
+        let EnqServer { table, rest } = self;
         drop(table);
-        (backup.into_disk(), follower.into_link())
+        rest.into_parts()
     }
 }
 
@@ -467,12 +527,43 @@ fn drop_optimistic(entries: &mut Vec<Entry>)
     entries.retain(|entry| !entry.mode.is(Mode::O));
 }
 
-/// The unit's S, E and X entries, in order of granting.
-fn lasting<T: LockStore>(alloc: Global, table: &T, unit: &UnitKey) -> Result<Vec<Entry>, NoMemory>
-    ensures entries { IfOk result (λ entries. entries.items ≡ lasting unit.now (T.table table.now).entries) }
+/// The owner's entries in order of granting, none where no table stands.
+fn entries_of<T: LockStore>(
+    alloc: Global,
+    table: &Option<T>,
+    owner: &Owner,
+) -> Result<Vec<Entry>, NoMemory>
+    ensures { IfOk result
+        (λ entries. entries.items ≡ filter (is_of owner.now) (table_of T.table table.now).entries) }
+{
+    match table {
+        Some(table) => table.entries_of(alloc, owner),
+        None => Ok(Vec::new(alloc)),
+    }
+}
+
+fn put_under(entries: &mut [Entry], user: &Name)
+    ensures { entries.new ≡ of_user user.now entries.old }
+{
+    for entry in entries.iter_mut() {
+        entry.user = *user;
+    }
+}
+
+/// The unit's S, E and X entries, in order of granting, under this user.
+fn lasting<T: LockStore>(
+    alloc: Global,
+    table: &Option<T>,
+    unit: &UnitKey,
+    user: &Name,
+) -> Result<Vec<Entry>, NoMemory>
+    requires { IsTable (table_of T.table table.now) }
+    ensures entries { IfOk result
+        (λ entries. entries.items ≡ of_user user.now (lasting unit.now (table_of T.table table.now).entries)) }
     ensures handable { IfOk result (λ entries. 1 ≤ length entries.items → IsHandable unit.now entries.items) }
 {
-    let mut entries = table.entries_of(alloc, &Owner::Upd(*unit))?;
+    let mut entries = entries_of(alloc, table, &Owner::Upd(*unit))?;
     drop_optimistic(&mut entries);
+    put_under(entries.as_mut_slice(), user);
     Ok(entries)
 }

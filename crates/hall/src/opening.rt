@@ -1,4 +1,4 @@
-ghost use Rattle.std.specs.Prelude.{◌≡◌, ◌≤◌, List, [], false, None, IsTrue, IfOk, IfErr, MatchResult, replicate, vec_capacity};
+ghost use Rattle.std.specs.Prelude.{◌≡◌, ◌≤◌, List, [], false, true, None, IsTrue, IfOk, IfErr, MatchResult, replicate, vec_capacity};
 ghost use Rattle.enq_server.specs.Server.{IsRecovered, recovered};
 ghost use Rattle.hall.specs.Faults.{CountsFileFault, IsFileFault, IsRangesFault, LeavesFile, file_fault, hall_fault};
 ghost use Rattle.ledger_steps.specs.Intervals.{in_row_order};
@@ -98,6 +98,7 @@ pub(crate) fn first_locks<T: LockStore, D: Disk, L: Link>(
     link: L,
     units: &[UnitLocks],
 ) -> Result<EnqServer<T, D, L>, (HallFault, D, L)>
+    ensures stands { IfOk result (λ locks. locks.stands ≡ true) }
     ensures locks { IfOk result (λ locks. locks.table ≡ recovered max_locks units.now) }
     ensures good { IfOk result (λ locks. IsTable locks.table) }
     ensures file { IsTrue D.tells

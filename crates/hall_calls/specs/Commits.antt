@@ -1,6 +1,5 @@
 -- What becomes of a session's unit that is to be recorded, or of its numbers alone.
 use Rattle.std.specs.Prelude.{◌≡◌, ◌≤◌, ℕ, List, length, None, Some}
-use Rattle.std.specs.List.{AllByRecursion}
 use Rattle.update_records.specs.Marks.{status_of, unit_at}
 use Rattle.hall_model.specs.Step.{handed_locks}
 use Rattle.enq_server.specs.Server.{lasting}
@@ -22,12 +21,11 @@ use Rattle.hall_calls.specs.declared.units.Written.{Written}
 use Rattle.hall_calls.specs.declared.units.Written.TheVariants.{Answered, Failed, Unfiled}
 use Rattle.hall_model.specs.Sessions.{with_next_unit, with_session, without_draws}
 
--- the unit that a commit records: it is new, and has the locks that stand for it, each with its user
+-- the unit that a commit records: it is new, and has the locks that stand for it, under its user
 pub record IsOfCommit (ledger : Ledger) (unit : UnitOfWork) (locks : List Entry) : Type 0 where
   pub fresh : status_of ledger.units ledger.marks unit.key ≡ None
   pub new : unit_at ledger.units unit.key ≡ None
-  pub entries : unit.entries ≡ handed_locks locks unit.key
-  pub used : AllByRecursion (λ (e : Entry). e.user ≡ unit.user) (lasting unit.key locks)
+  pub entries : unit.entries ≡ handed_locks unit.user locks unit.key
 
 -- The unit is recorded with these levels, its locks are handed over and the session's next unit is open; or memory was
 -- wanting and all is as before; or the store failed with it in flight; or the disk failed as its list was written.

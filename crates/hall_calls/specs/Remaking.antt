@@ -1,5 +1,5 @@
 -- A lock server that is made anew, and what that leaves of state, store and backup file.
-use Rattle.std.specs.Prelude.{ℕ, ◌≡◌, ◌+◌, Bool, true, false, List, [], Option, Some, None, IfSome, IsSomeAnd, IsTrue}
+use Rattle.std.specs.Prelude.{ℕ, ◌≡◌, ◌+◌, Bool, true, false, List, Option, Some, None, IfSome, IsSomeAnd, IsTrue}
 use Rattle.std.specs.Option.{option_map}
 use Rattle.backup_file.specs.Backup.{BackupView}
 use Rattle.enq_base.specs.declared.condition.Bad.TheVariants as bad
@@ -74,6 +74,12 @@ remade_condition before calls (Done taken) = condition.Up
 remade_condition before calls (Refused r) = before
 remade_condition before calls (InDoubt r read) = condition.Doubt (calls + 1)
 
+-- only a table that was made anew came from no replica
+abbrev pub remade_over : Bool → Remade → Bool
+remade_over before (Done taken) = false
+remade_over before (Refused r) = before
+remade_over before (InDoubt r read) = before
+
 -- what is left of the failure since which the server was in doubt
 abbrev pub no_failure : Failure
 no_failure = record { pending = None; found = None; caller = None }
@@ -92,15 +98,16 @@ remade_state s sessions orders table ledger (Done taken) =
       orders = orders;
       locks = table.entries;
       limit = table.limit;
+      taken_over = false;
       attached = false;
       stored = ledger;
       pending = None;
       found = None;
-      gone = [];
       failed_caller = None;
     }
 remade_state s sessions orders table ledger (Refused r) = s
-remade_state s sessions orders table ledger (InDoubt r read) = doubted s (OfAdmin Restarts) read s.pending
+remade_state s sessions orders table ledger (InDoubt r read) =
+    record (doubted s (OfAdmin Restarts) read s.pending) { sessions = sessions }
 
 -- what is said of a lock server that was made anew
 abbrev pub OnRemade : Remade → Type 0 → Type 0
@@ -223,5 +230,4 @@ abbrev pub over_refusal : OverFault → Refusal
 over_refusal over.NotAttached = refusal.NotAttached
 over_refusal over.Link = refusal.LinkFault
 over_refusal (over.Clash first second) = refusal.Unsound (bad.Replica first second)
-over_refusal over.Other = refusal.Unsound (bad.Replica 0 0)
 over_refusal over.NoMemory = refusal.NoMemory

@@ -1,11 +1,13 @@
 -- A call that what is present serves, apart from its place in the history.
-use Rattle.std.specs.Prelude.{◌≡◌, ◌⊎◌, ℕ, Bool, true, false, List, Option, is_some}
+use Rattle.std.specs.Prelude.{◌≡◌, ◌⊎◌, ℕ, Bool, true, false, List, Option, Some, is_some}
 use Rattle.backup_file.specs.Backup.{BackupView}
 use Rattle.enq_base.specs.Causes.{Rose}
+use Rattle.enq_base.specs.declared.condition.Bad.TheVariants as bad
 use Rattle.enq_base.specs.declared.refusal.Refusal.TheVariants as refusal
 use Rattle.enq_server.specs.Following.{Following, IsLater, KeepsOn}
 use Rattle.keeper_api.specs.Keeping.{IsWithin}
 use Rattle.keeper_api.specs.Rows.{Rows}
+use Rattle.lock_entry.specs.Sound.{IsSound, first_clash}
 use Rattle.lock_entry.specs.declared.entry.Entry.{Entry}
 use Rattle.hall_model.specs.declared.command.Command.{Command}
 use Rattle.hall_model.specs.declared.command.PastEntry.{PastEntry}
@@ -72,9 +74,12 @@ LosesOnly faults faults_now refusals refusals_now old new =
     old.attached ≡ true → new.attached ≡ false → is_doubt new.condition ≡ false
     → Rose faults faults_now ⊎ Rose refusals refusals_now
 
--- a failover that is done leaves the list that the link gives
+-- a failover that is done leaves the list that the link gives, and one that is told two places of a list was given one
+-- whose locks can't stand together, these first
 abbrev pub IsOver : (fails_over : Bool) → (locks given : List Entry) → Reply → Type 0
 IsOver true locks given reply.Done = locks ≡ given
+IsOver true locks given (reply.Refused (refusal.Unsound (bad.Replica first second))) =
+    (IsSound given → ⊥) × (first_clash given ≡ Some (first, second))
 IsOver true locks given r = Unit {0}
 IsOver false locks given r = Unit {0}
 

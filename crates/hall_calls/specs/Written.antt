@@ -25,8 +25,9 @@ use Rattle.hall_calls.specs.declared.units.Written.TheVariants.{Answered, Failed
 use Rattle.hall_model.specs.Calls.{call_of}
 use Rattle.ledger_steps.specs.Steps.{after_step}
 use Rattle.hall_model.specs.History.{doubted, unfiled, without_stock}
-use Rattle.hall_model.specs.Sessions.{owners_of}
-use Rattle.hall_model.specs.State.{State}
+use Rattle.hall_model.specs.Sessions.{has_one_of, owners_of, with_marks}
+use Rattle.hall_model.specs.State.{State, unhanded}
+use Rattle.hall_model.specs.declared.command.Session.{Session}
 use Rattle.hall_model.specs.Acts.{IsAct}
 
 -- the call by which a worker takes an order for a part
@@ -79,6 +80,22 @@ abbrev pub written_reply : Written → Reply
 written_reply (Answered r) = r
 written_reply (Failed change) = reply.Refused refusal.StoreFault
 written_reply Unfiled = reply.Refused refusal.BackupFault
+
+-- the sessions where a device failed, each with its mark: it had a lock of its own in the table that stood, or where
+-- none did any more it was marked before
+abbrev pub marked_in : Condition → (start : ℕ) → List Entry → List Session → List Session
+marked_in k start entries sessions =
+    elim k [
+      | condition.Up ↦ with_marks (has_one_of start (unhanded entries)) sessions
+      | condition.NoServer ↦ sessions
+      | condition.Doubt n ↦ sessions
+    ]
+
+-- the sessions behind a call
+abbrev pub written_sessions : Condition → (start : ℕ) → List Entry → List Session → Written → List Session
+written_sessions k start entries sessions (Answered r) = sessions
+written_sessions k start entries sessions (Failed change) = marked_in k start entries sessions
+written_sessions k start entries sessions Unfiled = marked_in k start entries sessions
 
 abbrev pub written_condition : Condition → ℕ → Written → Condition
 written_condition before calls (Answered r) = before

@@ -1,4 +1,4 @@
-ghost use Rattle.std.specs.Prelude.{◌≡◌, None, fold};
+ghost use Rattle.std.specs.Prelude.{◌≡◌, fold, true};
 ghost use Rattle.std.specs.List.{AllByRecursion};
 ghost use Rattle.enq_server.specs.Following.{KeepsOn};
 ghost use Rattle.hall_model.specs.declared.command.Command.TheVariants as command;
@@ -27,12 +27,14 @@ pub(crate) fn ask<T: LockStore, D: Disk, L: Link>(
     name: &Name,
     requests: &[Request],
 ) -> Result<(), Refusal>
+    requires { locks.old.stands ≡ true }
     ensures act { (s : State) → s.stored.start ≡ start → s.sessions ≡ sessions.now
         → s.locks ≡ locks.old.table.entries
         → s.limit ≡ locks.old.table.limit → Admits s (command.Ask name.now requests.now)
         → IsAct s (command.Ask name.now requests.now)
         (record s { locks = locks.new.table.entries }) (answer_of result) }
     ensures limit { locks.new.table.limit ≡ locks.old.table.limit }
+    ensures standing { locks.new.stands ≡ locks.old.stands }
     ensures file { locks.new.file ≡ locks.old.file }
     ensures follower { KeepsOn L.applied L.faults L.refusals locks.old.copy locks.new.copy }
 {
@@ -85,6 +87,7 @@ pub(crate) fn free<T: LockStore, D: Disk, L: Link>(
         → IsAct s (command.Free name.now requests.now)
         (record s { locks = locks.new.table.entries }) (answer_of result) }
     ensures limit { locks.new.table.limit ≡ locks.old.table.limit }
+    ensures standing { locks.new.stands ≡ locks.old.stands }
     ensures file { locks.new.file ≡ locks.old.file }
     ensures follower { KeepsOn L.applied L.faults L.refusals locks.old.copy locks.new.copy }
 {
@@ -100,6 +103,7 @@ fn free_requests<T: LockStore, D: Disk, L: Link>(
 )
     ensures table { locks.new.table ≡ with_entries locks.old.table
         (fold freed locks.old.table.entries (halves pair.now requests.now)) }
+    ensures standing { locks.new.stands ≡ locks.old.stands }
     ensures file { locks.new.file ≡ locks.old.file }
     ensures follower { KeepsOn L.applied L.faults L.refusals locks.old.copy locks.new.copy }
 {
@@ -115,6 +119,7 @@ fn free_request<T: LockStore, D: Disk, L: Link>(
 )
     ensures table { locks.new.table ≡ with_entries locks.old.table
         (fold freed locks.old.table.entries (halves_of pair.now request.now)) }
+    ensures standing { locks.new.stands ≡ locks.old.stands }
     ensures file { locks.new.file ≡ locks.old.file }
     ensures follower { KeepsOn L.applied L.faults L.refusals locks.old.copy locks.new.copy }
 {
@@ -138,6 +143,7 @@ pub(crate) fn log_off<T: LockStore, D: Disk, L: Link>(
         → IsAct s (command.Logoff name.now)
         (record s { sessions = sessions.new; locks = locks.new.table.entries }) (answer_of result) }
     ensures limit { locks.new.table.limit ≡ locks.old.table.limit }
+    ensures standing { locks.new.stands ≡ locks.old.stands }
     ensures file { locks.new.file ≡ locks.old.file }
     ensures follower { KeepsOn L.applied L.faults L.refusals locks.old.copy locks.new.copy }
 {
@@ -160,6 +166,7 @@ pub(crate) fn free_all<T: LockStore, D: Disk, L: Link>(
         → IsAct s (command.FreeAll name.now)
         (record s { locks = locks.new.table.entries }) (answer_of result) }
     ensures limit { locks.new.table.limit ≡ locks.old.table.limit }
+    ensures standing { locks.new.stands ≡ locks.old.stands }
     ensures file { locks.new.file ≡ locks.old.file }
     ensures follower { KeepsOn L.applied L.faults L.refusals locks.old.copy locks.new.copy }
 {
@@ -172,6 +179,7 @@ pub(crate) fn free_all<T: LockStore, D: Disk, L: Link>(
 fn free_pair<T: LockStore, D: Disk, L: Link>(locks: &mut EnqServer<T, D, L>, asker: &Asker)
     ensures table { locks.new.table ≡ with_entries locks.old.table
         (freed_owner (freed_owner locks.old.table.entries asker.now.dialogue) asker.now.update) }
+    ensures standing { locks.new.stands ≡ locks.old.stands }
     ensures file { locks.new.file ≡ locks.old.file }
     ensures follower { KeepsOn L.applied L.faults L.refusals locks.old.copy locks.new.copy }
 {
@@ -188,11 +196,13 @@ pub(crate) fn convert<T: LockStore, D: Disk, L: Link>(
     name: &Name,
     asked: &[Asked],
 ) -> Result<(), Refusal>
+    requires { locks.old.stands ≡ true }
     ensures act { (s : State) → s.stored.start ≡ start → s.sessions ≡ sessions.now
         → s.locks ≡ locks.old.table.entries → Admits s (command.Convert name.now asked.now)
         → IsAct s (command.Convert name.now asked.now)
         (record s { locks = locks.new.table.entries }) (answer_of result) }
     ensures limit { locks.new.table.limit ≡ locks.old.table.limit }
+    ensures standing { locks.new.stands ≡ locks.old.stands }
     ensures file { locks.new.file ≡ locks.old.file }
     ensures follower { KeepsOn L.applied L.faults L.refusals locks.old.copy locks.new.copy }
 {
@@ -218,6 +228,7 @@ pub(crate) fn roll_back<T: LockStore, D: Disk, L: Link>(
         → IsAct s (command.Rollback name.now)
         (record s { sessions = sessions.new; locks = locks.new.table.entries }) (answer_of result) }
     ensures limit { locks.new.table.limit ≡ locks.old.table.limit }
+    ensures standing { locks.new.stands ≡ locks.old.stands }
     ensures file { locks.new.file ≡ locks.old.file }
     ensures follower { KeepsOn L.applied L.faults L.refusals locks.old.copy locks.new.copy }
 {

@@ -1,4 +1,4 @@
-ghost use Rattle.std.specs.Prelude.{ℕ, ◌≡◌, ◌∷◌, ◌≤◌, ◌<◌, ◌+◌, ◌^◌, [], IfErr, IfOk, IfSome, MatchResult, OnErr, OnOk, is_none, length, nat_lt, Contains, false};
+ghost use Rattle.std.specs.Prelude.{ℕ, ◌≡◌, ◌∷◌, ◌≤◌, ◌<◌, ◌+◌, ◌^◌, [], IfErr, IfOk, IfSome, MatchResult, OnErr, OnOk, is_none, nat_lt, Contains, false};
 ghost use Rattle.hall_model.specs.declared.command.Command.TheVariants as command;
 ghost use Rattle.hall_calls.specs.declared.units.Written.TheVariants.{Answered};
 ghost use Rattle.hall_model.specs.Acts.{Admits, IsAct};

@@ -1,21 +1,21 @@
 ghost use Rattle.hall_calls.specs.Remaking.{over_refusal};
-ghost use Rattle.std.specs.Prelude.{◌≡◌, ◌≢◌, ◌⊎◌, [], true, false, length, replicate, None, IfOk, IfSome, is_some, IsTrue};
-ghost use Rattle.enq_server.specs.Following.{IsLater, KeepsOn};
+ghost use Rattle.std.specs.Prelude.{◌≡◌, ◌≢◌, ◌⊎◌, ◌&&◌, ℕ, [], if◌then◌else◌, true, false, length, replicate, None, IfOk, IfSome, is_some, IsTrue};
+ghost use Rattle.enq_server.specs.Following.{IsLater, KeepsOn, told_list};
 ghost use Rattle.enq_server.specs.Server.{recovered};
 ghost use Rattle.ledger_steps.specs.Views.{open_locks};
 ghost use Rattle.hall_model.specs.declared.command.Command.TheVariants as command;
 ghost use Rattle.hall_model.specs.Acts.{IsTelling};
-ghost use Rattle.hall_calls.specs.Written.{post_of, take_of, written_condition, written_failure, written_reply};
+ghost use Rattle.hall_calls.specs.Written.{OnAnswer, post_of, take_of, written_condition, written_failure, written_reply, written_sessions};
 ghost use Rattle.hall_model.specs.Kept.{IsDrawn, IsKept};
 ghost use Rattle.ledger_steps.specs.Levels.{first_ranges, intervals_of};
-ghost use Rattle.std.specs.List.{AllByRecursion};
 ghost use Rattle.hall_calls.specs.Filing.{HasFileCause, HasOpenLists, KeepsFile, LeavesLists};
 ghost use Rattle.hall_calls.specs.Leaving.{HasStoreCause, KeepsStore, LeavesState};
 ghost use Rattle.keeper_api.specs.Keeping.{IsWithin};
 ghost use Rattle.hall_model.specs.Calls.{call_of, fails_over, renews_replica, restarts, touches_file};
 ghost use Rattle.hall_model.specs.Devices.{reaches_store};
 ghost use Rattle.hall_calls.specs.Serving.{HasLinkCause, IsDue, IsOver, Serves, with_calls};
-ghost use Rattle.hall_model.specs.State.{attached_in, opened, seen_locks};
+ghost use Rattle.hall_model.specs.Sessions.{has_one_of, with_marks};
+ghost use Rattle.hall_model.specs.State.{attached_in, is_honest, is_up, opened, seen_locks, unhanded};
 ghost use Rattle.hall_model.specs.Unsound.{is_unsound_file, is_unsound_replica, is_unsound_store};
 ghost use Rattle.hall_model.specs.Stocks.{IsStockIn, MayCall};
 ghost use Rattle.hall_model.specs.History.{after_of, is_unrecorded};
@@ -53,6 +53,8 @@ pub const HISTORY_LIMIT: usize = 262_144;
 #[derive(Drop)]
 pub struct Present<T: LockStore, K: Keeper, D: Disk, L: Link> {
     pub(crate) condition: Condition,
+    /// Whether the last table came from a replica.
+    pub(crate) taken_over: bool,
     pub(crate) sessions: Sessions,
     pub(crate) next_session: u32,
     pub(crate) orders: Vec<Option<UnitKey>>,
@@ -75,8 +77,10 @@ impl<T: LockStore, K: Keeper, D: Disk, L: Link> Model for Present<T, K, D, L> {
 
     ghost coded = { Prim.hlevel (codes, levels_code, K.code, D.code, L.code) };
 
-    ghost use Rattle.std.specs.Prelude.{[], is_some};
+    ghost use Rattle.std.specs.Prelude.{◌≡◌, [], is_some};
+    ghost use Rattle.enq_server.specs.Following.{told_list};
     ghost use Rattle.hall_model.specs.Kept.{OutsideDoubt};
+    ghost use Rattle.hall_model.specs.State.{is_up};
     ghost use Rattle.hall_calls.specs.Leaving.{LeavesState};
     ghost use Rattle.posting.specs.BooksView.{IsUsable};
     ghost use Rattle.hall_calls.specs.Filing.{HasOpenLists, LeavesLists};
@@ -84,8 +88,8 @@ impl<T: LockStore, K: Keeper, D: Disk, L: Link> Model for Present<T, K, D, L> {
 
     ghost view = { λ h. record {
       state = state_of (is_some (K.held h.books.keeper)) (is_some (L.applied h.locks.copy.link)) h.locks.copy.attached
-          h.condition h.sessions h.next_session h.orders.items h.locks.table h.max_locks h.max_marks h.ranges
-          h.books.ledger
+          h.taken_over h.condition h.sessions h.next_session h.orders.items h.locks.table
+          (told_list L.applied h.locks.copy) h.max_locks h.max_marks h.ranges h.books.ledger
           (flight_over h.books.ledger h.failure) h.failure.found h.failure.caller [];
       keeper = h.books.keeper;
       file = h.locks.file;
@@ -94,8 +98,8 @@ impl<T: LockStore, K: Keeper, D: Disk, L: Link> Model for Present<T, K, D, L> {
 
     ghost invariant = { λ h.
         let s = state_of (is_some (K.held h.books.keeper)) (is_some (L.applied h.locks.copy.link)) h.locks.copy.attached
-        h.condition h.sessions h.next_session h.orders.items h.locks.table h.max_locks h.max_marks h.ranges
-        h.books.ledger
+        h.taken_over h.condition h.sessions h.next_session h.orders.items h.locks.table
+        (told_list L.applied h.locks.copy) h.max_locks h.max_marks h.ranges h.books.ledger
         (flight_over h.books.ledger h.failure) h.failure.found h.failure.caller [] in
         let v : View K D L = record {
           state = s;
@@ -106,7 +110,8 @@ impl<T: LockStore, K: Keeper, D: Disk, L: Link> Model for Present<T, K, D, L> {
         OutsideDoubt h.condition (IsUsable K.held K.is_open h.books)
         × LeavesState K.held K.may_leave v
         × OutsideDoubt h.condition (HasOpenLists D.tells D.reads D.may_leave h.books.ledger h.locks.file)
-        × LeavesLists D.tells D.may_leave v };
+        × LeavesLists D.tells D.may_leave v
+        × (h.locks.stands ≡ is_up h.condition) };
 }
 
 impl<T: LockStore, K: Keeper, D: Disk, L: Link> Present<T, K, D, L> {
@@ -121,6 +126,7 @@ impl<T: LockStore, K: Keeper, D: Disk, L: Link> Present<T, K, D, L> {
         books: Books<K>,
     ) -> Present<T, K, D, L>
         requires usable { IsUsable K.held K.is_open books }
+        requires stands { locks.stands ≡ true }
         requires locks { locks.table ≡ recovered max_locks (open_locks books.ledger) }
         requires filed { HasOpenLists D.tells D.reads D.may_leave books.ledger locks.file }
         requires detached { locks.copy.attached ≡ false }
@@ -136,6 +142,7 @@ impl<T: LockStore, K: Keeper, D: Disk, L: Link> Present<T, K, D, L> {
     {
         Present {
             condition: Condition::Up,
+            taken_over: false,
             sessions: Sessions::new(alloc),
             next_session: 1,
             orders,
@@ -303,7 +310,7 @@ impl<T: LockStore, K: Keeper, D: Disk, L: Link> Present<T, K, D, L> {
         ensures link_cause { HasLinkCause (L.faults self.old.follower.link) (L.faults self.new.follower.link)
             result.reply }
         ensures room { is_unrecorded result.reply ≡ false → is_full (with_calls self.old.state past.now.items) ≡ false }
-        ensures good_file { IsTrue D.tells → is_unsound_file result.reply ≡ false }
+        ensures good_file { IsTrue D.tells → IsTrue (is_honest self.old.state) → is_unsound_file result.reply ≡ false }
         ensures good_store { is_some (K.held self.old.keeper) ≡ true → is_unsound_store result.reply ≡ false }
         ensures good_replica { is_some (L.applied self.old.follower.link) ≡ true
             → is_unsound_replica result.reply ≡ false }
@@ -493,7 +500,15 @@ impl<T: LockStore, K: Keeper, D: Disk, L: Link> Present<T, K, D, L> {
         ensures { Serves K.held K.may_leave K.faults D.faults L.gives L.applied L.faults L.refusals self.old self.new
             past.now.items (command.Read session.now table.now key.now) result }
     {
+        let start = self.books.start();
         let written = read(alloc, &self.sessions, &mut self.books, session, table, key);
+        bring_down(
+            self.condition,
+            start,
+            &mut self.sessions,
+            &mut self.locks,
+            &written,
+        );
         ended(
             &mut self.condition,
             &mut self.failure,
@@ -516,6 +531,7 @@ impl<T: LockStore, K: Keeper, D: Disk, L: Link> Present<T, K, D, L> {
         ensures { Serves K.held K.may_leave K.faults D.faults L.gives L.applied L.faults L.refusals self.old self.new
             past.now.items (command.Number session.now object.now nr) result }
     {
+        let start = self.books.start();
         let written = draw(
             alloc,
             &mut self.sessions,
@@ -524,6 +540,13 @@ impl<T: LockStore, K: Keeper, D: Disk, L: Link> Present<T, K, D, L> {
             session,
             object,
             nr,
+        );
+        bring_down(
+            self.condition,
+            start,
+            &mut self.sessions,
+            &mut self.locks,
+            &written,
         );
         ended(
             &mut self.condition,
@@ -548,6 +571,7 @@ impl<T: LockStore, K: Keeper, D: Disk, L: Link> Present<T, K, D, L> {
         ensures { Serves K.held K.may_leave K.faults D.faults L.gives L.applied L.faults L.refusals self.old self.new
             past.now.items (command.Reserve session.now object.now nr upto) result }
     {
+        let start = self.books.start();
         let written = reserve(
             alloc,
             &self.sessions,
@@ -557,6 +581,13 @@ impl<T: LockStore, K: Keeper, D: Disk, L: Link> Present<T, K, D, L> {
             object,
             nr,
             upto,
+        );
+        bring_down(
+            self.condition,
+            start,
+            &mut self.sessions,
+            &mut self.locks,
+            &written,
         );
         ended(
             &mut self.condition,
@@ -580,6 +611,7 @@ impl<T: LockStore, K: Keeper, D: Disk, L: Link> Present<T, K, D, L> {
         ensures { Serves K.held K.may_leave K.faults D.faults L.gives L.applied L.faults L.refusals self.old self.new
             past.now.items (command.Commit session.now parts.now stock.now) result }
     {
+        let start = self.books.start();
         let written = commit(
             alloc,
             &mut self.sessions,
@@ -590,6 +622,13 @@ impl<T: LockStore, K: Keeper, D: Disk, L: Link> Present<T, K, D, L> {
             parts,
             stock,
             self.max_marks,
+        );
+        bring_down(
+            self.condition,
+            start,
+            &mut self.sessions,
+            &mut self.locks,
+            &written,
         );
         ended(
             &mut self.condition,
@@ -617,6 +656,7 @@ impl<T: LockStore, K: Keeper, D: Disk, L: Link> Present<T, K, D, L> {
         ensures { Serves K.held K.may_leave K.faults D.faults L.gives L.applied L.faults L.refusals self.old self.new
             past.now.items (post_of part worker) result }
     {
+        let start = self.books.start();
         let written = post(
             alloc,
             &mut self.orders,
@@ -625,6 +665,13 @@ impl<T: LockStore, K: Keeper, D: Disk, L: Link> Present<T, K, D, L> {
             worker,
             part,
             self.max_marks,
+        );
+        bring_down(
+            self.condition,
+            start,
+            &mut self.sessions,
+            &mut self.locks,
+            &written,
         );
         ended(&mut self.condition, &mut self.failure, past, None, written)
     }
@@ -637,17 +684,19 @@ impl<T: LockStore, K: Keeper, D: Disk, L: Link> Present<T, K, D, L> {
         drop_order(&mut self.orders, worker)
     }
 
-    /// Ends the lock server. Its table stays in memory, unseen, until another one is made.
+    /// Ends the lock server: its table goes, and each session that had a lock of its own in it is marked.
     fn kill(&mut self, past: &Vec<PastEntry>) -> Reply
         requires { IsDue self.old.state past.now.items command.Kill }
         ensures { Serves K.held K.may_leave K.faults D.faults L.gives L.applied L.faults L.refusals self.old self.new
             past.now.items command.Kill result }
     {
+        let start = self.books.start();
+        end_table(start, &mut self.sessions, &mut self.locks);
         self.condition = Condition::NoServer;
         Reply::Done
     }
 
-    /// Makes the list of the replica that followed the table.
+    /// Makes a table of the list of the replica that followed the one before.
     fn fail_over(&mut self, alloc: Global, past: &Vec<PastEntry>) -> Reply
         requires { IsDue self.old.state past.now.items command.FailOver }
         ensures { Serves K.held K.may_leave K.faults D.faults L.gives L.applied L.faults L.refusals self.old self.new
@@ -659,6 +708,8 @@ impl<T: LockStore, K: Keeper, D: Disk, L: Link> Present<T, K, D, L> {
             Condition::NoServer => match self.locks.fail_over(alloc, self.max_locks) {
                 Ok(()) => {
                     self.condition = Condition::Up;
+                    self.sessions.forgive();
+                    self.taken_over = true;
                     Reply::Done
                 }
                 Err(fault) => Reply::Refused(over_refusal(fault)),
@@ -686,7 +737,7 @@ impl<T: LockStore, K: Keeper, D: Disk, L: Link> Present<T, K, D, L> {
             self.new past.now.items command.Restart result.reply }
         ensures taken { IsTelling (with_calls self.old.state past.now.items) command.Restart result.taken
             (with_calls self.new.state past.now.items) result.reply }
-        ensures good_file { IsTrue D.tells → is_unsound_file result.reply ≡ false }
+        ensures good_file { IsTrue D.tells → IsTrue (is_honest self.old.state) → is_unsound_file result.reply ≡ false }
         ensures good_store { is_some (K.held self.old.keeper) ≡ true → is_unsound_store result.reply ≡ false }
     {
         let remade = remake(
@@ -699,7 +750,13 @@ impl<T: LockStore, K: Keeper, D: Disk, L: Link> Present<T, K, D, L> {
             &self.failure,
             self.max_locks,
         );
-        settled(&mut self.condition, &mut self.failure, past, remade)
+        settled(
+            &mut self.condition,
+            &mut self.taken_over,
+            &mut self.failure,
+            past,
+            remade,
+        )
     }
 
     fn cancel(&mut self, alloc: Global, past: &Vec<PastEntry>, unit: UnitKey) -> Reply
@@ -707,6 +764,7 @@ impl<T: LockStore, K: Keeper, D: Disk, L: Link> Present<T, K, D, L> {
         ensures { Serves K.held K.may_leave K.faults D.faults L.gives L.applied L.faults L.refusals self.old self.new
             past.now.items (command.Cancel unit) result }
     {
+        let start = self.books.start();
         let written = cancel(
             alloc,
             self.orders.as_slice(),
@@ -714,6 +772,13 @@ impl<T: LockStore, K: Keeper, D: Disk, L: Link> Present<T, K, D, L> {
             &mut self.books,
             unit,
             self.max_marks,
+        );
+        bring_down(
+            self.condition,
+            start,
+            &mut self.sessions,
+            &mut self.locks,
+            &written,
         );
         ended(&mut self.condition, &mut self.failure, past, None, written)
     }
@@ -723,6 +788,7 @@ impl<T: LockStore, K: Keeper, D: Disk, L: Link> Present<T, K, D, L> {
         ensures { Serves K.held K.may_leave K.faults D.faults L.gives L.applied L.faults L.refusals self.old self.new
             past.now.items (command.Resubmit unit) result }
     {
+        let start = self.books.start();
         let written = resubmit(
             alloc,
             &mut self.locks,
@@ -730,8 +796,60 @@ impl<T: LockStore, K: Keeper, D: Disk, L: Link> Present<T, K, D, L> {
             unit,
             self.max_marks,
         );
+        bring_down(
+            self.condition,
+            start,
+            &mut self.sessions,
+            &mut self.locks,
+            &written,
+        );
         ended(&mut self.condition, &mut self.failure, past, None, written)
     }
+}
+
+/// Where a device failed in a call the lock table goes that stood, and each session is marked that had a lock of its
+/// own in it.
+fn bring_down<T: LockStore, D: Disk, L: Link>(
+    condition: Condition,
+    start: u32,
+    sessions: &mut Sessions,
+    locks: &mut EnqServer<T, D, L>,
+    written: &Written,
+)
+    requires { locks.old.stands ≡ is_up condition }
+    ensures sessions { sessions.new
+        ≡ written_sessions condition start locks.old.table.entries sessions.old written.now }
+    ensures stands { (calls : ℕ) → locks.new.stands ≡ is_up (written_condition condition calls written.now) }
+    ensures kept { OnAnswer written.now (locks.new ≡ locks.old) }
+    ensures file { locks.new.file ≡ locks.old.file }
+    ensures copy { locks.new.copy ≡ locks.old.copy }
+{
+    match written {
+        Written::Answered(_) => {}
+        Written::Failed(_) | Written::Unfiled => match condition {
+            Condition::Up => end_table(start, sessions, locks),
+            Condition::NoServer | Condition::Doubt(_) => {}
+        },
+    }
+}
+
+/// Ends the lock table, and marks each session that had a lock of its own in it.
+fn end_table<T: LockStore, D: Disk, L: Link>(
+    start: u32,
+    sessions: &mut Sessions,
+    locks: &mut EnqServer<T, D, L>,
+)
+    requires { locks.old.stands ≡ true }
+    ensures sessions { sessions.new
+        ≡ with_marks (has_one_of start (unhanded locks.old.table.entries)) sessions.old }
+    ensures stands { locks.new.stands ≡ false }
+    ensures file { locks.new.file ≡ locks.old.file }
+    ensures copy { locks.new.copy ≡ locks.old.copy }
+    ensures told { told_list L.applied locks.new.copy
+        ≡ (if locks.old.copy.attached && is_some (L.applied locks.old.copy.link) then locks.old.table.entries else []) }
+{
+    sessions.mark(start, locks);
+    locks.kill();
 }
 
 /// What a call that uses store and backup file is answered. Where one of them fails the server is in doubt since this
@@ -769,10 +887,6 @@ fn over_refusal(fault: OverFault) -> Refusal
 {
     match fault {
         OverFault::NotAttached => Refusal::NotAttached,
-        OverFault::Other => Refusal::Unsound(Bad::Replica {
-            first: 0,
-            second: 0,
-        }),
         OverFault::Link => Refusal::LinkFault,
         OverFault::Clash { first, second } => Refusal::Unsound(Bad::Replica { first, second }),
         OverFault::NoMemory => Refusal::NoMemory,

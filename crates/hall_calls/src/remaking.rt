@@ -1,4 +1,4 @@
-ghost use Rattle.std.specs.Prelude.{◌≡◌, ◌↔◌, true, false, length, replicate, None, Some, IfErr, IfOk, IsSomeAnd, IsTrue, OnOk, is_some};
+ghost use Rattle.std.specs.Prelude.{◌≡◌, ◌↔◌, ℕ, true, false, length, replicate, None, Some, IfErr, IfOk, IsSomeAnd, IsTrue, OnOk, is_some};
 ghost use Rattle.std.specs.List.{AllByRecursion};
 ghost use Rattle.enq_server.specs.Following.{IsLater};
 ghost use Rattle.hall_model.specs.declared.command.Command.TheVariants as command;
@@ -6,12 +6,11 @@ ghost use Rattle.hall_model.specs.Acts.{Admits, IsTelling};
 ghost use Rattle.hall_model.specs.Devices.{IsAsBefore, is_doubt};
 ghost use Rattle.hall_calls.specs.Filing.{AllRecover, HasFileCause};
 ghost use Rattle.hall_model.specs.Kept.{IsKnownRight, IsYoung, OutsideDoubt};
-ghost use Rattle.hall_calls.specs.Leaving.{HasStoreCause};
 ghost use Rattle.hall_model.specs.OpenUnits.{OfPending, open_entries};
-ghost use Rattle.hall_calls.specs.Remaking.{IsFoundRight, IsReadAs, IsUnread, IsUnreadInDoubt, IsUsableAs, ledger_read, taken_in, taken_read, IsLeftReady, LeavesKnown, LeavesRemade, OnNotRemade, OnRefusedFirst, OnRemade, flight_over, remade_condition, remade_failure, remade_reply, remade_state, remade_taken, remake_refusal, store_refusal};
+ghost use Rattle.hall_calls.specs.Remaking.{IsFoundRight, IsReadAs, IsUnread, IsUnreadInDoubt, IsUsableAs, ledger_read, taken_in, taken_read, IsLeftReady, LeavesKnown, LeavesRemade, OnNotRemade, OnRefusedFirst, OnRemade, flight_over, remade_condition, remade_failure, remade_over, remade_reply, remade_state, remade_taken, remake_refusal, store_refusal};
 ghost use Rattle.hall_calls.specs.Serving.{DoesStore};
 ghost use Rattle.hall_model.specs.History.{known_behind};
-ghost use Rattle.hall_model.specs.State.{State, gone_in};
+ghost use Rattle.hall_model.specs.State.{State, is_up};
 ghost use Rattle.keeper_api.specs.Keeping.{IsWithin};
 ghost use Rattle.hall_model.specs.Unsound.{is_unsound_file, is_unsound_store};
 ghost use Rattle.lock_entry.specs.Sound.{IsSound};
@@ -50,8 +49,8 @@ struct Waiting {
 }
 
 /// Makes the lock server anew, with the locks of the units that wait for their V1 part. In doubt the store is read anew
-/// first, and tells what became of the change in flight. The sessions lose what they had of the table before, one in
-/// whose call a device failed too, and no order stands.
+/// first, and tells what became of the change in flight. The sessions that are marked lose, one in whose call a device
+/// failed too, and no order stands.
 pub(crate) fn remake<T: LockStore, K: Keeper, D: Disk, L: Link>(
     alloc: Global,
     condition: Condition,
@@ -62,6 +61,7 @@ pub(crate) fn remake<T: LockStore, K: Keeper, D: Disk, L: Link>(
     failure: &Failure,
     max_locks: u32,
 ) -> Remade
+    requires ended { locks.old.stands ≡ is_up condition }
     requires young { AllByRecursion (IsYoung 262145) sessions.old }
     requires places { length orders.old.items ≡ 256 }
     requires usable { OutsideDoubt condition (IsUsable K.held K.is_open books.old) }
@@ -75,12 +75,12 @@ pub(crate) fn remake<T: LockStore, K: Keeper, D: Disk, L: Link>(
     ensures act { (s : State) → s.condition ≡ condition → s.sessions ≡ sessions.old → s.stored ≡ books.old.ledger
         → s.pending ≡ flight_over books.old.ledger failure.now → s.found ≡ failure.now.found
         → s.failed_caller ≡ failure.now.caller
-        → s.max_locks ≡ max_locks → s.gone ≡ gone_in condition locks.old.table.entries → Admits s command.Restart
+        → s.max_locks ≡ max_locks → Admits s command.Restart
         → IsTelling s command.Restart (remade_taken result)
         (remade_state s sessions.new orders.new.items locks.new.table books.new.ledger result) (remade_reply result) }
     ensures sessions { OnNotRemade result (sessions.new ≡ sessions.old) }
     ensures orders { OnNotRemade result (orders.new.items ≡ orders.old.items) }
-    ensures table { OnNotRemade result (locks.new.table ≡ locks.old.table) }
+    ensures stands { (calls : ℕ) → locks.new.stands ≡ is_up (remade_condition condition calls result) }
     ensures ledger { OnNotRemade result (books.new.ledger ≡ books.old.ledger) }
     ensures usable { OnRemade result (IsUsable K.held K.is_open books.new) }
     ensures apart { OnRefusedFirst result (books.new ≡ books.old) }
@@ -93,7 +93,7 @@ pub(crate) fn remake<T: LockStore, K: Keeper, D: Disk, L: Link>(
     ensures cause { HasFileCause (D.faults locks.old.file.disk) (D.faults locks.new.file.disk) (remade_reply result) }
     ensures follower { IsLater L.applied L.faults L.refusals locks.old.copy locks.new.copy }
     ensures detached { OnRemade result (locks.new.copy.attached ≡ false) }
-    ensures unshipped { OnRefusedFirst result (locks.new.copy ≡ locks.old.copy) }
+    ensures untouched { OnRefusedFirst result (locks.new ≡ locks.old) }
     // A file whose images have the lists of the open units is good.
     ensures good_file { IsTrue D.tells → IsSound (open_entries books.old.ledger)
         → OfPending (flight_over books.old.ledger failure.now) (λ ledger. IsSound (open_entries ledger))
@@ -104,16 +104,13 @@ pub(crate) fn remake<T: LockStore, K: Keeper, D: Disk, L: Link>(
     if let Condition::Up = condition {
         return Remade::Refused(Refusal::ServerUp);
     }
-    let Ok(losing) = sessions.losing(alloc, books.start(), locks, failure.caller) else {
-        return Remade::Refused(Refusal::NoMemory);
-    };
     let waiting = match read_waiting(alloc, condition, books, failure) {
         Ok(waiting) => waiting,
         Err(remade) => return remade,
     };
     match locks.restart(alloc, max_locks, waiting.units.as_slice()) {
         Ok(()) => {
-            sessions.bereave(alloc, losing.as_slice());
+            sessions.bereave(alloc, &failure.caller);
             drop_orders(orders);
             Remade::Done(adopt(books, waiting.reread))
         }
@@ -271,6 +268,7 @@ fn drop_orders(orders: &mut Vec<Option<UnitKey>>)
 /// What a restart is answered, and whether the server is up then. Done, it leaves nothing of a failure.
 pub(crate) fn settled(
     condition: &mut Condition,
+    taken_over: &mut bool,
     failure: &mut Failure,
     past: &Vec<PastEntry>,
     remade: Remade,
@@ -278,11 +276,13 @@ pub(crate) fn settled(
     ensures reply { result.reply ≡ remade_reply remade }
     ensures taken { result.taken ≡ remade_taken remade }
     ensures condition { condition.new ≡ remade_condition condition.old (length past.now.items) remade }
+    ensures over { taken_over.new ≡ remade_over taken_over.old remade }
     ensures failure { failure.new ≡ remade_failure failure.old remade }
 {
     match remade {
         Remade::Done(taken) => {
             *condition = Condition::Up;
+            *taken_over = false;
             *failure = Failure::none();
             Answer {
                 reply: Reply::Done,

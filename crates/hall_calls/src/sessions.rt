@@ -1,24 +1,23 @@
-ghost use Rattle.std.specs.Prelude.{◌≡◌, ◌&&◌, Bool, not, ◌+◌, ◌<◌, ◌^◌, ◌++◌, ◌∷◌, [], None, Some, is_some, length, map, set, slice_get, if◌then◌else◌, IfErr, IfOk, IfSome, OnErr, OnOk};
-ghost use Rattle.std.specs.List.{AllByRecursion, find, list_any};
+ghost use Rattle.std.specs.Prelude.{◌≡◌, ◌&&◌, false, not, ◌+◌, ◌<◌, ◌^◌, ◌++◌, ◌∷◌, [], None, Some, is_some, length, map, set, slice_get, IfErr, IfOk, IfSome, OnErr, OnOk};
+ghost use Rattle.std.specs.List.{AllByRecursion, find};
 ghost use Rattle.std.specs.Option.{option_copied, option_map};
 ghost use Rattle.hall_model.specs.Numbers.{holder_of, holds, other_holder};
 ghost use Rattle.hall_model.specs.declared.command.Command.TheVariants as command;
 ghost use Rattle.hall_model.specs.Acts.{Admits, IsAct};
 ghost use Rattle.hall_model.specs.Kept.{IsYoung};
 ghost use Rattle.hall_model.specs.Sessions as sessions;
-ghost use Rattle.hall_model.specs.Sessions.{bereft, has_one_of, is_called, loses, pair_of, session_at, unit_key, with_fresh_unit, with_next_unit, with_session, without_draws, without_session};
+ghost use Rattle.hall_model.specs.Sessions.{bereft_if, has_one_of, is_called, pair_of, session_at, unit_key, with_fresh_unit, with_mark, with_marks, with_next_unit, with_session, without_draws, without_marks, without_session};
 ghost use Rattle.hall_model.specs.declared.command.Session.{Session};
 ghost use Rattle.hall_model.specs.State.{State, unhanded};
-ghost use Rattle.lock_entry.specs.declared.entry.Entry.{Entry};
 ghost use Rattle.hall_model.specs.Step.{answer_of};
 
 use crate::numbers::drawn_of;
 use bk_disk::Disk;
-use enq_base::{Items, Name, NoMemory, Num, Owner, Refusal, UnitKey};
+use enq_base::{Items, Name, Num, Owner, Refusal, UnitKey};
 use enq_server::EnqServer;
 use hall_model::Session;
 use indexmap::IndexMap;
-use lock_entry::{Asker, Entry, LockStore};
+use lock_entry::{Asker, LockStore};
 use number_ranges::Interval;
 use replica_link::Link;
 use std::alloc::Global;
@@ -157,50 +156,72 @@ impl Sessions {
         }
     }
 
-    /// Of each session whether it has a lock of its own in the table, one that wasn't handed over, or made the call in
-    /// which a device failed.
-    pub(crate) fn losing<T: LockStore, D: Disk, L: Link>(
-        &self,
-        alloc: Global,
+    /// Marks each session that has a lock of its own in the table, one that wasn't handed over, and no other.
+    pub(crate) fn mark<T: LockStore, D: Disk, L: Link>(
+        &mut self,
         start: u32,
         locks: &EnqServer<T, D, L>,
-        caller: Option<Name>,
-    ) -> Result<Vec<bool>, NoMemory>
-        ensures { IfOk result
-            (λ losing. losing.items ≡ map (loses start (unhanded locks.now.table.entries) caller) self.now) }
+    )
+        ensures { self.new ≡ with_marks (has_one_of start (unhanded locks.now.table.entries)) self.old }
     {
-        let mut losing = Vec::new(alloc);
-        for session in self.by_name.values() {
-            losing.push(is_loser(alloc, start, session, locks, caller)?)?;
-        }
-        Ok(losing)
-    }
-
-    /// Each session of which this is told has lost a lock: its open unit comes to nothing, and it has to roll back
-    /// first.
-    pub(crate) fn bereave(&mut self, alloc: Global, losing: &[bool])
-        requires young { AllByRecursion (IsYoung 262145) self.old }
-        requires each { length losing.now ≡ length self.old }
-        ensures { (loses : Session → Bool) → losing.now ≡ map loses self.old
-            → self.new ≡ map (λ x. if loses x then bereft x else x) self.old }
-    {
-        for place in 0..losing.len() {
-            if losing[place] {
-                self.bereave_at(alloc, place);
-            }
+        for place in 0..self.len() {
+            self.mark_at(place, start, locks);
         }
     }
 
     /// The same of the session at this place, from 0.
-    fn bereave_at(&mut self, alloc: Global, place: usize)
-        requires young { IfSome (slice_get self.old place) (IsYoung 262145) }
-        ensures { (x : Session) → slice_get self.old place ≡ Some x → self.new ≡ set self.old place (bereft x) }
+    fn mark_at<T: LockStore, D: Disk, L: Link>(
+        &mut self,
+        place: usize,
+        start: u32,
+        locks: &EnqServer<T, D, L>,
+    )
+        ensures { (x : Session) → slice_get self.old place ≡ Some x
+            → self.new ≡ set self.old place (with_mark (has_one_of start (unhanded locks.now.table.entries)) x) }
     {
-        let nothing = no_numbers(alloc);
         if let Some(session) = self.by_name.get_index_mut(place) {
-            session.luw += 1;
-            session.draws = nothing;
-            session.lost = true;
+            session.marked = has_own_lock(start, session, locks);
+        }
+    }
+
+    /// No session is marked then.
+    pub(crate) fn forgive(&mut self)
+        ensures { self.new ≡ without_marks self.old }
+    {
+        for place in 0..self.len() {
+            self.forgive_at(place);
+        }
+    }
+
+    /// The same of the session at this place, from 0.
+    fn forgive_at(&mut self, place: usize)
+        ensures { (x : Session) → slice_get self.old place ≡ Some x
+            → self.new ≡ set self.old place (with_mark (λ _. false) x) }
+    {
+        if let Some(session) = self.by_name.get_index_mut(place) {
+            session.marked = false;
+        }
+    }
+
+    /// Each session that is marked has lost its locks, and so has the one in whose call a device failed: its open unit
+    /// comes to nothing, and it has to roll back first.
+    pub(crate) fn bereave(&mut self, alloc: Global, caller: &Option<Name>)
+        requires { AllByRecursion (IsYoung 262145) self.old }
+        ensures { self.new ≡ map (bereft_if caller.now) self.old }
+    {
+        for place in 0..self.len() {
+            self.bereave_at(alloc, place, caller);
+        }
+    }
+
+    /// The same of the session at this place, from 0.
+    fn bereave_at(&mut self, alloc: Global, place: usize, caller: &Option<Name>)
+        requires young { IfSome (slice_get self.old place) (IsYoung 262145) }
+        ensures { (x : Session) → slice_get self.old place ≡ Some x
+            → self.new ≡ set self.old place (bereft_if caller.now x) }
+    {
+        if let Some(session) = self.by_name.get_index_mut(place) {
+            lose_if(alloc, caller, session);
         }
     }
 
@@ -218,23 +239,22 @@ impl Sessions {
     }
 }
 
-/// Whether the session has a lock of its own in the table, or made the call in which a device failed.
-fn is_loser<T: LockStore, D: Disk, L: Link>(
-    alloc: Global,
-    start: u32,
-    session: &Session,
-    locks: &EnqServer<T, D, L>,
-    caller: Option<Name>,
-) -> Result<bool, NoMemory>
-    ensures { IfOk result (λ is. is ≡ loses start (unhanded locks.now.table.entries) caller session.now) }
+/// A session that is marked has lost its locks, and so has the one in whose call a device failed.
+fn lose_if(alloc: Global, caller: &Option<Name>, session: &mut Session)
+    requires { IsYoung 262145 session.old }
+    ensures { session.new ≡ bereft_if caller.now session.old }
 {
-    let has_lock = has_own_lock(alloc, start, session, locks)?;
-    Ok(has_lock || is_caller(caller, session))
+    if session.marked || is_caller(caller, session) {
+        session.luw += 1;
+        session.draws = no_numbers(alloc);
+        session.marked = false;
+        session.lost = true;
+    }
 }
 
 /// Whether the session is the one of this name.
-fn is_caller(caller: Option<Name>, session: &Session) -> bool
-    ensures { result ≡ sessions.is_caller caller session.now }
+fn is_caller(caller: &Option<Name>, session: &Session) -> bool
+    ensures { result ≡ sessions.is_caller caller.now session.now }
 {
     match caller {
         Some(name) => session.name.bytes() == name.bytes(),
@@ -244,24 +264,14 @@ fn is_caller(caller: Option<Name>, session: &Session) -> bool
 
 /// Whether the session has a lock of its own in the table, one that wasn't handed over.
 fn has_own_lock<T: LockStore, D: Disk, L: Link>(
-    alloc: Global,
     start: u32,
     session: &Session,
     locks: &EnqServer<T, D, L>,
-) -> Result<bool, NoMemory>
-    ensures { IfOk result (λ has. has ≡ has_one_of start (unhanded locks.now.table.entries) session.now) }
+) -> bool
+    ensures { result ≡ has_one_of start (unhanded locks.now.table.entries) session.now }
 {
     let pair = pair_of(start, session);
-    let dialogue = locks.entries_of(alloc, &pair.dialogue)?;
-    let update = locks.entries_of(alloc, &pair.update)?;
-    Ok(has_unhanded(dialogue.as_slice()) || has_unhanded(update.as_slice()))
-}
-
-/// Whether one of the locks wasn't handed over to the update.
-fn has_unhanded(entries: &[Entry]) -> bool
-    ensures { result ≡ list_any (λ (e : Entry). not e.handed) entries.now }
-{
-    entries.iter().any(|entry| !entry.handed)
+    locks.has_unhanded(&pair.dialogue) || locks.has_unhanded(&pair.update)
 }
 
 /// Whether it is another session than the one of this name, and has numbers of this interval drawn.
@@ -310,6 +320,7 @@ pub(crate) fn log_on(
         number: *next,
         luw: 1,
         draws: no_numbers(alloc),
+        marked: false,
         lost: false,
     };
     sessions.push(session)?;

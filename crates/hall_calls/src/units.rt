@@ -1,12 +1,13 @@
 ghost use Rattle.std.specs.Prelude.{◌≡◌, ◌⊎◌, ◌≤◌, ◌<◌, ◌+◌, ◌^◌, ◌++◌, None, Ok, Some, IfOk, IfSome, OnErr, OnOk, false, true, is_some, length, nat_eq, nat_le};
 ghost use Rattle.std.specs.List.{AllByRecursion};
 ghost use Rattle.enq_server.specs.Following.{KeepsOn};
+ghost use Rattle.enq_server.specs.Server.{of_user};
 ghost use Rattle.hall_model.specs.declared.command.Command.TheVariants as command;
 ghost use Rattle.enq_base.specs.declared.unit.Num.{Num as Number};
 ghost use Rattle.hall_model.specs.Acts.{Admits};
 ghost use Rattle.hall_calls.specs.Written.{IsWritten, OnAnswer, IsRegained, OnFailure, OnStoreFailure, locks_posted, post_of, ranges_behind, written_reply};
 ghost use Rattle.hall_calls.specs.Commits.{IsOfCommit, RecordsNumbers, RecordsUnit};
-ghost use Rattle.hall_model.specs.Kept.{HasGoodLocks, HasItsUser, HaveMarks, IsAhead, IsYoung, OfLock, draws_in};
+ghost use Rattle.hall_model.specs.Kept.{HasGoodLocks, HaveMarks, IsAhead, IsYoung, draws_in};
 ghost use Rattle.hall_calls.specs.Leaving.{HasStoreCause, KeepsStore, LeavesWritten};
 ghost use Rattle.hall_model.specs.Sessions.{owners_of};
 ghost use Rattle.hall_model.specs.State.{State};
@@ -111,6 +112,7 @@ pub(crate) fn post<T: LockStore, K: Keeper, D: Disk, L: Link>(
         })
         result }
     ensures limit { locks.new.table.limit ≡ locks.old.table.limit }
+    ensures standing { locks.new.stands ≡ locks.old.stands }
     ensures file { FilesAs D.tells D.reads D.may_leave D.faults books.new.ledger locks.old.file locks.new.file result }
     ensures unfiled { nat_eq part 1 ≡ false → locks.new.file ≡ locks.old.file }
     ensures unshipped { nat_eq part 1 ≡ false → locks.new.copy ≡ locks.old.copy }
@@ -165,6 +167,7 @@ fn end_locks<T: LockStore, D: Disk, L: Link>(
     ensures unshipped { ends ≡ false → locks.new.copy ≡ locks.old.copy }
     ensures kept { OnErr result (locks.new.table ≡ locks.old.table) }
     ensures limit { locks.new.table.limit ≡ locks.old.table.limit }
+    ensures standing { locks.new.stands ≡ locks.old.stands }
     ensures file { FreesList D.tells D.reads D.may_leave D.faults ends unit.now locks.old.file locks.new.file result }
     ensures follower { KeepsOn L.applied L.faults L.refusals locks.old.copy locks.new.copy }
 {
@@ -256,7 +259,6 @@ pub(crate) fn commit<T: LockStore, K: Keeper, D: Disk, L: Link>(
     requires young { AllByRecursion (IsYoung 262145) sessions.old }
     requires fresh { AllByRecursion (IsAhead books.old.ledger) sessions.old }
     requires marked { HaveMarks books.old.ledger }
-    requires users { AllByRecursion (OfLock (HasItsUser books.old.ledger.start sessions.old)) locks.old.table.entries }
     requires drawn { AreDrawnRight ranges.old books.old.ledger.levels (draws_in sessions.old)
         (numbers_of books.old.ledger.units books.old.ledger.marks) }
     requires filed { HasOpenLists D.tells D.reads D.may_leave books.old.ledger locks.old.file }
@@ -274,6 +276,7 @@ pub(crate) fn commit<T: LockStore, K: Keeper, D: Disk, L: Link>(
         })
         result }
     ensures limit { locks.new.table.limit ≡ locks.old.table.limit }
+    ensures standing { locks.new.stands ≡ locks.old.stands }
     ensures file { FilesAs D.tells D.reads D.may_leave D.faults books.new.ledger locks.old.file locks.new.file result }
     ensures follower { KeepsOn L.applied L.faults L.refusals locks.old.copy locks.new.copy }
     ensures table { OnFailure result (locks.new.table ≡ locks.old.table) }
@@ -317,7 +320,6 @@ fn record_commit<T: LockStore, K: Keeper, D: Disk, L: Link>(
     requires young { AllByRecursion (IsYoung 262145) sessions.old }
     requires fresh { AllByRecursion (IsAhead books.old.ledger) sessions.old }
     requires marked { HaveMarks books.old.ledger }
-    requires users { AllByRecursion (OfLock (HasItsUser books.old.ledger.start sessions.old)) locks.old.table.entries }
     requires drawn { AreDrawnRight ranges.now books.old.ledger.levels (draws_in sessions.old)
         (numbers_of books.old.ledger.units books.old.ledger.marks) }
     requires filed { HasOpenLists D.tells D.reads D.may_leave books.old.ledger locks.old.file }
@@ -335,6 +337,7 @@ fn record_commit<T: LockStore, K: Keeper, D: Disk, L: Link>(
         })
         result }
     ensures limit { locks.new.table.limit ≡ locks.old.table.limit }
+    ensures standing { locks.new.stands ≡ locks.old.stands }
     ensures file { FilesAs D.tells D.reads D.may_leave D.faults books.new.ledger locks.old.file locks.new.file result }
     ensures follower { KeepsOn L.applied L.faults L.refusals locks.old.copy locks.new.copy }
     ensures table { OnFailure result (locks.new.table ≡ locks.old.table) }
@@ -403,6 +406,7 @@ fn record_unit<T: LockStore, K: Keeper, D: Disk, L: Link>(
         books.old.ledger books.new.ledger
         name.now unit levels.items result }
     ensures limit { locks.new.table.limit ≡ locks.old.table.limit }
+    ensures standing { locks.new.stands ≡ locks.old.stands }
     ensures file { FilesAs D.tells D.reads D.may_leave D.faults books.new.ledger locks.old.file locks.new.file result }
     ensures follower { KeepsOn L.applied L.faults L.refusals locks.old.copy locks.new.copy }
     ensures table { OnFailure result (locks.new.table ≡ locks.old.table) }
@@ -412,7 +416,7 @@ fn record_unit<T: LockStore, K: Keeper, D: Disk, L: Link>(
     let Ok(prepared) = prepare_unit(alloc, books, &unit, levels.as_slice()) else {
         return Written::Answered(Reply::Refused(Refusal::NoMemory));
     };
-    match locks.save(alloc, &unit.key) {
+    match locks.save(alloc, &unit.key, &unit.user) {
         Ok(_) => record_saved(alloc, sessions, locks, books, name, unit, levels, prepared),
         Err(WriteFault::NoMemory) => Written::Answered(Reply::Refused(Refusal::NoMemory)),
         Err(WriteFault::Failed) => Written::Unfiled,
@@ -440,6 +444,7 @@ fn record_saved<T: LockStore, K: Keeper, D: Disk, L: Link>(
         books.old.ledger books.new.ledger
         name.now unit levels.items result }
     ensures limit { locks.new.table.limit ≡ locks.old.table.limit }
+    ensures standing { locks.new.stands ≡ locks.old.stands }
     ensures file { FilesAs D.tells D.reads D.may_leave D.faults books.new.ledger locks.old.file locks.new.file result }
     ensures answered { IsUnrefused result }
     ensures follower { KeepsOn L.applied L.faults L.refusals locks.old.copy locks.new.copy }
@@ -544,6 +549,7 @@ pub(crate) fn cancel<T: LockStore, K: Keeper, D: Disk, L: Link>(
         (record s { locks = locks.new.table.entries; stored = books.new.ledger })
         result }
     ensures limit { locks.new.table.limit ≡ locks.old.table.limit }
+    ensures standing { locks.new.stands ≡ locks.old.stands }
     ensures file { FilesAs D.tells D.reads D.may_leave D.faults books.new.ledger locks.old.file locks.new.file result }
     ensures follower { KeepsOn L.applied L.faults L.refusals locks.old.copy locks.new.copy }
     ensures table { OnFailure result (locks.new.table ≡ locks.old.table) }
@@ -622,6 +628,7 @@ pub(crate) fn resubmit<T: LockStore, K: Keeper, D: Disk, L: Link>(
     unit: UnitKey,
     max_marks: u32,
 ) -> Written
+    requires stands { locks.old.stands ≡ true }
     requires usable { IsUsable K.held K.is_open books.old }
     requires limited { max_marks ≤ 1048576 }
     requires stored { AllByRecursion HasGoodLocks books.old.ledger.units }
@@ -632,6 +639,7 @@ pub(crate) fn resubmit<T: LockStore, K: Keeper, D: Disk, L: Link>(
         (record s { locks = locks.new.table.entries; stored = books.new.ledger })
         result }
     ensures limit { locks.new.table.limit ≡ locks.old.table.limit }
+    ensures standing { locks.new.stands ≡ locks.old.stands }
     ensures file { FilesAs D.tells D.reads D.may_leave D.faults books.new.ledger locks.old.file locks.new.file result }
     ensures follower { KeepsOn L.applied L.faults L.refusals locks.old.copy locks.new.copy }
     ensures table { OnFailure result
@@ -658,6 +666,7 @@ fn reopen<T: LockStore, K: Keeper, D: Disk, L: Link>(
     books: &mut Books<K>,
     unit: UnitKey,
 ) -> Written
+    requires stands { locks.old.stands ≡ true }
     requires usable { IsUsable K.held K.is_open books.old }
     requires stored { AllByRecursion HasGoodLocks books.old.ledger.units }
     requires marks { HasMarksLeft books.old.ledger }
@@ -670,6 +679,7 @@ fn reopen<T: LockStore, K: Keeper, D: Disk, L: Link>(
         (record s { locks = locks.new.table.entries; stored = books.new.ledger })
         result }
     ensures limit { locks.new.table.limit ≡ locks.old.table.limit }
+    ensures standing { locks.new.stands ≡ locks.old.stands }
     ensures file { FilesAs D.tells D.reads D.may_leave D.faults books.new.ledger locks.old.file locks.new.file result }
     ensures follower { KeepsOn L.applied L.faults L.refusals locks.old.copy locks.new.copy }
     ensures table { OnFailure result
@@ -796,7 +806,7 @@ fn effects_in(parts: &Parts) -> usize
     parts.v1.as_slice().len() + parts.v2.as_slice().len()
 }
 
-/// The unit that a session has open, with its locks as they are handed over.
+/// The unit that a session has open, with its locks as they are handed over, under the session's user.
 fn unit_of<T: LockStore, D: Disk, L: Link>(
     alloc: Global,
     start: u32,
@@ -815,20 +825,31 @@ fn unit_of<T: LockStore, D: Disk, L: Link>(
         user: session.user,
         numbers: Items::from_vec(numbers),
         parts: parts.copy(alloc)?,
-        entries: Items::from_vec(handed_locks(alloc, locks, &key)?),
+        entries: Items::from_vec(handed_locks(alloc, locks, &session.user, &key)?),
     })
 }
 
-/// The locks of a unit as they stand once they are handed over to the update.
+/// The locks of a unit as they are handed over to the update, under this user.
 fn handed_locks<T: LockStore, D: Disk, L: Link>(
     alloc: Global,
     locks: &EnqServer<T, D, L>,
+    user: &Name,
     unit: &UnitKey,
 ) -> Result<Vec<Entry>, NoMemory>
-    ensures locks { IfOk result (λ entries. entries.items ≡ step.handed_locks locks.now.table.entries unit.now) }
+    ensures locks { IfOk result
+        (λ entries. entries.items ≡ step.handed_locks user.now locks.now.table.entries unit.now) }
     ensures good { IfOk result (λ _. IsTable locks.now.table) }
 {
     let mut entries = locks.entries_of(alloc, &Owner::Upd(*unit))?;
     hand_over(&mut entries, unit);
+    put_under(entries.as_mut_slice(), user);
     Ok(entries)
+}
+
+fn put_under(entries: &mut [Entry], user: &Name)
+    ensures { entries.new ≡ of_user user.now entries.old }
+{
+    for entry in entries.iter_mut() {
+        entry.user = *user;
+    }
 }

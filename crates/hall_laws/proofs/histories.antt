@@ -5,3 +5,4 @@ pub mod StandingLocks
 pub mod LockUsers
 pub mod WithoutServer
 pub mod ToldLosers
+pub mod FlaggedSessions

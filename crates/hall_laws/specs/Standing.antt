@@ -16,7 +16,7 @@ use Rattle.hall_model.specs.declared.command.Reply.TheVariants as reply
 use Rattle.hall_model.specs.Calls.{Call, OfSession, OfAdmin, Cancels, Commits, Resubmits, call_of, is_of_server}
 use Rattle.hall_model.specs.Kept.{WhileUp}
 use Rattle.hall_model.specs.Recall.{Made, state_after}
-use Rattle.hall_model.specs.State.{State}
+use Rattle.hall_model.specs.State.{State, is_honest}
 
 abbrev pub is_commit : Call → Bool
 is_commit (OfSession session (Commits parts stock)) = true
@@ -81,30 +81,31 @@ FirmAreHanded unit s t = (e : Entry) → IsFirm unit e → Contains s.locks e �
 
 -- ---- through a history
 
--- From the state before its commit on, the unit waits; and while there is a lock server it has the locks that it had.
--- There is one where none of these calls ended it.
+-- From the state before its commit on, the unit waits. There is a lock server where none of these calls ended it; and
+-- while there is one it has the locks that it had, where the locks can be told from the calls.
 pub record WaitsLocked (unit : UnitKey) (calls : List Made) (before now : State) : Type 0 where
   pub waits : IsOpenUnit now.stored unit
   pub up : NoneOfServer calls → now.condition ≡ Up
-  pub locks : WhileUp now.condition (FirmAreHanded unit before now)
+  pub locks : IsTrue (is_honest before) → IsTrue (is_honest now)
+      → WhileUp now.condition (FirmAreHanded unit before now)
 
--- A committed unit waits for its V1 part, and its locks stand, until a call ends that. A lock server that is made anew
--- has them again.
+-- A committed unit waits for its V1 part, and its locks stand where they can be told, until a call ends that. A lock
+-- server that is made anew has them again.
 abbrev pub LocksStand : State → List Made → Type 0
 LocksStand first made =
     (earlier between later : List Made) (m : Made) (unit : UnitKey)
     → made ≡ earlier ++ m ∷ (between ++ later) → IsCommitOf unit m.call → NoneEndsWait unit between
     → WaitsLocked unit between (state_after first earlier) (state_after first (earlier ++ m ∷ between))
 
--- the unit waits, and while there is a lock server the locks stand that were stored with it when its V1 part was tried
--- again
+-- The unit waits; and while there is a lock server, where the locks can be told from the calls, those stand that were
+-- stored with it when its V1 part was tried again.
 pub record ReturnsLocked (unit : UnitKey) (calls : List Made) (begun now : State) : Type 0 where
   pub waits : IsOpenUnit now.stored unit
   pub up : NoneOfServer calls → now.condition ≡ Up
-  pub locks : WhileUp now.condition
-      ((e : Entry) → Contains (entries_of begun.stored.units unit) e → Contains now.locks e)
+  pub locks : IsTrue (is_honest now)
+      → WhileUp now.condition ((e : Entry) → Contains (entries_of begun.stored.units unit) e → Contains now.locks e)
 
--- where a unit waits for its V1 part again its stored locks stand, until a call ends that
+-- where a unit waits for its V1 part again its stored locks stand where they can be told, until a call ends that
 abbrev pub LocksReturn : State → List Made → Type 0
 LocksReturn first made =
     (earlier between later : List Made) (m : Made) (unit : UnitKey)

@@ -1,5 +1,5 @@
 -- What holds of the verdict of each call holds of any call.
-use Rattle.std.proofs.Common.{◌≡◌, ℕ, Bool, true, false, cond, List, [], ◌∷◌, ◌++◌, length, map, refl, sym, ap, ◌∙◌, subst, arith}
+use Rattle.std.proofs.Common.{◌≡◌, ℕ, Bool, true, false, cond, List, [], ◌∷◌, ◌++◌, length, map, refl, sym, ◌∙◌, subst, arith}
 use Rattle.std.specs.Prelude.{◌&&◌, ◌||◌, not, if◌then◌else◌, nat_eq, nat_le, nat_lt, Option, Some, None, Result, Ok, Err, is_some}
 use Rattle.std.proofs.lemmas.Bool.{and_parts, eqb-true}
 use Rattle.std.proofs.lemmas.List.{length-append}
@@ -12,7 +12,6 @@ use Rattle.enq_base.specs.declared.unit.Num.{Num}
 use Rattle.enq_base.specs.declared.unit.Parts.{Parts}
 use Rattle.enq_base.specs.declared.unit.Status.{Status}
 use Rattle.enq_base.specs.declared.unit.Status.TheVariants.{Bad, Bad2}
-use Rattle.enq_server.specs.Following.{may_replace}
 use Rattle.lock_entry.specs.Converting.{Conversion, converted, first_withstanding, is_lost, sum_exceeds}
 use Rattle.lock_entry.specs.Granting.{asked, first_bar, is_full as has_no_room, is_over, new_names, readmitted, unless_barred}
 use Rattle.lock_entry.specs.Names.{halves}
@@ -59,17 +58,16 @@ pub record CanReserve (s : State) (object nr : List ℕ) (upto : ℕ) (r : Numbe
   pub buffered : not (is_buffered r.interval) ≡ false
   pub within : nat_lt r.interval.to upto ≡ false
 
--- a replica that followed hands over a list which may take the place of the table that stood
-pub record IsHandedOver (s : State) (list : List Entry) : Type 0 where
+-- a replica that followed hands over a list whose locks may stand together
+pub record IsHandedOver (found : Found) (s : State) : Type 0 where
   pub none : s.condition ≡ condition.NoServer
   pub followed : s.attached ≡ true
-  pub sound : is_sound list ≡ true
-  pub replaces : may_replace s.locks list ≡ true
+  pub sound : is_sound found.list ≡ true
 
--- and one that may not
+-- and one whose locks may not
 pub record IsStray (found : Found) (s : State) : Type 0 where
   pub none : s.condition ≡ condition.NoServer
-  pub astray : (is_sound found.list && may_replace s.locks found.list) ≡ false
+  pub astray : is_sound found.list ≡ false
 
 -- What each call comes to, by the cases that there are: a property is shown for each of them once. The refusals of all
 -- calls are one case.
@@ -110,7 +108,7 @@ pub record OfEach (P : Call → Verdict → Type 0) (found : Found) (s : State) 
   pub drops : (worker : ℕ) (unit : UnitKey) → order_of s.orders worker ≡ Some unit
       → P (OfWorker worker Drops) (Leaves (record s { orders = without_order s.orders worker }) (reply.Unit unit))
   pub kills : s.condition ≡ condition.Up → P (OfAdmin Kills) (Leaves (killed s) reply.Done)
-  pub fails_over : (list : List Entry) → IsHandedOver s list → P (OfAdmin FailsOver) (Leaves (followed_over list s) reply.Done)
+  pub fails_over : IsHandedOver found s → P (OfAdmin FailsOver) (Leaves (followed_over found.list s) reply.Done)
   pub strays : (first second : ℕ) → IsStray found s → P (OfAdmin FailsOver) (not_over s first second)
   pub restarts : (s.condition ≡ condition.Up → ⊥) → P (OfAdmin Restarts) (Leaves (restarted (is_taken found.anew) s) reply.Done)
   pub attaches : s.condition ≡ condition.Up → P (OfAdmin Attaches) (Leaves (attached s) reply.Done)
@@ -316,10 +314,8 @@ module _ (P : Call → Verdict → Type 0) (found : Found) (s : State) (each : O
       let list = found.list in
       let Q = P (OfAdmin FailsOver) in
       one_of Q (is_sound list) _ _
-      (λ sound. one_of Q (may_replace s.locks list) _ _
-      (λ replaces. each.fails_over list (record { none = none; followed = followed; sound = sound; replaces = replaces }))
-      (λ e. each.strays 0 0 (record { none = none; astray = λ i. sound i && e i })))
-      (λ e. clashing-holds (first_clash list) (record { none = none; astray = ap (λ b. b && may_replace s.locks list) e }))
+      (λ sound. each.fails_over (record { none = none; followed = followed; sound = sound }))
+      (λ e. clashing-holds (first_clash list) (record { none = none; astray = e }))
 
   over-holds : (k : Condition) → s.condition ≡ k → P (OfAdmin FailsOver) (elim k [
     | condition.Up ↦ Refuses refusal.ServerUp
@@ -554,7 +550,7 @@ by_filing P found s call same posts cancels =
       posts = λ worker part unit e. posts worker part unit e;
       drops = λ worker unit e. same;
       kills = λ up. same;
-      fails_over = λ list can. same;
+      fails_over = λ can. same;
       strays = λ first second none. same;
       attaches = λ up. same;
       restarts = λ off. same;

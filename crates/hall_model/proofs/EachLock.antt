@@ -7,7 +7,7 @@ use Rattle.enq_base.specs.declared.owner.UnitKey.{UnitKey}
 use Rattle.lock_entry.specs.declared.entry.Entry.{Entry}
 use Rattle.lock_entry.specs.Freeing.{flagged, handed_over, without_optimistic}
 use Rattle.lock_entry.specs.Names.{is_of}
-use Rattle.hall_model.specs.Kept.{OfLock, HasGoodLocks, IsOwned, MayHold, is_firm, may_hold}
+use Rattle.hall_model.specs.Kept.{OfLock, HasGoodLocks, MayHold, is_firm, may_hold}
 use Rattle.std.specs.Prelude.{if◌then◌else◌, Option, Some, None}
 use Rattle.std.specs.Option.{option_map_or}
 use Rattle.enq_base.specs.Owners.{same_unit}
@@ -21,7 +21,6 @@ use Rattle.update_records.specs.Ledger.{Ledger}
 use Rattle.update_records.specs.Marks.{given, has_no_v2, status_after, unit_at}
 use Rattle.update_records.specs.declared.records.MarkKind.TheVariants as mark
 use Rattle.update_records.specs.declared.records.Unit.{Unit as UnitOfWork}
-use Rattle.hall_model.specs.declared.command.Session.{Session}
 use Rattle.hall_model.specs.Sessions.{owners_of}
 use Rattle.hall_model.proofs.OtherStatuses.{status_in}
 use Rattle.hall_model.proofs.LockLists.{Among}
@@ -74,11 +73,11 @@ HasNone status = may_hold (Some status) ≡ false
 never_holds : (o : Option Status) (status : Status) → o ≡ Some status → HasNone status → may_hold o ≡ true → ⊥
 never_holds o status is none h = let no : true ≡ false = sym h ∙ ap may_hold is ∙ none in cc
 
-pub none_held : (ledger : Ledger) (next : ℕ) (sessions : List Session) (es : List Entry) (key : UnitKey) (status : Status) → status_in ledger key ≡ Some status
-    → HasNone status → IsOwned ledger next sessions es → (e : Entry) → Among es e → e.owner ≡ Upd key → ⊥
-none_held ledger next sessions es key status is none h e k own =
+pub none_held : (ledger : Ledger) (es : List Entry) (key : UnitKey) (status : Status) → status_in ledger key ≡ Some status
+    → HasNone status → AllByRecursion (OfLock (λ owner user. MayHold ledger owner)) es → (e : Entry) → Among es e → e.owner ≡ Upd key → ⊥
+none_held ledger es key status is none holders e k own =
     never_holds (status_in ledger key) status is none
-    (subst (MayHold ledger) own (every_at (OfLock (λ owner user. MayHold ledger owner)) es e h.holders k))
+    (subst (MayHold ledger) own (every_at (OfLock (λ owner user. MayHold ledger owner)) es e holders k))
 
 pub found_unit : (P : UnitOfWork → Type 0) (units : List UnitOfWork) (key : UnitKey) (unit : UnitOfWork) → unit_at units key ≡ Some unit
     → AllByRecursion P units → P unit × (unit.key ≡ key)

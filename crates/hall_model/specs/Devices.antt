@@ -12,6 +12,7 @@ use Rattle.enq_base.specs.declared.unit.Num.{Num}
 use Rattle.enq_base.specs.declared.unit.Parts.{Parts}
 use Rattle.enq_base.specs.declared.unit.Status.TheVariants as status
 use Rattle.enq_server.specs.Server.{lasting}
+use Rattle.lock_entry.specs.Table.{IsTable}
 use Rattle.lock_entry.specs.declared.entry.Entry.{Entry}
 use Rattle.ledger_steps.specs.Posts.{entries_of}
 use Rattle.update_records.specs.Marks.{has_status, status_of}
@@ -32,8 +33,8 @@ use Rattle.hall_model.specs.Kept.{IsInFlight}
 use Rattle.hall_model.specs.Orders.{order_for}
 use Rattle.hall_model.specs.State.{State}
 use Rattle.hall_model.specs.Stocks.{MayCall}
-use Rattle.hall_model.specs.Step.{Found, Verdict, call_verdict, effects_in, found_in, leaves, row_in, to_resubmit}
-use Rattle.hall_model.specs.Step.{unavailable}
+use Rattle.hall_model.specs.Step.{Found, Verdict, Refuses, Leaves, call_verdict, effects_in, found_in, leaves, row_in}
+use Rattle.hall_model.specs.Step.{to_resubmit, unavailable}
 
 -- what a device gave that the state doesn't tell
 pub data Reading : Type 0 where
@@ -261,9 +262,20 @@ may_want s v (OfSession session call) = session_may_want call
 may_want s v (OfWorker worker call) = worker_may_want s worker call
 may_want s v (OfAdmin call) = admin_may_want s v call
 
+-- what a call leaves has a table that can stand
+abbrev pub LeavesTable : Verdict → Type 0
+LeavesTable (Refuses r) = Unit {0}
+LeavesTable (Leaves after r) = IsTable (record { entries = after.locks; limit = after.limit })
+
+-- a lock server is made, by a restart or from a replica's list, only where its locks can stand together
+abbrev pub MayBeDone : Call → Verdict → Type 0
+MayBeDone (OfAdmin FailsOver) v = LeavesTable v
+MayBeDone (OfAdmin Restarts) v = LeavesTable v
+MayBeDone call v = Unit {0}
+
 -- a call that isn't served wants no memory, and one that is refused uses no device
 abbrev pub MayHappen : Event → State → Call → Verdict → Type 0
-MayHappen AllWell s call v = Unit {0}
+MayHappen AllWell s call v = MayBeDone call v
 MayHappen Wanting s call v = (unavailable s call ≡ None) × IsTrue (may_want s v call)
 MayHappen StoreFails s call v = IsTrue (leaves v) × IsTrue (uses_store s call)
 MayHappen BackupFails s call v = IsTrue (leaves v) × IsTrue (uses_file s call)

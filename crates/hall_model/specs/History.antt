@@ -4,20 +4,22 @@ use Rattle.std.specs.Prelude.{length, Option, Some, None, IsTrue}
 use Rattle.enq_base.specs.declared.condition.Condition.TheVariants as condition
 use Rattle.enq_base.specs.declared.refusal.Refusal.{Refusal}
 use Rattle.enq_base.specs.declared.refusal.Refusal.TheVariants as refusal
-use Rattle.lock_entry.specs.declared.entry.Entry.{Entry}
+use Rattle.enq_server.specs.Server.{replicated}
 use Rattle.hall_model.specs.declared.command.After.{After}
 use Rattle.hall_model.specs.declared.command.Command.{Command}
 use Rattle.hall_model.specs.declared.command.PastEntry.{PastEntry}
 use Rattle.hall_model.specs.declared.command.Reply.{Reply}
 use Rattle.hall_model.specs.declared.command.Reply.TheVariants as reply
+use Rattle.hall_model.specs.declared.command.Session.{Session}
 use Rattle.hall_model.specs.Calls.{Call, OfSession, OfWorker, Commits, Posts, call_of, only_reads, who_of}
 use Rattle.hall_model.specs.Calls.{writes_store_first}
 use Rattle.hall_model.specs.Devices.{DeviceOutcome, Event, AllWell, Wanting, StoreFails, BackupFails, LinkFails}
 use Rattle.hall_model.specs.Devices.{NotRemade, IsAllowed, fault_told, found_by, Reading, AsKnown, Comes, Shows}
 use Rattle.hall_model.specs.Devices.{Reopens, Hands}
 use Rattle.hall_model.specs.Numbers.{stocked}
-use Rattle.hall_model.specs.State.{State, unhanded}
-use Rattle.hall_model.specs.Step.{Verdict, Refuses, Leaves, call_verdict, detached}
+use Rattle.hall_model.specs.Sessions.{with_marks}
+use Rattle.hall_model.specs.State.{State}
+use Rattle.hall_model.specs.Step.{Verdict, Refuses, Leaves, call_verdict, detached, has_lock}
 use Rattle.update_records.specs.Ledger.{Ledger}
 
 -- the state after a call, and the answer
@@ -37,10 +39,14 @@ judged s (Leaves after r) = record { state = after; reply = r }
 abbrev pub losing : Bool → Served → Served
 losing lost done = record done { state = record done.state { attached = not lost && done.state.attached } }
 
--- what the sessions had of the table, or where there was none any more of the one before
-abbrev pub gone_behind : State → List Entry
-gone_behind s =
-    elim s.condition [ condition.Up ↦ unhanded s.locks | condition.NoServer ↦ s.gone | condition.Doubt k ↦ s.gone ]
+-- a session had a lock in the table, or where there was none any more was marked before
+abbrev pub had_lock : State → Session → Bool
+had_lock s x =
+    elim s.condition [
+      | condition.Up ↦ has_lock s x
+      | condition.NoServer ↦ x.marked
+      | condition.Doubt k ↦ x.marked
+    ]
 
 -- the session that makes this call; any other call leaves the one before
 abbrev pub caller_behind : Option (List ℕ) → Call → Option (List ℕ)
@@ -52,15 +58,16 @@ abbrev pub known_behind : Option Bool → Option Bool → Option Bool
 known_behind before None = before
 known_behind before (Some taken) = Some taken
 
--- In doubt since this call, whose place in the history it has. The table and the replica are gone, and the store may
--- have what is pending, unless the call has read which it is.
+-- In doubt since this call, whose place in the history it has. The table and the replica are gone, each session that
+-- had a lock is marked, and the store may have what is pending, unless the call has read which it is.
 abbrev pub doubted : State → Call → Option Bool → Option Ledger → State
 doubted s call read pending =
     record s {
       condition = condition.Doubt (length s.past + 1);
+      sessions = with_marks (had_lock s) s.sessions;
       locks = [];
+      limit = (replicated s.max_locks []).limit;
       attached = false;
-      gone = gone_behind s;
       failed_caller = caller_behind s.failed_caller call;
       pending = pending;
       found = known_behind s.found read;

@@ -25,7 +25,7 @@ use Rattle.hall_model.specs.declared.command.Session.{Session}
 use Rattle.hall_model.specs.OpenUnits.{HoldsOpenUnits, OfPending, open_entries}
 use Rattle.hall_model.specs.Orders.{is_claimed}
 use Rattle.hall_model.specs.Sessions.{is_called, is_caller, owners_of}
-use Rattle.hall_model.specs.State.{State}
+use Rattle.hall_model.specs.State.{State, is_honest}
 
 -- the session's open unit has at most this number
 abbrev pub IsYoung : ℕ → Session → Type 0
@@ -120,11 +120,12 @@ OfLock Q e = Q e.owner e.user
 abbrev pub OfStored : (Owner → List ℕ → Type 0) → UnitOfWork → Type 0
 OfStored Q unit = AllByRecursion (OfLock Q) unit.entries
 
--- whose the locks are, those that stand and those that are stored with units
-pub record IsOwned (ledger : Ledger) (next : ℕ) (sessions : List Session) (locks : List Entry) : Type 0 where
-  pub known : AllByRecursion (OfLock (λ owner user. IsKnown ledger.start next owner)) locks
-  pub users : AllByRecursion (OfLock (HasItsUser ledger.start sessions)) locks
-  pub holders : AllByRecursion (OfLock (λ owner user. MayHold ledger owner)) locks
+-- whose the locks are: those that stand, where they can be told from the calls, and those that are stored with units
+pub record IsOwned (honest : Bool) (ledger : Ledger) (next : ℕ) (sessions : List Session) (locks : List Entry) :
+    Type 0 where
+  pub known : IsTrue honest → AllByRecursion (OfLock (λ owner user. IsKnown ledger.start next owner)) locks
+  pub users : IsTrue honest → AllByRecursion (OfLock (HasItsUser ledger.start sessions)) locks
+  pub holders : IsTrue honest → AllByRecursion (OfLock (λ owner user. MayHold ledger owner)) locks
   pub stored_known : AllByRecursion (OfStored (λ owner user. IsKnown ledger.start next owner)) ledger.units
   pub stored_users : AllByRecursion (OfStored (HasItsUser ledger.start sessions)) ledger.units
 
@@ -155,6 +156,12 @@ OutsideDoubt condition.Up P = P
 OutsideDoubt condition.NoServer P = P
 OutsideDoubt (condition.Doubt k) P = Unit {0}
 
+-- what holds where there is a table, or where there is none the list of the replica that followed it
+abbrev pub WhileListed : Condition → (follows : Bool) → Type 0 → Type 0
+WhileListed condition.Up follows P = P
+WhileListed condition.NoServer follows P = IsTrue follows → P
+WhileListed (condition.Doubt k) follows P = Unit {0}
+
 -- a change is in flight that makes a difference
 abbrev pub IsInFlight : Ledger → Option Ledger → Type 0
 IsInFlight stored pending = IsSomeAnd pending (λ changed. changed ≢ stored)
@@ -179,16 +186,20 @@ pub record IsSteady (s : State) : Type 0 where
   pub places : length s.orders ≡ 256
   -- in doubt an order may stand whose unit waits no more
   pub orders : OutsideDoubt s.condition (AreOrders s.stored s.orders)
-  pub owned : IsOwned s.stored s.next_session s.sessions s.locks
+  pub owned : IsOwned (is_honest s) s.stored s.next_session s.sessions s.locks
 
--- Outside doubt the handed locks of the table are just those of the open units; and these may stand together, so
--- that the next start can take them over, with the change in flight or without it.
+-- the locks of the open units may stand together, in a table of 32 bits
+pub record CanStand (ledger : Ledger) : Type 0 where
+  pub together : IsSound (open_entries ledger)
+  pub fit : length (open_entries ledger) < 2 ^ 32
+
+-- Where the locks can be told from the calls, the handed locks of the table are just those of the open units; and these
+-- may stand together, so that the next start can take them over, with the change in flight or without it.
 pub record HasOpenUnits (s : State) : Type 0 where
-  pub held : OutsideDoubt s.condition (HoldsOpenUnits s.locks s.stored)
-  pub stored : IsSound (open_entries s.stored)
-  -- as a table of 32 bits holds them
-  pub fit : length (open_entries s.stored) < 2 ^ 32
-  pub pending : OfPending s.pending (λ ledger. IsSound (open_entries ledger))
+  pub held : WhileListed s.condition (s.attached && s.link_told)
+      (IsTrue (is_honest s) → HoldsOpenUnits s.locks s.stored)
+  pub stored : IsTrue (is_honest s) → CanStand s.stored
+  pub pending : OfPending s.pending (λ ledger. IsTrue (is_honest s) → IsSound (open_entries ledger))
 
 -- ---- a change in flight
 
@@ -212,7 +223,7 @@ AreSameButCaller caller (x ∷ xs) (y ∷ ys) = MayHaveMoved (is_caller caller x
 AreSameButCaller caller xs ys = ⊥
 
 -- With the change there is a state in order, over the same ranges and with the same sessions, but for the one whose
--- call it is. The locks of its open units may stand together, as a table of 32 bits holds them.
+-- call it is. Where the locks can be told from the calls, those of its open units may stand together.
 pub record HasLanding (s : State) (changed : Ledger) : Type 0 where
   pub state : State
   pub stored : state.stored ≡ changed
@@ -221,8 +232,7 @@ pub record HasLanding (s : State) (changed : Ledger) : Type 0 where
   pub sessions : AreSameButCaller s.failed_caller s.sessions state.sessions
   pub steady : IsSteady state
   pub units : AllByRecursion HasGoodLocks changed.units
-  pub together : IsSound (open_entries changed)
-  pub fit : length (open_entries changed) < 2 ^ 32
+  pub together : IsTrue (is_honest s) → CanStand changed
 
 pub record IsKept (s : State) : Type 0 where
   pub within : length s.past ≤ 262144

@@ -1,6 +1,6 @@
 -- Sessions that log on and off.
 use Rattle.std.specs.Prelude.{ℕ, ◌+◌, Bool, true, false, not, ◌||◌, if◌then◌else◌, List, [], ◌∷◌, ◌++◌, Option, Some}
-use Rattle.std.specs.Prelude.{None}
+use Rattle.std.specs.Prelude.{None, map}
 use Rattle.std.specs.List.{find, filter, list_any}
 use Rattle.std.specs.Str.{bytes_eq}
 use Rattle.enq_base.specs.declared.owner.UnitKey.{UnitKey}
@@ -29,7 +29,8 @@ with_session name change sessions = replace_first (is_called name) (λ x. change
 
 -- a session that has just logged on
 abbrev pub begun : List ℕ → List ℕ → ℕ → Session
-begun name user number = record { name = name; user = user; number = number; luw = 1; draws = []; lost = false }
+begun name user number =
+    record { name = name; user = user; number = number; luw = 1; draws = []; marked = false; lost = false }
 
 -- the session with its next unit open, for which nothing is drawn yet
 abbrev pub with_next_unit : Session → Session
@@ -59,22 +60,34 @@ pair_of start x = record { dialogue = Dlg start x.number; update = Upd (unit_key
 abbrev pub has_one_of : ℕ → List Entry → Session → Bool
 has_one_of start locks x = list_any (λ (e : Entry). in_pair (pair_of start x) e.owner) locks
 
+-- whether the session had a lock in a table that is gone
+abbrev pub with_mark : (Session → Bool) → Session → Session
+with_mark had_lock x = record x { marked = had_lock x }
+
+-- each session with its mark
+abbrev pub with_marks : (Session → Bool) → List Session → List Session
+with_marks had_lock sessions = map (with_mark had_lock) sessions
+
+-- none of them had one
+abbrev pub without_marks : List Session → List Session
+without_marks sessions = with_marks (λ x. false) sessions
+
 -- a session that lost a lock with a lock server: its open unit comes to nothing, and it has to roll back first
 abbrev pub bereft : Session → Session
-bereft x = record (with_next_unit x) { lost = true }
+bereft x = record (with_next_unit x) { marked = false; lost = true }
 
 -- the session is the one of this name
 abbrev pub is_caller : Option (List ℕ) → Session → Bool
 is_caller None x = false
 is_caller (Some name) x = is_called name x
 
--- the session had one of these locks, or made the call in which a device failed
-abbrev pub loses : ℕ → List Entry → Option (List ℕ) → Session → Bool
-loses start locks caller x = has_one_of start locks x || is_caller caller x
+-- the session is marked, or made the call in which a device failed
+abbrev pub loses : Option (List ℕ) → Session → Bool
+loses caller x = x.marked || is_caller caller x
 
 -- that is so of each session that loses
-abbrev pub bereft_if : ℕ → List Entry → Option (List ℕ) → Session → Session
-bereft_if start locks caller x = if loses start locks caller x then bereft x else x
+abbrev pub bereft_if : Option (List ℕ) → Session → Session
+bereft_if caller x = if loses caller x then bereft x else x
 
 -- the dialogue of the session that recorded a unit, and the unit's update
 abbrev pub owners_of : UnitKey → Asker

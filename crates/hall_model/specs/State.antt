@@ -1,10 +1,10 @@
 -- The state of the server.
-use Rattle.std.specs.Prelude.{ℕ, Bool, false, not, List, [], Option, Some, None, replicate}
+use Rattle.std.specs.Prelude.{ℕ, Bool, true, false, not, ◌||◌, List, [], Option, Some, None, replicate}
 use Rattle.std.specs.List.{filter}
 use Rattle.enq_base.specs.declared.condition.Condition.{Condition}
 use Rattle.enq_base.specs.declared.condition.Condition.TheVariants.{Up, NoServer, Doubt}
 use Rattle.enq_base.specs.declared.owner.UnitKey.{UnitKey}
-use Rattle.enq_server.specs.Server.{recovered}
+use Rattle.enq_server.specs.Server.{recovered, replicated}
 use Rattle.lock_entry.specs.declared.entry.Entry.{Entry}
 use Rattle.number_ranges.specs.declared.interval.Interval.{Interval}
 use Rattle.ledger_steps.specs.Levels.{first_ranges}
@@ -24,11 +24,13 @@ pub record State : Type 0 where
   -- the status of its unit: V1 of an open one, V2 of one whose V1 part is posted. No call changes the status of a unit
   -- with an order but the post that ends the order.
   pub orders : List (Option UnitKey)
-  -- In the order in which they were granted. Where the lock server was ended they are seen by nobody until another one
-  -- has them; in doubt there are none.
+  -- In the order in which they were granted. Where the lock server was ended its table is gone: the list of a replica
+  -- that followed it stands here, where the link tells it, and else there are none. In doubt there are none.
   pub locks : List Entry
   -- how many locks may stand in the table; more than `max_locks` once more were recovered
   pub limit : ℕ
+  -- whether the table was taken over from a replica, and no lock server was made anew since
+  pub taken_over : Bool
   -- how many locks the landscape allows
   pub max_locks : ℕ
   -- how many marks the store may have
@@ -47,9 +49,6 @@ pub record State : Type 0 where
   -- Whether a restart that failed later has found what is pending in the store. None where no restart has read it
   -- since.
   pub found : Option Bool
-  -- What sessions had of the table that is there no more, and lose with the next lock server that is made anew. None
-  -- where the server is up.
-  pub gone : List Entry
   -- the session in whose call a device failed, where the server is in doubt since then
   pub failed_caller : Option (List ℕ)
   pub past : List PastEntry
@@ -60,21 +59,24 @@ doubt_in Up = None
 doubt_in NoServer = None
 doubt_in (Doubt k) = Some k
 
--- in doubt the locks are gone
-abbrev pub locks_in : Condition → List Entry → List Entry
-locks_in Up entries = entries
-locks_in NoServer entries = entries
-locks_in (Doubt k) entries = []
+abbrev pub is_up : Condition → Bool
+is_up Up = true
+is_up NoServer = false
+is_up (Doubt k) = false
+
+-- The locks can be told from the calls: no table was taken over from a replica whose list the link doesn't tell.
+abbrev pub is_honest : State → Bool
+is_honest s = s.link_told || not s.taken_over
+
+-- the table of a lock server; where it was ended, what a replica would make of its list; in doubt there is nothing
+abbrev pub table_for : Condition → ℕ → (table : Table) → (replica : List Entry) → Table
+table_for Up max_locks table replica = table
+table_for NoServer max_locks table replica = replicated max_locks replica
+table_for (Doubt k) max_locks table replica = replicated max_locks []
 
 -- the locks but those that were handed over to the update
 abbrev pub unhanded : List Entry → List Entry
 unhanded entries = filter (λ (e : Entry). not e.handed) entries
-
--- a table that is there no more had these of sessions
-abbrev pub gone_in : Condition → List Entry → List Entry
-gone_in Up entries = []
-gone_in NoServer entries = unhanded entries
-gone_in (Doubt k) entries = unhanded entries
 
 -- a doubt detaches the replica
 abbrev pub attached_in : Condition → Bool → Bool
@@ -82,20 +84,21 @@ attached_in Up attached = attached
 attached_in NoServer attached = attached
 attached_in (Doubt k) attached = false
 
--- the state that a table of locks belongs to
+-- the state that a table of locks belongs to, or the list of the replica that followed one
 abbrev pub state_of :
-    Bool → Bool → Bool → Condition → List Session → ℕ → List (Option UnitKey) → Table → ℕ → ℕ → List NumberRange
-    → Ledger
-    → Option Ledger → Option Bool → Option (List ℕ) → List PastEntry → State
-state_of told link_told attached condition sessions next_session orders table max_locks mark_limit ranges stored pending
-    found failed_caller past =
+    Bool → Bool → Bool → Bool → Condition → List Session → ℕ → List (Option UnitKey) → (table : Table)
+    → (replica : List Entry) → ℕ → ℕ → List NumberRange → Ledger → Option Ledger → Option Bool → Option (List ℕ)
+    → List PastEntry → State
+state_of told link_told attached taken_over condition sessions next_session orders table replica max_locks mark_limit
+    ranges stored pending found failed_caller past =
     record {
       condition = condition;
       sessions = sessions;
       next_session = next_session;
       orders = orders;
-      locks = locks_in condition table.entries;
-      limit = table.limit;
+      locks = (table_for condition max_locks table replica).entries;
+      limit = (table_for condition max_locks table replica).limit;
+      taken_over = taken_over;
       max_locks = max_locks;
       mark_limit = mark_limit;
       told = told;
@@ -105,7 +108,6 @@ state_of told link_told attached condition sessions next_session orders table ma
       stored = stored;
       pending = pending;
       found = found;
-      gone = gone_in condition table.entries;
       failed_caller = failed_caller;
       past = past;
     }
@@ -121,6 +123,7 @@ opened max_locks mark_limit intervals told link_told stored =
       orders = replicate 256 None;
       locks = (recovered max_locks (open_locks stored)).entries;
       limit = (recovered max_locks (open_locks stored)).limit;
+      taken_over = false;
       max_locks = max_locks;
       mark_limit = mark_limit;
       told = told;
@@ -130,7 +133,6 @@ opened max_locks mark_limit intervals told link_told stored =
       stored = stored;
       pending = None;
       found = None;
-      gone = [];
       failed_caller = None;
       past = [];
     }

@@ -14,8 +14,7 @@ use Rattle.enq_base.specs.declared.unit.Status.{Status}
 use Rattle.enq_base.specs.declared.unit.Status.TheVariants.{Open, Bad, Bad2}
 use Rattle.enq_base.specs.declared.refusal.Refusal.{Refusal}
 use Rattle.enq_base.specs.declared.refusal.Refusal.TheVariants as refusal
-use Rattle.enq_server.specs.Following.{may_replace}
-use Rattle.enq_server.specs.Server.{recovered, replicated}
+use Rattle.enq_server.specs.Server.{of_user, recovered, replicated}
 use Rattle.enq_server.specs.declared.fault.ServerFault.{ServerFault}
 use Rattle.enq_server.specs.declared.fault.ServerFault.TheVariants as server
 use Rattle.lock_entry.specs.declared.fault.AskFault.{AskFault}
@@ -56,9 +55,10 @@ use Rattle.hall_model.specs.Calls.{ends_unit, restarts, wants_server}
 use Rattle.hall_model.specs.Coming.{outcome_in}
 use Rattle.hall_model.specs.Orders.{order_for, order_of, with_order, without_order, first_unclaimed, worker_of}
 use Rattle.hall_model.specs.Numbers.{drawn, next_number, other_holder, raised_to, stocked, with_numbers}
-use Rattle.hall_model.specs.Sessions.{begun, bereft_if, session_at, without_draws, without_session, with_session}
+use Rattle.hall_model.specs.Sessions.{begun, bereft_if, has_one_of, session_at, with_marks, with_session}
+use Rattle.hall_model.specs.Sessions.{without_draws, without_marks, without_session}
 use Rattle.hall_model.specs.Sessions.{with_fresh_unit, with_next_unit, owners_of, pair_of, unit_key}
-use Rattle.hall_model.specs.State.{State, unhanded}
+use Rattle.hall_model.specs.State.{State, table_for, unhanded}
 
 abbrev pub answer_of : Result Unit Refusal → Reply
 answer_of (Ok done) = reply.Done
@@ -152,15 +152,16 @@ lowered s x requests = record s { locks = fold freed s.locks (halves (pair_of s.
 abbrev pub effects_in : Parts → ℕ
 effects_in parts = length parts.v1 + length parts.v2
 
--- the locks of a unit as they stand once they are handed over: the optimistic ones go
-abbrev pub handed_locks : List Entry → UnitKey → List Entry
-handed_locks locks unit = filter (is_of (Upd unit)) (handed_over locks unit)
+-- The locks of a unit as they are stored with it: handed over to the update, without the optimistic ones, with the user
+-- of the session.
+abbrev pub handed_locks : List ℕ → List Entry → UnitKey → List Entry
+handed_locks user locks unit = of_user user (filter (is_of (Upd unit)) (handed_over locks unit))
 
 -- the unit that a commit records
 abbrev pub unit_of : ℕ → List Entry → Session → Parts → List Num → UnitOfWork
 unit_of start locks x parts numbers =
     let key = unit_key start x in
-    record { key = key; user = x.user; numbers = numbers; parts = parts; entries = handed_locks locks key }
+    record { key = key; user = x.user; numbers = numbers; parts = parts; entries = handed_locks x.user locks key }
 
 -- the unit is recorded with its numbers, its locks are handed over to the update, and the session's next unit is open
 abbrev pub committed : State → Session → Parts → List Num → State
@@ -416,23 +417,43 @@ resubmitting s unit (Err r) = Refuses r
 abbrev pub resubmit : State → UnitKey → Verdict
 resubmit s unit = resubmitting s unit (to_resubmit s.stored s.mark_limit unit)
 
--- the table is seen by nobody any more, and what the sessions had of it is gone
-abbrev pub killed : State → State
-killed s = record s { condition = condition.NoServer; gone = unhanded s.locks }
+-- the session has a lock in the table that wasn't handed over to the update
+abbrev pub has_lock : State → Session → Bool
+has_lock s x = has_one_of s.stored.start (unhanded s.locks) x
 
--- no replica follows any more
+-- what is known of the replica's list
+abbrev pub replica_list : State → List Entry
+replica_list s = if s.attached && s.link_told then s.locks else []
+
+-- the table is gone, and each session that had a lock of its own in it is marked
+abbrev pub killed : State → State
+killed s =
+    record s {
+      condition = condition.NoServer;
+      sessions = with_marks (has_lock s) s.sessions;
+      locks = replica_list s;
+      limit = (replicated s.max_locks (replica_list s)).limit;
+    }
+
+-- no replica follows any more; where there is no lock server, its list is gone too
 abbrev pub detached : State → State
-detached s = record s { attached = false }
+detached s =
+    record s {
+      attached = false;
+      locks = (table_for s.condition s.max_locks (record { entries = s.locks; limit = s.limit }) []).entries;
+      limit = (table_for s.condition s.max_locks (record { entries = s.locks; limit = s.limit }) []).limit;
+    }
 
 -- the table of the replica's list; the sessions keep what they had, and no replica follows any more
 abbrev pub followed_over : List Entry → State → State
 followed_over list s =
     record s {
       condition = condition.Up;
+      sessions = without_marks s.sessions;
       locks = (replicated s.max_locks list).entries;
       limit = (replicated s.max_locks list).limit;
+      taken_over = true;
       attached = false;
-      gone = [];
     }
 
 -- a list that doesn't become the table, by these two places; no replica follows any more
@@ -448,13 +469,10 @@ clashing s (Some places) = not_over s places.0 places.1
 abbrev pub is_sound : List Entry → Bool
 is_sound list = has_distinct_names list && (list_all has_count list && has_no_conflict list)
 
--- A list becomes the table whose locks may stand together, and that lacks nothing that was handed over and has nothing
--- else. Else it is told by two places, which are 0 where its locks may stand together.
+-- a list becomes the table whose locks may stand together; else it is told by the places of two that can't
 abbrev pub handing : State → List Entry → Verdict
 handing s list =
-    if is_sound list then
-    (if may_replace s.locks list then Leaves (followed_over list s) reply.Done else not_over s 0 0)
-    else clashing s (first_clash list)
+    if is_sound list then Leaves (followed_over list s) reply.Done else clashing s (first_clash list)
 
 -- where one followed the lock server that was ended
 abbrev pub from_replica : Found → State → Verdict
@@ -488,21 +506,21 @@ settled taken s = record s { stored = stored_anew taken s.stored s.pending; pend
 
 -- A new lock server has the locks of the units that wait for their V1 part, and no others. No order stands, and numbers
 -- in memory go on. A session that had a lock has lost it, and so has one in whose call a device failed.
-abbrev pub remade : (start : ℕ) → State → State
-remade start s =
+abbrev pub remade : State → State
+remade s =
     record s {
       condition = condition.Up;
-      sessions = map (bereft_if start s.gone s.failed_caller) s.sessions;
+      sessions = map (bereft_if s.failed_caller) s.sessions;
       orders = replicate 256 None;
       locks = (recovered_table s).entries;
       limit = (recovered_table s).limit;
+      taken_over = false;
       attached = false;
-      gone = [];
       failed_caller = None;
     }
 
 abbrev pub restarted : Bool → State → State
-restarted taken s = remade s.stored.start (settled taken s)
+restarted taken s = remade (settled taken s)
 
 -- whether the change in flight was found in a store that was read anew
 abbrev pub is_taken : Option Bool → Bool

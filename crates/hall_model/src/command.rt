@@ -28,6 +28,9 @@ pub struct Session {
     pub luw: u32,
     /// The numbers that the open unit has drawn and not recorded, in order.
     pub draws: Items<Num>,
+    /// Whether the session had a lock in a table that is gone. It loses it with the next lock server that is made
+    /// anew.
+    pub marked: bool,
     /// Whether the session lost a lock with a lock server, and has to roll back first.
     pub lost: bool,
 }

@@ -136,7 +136,7 @@ each-claimed found s h = record {
       (held_for part s.stored (order_of s.orders worker) key e).0 h;
   drops = λ worker key e on. of_server on;
   kills = λ up on. h;
-  fails_over = λ list can on. h;
+  fails_over = λ can on. h;
   strays = λ first second none on. h;
   attaches = λ up on. h;
   restarts = λ off on. of_server on;

@@ -121,7 +121,7 @@ follows worker found s within = record {
       ∙ ap (λ o. if nat_eq other worker then o else order_of s.orders worker) (posted_ends part unit (found.part part unit) (order_of s.orders worker));
   drops = λ other unit e. set_order s.orders other worker None within;
   kills = λ up. refl;
-  fails_over = λ list can. refl;
+  fails_over = λ can. refl;
   strays = λ first second none. refl;
   attaches = λ up. refl;
   restarts = λ off. none_of 256 worker;

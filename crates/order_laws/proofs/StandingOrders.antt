@@ -152,7 +152,7 @@ each-keeps part worker unit found s up steady orders h = record {
       };
   drops = λ other key e off. record { order = set_other s.orders other worker None (apart other worker off) ∙ h.order; waits = h.waits };
   kills = λ was off. h;
-  fails_over = λ list can off. h;
+  fails_over = λ can off. h;
   strays = λ first second none off. h;
   attaches = λ was off. h;
   restarts = λ down off. absurd (down up);

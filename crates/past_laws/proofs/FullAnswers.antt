@@ -10,7 +10,6 @@ use Rattle.enq_base.specs.declared.unit.Num.{Num}
 use Rattle.enq_base.specs.declared.unit.Parts.{Parts}
 use Rattle.enq_base.specs.declared.unit.Status.{Status}
 use Rattle.enq_base.specs.declared.unit.Status.TheVariants.{Bad}
-use Rattle.enq_server.specs.Following.{may_replace}
 use Rattle.hall_model.proofs.NotedCalls.{by_noting}
 use Rattle.hall_model.specs.Calls.{Call, LogsOn, OfSession, OfWorker, OfAdmin, AdminCall, Kills, FailsOver, Restarts, Attaches, Cancels, Resubmits, WorkerCall, Takes, Posts, Drops, SessionCall, LogsOff, Asks, Frees, FreesAll, Converts, Draws, Reserves, Reads, Commits, RollsBack, call_of, restarts, wants_server}
 use Rattle.hall_model.specs.Devices.{DeviceOutcome, AllWell, Wanting, StoreFails, BackupFails, LinkFails, NotRemade, RemakeFault, MeetsWant, FindsBad, FindsBadStore, fault_told, found_by}
@@ -207,8 +206,7 @@ module _ (Q : Verdict → Type 0) (each : OfOther Q) where
   of_clash s (Some places) = each.leaves _ _ refl
 
   of_handing : (s : State) (list : List Entry) → Q (handing s list)
-  of_handing s list =
-      one_of (is_sound list) _ _ (one_of (may_replace s.locks list) _ _ (each.leaves _ _ refl) (each.leaves _ _ refl)) (of_clash s (first_clash list))
+  of_handing s list = one_of (is_sound list) _ _ (each.leaves _ _ refl) (of_clash s (first_clash list))
 
   of_failing_over : (found : Found) (s : State) (k : Condition) → Q (elim k [
     | condition.Up ↦ Refuses refusal.ServerUp

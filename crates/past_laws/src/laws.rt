@@ -1,7 +1,7 @@
 ghost use Rattle.std.specs.Prelude.{◌≡◌, ◌≤◌, ◌&&◌, ℕ, true, false, List, length};
 ghost use Rattle.hall_model.specs.Calls.{call_of};
 ghost use Rattle.hall_model.specs.History.{IsStep};
-ghost use Rattle.hall_model.specs.Recall.{AreModelAnswers, Made, calls_of, state_after};
+ghost use Rattle.hall_model.specs.Recall.{AreModelAnswers, Made, state_after};
 ghost use Rattle.hall_model.specs.State.{State};
 ghost use Rattle.hall_model.specs.declared.command.Command.{Command};
 ghost use Rattle.hall_model.specs.declared.command.Reply.{Reply};

@@ -1,6 +1,6 @@
 -- A call that isn't answered that a device isn't good leaves a history without such an answer.
 use Rattle.std.proofs.Common.{◌≡◌, ℕ, zero, suc, ◌-◌, Bool, true, false, List, [], ◌∷◌, ◌++◌, refl, sym, ap, ◌∙◌, subst}
-use Rattle.std.specs.Prelude.{◌||◌, IsTrue, Option, Some, None}
+use Rattle.std.specs.Prelude.{◌||◌, not, IsTrue, Option, Some, None}
 use Rattle.std.specs.List.{list_any, slice_get}
 use Rattle.std.specs.Option.{option_map}
 use Rattle.std.proofs.lemmas.List.Folds.{list_any-append}
@@ -10,7 +10,7 @@ use Rattle.hall_model.proofs.NotedCalls.{by_noting}
 use Rattle.hall_laws.proofs.keeping.Unchanged.{served-past}
 use Rattle.hall_model.specs.Devices.{DeviceOutcome}
 use Rattle.hall_model.specs.History.{IsStep, Served, past_entry, served, step, takes_flight}
-use Rattle.hall_model.specs.State.{State}
+use Rattle.hall_model.specs.State.{State, is_honest}
 use Rattle.hall_model.specs.declared.command.Command.{Command}
 use Rattle.hall_model.specs.declared.command.PastEntry.{PastEntry}
 use Rattle.hall_model.specs.declared.command.Reply.{Reply}
@@ -85,6 +85,10 @@ pub never_met : (before now : State) → NoneUnsound now.past → NoneUnsoundSto
 never_met before now files stores h =
     neither_so (is_unsound_file h.answer) (is_unsound_store h.answer) (answer_sound is_unsound_file now.past h.call h.answer files h.answered)
     (answer_sound is_unsound_store now.past h.call h.answer stores h.answered) h.unsound
+
+-- where the link tells its list the locks can be told from the calls
+pub told_honest : (s : State) → s.link_told ≡ true → IsTrue (is_honest s)
+told_honest s told = ap (λ b. b || not s.taken_over) told
 
 -- that the link failed isn't answered where its count stood still
 pub no_link_fault : (f g : ℕ) (r : Reply) → HasLinkCause f g r → (Rose f g → ⊥) → is_link_fault r ≡ false

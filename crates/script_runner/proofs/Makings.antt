@@ -19,7 +19,7 @@ use Rattle.script_runner.specs.declared.effects.Verb.{Verb}
 use Rattle.script_runner.specs.declared.effects.Verb.TheVariants as verb
 use Rattle.script_runner.specs.World.{World}
 
-abbrev pub MayMake : State → Meaning → Type 0
+abbrev MayMake : State → Meaning → Type 0
 MayMake s Silent = Unit {0}
 MayMake s (Shows m) = Unit {0}
 MayMake s (Calls c) = MayCall s (call_of c)
@@ -40,7 +40,7 @@ effect_may w n part v table key text s =
     (unless_may s (effect_with (variables_of w.sides n) v table key text) (registering w.sides n part)
     (λ e. unless_may s (registered w.sides n part e) Changes (λ sides. tt)))
 
-pub line_may : (w : World) (l : ScriptLine) (s : State) → MayMake s (meaning w l)
+line_may : (w : World) (l : ScriptLine) (s : State) → MayMake s (meaning w l)
 line_may w (line.Logoff n) s = session_may s w.sides n _ tt
 line_may w (line.DeqAll n) s = session_may s w.sides n _ tt
 line_may w (line.Flush n) s = session_may s w.sides n _ tt

@@ -7,13 +7,12 @@ use Rattle.hall_model.specs.declared.command.Reply.TheVariants as reply
 use Rattle.hall_model.specs.Devices.{DeviceOutcome, Event, AllWell, LinkFails, NotRemade, Wanting, StoreFails, BackupFails, Reading, all_well, is_file_failure, is_store_failure}
 use Rattle.script_lang.specs.declared.script_line.ScriptLine.{ScriptLine}
 use Rattle.script_runner.specs.declared.runner.Why.{Why}
-use Rattle.script_runner.specs.declared.runner.Why.TheVariants.{NoMemory}
+use Rattle.script_runner.specs.declared.runner.Why.TheVariants.{BadLine, NoMemory}
 use Rattle.script_runner.specs.Lines.{Meaning, Silent, Shows, Calls, Declines, Changes, line_in, meaning}
 use Rattle.script_runner.specs.Run.{CallMayHave, LineOutcome, MayHave, NoRoom, Called, answered, does, done, said, file_fails, line_does, store_fails}
 use Rattle.script_runner.specs.Whole.{IsCalm}
 use Rattle.script_runner.specs.World.{World}
 use Rattle.script_runner.proofs.Doubts.{is_unmade, unmade}
-use Rattle.script_runner.proofs.Makings.{MayMake, line_may}
 
 -- a run that goes on, or ends for want of memory
 abbrev pub IsFine : Option Why → Type 0
@@ -64,30 +63,34 @@ pub calmed_calm : (o : LineOutcome) → store_fails o ≡ false → file_fails o
 calmed_calm NoRoom off unfiled made = inl refl
 calmed_calm (Called o) off unfiled made = calm_event o.event o.reading o.lost off unfiled made
 
--- where the devices do nothing out of the common the line may have it
-well_may : (w : World) (m : Meaning) → MayMake w.hall m → CallMayHave w all_well m
-well_may w Silent may = refl
-well_may w (Shows m) may = refl
-well_may w (Calls c) may = record { call = may; possible = record { reading = tt; event = tt; lost = tt } }
-well_may w (Declines r) may = refl
-well_may w (Changes sides) may = refl
+no_stop : (why : Why) → ◌≡◌ {A = Option Why} (Some why) None → ⊥
+no_stop why e = cc
 
-all_well_may : (w : World) (lists : Bool) (known : Option ScriptLine) → MayHave w lists known (Called all_well)
-all_well_may w lists None = refl
-all_well_may w lists (Some l) = well_may w (meaning w l) (line_may w l w.hall)
+-- a line behind which the run goes on wanted nothing, if it came to a call
+wanting_may : (w : World) (n : ℕ) (l : ScriptLine) (g : Reading) (lost : Bool) (m : Meaning)
+    → (does w n l (record { event = Wanting; reading = g; lost = lost }) m).stop ≡ None → CallMayHave w all_well m
+wanting_may w n l g lost Silent goes = refl
+wanting_may w n l g lost (Shows m) goes = refl
+wanting_may w n l g lost (Calls c) goes = absurd (no_stop NoMemory goes)
+wanting_may w n l g lost (Declines r) goes = refl
+wanting_may w n l g lost (Changes sides) goes = refl
 
-event_may : (w : World) (lists : Bool) (known : Option ScriptLine) (e : Event) (g : Reading) (lost : Bool)
-    → MayHave w lists known (Called (record { event = e; reading = g; lost = lost })) → MayHave w lists known (Called (calmed_by e g lost))
-event_may w lists known AllWell g lost h = h
-event_may w lists known Wanting g lost h = all_well_may w lists known
-event_may w lists known StoreFails g lost h = h
-event_may w lists known BackupFails g lost h = h
-event_may w lists known LinkFails g lost h = h
-event_may w lists known (NotRemade fault) g lost h = h
+event_may : (w : World) (n : ℕ) (l : ScriptLine) (e : Event) (g : Reading) (lost : Bool)
+    → (done w n l (record { event = e; reading = g; lost = lost })).stop ≡ None
+    → CallMayHave w (record { event = e; reading = g; lost = lost }) (meaning w l) → CallMayHave w (calmed_by e g lost) (meaning w l)
+event_may w n l AllWell g lost goes h = h
+event_may w n l Wanting g lost goes h = wanting_may w n l g lost (meaning w l) goes
+event_may w n l StoreFails g lost goes h = h
+event_may w n l BackupFails g lost goes h = h
+event_may w n l LinkFails g lost goes h = h
+event_may w n l (NotRemade fault) g lost goes h = h
 
-pub calmed_may : (w : World) (lists : Bool) (known : Option ScriptLine) (o : LineOutcome) → MayHave w lists known o → MayHave w lists known (calmed o)
-calmed_may w lists known NoRoom h = all_well_may w lists known
-calmed_may w lists known (Called o) h = event_may w lists known o.event o.reading o.lost h
+-- such a line may have what is left of its outcome
+pub calmed_may : (w : World) (n : ℕ) (lists : Bool) (known : Option ScriptLine) (o : LineOutcome) → (said w n known o).stop ≡ None
+    → MayHave w lists known o → MayHave w lists known (calmed o)
+calmed_may w n lists known NoRoom goes h = absurd (no_stop NoMemory goes)
+calmed_may w n lists None (Called o) goes h = absurd (no_stop (BadLine n) goes)
+calmed_may w n lists (Some l) (Called o) goes h = event_may w n l o.event o.reading o.lost goes h
 
 wanting_stops : (w : World) (n : ℕ) (l : ScriptLine) (g : Reading) (lost : Bool) (m : Meaning)
     → (does w n l (record { event = Wanting; reading = g; lost = lost }) m).stop ≡ None

@@ -113,11 +113,15 @@ run_fine p (t ∷ ts) all fine = run_fine (next p t) ts all.1 (next_fine p t all
 abbrev calm_turn : Turn → Turn
 calm_turn t = record { line = t.line; outcome = calmed t.outcome }
 
+-- a line that doesn't end the run
+goes_on : (p : Progress) (t : Turn) → (next p t).stop ≡ None → (line_does p.world (p.number + 1) t.line t.outcome).stop ≡ None
+goes_on p t h = sym (ap (λ o. (after_turn o p t).stop) (stopped p t p.stop refl h)) ∙ h
+
 next_well : (p : Progress) (t : Turn) → (next p t).stop ≡ None → next p t ≡ next p (calm_turn t)
 next_well p t h =
     let e : p.stop ≡ None = stopped p t p.stop refl h in
-    let h : (line_does p.world (p.number + 1) t.line t.outcome).stop ≡ None = sym (ap (λ o. (after_turn o p t).stop) e) ∙ h in
-    ap (λ o. after_turn o p t) e ∙ ap (moved p) (line_well p.world (p.number + 1) t.line t.outcome h) ∙ sym (ap (λ o. after_turn o p (calm_turn t)) e)
+    ap (λ o. after_turn o p t) e ∙ ap (moved p) (line_well p.world (p.number + 1) t.line t.outcome (goes_on p t h))
+    ∙ sym (ap (λ o. after_turn o p (calm_turn t)) e)
 
 -- a run that goes on to the end is the run in which nothing was wanting
 run_well : (p : Progress) (turns : List Turn) → (run_on p turns).stop ≡ None → run_on p turns ≡ run_on p (map calm_turn turns)
@@ -140,7 +144,7 @@ run_allowed : (p : Progress) (turns : List Turn) → (run_on p turns).stop ≡ N
 run_allowed p [] h allowed = tt
 run_allowed p (t ∷ ts) h allowed =
     let goes = run_stops (next p t) ts h in (
-      calmed_may p.world (holds_lists t.line) (line_in t.line) t.outcome allowed.0,
+      calmed_may p.world (p.number + 1) (holds_lists t.line) (line_in t.line) t.outcome (goes_on p t goes) allowed.0,
       subst (λ q. AreAllowed q (map calm_turn ts)) (next_well p t goes) (run_allowed (next p t) ts h allowed.1),
     )
 

@@ -120,9 +120,8 @@ pub trait SingleCalls {
         ensures step { IsStep (state self.old) (state self.new) line Command.Kill result };
 
     /// Makes the list of the replica that followed the table of a lock server that goes on, where none is up
-    /// (Standalone Enqueue Server, failover). It may be the table whose locks may stand together, and that has nothing
-    /// but what the table had which stood, and all that was handed over to the update. The sessions keep what they had.
-    /// No replica follows then, also where the link failed or the list is refused.
+    /// (Standalone Enqueue Server, failover). It may be any list whose locks may stand together. The sessions keep what
+    /// they had. No replica follows then, also where the link failed or the list is refused.
     fn fail_over(&mut self, alloc: Global, line: u32) -> Reply
         ensures step { IsStep (state self.old) (state self.new) line Command.FailOver result };
 

@@ -123,15 +123,15 @@ module _ (objects : List Object) (lines : List NumberedLine) (workers : ℕ) (s 
             true≢false
             (none_so is_unsound_store t.past (d.end.1.0 - 1) (reply.Refused (refusal.Unsound (bad.Store table row))) (l.good_store held) d.end.1.1.1)
 
-    no_bad_file : IsTrue tells → (place : _) → ∥ DoesScript objects lines workers s t old new (BadBackup place) ∥₁ → ⊥
-    no_bad_file tell place h =
+    no_bad_file : linked ≡ true → IsTrue tells → (place : _) → ∥ DoesScript objects lines workers s t old new (BadBackup place) ∥₁ → ⊥
+    no_bad_file on tell place h =
         ∥∥₁_elim (∥∥₁_map₂ h led go) none_prop (λ r. r)
       where
         go : DoesScript objects lines workers s t old new (BadBackup place) → IsLed told tells linked first before t now → ⊥
         go (inl u) l = begun (BadBackup place) refl u.end
         go (inr d) l =
             true≢false
-            (none_so is_unsound_file t.past (d.end.1.0 - 1) (reply.Refused (refusal.Unsound (bad.Backup place))) (l.good_file tell) d.end.1.1.1)
+            (none_so is_unsound_file t.past (d.end.1.0 - 1) (reply.Refused (refusal.Unsound (bad.Backup place))) (l.good_file on tell) d.end.1.1.1)
 
     sink_rose : ∥ DoesScript objects lines workers s t old new SinkFault ∥₁ → Rose old.faults new.faults
     sink_rose h = ∥∥₁_elim h le_prop go
@@ -141,23 +141,24 @@ module _ (objects : List Object) (lines : List NumberedLine) (workers : ℕ) (s 
         go (inr d) = d.end.cause
 
     -- where no device failed and none was found that isn't good
-    pub done_whole : StoreLaw → FileLaw → told ≡ true → IsTrue tells → (Rose old.faults new.faults → ⊥) → (Rose before.store now.store → ⊥)
-        → (Rose before.file now.file → ⊥) → (why : Why) → ∥ DoesScript objects lines workers s t old new why ∥₁ → EndsWhole why
-    done_whole store file held tell sink kept filed Done h = inl refl
-    done_whole store file held tell sink kept filed NoMemory h = inr (inl refl)
-    done_whole store file held tell sink kept filed LogFull h = inr (inr refl)
-    done_whole store file held tell sink kept filed BadWords h = absurd (not_blamed BadWords refl (λ d. d.end) h)
-    done_whole store file held tell sink kept filed (BadLandscape rule place) h = absurd (not_blamed (BadLandscape rule place) refl (λ d. d.end) h)
-    done_whole store file held tell sink kept filed (BadLine n) h = absurd (not_blamed (BadLine n) refl (λ d. d.end) h)
-    done_whole store file held tell sink kept filed SourceFault h = absurd (not_blamed SourceFault refl (λ d. d.end) h)
-    done_whole store file held tell sink kept filed SinkFault h = absurd (sink (sink_rose h))
-    done_whole store file held tell sink kept filed (LongLine n) h = absurd (not_blamed (LongLine n) refl (λ d. d.end) h)
-    done_whole store file held tell sink kept filed ManyLines h = absurd (not_blamed ManyLines refl (λ d. d.end) h)
-    done_whole store file held tell sink kept filed (StoreFault k) h = absurd (kept (store_rose store k h))
-    done_whole store file held tell sink kept filed (BackupFault k) h = absurd (filed (file_rose file k h))
-    done_whole store file held tell sink kept filed (BadStore table row) h = absurd (no_bad_store held table row h)
-    done_whole store file held tell sink kept filed (BadBackup place) h = absurd (no_bad_file tell place h)
-    done_whole store file held tell sink kept filed NoStart h = absurd (not_blamed NoStart refl (λ d. d.end) h)
+    pub done_whole : StoreLaw → FileLaw → told ≡ true → linked ≡ true → IsTrue tells → (Rose old.faults new.faults → ⊥)
+        → (Rose before.store now.store → ⊥) → (Rose before.file now.file → ⊥) → (why : Why) → ∥ DoesScript objects lines workers s t old new why ∥₁
+        → EndsWhole why
+    done_whole store file held on tell sink kept filed Done h = inl refl
+    done_whole store file held on tell sink kept filed NoMemory h = inr (inl refl)
+    done_whole store file held on tell sink kept filed LogFull h = inr (inr refl)
+    done_whole store file held on tell sink kept filed BadWords h = absurd (not_blamed BadWords refl (λ d. d.end) h)
+    done_whole store file held on tell sink kept filed (BadLandscape rule place) h = absurd (not_blamed (BadLandscape rule place) refl (λ d. d.end) h)
+    done_whole store file held on tell sink kept filed (BadLine n) h = absurd (not_blamed (BadLine n) refl (λ d. d.end) h)
+    done_whole store file held on tell sink kept filed SourceFault h = absurd (not_blamed SourceFault refl (λ d. d.end) h)
+    done_whole store file held on tell sink kept filed SinkFault h = absurd (sink (sink_rose h))
+    done_whole store file held on tell sink kept filed (LongLine n) h = absurd (not_blamed (LongLine n) refl (λ d. d.end) h)
+    done_whole store file held on tell sink kept filed ManyLines h = absurd (not_blamed ManyLines refl (λ d. d.end) h)
+    done_whole store file held on tell sink kept filed (StoreFault k) h = absurd (kept (store_rose store k h))
+    done_whole store file held on tell sink kept filed (BackupFault k) h = absurd (filed (file_rose file k h))
+    done_whole store file held on tell sink kept filed (BadStore table row) h = absurd (no_bad_store held table row h)
+    done_whole store file held on tell sink kept filed (BadBackup place) h = absurd (no_bad_file on tell place h)
+    done_whole store file held on tell sink kept filed NoStart h = absurd (not_blamed NoStart refl (λ d. d.end) h)
 
 -- ---- the whole
 

@@ -99,7 +99,8 @@ pub fn run<
         → ¬ Rose (S.faults source.old) (S.faults source.new) → ¬ Rose (W.faults sink.old) (W.faults sink.new)
         → ¬ Rose (K.faults hall.keeper) (K.faults result.0.keeper)
         → ¬ Rose (D.faults hall.file.disk) (D.faults result.0.file.disk)
-        → is_some (K.held hall.keeper) ≡ true → IsTrue D.tells → EndsWhole result.1 }
+        → is_some (K.held hall.keeper) ≡ true → is_some (L.applied hall.follower.link) ≡ true → IsTrue D.tells
+        → EndsWhole result.1 }
 {
     run_as::<Brand, R, S, W, T, K, D, L, G>(rt, alloc, source, sink, hall, objects, workers, gate)
 }
@@ -153,7 +154,7 @@ fn run_as<
     ensures complete { (bytes : List ℕ) → S.left source.old ≡ Some bytes → IsWholeScript bytes
         → ¬ Rose (S.faults source.old) (S.faults source.new) → ¬ Rose (W.faults sink.old) (W.faults sink.new)
         → ¬ Rose J.counts.store (K.faults result.0.keeper) → ¬ Rose J.counts.file (D.faults result.0.file.disk)
-        → J.told ≡ true → IsTrue D.tells → EndsWhole result.1 }
+        → J.told ≡ true → J.linked ≡ true → IsTrue D.tells → EndsWhole result.1 }
 {
     hall.read_invariant();
     doubts_have_causes();

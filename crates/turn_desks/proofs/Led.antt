@@ -77,7 +77,7 @@ led_first told tells linked first counts none = record {
   store = refl;
   file = refl;
   link = none_linked first.attached counts.link first none refl;
-  good_file = λ yes. subst NoneUnsound (sym none) refl;
+  good_file = λ on yes. subst NoneUnsound (sym none) refl;
   good_store = λ yes. subst NoneUnsoundStore (sym none) refl;
   good_replica = λ yes. subst NoneUnsoundReplica (sym none) refl;
 }
@@ -93,7 +93,7 @@ pub record CallCounts (told tells linked : Bool) (s t : State) (a b : Counts) (r
   pub store : HasStoreCause a.store b.store r
   pub file : HasFileCause a.file b.file r
   pub link : GoesOnLinked s t a.link b.link
-  pub good_file : IsTrue tells → NoneUnsound s.past → NoneUnsound t.past
+  pub good_file : linked ≡ true → IsTrue tells → NoneUnsound s.past → NoneUnsound t.past
   pub good_store : told ≡ true → NoneUnsoundStore s.past → NoneUnsoundStore t.past
   pub good_replica : linked ≡ true → NoneUnsoundReplica s.past → NoneUnsoundReplica t.past
 
@@ -145,7 +145,7 @@ module _ (told tells linked : Bool) (first : State) (before : Counts) (s : State
         store = counts_more store_fails_in_call h.made the_call before.store now.store next.store h.store store_counted;
         file = counts_more file_fails_in_call h.made the_call before.file now.file next.file h.file file_counted;
         link = does.link first.attached before.link h.link;
-        good_file = λ yes. does.good_file yes (h.good_file yes);
+        good_file = λ on yes. does.good_file on yes (h.good_file on yes);
         good_store = λ yes. does.good_store yes (h.good_store yes);
         good_replica = λ yes. does.good_replica yes (h.good_replica yes);
       }
@@ -166,7 +166,7 @@ module _ (told tells linked : Bool) (first : State) (before : Counts) (s : State
         file = counts_same file_fails_in_call h.made before.file now.file next.file h.file
             (unrecorded_file made.reply now.file next.file off (subst (HasFileCause now.file next.file) told_reply does.file));
         link = does.link first.attached before.link h.link;
-        good_file = λ yes. does.good_file yes (h.good_file yes);
+        good_file = λ on yes. does.good_file on yes (h.good_file on yes);
         good_store = λ yes. does.good_store yes (h.good_store yes);
         good_replica = λ yes. does.good_replica yes (h.good_replica yes);
       }

@@ -38,7 +38,7 @@ CountsCalls fails (m ∷ ms) before now = (between : ℕ) ×
 
 -- The calls of the history led from the first state to this one, each answered as the model answers it. A device's
 -- count rose in each of them in which the device failed. None found a device bad that tells what it holds: the store,
--- the backup file, the replica.
+-- the replica, and where both tell it the backup file.
 pub record IsLed (told tells linked : Bool) (first : State) (before : Counts) (s : State) (now : Counts) : Type 0 where
   pub made : List Made
   pub calls : s.past ≡ calls_of made
@@ -47,6 +47,6 @@ pub record IsLed (told tells linked : Bool) (first : State) (before : Counts) (s
   pub store : CountsCalls store_fails_in_call made before.store now.store
   pub file : CountsCalls file_fails_in_call made before.file now.file
   pub link : HasLinked first.attached before.link s now.link
-  pub good_file : IsTrue tells → NoneUnsound s.past
+  pub good_file : linked ≡ true → IsTrue tells → NoneUnsound s.past
   pub good_store : told ≡ true → NoneUnsoundStore s.past
   pub good_replica : linked ≡ true → NoneUnsoundReplica s.past

@@ -48,7 +48,7 @@ module _ {site : SiteFound} {site_now : SiteLeft} {past : List PastEntry} (is_to
         whole = whole_bytes journal unbroken;
         rows = λ rows is. s.left is_told rows (stands journal left rows is);
         lists = s.handed is_tells backup filed;
-        opens = λ ledger h. s.opens is_told is_tells backup filed ledger (stood journal (stands journal left) ledger h);
+        opens = λ honest ledger h. s.opens is_told is_tells honest backup filed ledger (stood journal (stands journal left) ledger h);
         next = λ ledger h. s.next is_told ledger (h.0, stood journal (stands journal left) h.0 h.1, h.2);
       }
 

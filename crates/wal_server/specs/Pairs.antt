@@ -1,12 +1,12 @@
 -- What a stop leaves on both disks: that of the journal, and that of the backup file.
-use Rattle.std.specs.Prelude.{◌⊎◌, ℕ, Bool, true, List, Option}
+use Rattle.std.specs.Prelude.{◌⊎◌, ℕ, Bool, true, List, Option, IsTrue}
 use Rattle.enq_cmd.specs.Loading.{IsLoaded}
 use Rattle.enq_cmd.specs.Running.{IsServedByThreads}
 use Rattle.enq_cmd.specs.Main.{HasHanded, IsGoodFile, IsNextOf, IsRead, IsServed, IsUnopened, MayRemain, SurvivesStop}
 use Rattle.enq_cmd.specs.Main.{SiteFound, SiteLeft, first_state, found_in, left_in}
 use Rattle.gate_log.specs.Grammars.{IsBytes}
 use Rattle.hall_model.specs.Recall.{state_after}
-use Rattle.hall_model.specs.State.{State}
+use Rattle.hall_model.specs.State.{State, is_honest}
 use Rattle.hall_model.specs.declared.command.PastEntry.{PastEntry}
 use Rattle.keeper_api.specs.Rows.{Rows}
 use Rattle.keeper_wal.specs.Journal.{Stands, IsBad}
@@ -43,8 +43,9 @@ pub record SurvivesPair (journal backup : List ℕ) (s : State) : Type 0 where
   -- locks
   pub rows : (rows : Rows) → Stands journal rows → SurvivesStop rows s
   pub lists : HasHanded backup s
-  -- a new start over both finds no place of the backup file bad, and begins with what the state leaves
-  pub opens : IsGoodFile (Stands journal) backup
+  -- a new start over both finds no place of the backup file bad, where the locks can be told from the calls, and begins
+  -- with what the state leaves
+  pub opens : IsTrue (is_honest s) → IsGoodFile (Stands journal) backup
   pub next : (ledger : Ledger) → IsRaised (HasStood (Stands journal)) true ledger → IsNextOf s ledger
 
 -- so is each pair of images

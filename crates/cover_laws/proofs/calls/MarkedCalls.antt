@@ -109,7 +109,7 @@ module _ (P : Call → Ledger → Reply → Type 0) (found : Found) (s : State) 
     posts = λ worker part unit e. each.posts worker part unit (held_for part s.stored (order_of s.orders worker) unit e).1;
     drops = λ worker unit e. same _ _ refl;
     kills = λ up. same _ _ refl;
-    fails_over = λ list can. same _ _ refl;
+    fails_over = λ can. same _ _ refl;
     strays = λ first second stray. same _ _ refl;
     restarts = λ off.
         subst (λ ledger. P (OfAdmin Restarts) ledger reply.Done) (sym (anew_as_before (is_taken found.anew) s nothing)) (same _ _ refl);

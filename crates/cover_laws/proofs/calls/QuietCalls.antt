@@ -1,6 +1,6 @@
 -- Calls of the histories that are meant: what such a call comes to, who makes it, and why it is served.
 use Rattle.std.proofs.Common.{◌≡◌, ◌≢◌, ℕ, Bool, true, false, List, [], ◌∷◌, ◌++◌, length, refl, sym, ap, ◌∙◌, subst, arith}
-use Rattle.std.specs.Prelude.{◌||◌, ◌&&◌, if◌then◌else◌, nat_eq, nat_lt, Option, Some, None}
+use Rattle.std.specs.Prelude.{IsTrue, ◌||◌, ◌&&◌, not, if◌then◌else◌, nat_eq, nat_lt, Option, Some, None}
 use Rattle.std.specs.Str.{bytes_eq}
 use Rattle.std.proofs.lemmas.Bool.{and_parts, false≢true, true≢false}
 use Rattle.std.proofs.lemmas.Bool.Decides.{nat_tests}
@@ -17,11 +17,12 @@ use Rattle.hall_model.proofs.NotedCalls.{by_noting}
 use Rattle.hall_model.specs.Calls.{Call, LogsOn, OfSession, OfWorker, OfAdmin, SessionCall, call_of, wants_server, who_calls}
 use Rattle.hall_model.specs.Devices.{AllWell, Wanting, StoreFails, BackupFails, LinkFails, NotRemade, found_by}
 use Rattle.hall_model.specs.History.{Served, ends_in, judged, losing, refused, served, takes_flight, with_entry}
-use Rattle.hall_model.specs.Kept.{OutsideDoubt}
+use Rattle.hall_model.specs.Kept.{OutsideDoubt, WhileListed}
 use Rattle.hall_model.specs.Numbers.{stocked}
+use Rattle.hall_model.specs.OpenUnits.{HoldsOpenUnits}
 use Rattle.hall_model.specs.Recall.{IsModelAnswer, Made, again, recalled, state_after}
 use Rattle.hall_model.specs.Sessions.{session_at, unit_key}
-use Rattle.hall_model.specs.State.{State}
+use Rattle.hall_model.specs.State.{State, is_honest}
 use Rattle.hall_model.specs.Step.{Found, Verdict, Refuses, Leaves, barred, call_verdict, called, caller_refusal, commit, committed, detached, effects_in, numbered, or_else, own_verdict, passing, server_refusal, session_call, unavailable, unless_refused}
 use Rattle.hall_model.specs.declared.command.PastEntry.{PastEntry}
 use Rattle.hall_model.specs.declared.command.Reply.{Reply}
@@ -29,7 +30,7 @@ use Rattle.hall_model.specs.declared.command.Reply.TheVariants as reply
 use Rattle.hall_model.specs.declared.command.Session.{Session}
 use Rattle.hall_model.specs.declared.command.Who.{Who}
 use Rattle.hall_model.specs.declared.command.Who.TheVariants as who
-use Rattle.cover_laws.proofs.needed.HallNeeded.{AreQuiet, IsQuiet, IsSure}
+use Rattle.cover_laws.proofs.needed.HallNeeded.{AreQuiet, IsQuiet, IsReached, IsSure}
 use Rattle.cover_laws.specs.Histories.{fails_a_session, is_by, is_refused}
 
 pub of_false : {P : Type 0} → false ≡ true → P
@@ -59,6 +60,12 @@ outside_holds (condition.Doubt n) P h sure = absurd (sure n refl)
 -- nothing is in flight there
 pub none_in_flight : (s : State) (m : Made) → IsQuiet s m → s.pending ≡ None
 none_in_flight s m quiet = outside_holds s.condition (s.pending ≡ None) quiet.reached.steady.settled quiet.sure
+
+-- while there is a lock server, the handed locks of its table are just those of the open units
+pub held_up : (s : State) → IsReached s → s.condition ≡ condition.Up → HoldsOpenUnits s.locks s.stored
+held_up s reached up =
+    let told : is_honest s ≡ true = ap (λ b. b || not s.taken_over) reached.link_told in
+    subst (λ k. WhileListed k (s.attached && s.link_told) (IsTrue (is_honest s) → HoldsOpenUnits s.locks s.stored)) up reached.open_units.held told
 
 -- ---- what a call comes to
 

@@ -337,7 +337,7 @@ record RecordsIn (s : State) (ledger : Ledger) (name : List ℕ) (unit : UnitKey
   key : unit_key s.stored.start session ≡ unit
   kept : session.lost ≡ false
   waits : IsOpenUnit ledger unit
-  entries : entries_of ledger.units unit ≡ handed_locks s.locks unit
+  entries : entries_of ledger.units unit ≡ handed_locks session.user s.locks unit
 
 not_lost : (b : Bool) → (if b && true then Some refusal.LocksLost else None) ≡ None → b ≡ false
 not_lost true e = cc

@@ -1,4 +1,4 @@
--- What sessions had of a table that is gone, and what they lose with it.
+-- What sessions had of a table that is dropped, and what they lose with it.
 use Rattle.std.proofs.Common.{◌≡◌, true≢false, ℕ, ◌≤◌, true, false, not, cond, List, [], ◌∷◌, inl, inr, refl, sym, ap, ◌∙◌, subst, arith}
 use Rattle.std.specs.Prelude.{if◌then◌else◌, Option, Some}
 use Rattle.std.specs.List.{AllByRecursion, find, list_any}
@@ -55,26 +55,23 @@ has_gone ledger owner a (e ∷ es) closed right more =
           ]
     ]
 
+-- a lock of a session's open unit is one of the session's
+pub has_own : (start : ℕ) (locks : List Entry) (x : Session) → list_any (is_of (Upd (unit_key start x))) locks ≡ true → has_one_of start locks x ≡ true
+has_own start locks x h =
+    let pair = pair_of start x in
+    list_any-weaken (is_of pair.update) (λ e. in_pair pair e.owner)
+    (λ e own. or_right (same_owner e.owner pair.dialogue) (same_owner e.owner pair.update) own) locks h
+
 -- ---- a session that loses none
 
--- what it loses with a lock of its open unit
-loses_one : (start : ℕ) (gone : List Entry) (caller : Option (List ℕ)) (x : Session) → list_any (is_of (Upd (unit_key start x))) gone ≡ true
-    → loses start gone caller x ≡ true
-loses_one start gone caller x h =
-    let pair = pair_of start x in
-    or_left (has_one_of start gone x) (is_caller caller x)
-    (list_any-weaken (is_of pair.update) (λ e. in_pair pair e.owner)
-    (λ e own. or_right (same_owner e.owner pair.dialogue) (same_owner e.owner pair.update) own) gone h)
-
 -- a session that has lost no lock behind a restart
-pub record LosesNone (start : ℕ) (gone : List Entry) (x y : Session) : Type 0 where
+pub record LosesNone (x y : Session) : Type 0 where
   pub same : x ≡ y
-  pub none : list_any (is_of (Upd (unit_key start x))) gone ≡ true → ⊥
+  pub none : x.marked ≡ true → ⊥
 
-pub loses_none : (start : ℕ) (gone : List Entry) (caller : Option (List ℕ)) (x y : Session) → bereft_if start gone caller x ≡ y → y.lost ≡ false
-    → LosesNone start gone x y
-loses_none start gone caller x y is kept =
-    elim (loses start gone caller x) as (λ b. loses start gone caller x ≡ b → (if b then bereft x else x) ≡ y → LosesNone start gone x y) [
+pub loses_none : (caller : Option (List ℕ)) (x y : Session) → bereft_if caller x ≡ y → y.lost ≡ false → LosesNone x y
+loses_none caller x y is kept =
+    elim (loses caller x) as (λ b. loses caller x ≡ b → (if b then bereft x else x) ≡ y → LosesNone x y) [
       | true ↦ λ e same. absurd (true≢false (ap (λ (z : Session). z.lost) same ∙ kept))
-      | false ↦ λ e same. record { same = same; none = λ had. true≢false (sym (loses_one start gone caller x had) ∙ e) }
+      | false ↦ λ e same. record { same = same; none = λ marked. true≢false (sym (or_left x.marked (is_caller caller x) marked) ∙ e) }
     ] refl is

@@ -1,9 +1,9 @@
 -- Each call of another leaves the open unit of a session the locks that its lines asked for, or it has lost one.
-use Rattle.std.proofs.Common.{◌≡◌, true≢false, ℕ, zero, suc, ◌≤◌, Bool, true, false, ◌&&◌, List, ◌++◌, fold, refl, sym, ap, ◌∙◌, subst, arith}
+use Rattle.std.proofs.Common.{◌≡◌, true≢false, ℕ, zero, suc, ◌≤◌, Bool, true, false, ◌&&◌, List, [], ◌++◌, fold, refl, sym, ap, ◌∙◌, subst, arith}
 use Rattle.std.specs.Prelude.{if◌then◌else◌, nat_eq, Option, Some, None}
 use Rattle.std.specs.Option.{option_map}
 use Rattle.std.specs.Str.{bytes_eq}
-use Rattle.std.proofs.lemmas.Bool.{false≢true}
+use Rattle.std.proofs.lemmas.Bool.{and_from, false≢true}
 use Rattle.enq_base.specs.Owners.{same_owner}
 use Rattle.enq_base.specs.declared.condition.Condition.{Condition}
 use Rattle.enq_base.specs.declared.condition.Condition.TheVariants as condition
@@ -25,16 +25,15 @@ use Rattle.ledger_steps.specs.Posts.{kind_for, status_for}
 use Rattle.number_ranges.specs.Intervals.{is_buffered}
 use Rattle.number_ranges.specs.declared.interval.Interval.{Interval}
 use Rattle.hall_model.specs.declared.command.Session.{Session}
-use Rattle.hall_model.specs.Calls.{Call, OfAdmin, FailsOver, call_of, fails_over}
+use Rattle.hall_model.specs.Calls.{Call, OfAdmin, FailsOver, call_of}
 use Rattle.hall_model.specs.Devices.{MayRead, found_by}
 use Rattle.hall_model.specs.History.{judged}
-use Rattle.hall_model.specs.Kept.{OutsideDoubt}
 use Rattle.hall_model.specs.Numbers.{drawn, next_number, raised_to, stocked}
-use Rattle.hall_model.specs.OpenUnits.{HoldsOpenUnits, IsOpenOwner}
+use Rattle.hall_model.specs.OpenUnits.{IsOpenOwner}
 use Rattle.hall_model.specs.Orders.{order_of}
-use Rattle.hall_model.specs.Sessions.{begun, bereft_if, pair_of, session_at, unit_key, with_draw, with_fresh_unit, with_next_unit, with_session, without_draws}
-use Rattle.hall_model.specs.State.{State}
-use Rattle.hall_model.specs.Step.{Found, Verdict, attached, call_verdict, cancelled, committed, detached, entered, followed_over, freed_all, is_taken, killed, locks_behind, locks_without, logged_off, lowered, marked, numbered, restarted, rolled_back}
+use Rattle.hall_model.specs.Sessions.{begun, bereft_if, pair_of, session_at, unit_key, with_draw, with_fresh_unit, with_mark, with_next_unit, with_session, without_draws}
+use Rattle.hall_model.specs.State.{State, table_for, unhanded}
+use Rattle.hall_model.specs.Step.{Found, Verdict, attached, call_verdict, cancelled, committed, detached, entered, followed_over, freed_all, has_lock, is_taken, killed, locks_behind, locks_without, logged_off, lowered, marked, numbered, replica_list, restarted, rolled_back}
 use Rattle.hall_model.proofs.ByCall.{OfEach, by_call}
 use Rattle.hall_model.proofs.OtherStatuses.{apart_by_status, status_in}
 use Rattle.hall_model.proofs.PartOrders.{held_for}
@@ -42,15 +41,15 @@ use Rattle.hall_model.proofs.Resubmissions.{table_in}
 use Rattle.hall_laws.proofs.keeping.UnitsToCome.{open_unheard}
 use Rattle.cover_laws.proofs.needed.HallNeeded.{IsReached, IsSure}
 use Rattle.cover_laws.specs.Histories.{is_unit, resubmits}
-use Rattle.cover_laws.proofs.needed.HoldingNeeded.{OtherCallsHold, StandsAt}
+use Rattle.cover_laws.proofs.needed.HoldingNeeded.{HoldsIn, OtherCallsHold, StandsAt}
 use Rattle.cover_laws.proofs.needed.LocksNeeded.{AreExclusive, AskingLeaves, ConvertingLeaves, HandingLeaves, Holds, OthersFreeingLeaves, OwnerFreeingLeaves, often}
-use Rattle.cover_laws.proofs.calls.QuietCalls.{by_quiet, by_whom, is_own}
-use Rattle.cover_laws.proofs.holding.CarriedHolds.{IsBeside, holds_up, same_session, stands_beside, stands_linked, stands_losing, stands_past}
-use Rattle.cover_laws.proofs.holding.GoneLocks.{has_gone, loses_none}
+use Rattle.cover_laws.proofs.calls.QuietCalls.{by_quiet, by_whom, held_up, is_own}
+use Rattle.cover_laws.proofs.holding.CarriedHolds.{IsBeside, holds_up, same_session, stands_beside, stands_losing, stands_marked, stands_past}
+use Rattle.cover_laws.proofs.holding.GoneLocks.{has_gone, has_own, loses_none}
 use Rattle.cover_laws.proofs.sessions.NamedSessions.{KeepsNames, bereft_named, found_beside, found_entered, found_left, found_mapped, name_of, updates_differ}
 use Rattle.cover_laws.proofs.Lists.{mapped_from, none_from}
 use Rattle.cover_laws.proofs.calls.DrawnAlone.{drawn_locks, raised_start}
-use Rattle.cover_laws.proofs.holding.FailedOver.{by_failover, list_found, over_is}
+use Rattle.cover_laws.proofs.holding.FailedOver.{list_found}
 
 -- ---- where there is no lock server
 
@@ -90,14 +89,11 @@ freed_by_cancel Cancelled P locks unit p q = q
 
 -- ---- all calls of others
 
--- what a call of another leaves, where it tries no unit again
-abbrev LeavesStanding : State → List ℕ → List Asked → Call → Verdict → Type 0
-LeavesStanding s name held call v =
-    is_own name call ≡ false → (resubmits call && is_unit (judged s v).reply) ≡ false → StandsAt (judged s v).state name held
-
--- a replica's list in place of the table is left out
-abbrev LeavesMore : State → List ℕ → List Asked → Call → Verdict → Type 0
-LeavesMore s name held call v = fails_over call ≡ false → LeavesStanding s name held call v
+-- what a call of another leaves, where it tries no unit again and a replica hands over the list that stood
+abbrev LeavesStanding : State → Found → List ℕ → List Asked → Call → Verdict → Type 0
+LeavesStanding s found name held call v =
+    (call ≡ OfAdmin FailsOver → found.list ≡ s.locks) → is_own name call ≡ false
+    → (resubmits call && is_unit (judged s v).reply) ≡ false → StandsAt (judged s v).state name held
 
 module _ (asks : AskingLeaves) (frees : OthersFreeingLeaves) (ends : OwnerFreeingLeaves) (converts : ConvertingLeaves) (hands : HandingLeaves) where
   module _ (s : State) (found : Found) (name : List ℕ) (held : List Asked) (sure : IsSure s) (reached : IsReached s) (exclusive : AreExclusive held)
@@ -111,10 +107,10 @@ module _ (asks : AskingLeaves) (frees : OthersFreeingLeaves) (ends : OwnerFreein
         → ((x : Session) → session_at s.sessions name ≡ Some x → Holds s.locks (owner_of x) held → Holds t.locks (owner_of x) held) → StandsAt t name held
     leaves_other t beside moves = stands_beside s t name held beside moves stands
 
-    beside : (t : State) → t.condition ≡ s.condition → (t.attached ≡ true → s.attached ≡ true) → t.gone ≡ s.gone → t.stored.start ≡ s.stored.start
+    beside : (t : State) → t.condition ≡ s.condition → (t.attached ≡ true → s.attached ≡ true) → t.stored.start ≡ s.stored.start
         → session_at t.sessions name ≡ session_at s.sessions name → IsBeside s t name
-    beside t condition follows gone start same =
-        record { condition = condition; follows = follows; gone = gone; start = start; there = same_session s t name same }
+    beside t condition follows start same =
+        record { condition = condition; follows = follows; start = start; there = same_session s t name same }
 
     caller_apart : (caller : List ℕ) (y : Session) → session_at s.sessions caller ≡ Some y → bytes_eq caller name ≡ false → bytes_eq y.name name ≡ false
     caller_apart caller y at other = ap (λ n. bytes_eq n name) (name_of caller s.sessions y at) ∙ other
@@ -140,7 +136,7 @@ module _ (asks : AskingLeaves) (frees : OthersFreeingLeaves) (ends : OwnerFreein
     entered_stands caller user other =
         let t = entered s caller user in
         leaves_other t
-        (beside t refl (λ on. on) refl refl (found_entered name (begun caller user s.next_session) other s.sessions)) (λ x here holds. holds)
+        (beside t refl (λ on. on) refl (found_entered name (begun caller user s.next_session) other s.sessions)) (λ x here holds. holds)
 
     freed_holds : (caller : List ℕ) (y x : Session) → session_at s.sessions caller ≡ Some y → bytes_eq caller name ≡ false
         → session_at s.sessions name ≡ Some x → Holds s.locks (owner_of x) held → Holds (freed_all s y).locks (owner_of x) held
@@ -153,21 +149,21 @@ module _ (asks : AskingLeaves) (frees : OthersFreeingLeaves) (ends : OwnerFreein
         → StandsAt (logged_off s y) name held
     left_stands caller y at other =
         let t = logged_off s y in
-        leaves_other t (beside t refl (λ on. on) refl refl (found_left y.name name (caller_apart caller y at other) s.sessions))
+        leaves_other t (beside t refl (λ on. on) refl (found_left y.name name (caller_apart caller y at other) s.sessions))
         (λ x here holds. freed_holds caller y x at other here holds)
 
     freed_stands : (caller : List ℕ) (y : Session) → session_at s.sessions caller ≡ Some y → bytes_eq caller name ≡ false
         → StandsAt (freed_all s y) name held
     freed_stands caller y at other =
         let t = freed_all s y in
-        leaves_other t (beside t refl (λ on. on) refl refl refl) (λ x here holds. freed_holds caller y x at other here holds)
+        leaves_other t (beside t refl (λ on. on) refl refl) (λ x here holds. freed_holds caller y x at other here holds)
 
     -- other locks alone
     locks_stand : (locks : List Entry) → ((x : Session) → session_at s.sessions name ≡ Some x → Holds s.locks (owner_of x) held → Holds locks (owner_of x) held)
         → StandsAt (record s { locks = locks }) name held
     locks_stand locks moves =
         let t : State = record s { locks = locks } in
-        leaves_other t (beside t refl (λ on. on) refl refl refl) moves
+        leaves_other t (beside t refl (λ on. on) refl refl) moves
 
     lowered_stands : (caller : List ℕ) (y : Session) (rs : List Request) → session_at s.sessions caller ≡ Some y → bytes_eq caller name ≡ false
         → StandsAt (lowered s y rs) name held
@@ -184,8 +180,8 @@ module _ (asks : AskingLeaves) (frees : OthersFreeingLeaves) (ends : OwnerFreein
         let same = caller_changed caller y (with_draw num) (λ n z. refl) at other in
         let behind : State = record t { ranges = handed_out i t.ranges; stored = raised_to i number t.stored } in
         elim (is_buffered i) as (λ b. IsBeside s (if b then behind else t) name) [
-          | true ↦ beside behind refl (λ on. on) refl (raised_start i number s.stored) same
-          | false ↦ beside t refl (λ on. on) refl refl same
+          | true ↦ beside behind refl (λ on. on) (raised_start i number s.stored) same
+          | false ↦ beside t refl (λ on. on) refl same
         ]
 
     drawn_stands : (caller : List ℕ) (y : Session) (i : Interval) (number : ℕ) → session_at s.sessions caller ≡ Some y → bytes_eq caller name ≡ false
@@ -197,43 +193,43 @@ module _ (asks : AskingLeaves) (frees : OthersFreeingLeaves) (ends : OwnerFreein
     reserved_stands : (i : Interval) (upto : ℕ) → StandsAt (record s { stored = raised_to i upto s.stored }) name held
     reserved_stands i upto =
         let t : State = record s { stored = raised_to i upto s.stored } in
-        leaves_other t (beside t refl (λ on. on) refl (raised_start i upto s.stored) refl) (λ x here holds. holds)
+        leaves_other t (beside t refl (λ on. on) (raised_start i upto s.stored) refl) (λ x here holds. holds)
 
     stocked_stands : (stock : List Num) → StandsAt (stocked stock s) name held
     stocked_stands stock =
         let t = stocked stock s in
-        leaves_other t (beside t refl (λ on. on) refl refl refl) (λ x here holds. holds)
+        leaves_other t (beside t refl (λ on. on) refl refl) (λ x here holds. holds)
 
     numbered_stands : (caller : List ℕ) (y : Session) (numbers stock : List Num) → session_at s.sessions caller ≡ Some y → bytes_eq caller name ≡ false
         → StandsAt (stocked stock (numbered s y numbers)) name held
     numbered_stands caller y numbers stock at other =
         let t = stocked stock (numbered s y numbers) in
-        leaves_other t (beside t refl (λ on. on) refl refl (caller_changed caller y without_draws (λ n z. refl) at other)) (λ x here holds. holds)
+        leaves_other t (beside t refl (λ on. on) refl (caller_changed caller y without_draws (λ n z. refl) at other)) (λ x here holds. holds)
 
     committed_stands : (caller : List ℕ) (y : Session) (parts : Parts) (numbers stock : List Num) → session_at s.sessions caller ≡ Some y
         → bytes_eq caller name ≡ false → StandsAt (stocked stock (committed s y parts numbers)) name held
     committed_stands caller y parts numbers stock at other =
         let t = stocked stock (committed s y parts numbers) in
-        leaves_other t (beside t refl (λ on. on) refl refl (caller_changed caller y with_next_unit (λ n z. refl) at other))
+        leaves_other t (beside t refl (λ on. on) refl (caller_changed caller y with_next_unit (λ n z. refl) at other))
         (λ x here holds. hands s.locks (unit_key s.stored.start y) (owner_of x) held exclusive holds)
 
     rolled_stands : (caller : List ℕ) (y : Session) → session_at s.sessions caller ≡ Some y → bytes_eq caller name ≡ false
         → StandsAt (rolled_back s y) name held
     rolled_stands caller y at other =
         let t = rolled_back s y in
-        leaves_other t (beside t refl (λ on. on) refl refl (caller_changed caller y with_fresh_unit (λ n z. refl) at other))
+        leaves_other t (beside t refl (λ on. on) refl (caller_changed caller y with_fresh_unit (λ n z. refl) at other))
         (λ x here holds. ends s.locks (pair_of s.stored.start y).update (owner_of x) held (caller_owner caller y x at other here) holds)
 
     orders_stand : (orders : List (Option UnitKey)) → StandsAt (record s { orders = orders }) name held
     orders_stand orders =
         let t : State = record s { orders = orders } in
-        leaves_other t (beside t refl (λ on. on) refl refl refl) (λ x here holds. holds)
+        leaves_other t (beside t refl (λ on. on) refl refl) (λ x here holds. holds)
 
     posted_stands : (part worker : ℕ) (unit : UnitKey) → status_in s.stored unit ≡ Some (status_for part)
         → StandsAt (marked part s worker unit (kind_for part (found.part part unit))) name held
     posted_stands part worker unit waits =
         let t = marked part s worker unit (kind_for part (found.part part unit)) in
-        leaves_other t (beside t refl (λ on. on) refl refl refl)
+        leaves_other t (beside t refl (λ on. on) refl refl)
         (λ x here holds.
         freed_by_post part (λ es. Holds es (owner_of x) held) s.locks unit
         (ends s.locks (Upd unit) (owner_of x) held (recorded_apart unit (status_for part) x waits here) holds) holds)
@@ -241,114 +237,117 @@ module _ (asks : AskingLeaves) (frees : OthersFreeingLeaves) (ends : OwnerFreein
     cancelled_stands : (unit : UnitKey) (status : Status) → status_in s.stored unit ≡ Some status → StandsAt (cancelled s unit status) name held
     cancelled_stands unit status recorded =
         let t = cancelled s unit status in
-        leaves_other t (beside t refl (λ on. on) refl refl refl)
+        leaves_other t (beside t refl (λ on. on) refl refl)
         (λ x here holds.
         freed_by_cancel status (λ es. Holds es (owner_of x) held) s.locks unit
         (ends s.locks (Upd unit) (owner_of x) held (recorded_apart unit status x recorded here) holds) holds)
 
     -- ---- ends and beginnings of lock servers
 
-    killed_stands : s.condition ≡ condition.Up → StandsAt (killed s) name held
-    killed_stands up =
-        let handed : HoldsOpenUnits s.locks s.stored = subst (λ k. OutsideDoubt k (HoldsOpenUnits s.locks s.stored)) up reached.open_units.held in
+    list_followed : s.attached ≡ true → replica_list s ≡ s.locks
+    list_followed follows = ap (λ b. if b then s.locks else []) (and_from s.attached s.link_told follows reached.link_told)
+
+    killed_holds : s.condition ≡ condition.Up → (x : Session) → session_at s.sessions name ≡ Some x → x.lost ≡ false
+        → HoldsIn (killed s) (with_mark (has_lock s) x) held
+    killed_holds up x here kept =
+        let holds : Holds s.locks (owner_of x) held = (stands.on x here kept).up up in
+        let closed : IsOpenOwner s.stored (owner_of x) → ⊥ = no_status _ (open_unheard s name x here reached.steady.fresh) in
         record {
-          off = stands.off;
-          on = λ x here kept.
-              let holds : Holds s.locks (owner_of x) held = (stands.on x here kept).up up in
-              let closed : IsOpenOwner s.stored (owner_of x) → ⊥ = no_status _ (open_unheard s name x here reached.steady.fresh) in
-              record {
-                up = λ e. absurd (none_up e);
-                copied = λ e follows. holds;
-                lost = λ e a more.
-                    let few = holds a in
-                    has_gone s.stored (owner_of x) a s.locks closed handed.handed (omega (arith, more, few));
-              };
+          up = λ e. absurd (none_up e);
+          copied = λ e follows. subst (λ es. Holds es (owner_of x) held) (sym (list_followed follows)) holds;
+          lost = λ e a more.
+              let few = holds a in
+              has_own s.stored.start (unhanded s.locks) x
+              (has_gone s.stored (owner_of x) a s.locks closed (held_up s reached up).handed (omega (arith, more, few)));
         }
+
+    killed_stands : s.condition ≡ condition.Up → StandsAt (killed s) name held
+    killed_stands up = stands_marked s (killed s) (has_lock s) name held refl stands (killed_holds up)
 
     over_stands : (list : List Entry) → s.condition ≡ condition.NoServer → s.attached ≡ true → list ≡ s.locks → StandsAt (followed_over list s) name held
     over_stands list none follows same =
         let t = followed_over list s in
-        record {
-          off = stands.off;
-          on = λ x here kept.
-              let holds : Holds s.locks (owner_of x) held = (stands.on x here kept).copied none follows in
-              holds_up t (owner_of x) held refl (subst (λ es. Holds es (owner_of x) held) (sym same) holds);
-        }
+        let unmarked : Session → Bool = λ x. false in
+        stands_marked s t unmarked name held refl stands
+        (λ x here kept.
+        holds_up t (with_mark unmarked x) held refl
+        (subst (λ es. Holds es (owner_of x) held) (sym same) ((stands.on x here kept).copied none follows)))
+
+    -- while there is a lock server it keeps its table
+    table_stays : s.condition ≡ condition.Up → (detached s).locks ≡ s.locks
+    table_stays up = ap (λ k. (table_for k s.max_locks (record { entries = s.locks; limit = s.limit }) []).entries) up
 
     detached_stands : StandsAt (detached s) name held
-    detached_stands = stands_linked s false name held (λ on. absurd (false≢true on)) stands
+    detached_stands = record {
+      off = stands.off;
+      on = λ x here kept.
+          let h = stands.on x here kept in
+          record {
+            up = λ up. subst (λ es. Holds es (owner_of x) held) (sym (table_stays up)) (h.up up);
+            copied = λ none follows. absurd (false≢true follows);
+            lost = h.lost;
+          };
+    }
 
     -- a session that has lost none had none
     restarted_stands : (taken : Bool) → (s.condition ≡ condition.Up → ⊥) → StandsAt (restarted taken s) name held
     restarted_stands taken off =
         let none : s.condition ≡ condition.NoServer = without_up s.condition sure off in
-        let start = s.stored.start in
         let t = restarted taken s in
-        let change = bereft_if start s.gone s.failed_caller in
-        let names : KeepsNames change = bereft_named start s.gone s.failed_caller in
-        let mapped : session_at t.sessions name ≡ option_map change (session_at s.sessions name) = found_mapped change names name s.sessions in
+        let change = bereft_if s.failed_caller in
+        let mapped : session_at t.sessions name ≡ option_map change (session_at s.sessions name) =
+        found_mapped change (bereft_named s.failed_caller) name s.sessions in
         record {
           off = λ e. stands.off (none_from change (session_at s.sessions name) (sym mapped ∙ e));
           on = λ y e kept.
               let x = mapped_from change (session_at s.sessions name) y (sym mapped ∙ e) in
-              let spared = loses_none start s.gone s.failed_caller x.0 y x.1.1 kept in
+              let spared = loses_none s.failed_caller x.0 y x.1.1 kept in
               let whole : x.0.lost ≡ false = ap (λ (z : Session). z.lost) spared.same ∙ kept in
               let was = stands.on x.0 x.1.0 whole in
-              holds_up t (Upd (unit_key t.stored.start y)) held refl
+              holds_up t y held refl
               (λ a. at_most (often held a) _ (λ more. spared.none (was.lost none a more)));
         }
 
     attached_stands : s.condition ≡ condition.Up → StandsAt (attached s) name held
     attached_stands up = record {
       off = stands.off;
-      on = λ x here kept. holds_up (attached s) (owner_of x) held up ((stands.on x here kept).up up);
+      on = λ x here kept. holds_up (attached s) x held up ((stands.on x here kept).up up);
     }
 
-    each_other : OfEach (LeavesMore s name held) found s
+    each_other : OfEach (LeavesStanding s found name held) found s
     each_other = record {
-      refuses = λ call r plain over other once. stands;
-      enters = λ caller user free over other once. entered_stands caller user other;
-      logs_off = λ caller y at over other once. left_stands caller y at other;
-      grants = λ caller y rs locks at e over other once.
+      refuses = λ call r plain told other once. stands;
+      enters = λ caller user free told other once. entered_stands caller user other;
+      logs_off = λ caller y at told other once. left_stands caller y at other;
+      grants = λ caller y rs locks at e told other once.
           locks_stand locks (λ x here holds. asks (table_in s) (pair_of s.stored.start y) y.user rs locks (owner_of x) held e holds);
-      lowers = λ caller y rs at over other once. lowered_stands caller y rs at other;
-      frees = λ caller y at over other once. freed_stands caller y at other;
-      converts = λ caller y wanted c at e over other once.
+      lowers = λ caller y rs at told other once. lowered_stands caller y rs at other;
+      frees = λ caller y at told other once. freed_stands caller y at other;
+      converts = λ caller y wanted c at e told other once.
           locks_stand c.entries (λ x here holds. converts s.locks (pair_of s.stored.start y) wanted c (owner_of x) held e exclusive holds);
-      draws = λ caller y object nr r at can over other once.
+      draws = λ caller y object nr r at can told other once.
           drawn_stands caller y (present s.stored.levels r.interval) (next_number r (present s.stored.levels r.interval) y) at other;
-      reserves = λ caller y object nr upto r at can over other once. reserved_stands (present s.stored.levels r.interval) upto;
-      reads = λ caller y table key at over other once. stands;
-      commits_nothing = λ caller y parts stock at over other once. stands;
-      commits_numbers = λ caller y parts stock at over other once. numbered_stands caller y (y.draws ++ stock) stock at other;
-      commits = λ caller y parts stock at over other once. committed_stands caller y parts (y.draws ++ stock) stock at other;
-      rolls_back = λ caller y at over other once. rolled_stands caller y at other;
-      takes = λ worker part unit free e over other once. orders_stand _;
-      posts = λ worker part unit e over other once. posted_stands part worker unit (held_for part s.stored (order_of s.orders worker) unit e).1;
-      drops = λ worker unit e over other once. orders_stand _;
-      kills = λ up over other once. killed_stands up;
-      fails_over = λ list can over other once. absurd (true≢false over);
-      strays = λ first second none over other once. detached_stands;
-      attaches = λ up over other once. attached_stands up;
-      restarts = λ off over other once. restarted_stands (is_taken found.anew) off;
-      cancels = λ unit status can over other once. cancelled_stands unit status can.recorded;
-      reopens = λ unit es here stand over other once. absurd (true≢false once);
-      reposts = λ unit here over other once. absurd (true≢false once);
+      reserves = λ caller y object nr upto r at can told other once. reserved_stands (present s.stored.levels r.interval) upto;
+      reads = λ caller y table key at told other once. stands;
+      commits_nothing = λ caller y parts stock at told other once. stands;
+      commits_numbers = λ caller y parts stock at told other once. numbered_stands caller y (y.draws ++ stock) stock at other;
+      commits = λ caller y parts stock at told other once. committed_stands caller y parts (y.draws ++ stock) stock at other;
+      rolls_back = λ caller y at told other once. rolled_stands caller y at other;
+      takes = λ worker part unit free e told other once. orders_stand _;
+      posts = λ worker part unit e told other once. posted_stands part worker unit (held_for part s.stored (order_of s.orders worker) unit e).1;
+      drops = λ worker unit e told other once. orders_stand _;
+      kills = λ up told other once. killed_stands up;
+      fails_over = λ can told other once. over_stands found.list can.none can.followed (told refl);
+      strays = λ first second none told other once. detached_stands;
+      attaches = λ up told other once. attached_stands up;
+      restarts = λ off told other once. restarted_stands (is_taken found.anew) off;
+      cancels = λ unit status can told other once. cancelled_stands unit status can.recorded;
+      reopens = λ unit es here stand told other once. absurd (true≢false once);
+      reposts = λ unit here told other once. absurd (true≢false once);
     }
 
-    failover_stands : found.list ≡ s.locks → LeavesStanding s name held (OfAdmin FailsOver) (call_verdict found s (OfAdmin FailsOver))
-    failover_stands same =
-        by_failover (LeavesStanding s name held (OfAdmin FailsOver)) found s (λ r other once. stands)
-        (λ none follows other once. over_stands found.list none follows same) (λ r other once. detached_stands)
-
-    verdict_stands : (call : Call) → (call ≡ OfAdmin FailsOver → found.list ≡ s.locks) → LeavesStanding s name held call (call_verdict found s call)
-    verdict_stands call told =
-        elim (fails_over call) as (λ b. fails_over call ≡ b → LeavesStanding s name held call (call_verdict found s call)) [
-          | true ↦ λ e.
-              let is = over_is call e in
-              subst (λ c. LeavesStanding s name held c (call_verdict found s c)) (sym is) (failover_stands (told is))
-          | false ↦ by_call (LeavesMore s name held) found s each_other call
-        ] refl
+    verdict_stands : (call : Call) → LeavesStanding s found name held call (call_verdict found s call)
+    verdict_stands call = by_call (LeavesStanding s found name held) found s each_other call
 
   pub other_calls_hold : OtherCallsHold
   other_calls_hold s m name held quiet other exclusive stands =
@@ -357,7 +356,7 @@ module _ (asks : AskingLeaves) (frees : OthersFreeingLeaves) (ends : OwnerFreein
       let found = found_by reading s in
       let not_its : is_own name call ≡ false = sym (by_whom s m name quiet.answer) ∙ other in
       let told : call ≡ OfAdmin FailsOver → found.list ≡ s.locks =
-      λ is. list_found reading s quiet.link_told (subst (MayRead reading s) is quiet.answer.allowed.possible.reading) in
+      λ is. list_found reading s quiet.reached.link_told (subst (MayRead reading s) is quiet.answer.allowed.possible.reading) in
       by_quiet (λ r. (resubmits call && is_unit r.reply) ≡ false → StandsAt r.state name held) s m quiet
       (λ lost done h once. stands_losing lost done name held (h once)) (λ taken r h once. stands_past r.state _ name held (h once))
       (verdict_stands s found name held quiet.sure quiet.reached exclusive stands call told not_its) (λ once. stands)

@@ -43,10 +43,10 @@ use Rattle.cover_laws.proofs.sessions.NamedSessions.{found_changed, name_of}
 -- ---- other draws leave the open unit
 
 draw_keeps : (num : Num) → KeepsUnit (with_draw num)
-draw_keeps num = record { key = λ start x. refl; lost = λ x. refl }
+draw_keeps num = record { key = λ start x. refl; lost = λ x. refl; marked = λ x. refl }
 
 draws_keep : KeepsUnit without_draws
-draws_keep = record { key = λ start x. refl; lost = λ x. refl }
+draws_keep = record { key = λ start x. refl; lost = λ x. refl; marked = λ x. refl }
 
 -- the session has other draws, and the store other levels
 own_drawn : (s : State) (name : List ℕ) (x : Session) (i : Interval) (number : ℕ) → x.name ≡ name → IsBeside s (drawn s x i number) name
@@ -57,18 +57,17 @@ own_drawn s name x i number own =
     subst (λ n. session_at (with_session n (with_draw num) s.sessions) name ≡ option_map (with_draw num) (session_at s.sessions name)) (sym own)
     (found_changed (with_draw num) (λ n y. refl) name s.sessions) in
     let behind : State = record t { ranges = handed_out i t.ranges; stored = raised_to i number t.stored } in
-    let beside : (after : State) → after.condition ≡ s.condition → (after.attached ≡ true → s.attached ≡ true) → after.gone ≡ s.gone
+    let beside : (after : State) → after.condition ≡ s.condition → (after.attached ≡ true → s.attached ≡ true)
     → after.stored.start ≡ s.stored.start → session_at after.sessions name ≡ session_at t.sessions name → IsBeside s after name =
-    λ after condition follows gone start same. record {
+    λ after condition follows start same. record {
       condition = condition;
       follows = follows;
-      gone = gone;
       start = start;
       there = changed_session s after name (with_draw num) (draw_keeps num) (same ∙ found);
     } in
     elim (is_buffered i) as (λ b. IsBeside s (if b then behind else t) name) [
-      | true ↦ beside behind refl (λ on. on) refl (raised_start i number s.stored) refl
-      | false ↦ beside t refl (λ on. on) refl refl refl
+      | true ↦ beside behind refl (λ on. on) (raised_start i number s.stored) refl
+      | false ↦ beside t refl (λ on. on) refl refl
     ]
 
 -- ---- all calls of the session
@@ -146,7 +145,7 @@ module _ (adds : AskingAdds) (frees : FreeingLeaves) (converts : ConvertingLeave
     reserved_stands i upto moves =
         let t : State = record s { stored = raised_to i upto s.stored } in
         kept_stands t
-        (record { condition = refl; follows = λ on. on; gone = refl; start = raised_start i upto s.stored; there = same_session s t name refl }) refl moves
+        (record { condition = refl; follows = λ on. on; start = raised_start i upto s.stored; there = same_session s t name refl }) refl moves
 
     numbered_stands : (caller : List ℕ) (x : Session) (numbers stock : List Num) → bytes_eq caller name ≡ true → session_at s.sessions caller ≡ Some x
         → now ≡ held → StandsAt (stocked stock (numbered s x numbers)) name now
@@ -156,12 +155,12 @@ module _ (adds : AskingAdds) (frees : FreeingLeaves) (converts : ConvertingLeave
         subst (λ n. session_at (with_session n without_draws s.sessions) name ≡ option_map without_draws (session_at s.sessions name))
         (sym (own_called caller x own at)) (found_changed without_draws (λ n y. refl) name s.sessions) in
         kept_stands t
-        (record { condition = refl; follows = λ on. on; gone = refl; start = refl; there = changed_session s t name without_draws draws_keep there }) refl moves
+        (record { condition = refl; follows = λ on. on; start = refl; there = changed_session s t name without_draws draws_keep there }) refl moves
 
     stocked_stands : (stock : List Num) → now ≡ held → StandsAt (stocked stock s) name now
     stocked_stands stock moves =
         let t = stocked stock s in
-        kept_stands t (record { condition = refl; follows = λ on. on; gone = refl; start = refl; there = same_session s t name refl }) refl moves
+        kept_stands t (record { condition = refl; follows = λ on. on; start = refl; there = same_session s t name refl }) refl moves
 
     each_own : OfEach (LeavesMore s name held now) found s
     each_own = record {
@@ -187,7 +186,7 @@ module _ (adds : AskingAdds) (frees : FreeingLeaves) (converts : ConvertingLeave
       posts = λ worker part unit e bare own. absurd (false≢true own);
       drops = λ worker unit e bare own. absurd (false≢true own);
       kills = λ up bare own. absurd (false≢true own);
-      fails_over = λ list can bare own. absurd (false≢true own);
+      fails_over = λ can bare own. absurd (false≢true own);
       strays = λ first second none bare own. absurd (false≢true own);
       attaches = λ up bare own. absurd (false≢true own);
       restarts = λ off bare own. absurd (false≢true own);

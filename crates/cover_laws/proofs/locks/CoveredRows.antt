@@ -10,6 +10,7 @@ use Rattle.enq_base.specs.Owners.{same_owner, same_unit}
 use Rattle.enq_base.specs.declared.owner.Owner.{Owner}
 use Rattle.enq_base.specs.declared.owner.Owner.TheVariants.{Upd}
 use Rattle.enq_base.specs.declared.owner.UnitKey.{UnitKey}
+use Rattle.enq_server.specs.Server.{of_user}
 use Rattle.mode_rules.specs.Modes.{is_lenient, modes_clash}
 use Rattle.mode_rules.specs.declared.Mode.{Mode}
 use Rattle.mode_rules.specs.declared.Mode.TheVariants.{S, E, X, O}
@@ -27,7 +28,7 @@ use Rattle.lock_entry.proofs.Naming.{bytes_eq-refl, bytes_eq-same, same_name-sam
 use Rattle.coverage.specs.Locks.{covers, is_exclusive}
 use Rattle.cover_laws.proofs.needed.LocksNeeded.{HandingCovers, HeldCovers, Holds, OneCovers, often}
 use Rattle.cover_laws.proofs.locks.HeldLocks.{handing_leaves}
-use Rattle.cover_laws.proofs.locks.LockCounts.{count-filter}
+use Rattle.cover_laws.proofs.locks.LockCounts.{count-filter, count-user}
 use Rattle.cover_laws.proofs.locks.OftenAsked.{same_asked-refl}
 
 -- ---- elements
@@ -130,10 +131,15 @@ holds-own locks owner held holds = λ (a : Asked).
     let same : count_at (filter (is_of owner) locks) n ≡ count_at locks n = count-filter n (is_of owner) (own-named owner a) locks in
     omega arith
 
+holds-user : (user : List ℕ) (locks : List Entry) (owner : Owner) (held : List Asked) → Holds locks owner held → Holds (of_user user locks) owner held
+holds-user user locks owner held holds = λ (a : Asked). subst (λ k. often held a ≤ k) (sym (count-user (named owner a) user locks)) (holds a)
+
 pub handing_covers : HandingCovers
-handing_covers locks unit held table key firm holds covers_it =
-    held_covers (filter (is_of (Upd unit)) (handed_over locks unit)) (Upd unit) held table key firm
-    (holds-own (handed_over locks unit) (Upd unit) held (handing_leaves locks unit (Upd unit) held firm holds)) covers_it
+handing_covers user locks unit held table key firm holds covers_it =
+    let own_locks = filter (is_of (Upd unit)) (handed_over locks unit) in
+    held_covers (of_user user own_locks) (Upd unit) held table key firm
+    (holds-user user own_locks (Upd unit) held
+    (holds-own (handed_over locks unit) (Upd unit) held (handing_leaves locks unit (Upd unit) held firm holds))) covers_it
 
 -- ---- two locks on one row
 

@@ -8,6 +8,7 @@ use Rattle.std.proofs.lemmas.Map.Views.{any-filter_same}
 use Rattle.enq_base.specs.declared.owner.Owner.{Owner}
 use Rattle.enq_base.specs.declared.owner.Owner.TheVariants.{Upd}
 use Rattle.enq_base.specs.declared.owner.UnitKey.{UnitKey}
+use Rattle.enq_server.specs.Server.{of_user, with_user}
 use Rattle.mode_rules.specs.Modes.{same_mode}
 use Rattle.mode_rules.specs.declared.Mode.TheVariants.{O}
 use Rattle.lock_entry.specs.Freeing.{flagged, freed, handed_over, lowered, without_optimistic}
@@ -143,6 +144,10 @@ count-map n f k c (e ∷ es) =
       | inl here ↦ let new : has_name n (f e) ≡ true = k e ∙ here in rw (new, here) (c e)
       | inr other ↦ let new : has_name n (f e) ≡ false = k e ∙ other in rw (new, other) (count-map n f k c es)
     ]
+
+-- under another user they are the same
+pub count-user : (n : LockName) (user : List ℕ) (es : List Entry) → count_at (of_user user es) n ≡ count_at es n
+count-user n user es = count-map n (with_user user) (λ e. refl) (λ e. refl) es
 
 flagged-name : (owner : Owner) (n : LockName) (e : Entry) → has_name n (flagged owner e) ≡ has_name n e
 flagged-name owner n e = elim (cases_Bool (is_of owner e)) [ inl own ↦ rw own refl | inr other ↦ rw other refl ]

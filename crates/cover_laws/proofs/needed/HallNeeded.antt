@@ -34,7 +34,7 @@ use Rattle.cover_laws.proofs.needed.LocksNeeded.{IsCoveredIn}
 
 -- ---- states of a history
 
--- a state to which calls lead
+-- a state to which calls lead, over a link that tells its list
 pub record IsReached (s : State) : Type 0 where
   pub calls : ℕ
   pub few : HasFew calls s
@@ -42,12 +42,13 @@ pub record IsReached (s : State) : Type 0 where
   pub sound : HasSoundLocks s
   pub open_units : HasOpenUnits s
   pub landing : OfPending s.pending (HasLanding s)
+  pub link_told : s.link_told ≡ true
 
 abbrev pub IsSure : State → Type 0
 IsSure s = (k : ℕ) → s.condition ≢ Doubt k
 
 -- One call of the histories that are meant: it is answered as the model answers it, the server is in doubt neither before nor behind
--- it, it tries no unit again, and it is no refused one of a session. The devices tell what they have.
+-- it, it tries no unit again, and it is no refused one of a session. The store tells its rows.
 pub record IsQuiet (s : State) (m : Made) : Type 0 where
   pub reached : IsReached s
   pub answer : IsModelAnswer s m
@@ -56,7 +57,6 @@ pub record IsQuiet (s : State) (m : Made) : Type 0 where
   pub once : tries_again m.call ≡ false
   pub served : fails_a_session m.call ≡ false
   pub told : s.told ≡ true
-  pub link_told : s.link_told ≡ true
 
 -- each of these calls is one
 abbrev pub AreQuiet : State → List Made → Type 0
@@ -131,7 +131,7 @@ pub record Records (s t : State) (name : List ℕ) (unit : UnitKey) : Type 0 whe
   pub key : unit_key s.stored.start session ≡ unit
   pub kept : session.lost ≡ false
   pub waits : IsOpenUnit t.stored unit
-  pub entries : entries_of t.stored.units unit ≡ handed_locks s.locks unit
+  pub entries : entries_of t.stored.units unit ≡ handed_locks session.user s.locks unit
 
 abbrev pub CommitsRecord : Type 0
 CommitsRecord =

@@ -1,10 +1,8 @@
 -- What is needed of the locks of a session: each call leaves its open unit those that its lines asked for, or it has lost one.
 use Rattle.std.specs.Prelude.{◌≡◌, ℕ, ◌≤◌, true, false, nat_lt, if◌then◌else◌, List, [], ◌++◌, Some, None}
-use Rattle.std.specs.List.{list_any}
 use Rattle.enq_base.specs.declared.condition.Condition.TheVariants.{Up, NoServer}
 use Rattle.enq_base.specs.declared.owner.Owner.{Owner}
 use Rattle.enq_base.specs.declared.owner.Owner.TheVariants.{Upd}
-use Rattle.lock_entry.specs.Names.{is_of}
 use Rattle.lock_entry.specs.declared.entry.Asked.{Asked}
 use Rattle.hall_model.specs.Calls.{Call, LogsOn, OfSession, OfWorker, OfAdmin, LogsOff, Asks, Frees, FreesAll, Commits, RollsBack, call_of}
 use Rattle.hall_model.specs.Recall.{Made, recalled}
@@ -17,20 +15,23 @@ use Rattle.cover_laws.proofs.needed.HallNeeded.{IsQuiet}
 use Rattle.cover_laws.specs.Histories.{is_by}
 use Rattle.cover_laws.proofs.needed.LocksNeeded.{AreExclusive, Holds, often, update_asked}
 
--- in these places the owner has its locks
-pub record HoldsIn (s : State) (owner : Owner) (held : List Asked) : Type 0 where
+-- the owner of a session's open unit
+abbrev pub unit_owner : State → Session → Owner
+unit_owner s x = Upd (unit_key s.stored.start x)
+
+-- in these places the open unit of the session has its locks
+pub record HoldsIn (s : State) (x : Session) (held : List Asked) : Type 0 where
   -- while there is a lock server, in its table
-  pub up : s.condition ≡ Up → Holds s.locks owner held
-  -- where there is none, in what a replica has of it, so that the table may go on
-  pub copied : s.condition ≡ NoServer → s.attached ≡ true → Holds s.locks owner held
-  -- and what it loses with a table that is made anew is one of its locks, if it has any
-  pub lost : s.condition ≡ NoServer → (a : Asked) → 1 ≤ often held a → list_any (is_of owner) s.gone ≡ true
+  pub up : s.condition ≡ Up → Holds s.locks (unit_owner s x) held
+  -- where there is none, in the list of a replica that followed it, so that the table may go on
+  pub copied : s.condition ≡ NoServer → s.attached ≡ true → Holds s.locks (unit_owner s x) held
+  -- and the session is marked where it had any, so that it loses with a table that is made anew
+  pub lost : s.condition ≡ NoServer → (a : Asked) → 1 ≤ often held a → x.marked ≡ true
 
 -- the open unit of the session has these locks, or the session has lost one
 pub record StandsAt (s : State) (name : List ℕ) (held : List Asked) : Type 0 where
   pub off : session_at s.sessions name ≡ None → held ≡ []
-  pub on : (x : Session) → session_at s.sessions name ≡ Some x → x.lost ≡ false
-      → HoldsIn s (Upd (unit_key s.stored.start x)) held
+  pub on : (x : Session) → session_at s.sessions name ≡ Some x → x.lost ≡ false → HoldsIn s x held
 
 -- what a call of the session makes of the locks that its lines have asked for
 abbrev pub MovesHeld : Call → (held now : List Asked) → Type 0

@@ -5,6 +5,7 @@ use Rattle.enq_base.specs.Owners.{same_owner}
 use Rattle.enq_base.specs.declared.owner.Owner.{Owner}
 use Rattle.enq_base.specs.declared.owner.Owner.TheVariants.{Upd}
 use Rattle.enq_base.specs.declared.owner.UnitKey.{UnitKey}
+use Rattle.enq_server.specs.Server.{of_user}
 use Rattle.lock_entry.specs.Converting.{Conversion, converted}
 use Rattle.lock_entry.specs.Freeing.{freed, freed_owner, handed_over}
 use Rattle.lock_entry.specs.Granting.{asked}
@@ -99,12 +100,12 @@ HeldCovers =
     (locks : List Entry) (owner : Owner) (held : List Asked) (table key : List ℕ) → AreExclusive held → Holds locks owner held
     → IsTrue (covered table key held) → IsCoveredByHeld locks owner held table key
 
--- and it is handed over with the unit
+-- and it is handed over with the unit, and stored with it
 abbrev pub HandingCovers : Type 0
 HandingCovers =
-    (locks : List Entry) (unit : UnitKey) (held : List Asked) (table key : List ℕ) → AreExclusive held → Holds locks (Upd unit) held
+    (user : List ℕ) (locks : List Entry) (unit : UnitKey) (held : List Asked) (table key : List ℕ) → AreExclusive held → Holds locks (Upd unit) held
     → IsTrue (covered table key held)
-    → IsCoveredByHeld (filter (is_of (Upd unit)) (handed_over locks unit)) (Upd unit) held table key
+    → IsCoveredByHeld (of_user user (filter (is_of (Upd unit)) (handed_over locks unit))) (Upd unit) held table key
 
 -- no two units have exclusive locks on one row in a table whose locks may stand together, where these locks have one length
 abbrev pub OneCovers : Type 0

@@ -16,9 +16,9 @@ use Rattle.hall_model.specs.Calls.{Call, LogsOn, OfSession, OfWorker, OfAdmin, L
 use Rattle.hall_model.specs.History.{Served, judged, step}
 use Rattle.hall_model.specs.Numbers.{drawn, raised_to}
 use Rattle.hall_model.specs.Recall.{Made, again}
-use Rattle.hall_model.specs.Sessions.{begun, bereft_if, session_at, with_draw, with_fresh_unit, with_next_unit, with_session, without_draws, without_session}
+use Rattle.hall_model.specs.Sessions.{begun, bereft_if, session_at, with_draw, with_fresh_unit, with_mark, with_next_unit, with_session, without_draws, without_session}
 use Rattle.hall_model.specs.State.{State}
-use Rattle.hall_model.specs.Step.{Found, posted_reply}
+use Rattle.hall_model.specs.Step.{Found, has_lock, posted_reply}
 use Rattle.hall_model.specs.declared.command.Command.{Command}
 use Rattle.hall_model.specs.declared.command.Command.TheVariants as command
 use Rattle.hall_model.specs.declared.command.Reply.{Reply}
@@ -109,11 +109,11 @@ each_turns name found s = record {
   takes = λ worker part unit free e. refl;
   posts = λ worker part unit e. either_way (is_refused (posted_reply part unit (found.part part unit))) (is_on s name);
   drops = λ worker unit e. refl;
-  kills = λ up. refl;
-  fails_over = λ list can. refl;
+  kills = λ up. each_on (with_mark (has_lock s)) (λ n y. refl) name s.sessions;
+  fails_over = λ can. each_on (with_mark (λ x. false)) (λ n y. refl) name s.sessions;
   strays = λ first second none. refl;
   attaches = λ up. refl;
-  restarts = λ off. each_on (bereft_if s.stored.start s.gone s.failed_caller) (bereft_named s.stored.start s.gone s.failed_caller) name s.sessions;
+  restarts = λ off. each_on (bereft_if s.failed_caller) (bereft_named s.failed_caller) name s.sessions;
   cancels = λ unit status can. refl;
   reopens = λ unit es here stand. refl;
   reposts = λ unit here. refl;

@@ -8,7 +8,6 @@ use Rattle.std.proofs.lemmas.Bool.{and_left, and_right, cases_Bool}
 use Rattle.std.proofs.lemmas.Bool.Decides.{nat_tests}
 use Rattle.enq_base.specs.Owners.{same_owner}
 use Rattle.enq_base.specs.declared.owner.Owner.TheVariants.{Upd}
-use Rattle.lock_entry.specs.declared.entry.Entry.{Entry}
 use Rattle.hall_model.specs.declared.command.Session.{Session}
 use Rattle.hall_model.specs.Kept.{AreNumbered}
 use Rattle.hall_model.specs.Sessions.{bereft, bereft_if, is_called, loses, session_at, unit_key, with_session, without_session}
@@ -26,9 +25,9 @@ apart_from own name other same apart = ap (λ n. bytes_eq n other) ((bytes_decid
 abbrev pub KeepsNames : (Session → Session) → Type 0
 KeepsNames change = (name : List ℕ) (x : Session) → is_called name (change x) ≡ is_called name x
 
-pub bereft_named : (start : ℕ) (gone : List Entry) (caller : Option (List ℕ)) → KeepsNames (bereft_if start gone caller)
-bereft_named start gone caller name x =
-    elim (loses start gone caller x) as (λ b. is_called name (if b then bereft x else x) ≡ is_called name x) [ true ↦ refl | false ↦ refl ]
+pub bereft_named : (caller : Option (List ℕ)) → KeepsNames (bereft_if caller)
+bereft_named caller name x =
+    elim (loses caller x) as (λ b. is_called name (if b then bereft x else x) ≡ is_called name x) [ true ↦ refl | false ↦ refl ]
 
 -- ---- one of the sessions is changed
 

@@ -1,13 +1,12 @@
 -- A unit that a session has open in two states it has open in each between: numbers of sessions are never taken again, and the
 -- number of a session's unit only rises.
-use Rattle.std.proofs.Common.{◌≡◌, ◌⊎◌, inl, inr, ℕ, ◌≤◌, ◌<◌, true, false, cond, List, [], ◌∷◌, ◌++◌, map, refl, sym, ap, ◌∙◌, subst, arith, le_refl}
+use Rattle.std.proofs.Common.{◌≡◌, ◌⊎◌, inl, inr, ℕ, ◌≤◌, ◌<◌, Bool, true, false, cond, List, [], ◌∷◌, ◌++◌, map, refl, sym, ap, ◌∙◌, subst, arith, le_refl}
 use Rattle.std.specs.Prelude.{Option, Some, None, if◌then◌else◌}
 use Rattle.std.specs.Cmp.Lexicographic.{bytes_decides}
 use Rattle.std.specs.Option.{option_map, option_map_or}
 use Rattle.std.specs.Str.{bytes_eq}
 use Rattle.std.proofs.lemmas.List.Sums.{fold-append}
 use Rattle.enq_base.specs.declared.owner.UnitKey.{UnitKey}
-use Rattle.lock_entry.specs.declared.entry.Entry.{Entry}
 use Rattle.number_ranges.specs.Intervals.{is_buffered}
 use Rattle.number_ranges.specs.declared.interval.Interval.{Interval}
 use Rattle.ledger_steps.specs.Drawn.{handed_out, num_of}
@@ -21,9 +20,9 @@ use Rattle.hall_model.specs.Calls.{call_of}
 use Rattle.hall_model.specs.History.{judged}
 use Rattle.hall_model.specs.Numbers.{drawn, raised_to}
 use Rattle.hall_model.specs.Recall.{Made, recalled, state_after}
-use Rattle.hall_model.specs.Sessions.{begun, bereft, bereft_if, is_called, loses, session_at, unit_key, with_draw, with_fresh_unit, with_next_unit, with_session, without_draws, without_session}
+use Rattle.hall_model.specs.Sessions.{begun, bereft, bereft_if, is_called, loses, session_at, unit_key, with_draw, with_fresh_unit, with_mark, with_next_unit, with_session, without_draws, without_session}
 use Rattle.hall_model.specs.State.{State}
-use Rattle.hall_model.specs.Step.{Found, is_taken}
+use Rattle.hall_model.specs.Step.{Found, has_lock, is_taken}
 use Rattle.hall_model.specs.declared.command.Session.{Session}
 use Rattle.cover_laws.proofs.calls.DrawnAlone.{raised_start}
 use Rattle.cover_laws.proofs.needed.HallNeeded.{AreQuiet, IsQuiet, IsReached, StaysOpen, UnitsStayOpen}
@@ -51,9 +50,11 @@ fresh_later x = record { number = refl; luw = omega arith; lost = λ e. absurd (
 bereft_later : (x : Session) → IsLater x (bereft x)
 bereft_later x = record { number = refl; luw = omega arith; lost = λ e. absurd (omega (arith, e)) }
 
-lost_later : (start : ℕ) (locks : List Entry) (caller : Option (List ℕ)) (x : Session) → IsLater x (bereft_if start locks caller x)
-lost_later start locks caller x =
-    elim (loses start locks caller x) as (λ b. IsLater x (if b then bereft x else x)) [ true ↦ bereft_later x | false ↦ later_self x ]
+lost_later : (caller : Option (List ℕ)) (x : Session) → IsLater x (bereft_if caller x)
+lost_later caller x = elim (loses caller x) as (λ b. IsLater x (if b then bereft x else x)) [ true ↦ bereft_later x | false ↦ later_self x ]
+
+mark_later : (had_lock : Session → Bool) (x : Session) → IsLater x (with_mark had_lock x)
+mark_later had_lock x = record { number = refl; luw = le_refl x.luw; lost = λ e. refl }
 
 later_more : (x y z : Session) → IsLater x y → IsLater y z → IsLater x z
 later_more x y z h k =
@@ -158,6 +159,14 @@ changed_goes name s x change start keeps later same = record {
   session = with_from change keeps later s.next_session x.name name s.sessions;
 }
 
+each_goes_on : (name : List ℕ) (s : State) (change : Session → Session) (start : ℕ) → KeepsNames change → ((y : Session) → IsLater y (change y))
+    → start ≡ s.stored.start → IsBehind name s.next_session s.next_session s.stored.start start s.sessions (map change s.sessions)
+each_goes_on name s change start keeps later same = record {
+  numbers = le_refl s.next_session;
+  starts = same;
+  session = each_from change keeps later s.next_session name s.sessions;
+}
+
 drawn_goes : (name : List ℕ) (s : State) (x : Session) (i : Interval) (number : ℕ) → GoesOn name s (drawn s x i number)
 drawn_goes name s x i number =
     let change : Session → Session = with_draw (num_of i number) in
@@ -196,18 +205,13 @@ each_goes name found s none = record {
   takes = λ worker part unit free e. stays name s;
   posts = λ worker part unit e. stays name s;
   drops = λ worker unit e. stays name s;
-  kills = λ up. stays name s;
-  fails_over = λ list can. stays name s;
+  kills = λ up. each_goes_on name s (with_mark (has_lock s)) s.stored.start (λ n y. refl) (mark_later (has_lock s)) refl;
+  fails_over = λ can. each_goes_on name s (with_mark (λ x. false)) s.stored.start (λ n y. refl) (mark_later (λ x. false)) refl;
   strays = λ first second none. stays name s;
   attaches = λ up. stays name s;
   restarts = λ off.
-      let start = s.stored.start in
-      let change = bereft_if start s.gone s.failed_caller in
-      record {
-        numbers = le_refl s.next_session;
-        starts = ap (λ (l : Ledger). l.start) (anew_as_before (is_taken found.anew) s none);
-        session = each_from change (bereft_named start s.gone s.failed_caller) (lost_later start s.gone s.failed_caller) s.next_session name s.sessions;
-      };
+      each_goes_on name s (bereft_if s.failed_caller) _ (bereft_named s.failed_caller) (lost_later s.failed_caller)
+      (ap (λ (l : Ledger). l.start) (anew_as_before (is_taken found.anew) s none));
   cancels = λ unit status can. stays name s;
   reopens = λ unit es here stand. stays name s;
   reposts = λ unit here. stays name s;

@@ -65,7 +65,7 @@ each-tells found s = record {
   posts = λ worker part unit e. record { told = refl; link_told = refl };
   drops = λ worker unit e. record { told = refl; link_told = refl };
   kills = λ up. record { told = refl; link_told = refl };
-  fails_over = λ list can. record { told = refl; link_told = refl };
+  fails_over = λ can. record { told = refl; link_told = refl };
   strays = λ first second none. record { told = refl; link_told = refl };
   attaches = λ up. record { told = refl; link_told = refl };
   restarts = λ off. record { told = refl; link_told = refl };
@@ -98,15 +98,21 @@ recalled-tells s m =
 record GoesRight (s : State) : Type 0 where
   reached : IsReached s
   told : s.told ≡ true
-  link_told : s.link_told ≡ true
 
 first_right : (first : State) → IsBegun first → GoesRight first
 first_right first h =
     let kept = h.order in
     record {
-      reached = record { calls = _; few = kept.few; steady = kept.steady; sound = kept.sound; open_units = kept.open_units; landing = kept.landing };
+      reached = record {
+        calls = _;
+        few = kept.few;
+        steady = kept.steady;
+        sound = kept.sound;
+        open_units = kept.open_units;
+        landing = kept.landing;
+        link_told = ap (λ s. s.link_told) h.start;
+      };
       told = ap (λ s. s.told) h.start;
-      link_told = ap (λ s. s.link_told) h.start;
     }
 
 next_right : (s : State) (m : Made) → GoesRight s → IsModelAnswer s m → GoesRight (recalled s m)
@@ -128,9 +134,9 @@ next_right s m h answer =
         sound = after.sound;
         open_units = after.open_units;
         landing = after.landing;
+        link_told = tells.link_told ∙ reached.link_told;
       };
       told = tells.told ∙ h.told;
-      link_told = tells.link_told ∙ h.link_told;
     }
 
 quiet_from : (s : State) (made : List Made) → GoesRight s → AnswersFrom s made → StaysSure s made → list_any tries_again (calls_of made) ≡ false
@@ -147,7 +153,6 @@ quiet_from s (m ∷ ms) right answers sure once served =
       once = once_parts.0;
       served = served_parts.0;
       told = right.told;
-      link_told = right.link_told;
     } in
     let sure_then : StaysSure (recalled s m) ms = λ earlier later k e. sure (m ∷ earlier) later k (ap (λ es. m ∷ es) e) in
     (now, quiet_from (recalled s m) ms (next_right s m right answers.0) answers.1 sure_then once_parts.1 served_parts.1)

@@ -45,7 +45,7 @@ module _ (all : AllNeeded) (objects : List Object) (lines : List Numbered) (clea
       let parts : AreQuiet t (ms ++ (rest ++ d ∷ later)) =
       subst (λ xs. AreQuiet t xs) (ap (λ xs. xs ++ d ∷ later) e ∙ append_assoc ms rest (d ∷ later)) quiet in
       let reached : IsReached (state_after t ms) = reached_now (state_after t ms) rest later d (quiet_right t ms (rest ++ d ∷ later) parts) in
-      handed_shields all objects lines clean s (state_after t ms) name unit table key covers records.up reached.open_units on.waits
+      handed_shields all objects lines clean s (state_after t ms) name records.session.user unit table key covers records.up reached on.waits
       (on.entries ∙ records.entries)
 
   -- the row stands from the reading to the call that settles the unit

@@ -5,7 +5,6 @@ use Rattle.std.proofs.lemmas.List.Folds.{Any-from_list_any}
 use Rattle.std.specs.Prelude.{Contains, IsTrue, Some}
 use Rattle.std.specs.List.{list_any}
 use Rattle.std.specs.Str.{bytes_eq}
-use Rattle.enq_base.specs.declared.condition.Condition.{Condition}
 use Rattle.enq_base.specs.declared.condition.Condition.TheVariants.{Up}
 use Rattle.enq_base.specs.declared.owner.Owner.TheVariants.{Upd}
 use Rattle.enq_base.specs.declared.owner.UnitKey.{UnitKey}
@@ -20,7 +19,6 @@ use Rattle.ledger_steps.specs.Posts.{entries_of}
 use Rattle.ledger_steps.specs.Steps.{IsOpenUnit}
 use Rattle.update_records.specs.Ledger.{Ledger}
 use Rattle.update_records.specs.Marks.{status_of, v1_of, v2_of}
-use Rattle.hall_model.specs.Kept.{HasOpenUnits, OutsideDoubt}
 use Rattle.hall_model.specs.OpenUnits.{HoldsOpenUnits}
 use Rattle.hall_model.specs.Recall.{Made, recalled, state_after}
 use Rattle.hall_model.specs.State.{State}
@@ -30,10 +28,11 @@ use Rattle.hall_model.specs.declared.command.Reply.TheVariants as reply
 use Rattle.coverage.specs.Lacks.{Numbered, is_guarded, lacks}
 use Rattle.coverage.specs.Locks.{covers}
 use Rattle.cover_laws.proofs.Lists.{contains_all}
+use Rattle.cover_laws.proofs.calls.QuietCalls.{held_up}
 use Rattle.cover_laws.proofs.theorem.WellHistories.{GoesWell, next_well}
 use Rattle.cover_laws.proofs.needed.AllNeeded.{AllNeeded}
 use Rattle.cover_laws.proofs.needed.CoverageNeeded.{IsGiven}
-use Rattle.cover_laws.proofs.needed.HallNeeded.{AreWell, IsQuiet, effects_posted, names_row}
+use Rattle.cover_laws.proofs.needed.HallNeeded.{AreWell, IsQuiet, IsReached, effects_posted, names_row}
 use Rattle.cover_laws.specs.Histories.{IsDone, NoneSettles, settles}
 use Rattle.cover_laws.proofs.needed.LocksNeeded.{IsCoveredIn}
 
@@ -54,10 +53,10 @@ not_done ledger unit status is open_still kept (inl e) = open_still (let both : 
 not_done ledger unit status is open_still kept (inr e) = kept (let both : Some status ≡ Some Cancelled = sym is ∙ e in cc)
 
 -- the locks that are stored with a unit that waits for its V1 part stand in the table
-pub stored_stand : (s : State) (unit : UnitKey) (x : Entry) → HasOpenUnits s → s.condition ≡ Up → IsOpenUnit s.stored unit
+pub stored_stand : (s : State) (unit : UnitKey) (x : Entry) → IsReached s → s.condition ≡ Up → IsOpenUnit s.stored unit
     → Contains (entries_of s.stored.units unit) x → Contains s.locks x
-stored_stand s unit x has up waits is =
-    let held : HoldsOpenUnits s.locks s.stored = subst (λ (c : Condition). OutsideDoubt c (HoldsOpenUnits s.locks s.stored)) up has.held in
+stored_stand s unit x reached up waits is =
+    let held : HoldsOpenUnits s.locks s.stored = held_up s reached up in
     contains_all (is_of (Upd unit)) s.locks x (subst (λ xs. Contains xs x) (sym (held.units unit waits)) is)
 
 covered_table : (table key : List ℕ) (x : Entry) → IsTrue (covers table key (asked_of x)) → x.table ≡ table
@@ -106,7 +105,7 @@ module _ (all : AllNeeded) (objects : List Object) (lines : List Numbered) (clea
             let stored : Contains (entries_of s.stored.units other) lock = subst (λ xs. Contains xs lock) (sym at.1.1.1.1) theirs.0.stands in
             let other_lock : IsCoveredIn s.locks (Upd other) table key = record {
               lock = lock;
-              stands = stored_stand s other lock quiet.reached.open_units waits.up waits.waits stored;
+              stands = stored_stand s other lock quiet.reached waits.up waits.waits stored;
               owned = theirs.0.owned ∙ ap Upd same;
               exclusive = theirs.0.exclusive;
               fits =

@@ -14,7 +14,6 @@ use Rattle.ledger_steps.specs.Steps.{IsOpenUnit}
 use Rattle.script_lang.specs.declared.script_line.ScriptLine.{ScriptLine}
 use Rattle.script_lang.specs.declared.script_line.ScriptLine.TheVariants as line
 use Rattle.script_runner.specs.Lines.{Calls}
-use Rattle.hall_model.specs.Kept.{HasOpenUnits}
 use Rattle.hall_model.specs.Recall.{Made, recalled, state_after}
 use Rattle.hall_model.specs.Sessions.{session_at, unit_key}
 use Rattle.hall_model.specs.State.{State}
@@ -32,7 +31,7 @@ use Rattle.cover_laws.proofs.Lists.{contains_first, mapped_from}
 use Rattle.cover_laws.proofs.theorem.WellHistories.{GoesWell, called_by, lines_at_commit}
 use Rattle.cover_laws.proofs.needed.AllNeeded.{AllNeeded}
 use Rattle.cover_laws.proofs.needed.CoverageNeeded.{ReadIsCovered, Unended, stand}
-use Rattle.cover_laws.proofs.needed.HallNeeded.{AreQuiet, FitsReply, IsPast, IsQuiet, Records, WaitsOn, has_lost}
+use Rattle.cover_laws.proofs.needed.HallNeeded.{AreQuiet, FitsReply, IsPast, IsQuiet, IsReached, Records, WaitsOn, has_lost}
 use Rattle.cover_laws.specs.Histories.{IsCommitBy, is_by, open_unit}
 use Rattle.cover_laws.proofs.needed.HoldingNeeded.{StandsAt}
 use Rattle.cover_laws.proofs.needed.LinesNeeded.{IsCommitLine, IsReadLine, NextCall, Place}
@@ -236,18 +235,19 @@ module _ (all : AllNeeded) (objects : List Object) (lines : List Numbered) (clea
   -- ---- behind the COMMIT
 
   -- and one that is handed over covers it
-  pub handed_shields : (s t : State) (name : List ℕ) (unit : UnitKey) (table key : List ℕ) → CoversIn objects lines s name unit table key → s.condition ≡ Up
-      → HasOpenUnits t → IsOpenUnit t.stored unit → entries_of t.stored.units unit ≡ handed_locks s.locks unit → Shields objects t unit table key
-  handed_shields s t name unit table key h up has waits entries up_then =
-      let found : IsCoveredByHeld (handed_locks s.locks unit) (Upd unit) (stand objects h.done).held table key =
-      all.handing_covers s.locks unit (stand objects h.done).held table key (all.held_is_exclusive objects h.done)
+  pub handed_shields : (s t : State) (name user : List ℕ) (unit : UnitKey) (table key : List ℕ) → CoversIn objects lines s name unit table key
+      → s.condition ≡ Up → IsReached t → IsOpenUnit t.stored unit → entries_of t.stored.units unit ≡ handed_locks user s.locks unit
+      → Shields objects t unit table key
+  handed_shields s t name user unit table key h up reached waits entries up_then =
+      let found : IsCoveredByHeld (handed_locks user s.locks unit) (Upd unit) (stand objects h.done).held table key =
+      all.handing_covers user s.locks unit (stand objects h.done).held table key (all.held_is_exclusive objects h.done)
       (unit_holds s name unit table key h up) h.covers in
       let lock = found.covers in
       let stored : Contains (entries_of t.stored.units unit) lock.lock = subst (λ xs. Contains xs lock.lock) (sym entries) lock.stands in
       record {
         lock = record {
           lock = lock.lock;
-          stands = stored_stand t unit lock.lock has up_then waits stored;
+          stands = stored_stand t unit lock.lock reached up_then waits stored;
           owned = lock.owned;
           exclusive = lock.exclusive;
           fits = lock.fits;

@@ -99,13 +99,14 @@ module _ (all : AllNeeded) (objects : List Object) (lines : List Numbered) (clea
       let same : x ≡ records.session = let both : Some x ≡ Some records.session = sym at ∙ records.at in cc in
       let kept : x.lost ≡ false = ap (λ (y : Session). y.lost) same ∙ records.kept in
       let key : UnitKey = unit_key s.stored.start x in
-      let holds : HoldsIn s (Upd key) (stand objects p.done).held = h.held.on x at kept in
+      let holds : HoldsIn s x (stand objects p.done).held = h.held.on x at kept in
       record {
         first = λ e is guarded.
             let held = effect_held s name p (calls_by name (m ∷ ms)) (calls_by name ms) m.call h n made.is true e
             (n.before.first e (subst (λ parts. Contains parts.v1 e) made.parts_are is)) guarded in
-            let handed : IsCoveredByHeld (handed_locks s.locks key) (Upd key) (stand objects p.done).held e.table e.key =
-            all.handing_covers s.locks key (stand objects p.done).held e.table e.key (all.held_is_exclusive objects p.done) (holds.up records.up) held.covers in
+            let handed : IsCoveredByHeld (handed_locks x.user s.locks key) (Upd key) (stand objects p.done).held e.table e.key =
+            all.handing_covers x.user s.locks key (stand objects p.done).held e.table e.key (all.held_is_exclusive objects p.done)
+            (holds.up records.up) held.covers in
             (handed.covers, (p.done, handed.asked));
         second = λ e is. false_from_ne_true _ (λ guarded.
             let held = effect_held s name p (calls_by name (m ∷ ms)) (calls_by name ms) m.call h n made.is false e

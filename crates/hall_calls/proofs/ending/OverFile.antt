@@ -303,6 +303,9 @@ module _ {D : Type 0} (tells : Bool) (reads : D → List ℕ) (may_leave : D →
       → Recover k ledger pending found old → Recover k ledger pending found new
   same_recovers k ledger pending found old new is h = subst (λ f. Recover k ledger pending found f) (sym is) h
 
+  pub same_lists : (k : Condition) (ledger : Ledger) (old new : BackupView D) → new ≡ old → OutsideDoubt k (Has ledger old) → OutsideDoubt k (Has ledger new)
+  same_lists k ledger old new is h = subst (λ f. OutsideDoubt k (Has ledger f)) (sym is) h
+
   -- a file that is ready with the lists of the open units
   pub ready_recovers : (k : Condition) (ledger : Ledger) (file : BackupView D) → Has ledger file → Recover k ledger None None file
   ready_recovers k ledger file has = λ t image may.

@@ -1,5 +1,5 @@
 -- A call, apart from its place in the history and with it.
-use Rattle.std.proofs.Common.{◌≡◌, inl, inr, ℕ, Bool, true, false, List, [], length, refl, sym, ap, ◌∙◌, subst}
+use Rattle.std.proofs.Common.{◌≡◌, inl, inr, ℕ, Bool, true, false, List, [], ◌∷◌, length, refl, sym, ap, ◌∙◌, subst}
 use Rattle.std.specs.Prelude.{if◌then◌else◌, nat_eq, IsTrue, Option, Some, None, is_some}
 use Rattle.std.specs.Option.{option_map}
 use Rattle.enq_base.specs.declared.condition.Condition.{Condition}
@@ -12,21 +12,22 @@ use Rattle.update_records.specs.Ledger.{Ledger}
 use Rattle.enq_base.specs.declared.condition.Condition.TheVariants as condition
 use Rattle.enq_base.specs.declared.refusal.Refusal.{Refusal}
 use Rattle.enq_base.specs.declared.refusal.Refusal.TheVariants as refusal
-use Rattle.enq_server.specs.Following.{KeepsOn}
+use Rattle.enq_server.specs.Following.{Following, KeepsOn, told_list}
+use Rattle.enq_server.specs.Server.{Server, replicated}
 use Rattle.keeper_api.specs.Keeping.{IsWithin}
 use Rattle.keeper_api.specs.Rows.{Rows}
 use Rattle.ledger_steps.specs.Steps.{after_step}
 use Rattle.hall_model.specs.Acts.{Admits, IsAct, IsTelling}
-use Rattle.hall_calls.specs.Written.{IsWritten, OnAnswer, OnFailure, OnStoreFailure, locks_posted, post_of, written_condition, written_failure, written_reply}
+use Rattle.hall_calls.specs.Written.{IsWritten, OnAnswer, OnFailure, OnStoreFailure, locks_posted, post_of, written_condition, written_failure, written_reply, written_sessions}
 use Rattle.hall_model.specs.Calls.{Call, LogsOn, OfSession, OfWorker, OfAdmin, Kills, FailsOver, Restarts, Attaches, Cancels, Resubmits, SessionCall, LogsOff, Asks, Frees, FreesAll, Converts, Draws, Reserves, Reads, Commits, RollsBack, Takes, Posts, Drops, call_of, renews_replica, restarts, session_touches_file, touches_file, wants_server}
-use Rattle.hall_model.specs.Devices.{all_well, reaches_store, session_reaches_store, session_uses_file, session_uses_store, uses_file, uses_store}
+use Rattle.hall_model.specs.Devices.{MayBeDone, all_well, reaches_store, session_reaches_store, session_uses_file, session_uses_store, uses_file, uses_store}
 use Rattle.hall_calls.specs.Filing.{DoesFile, HasFileCause, KeepsFile, MayFile}
 use Rattle.hall_model.specs.History.{IsGiven, Served, doubted, is_unrecorded, judged}
 use Rattle.hall_model.specs.Kept.{OutsideDoubt}
 use Rattle.hall_calls.specs.Leaving.{HasStoreCause, KeepsStore}
 use Rattle.hall_calls.specs.Serving.{DoesStore, IsDue, LeavesFile, MayWrite, Serves, with_calls}
 use Rattle.hall_calls.specs.Remaking.{flight_over}
-use Rattle.hall_model.specs.State.{State, attached_in, gone_in, locks_in, unhanded}
+use Rattle.hall_model.specs.State.{State, attached_in}
 use Rattle.hall_calls.specs.View.{View}
 use Rattle.hall_model.specs.Step.{barred, caller_refusal, down_refusal, found_in, is_full, or_else, server_refusal, unavailable}
 use Rattle.hall_model.specs.declared.command.Command.{Command}
@@ -41,8 +42,9 @@ use Rattle.hall_calls.specs.declared.units.Written.TheVariants.{Answered, Failed
 use Rattle.hall_model.proofs.ByCall.{ArePlain, plain_unavailable}
 use Rattle.hall_model.proofs.BarredCalls.{refused_verdict}
 use Rattle.hall_model.proofs.PlainRefusals.{IsPlain}
-use Rattle.hall_calls.proofs.ending.StateBehind.{HasRanges, IsPart, caller_of, ends_as, none_before, posts_part, state_with, without_as, written_act, written_state}
+use Rattle.hall_calls.proofs.ending.StateBehind.{HasRanges, IsPart, LoseAlike, caller_of, ends_as, locks_of, none_before, posts_part, state_with, without_as, written_act, written_state}
 use Rattle.hall_model.proofs.NotedCalls.{full_or}
+use Rattle.hall_calls.proofs.verdicts.EachCall.{refused_done}
 use Rattle.hall_calls.proofs.verdicts.FoundChange.{shut_by_history}
 use Rattle.hall_calls.proofs.ending.AfterStop.{also_answered, plain_quiet, same_keeps, untouched_keeps}
 use Rattle.hall_calls.proofs.ending.OverFile.{any_file, plain_file}
@@ -55,9 +57,9 @@ true_not_false : true ≡ false → ⊥
 true_not_false e = cc
 
 -- what the call leaves where the store doesn't fail
-abbrev pub rewritten : State → List Session → List (Option UnitKey) → Table → List NumberRange → Ledger → State
-rewritten s sessions orders table ranges ledger =
-    record s { sessions = sessions; orders = orders; locks = locks_in s.condition table.entries; ranges = ranges; stored = ledger }
+abbrev pub rewritten : State → List Session → List (Option UnitKey) → (locks : List Entry) → List NumberRange → Ledger → State
+rewritten s sessions orders locks ranges ledger =
+    record s { sessions = sessions; orders = orders; locks = locks; ranges = ranges; stored = ledger }
 
 -- ---- what nothing bars
 
@@ -137,81 +139,110 @@ same_past s after call (Failed change) h = ap (λ (x : State). record (doubted x
     (without_as call s) ∙ ap (λ (x : State). doubted x call None (option_map (after_step s.stored) change)) (sym (without_as call s))
 same_past s after call Unfiled h = refl
 
--- a call that uses the store, where it fails too
-pub written_call : (told told' link link' on on' : Bool) (k k' : Condition) (ss ss' : List Session) (n : ℕ) (os os' : List (Option UnitKey)) (t t' : Table)
-    (x m : ℕ) (rs rs' : List NumberRange) (l l' : Ledger) (f f' : Failure) (past : List PastEntry) (w : Written) (c : Command) (said : Reply)
-    → restarts (call_of c) ≡ false → IsDue (state_with told link on k ss n os t x m rs l f []) past c
-    → told' ≡ told → link' ≡ link → Stays (call_of c) on on' → k' ≡ written_condition k (length past) w → f' ≡ written_failure f (caller_of (call_of c)) w
-    → said ≡ written_reply w
-    → t'.limit ≡ t.limit → OnAnswer w (gone_in k t'.entries ≡ gone_in k t.entries) → OnFailure w (unhanded t'.entries ≡ unhanded t.entries)
-    → OnFailure w (ss' ≡ ss) → OnFailure w (os' ≡ os) → OnStoreFailure w (l' ≡ l) → HasRanges (call_of c) w rs rs'
-    → (flight_over l f ≡ None → Admits (state_with told link on k ss n os t x m rs l f past) c
-    → IsWritten (state_with told link on k ss n os t x m rs l f past) c
-    (rewritten (state_with told link on k ss n os t x m rs l f past) ss' os' t' rs' l') w)
-    → IsAct (state_with told link on k ss n os t x m rs l f past) c (state_with told' link' on' k' ss' n os' t' x m rs' l' f' past) said
-written_call told told' link link' on on' k k' ss ss' n os os' t t' x m rs rs' l l' f f' past w c said off due tells links stays condition failure reply limit
-    gone lost a b d e written =
-    let s : State = state_with told link on k ss n os t x m rs l f past in
-    let serving = is_serving s c off due.admits in
-    let none : flight_over l f ≡ None = outside k _ serving due.kept.steady.settled in
-    let unfailed : f.caller ≡ None = outside k _ serving due.kept.steady.unfailed in
-    let now : State = record (rewritten s ss' os' t' rs' l') { attached = attached_in k on' } in
-    let after : State = written_state s (call_of c) now w in
-    let act : IsAct s c after (written_reply w) =
-    written_act s c now w
-    (shipped_written s c (rewritten s ss' os' t' rs' l') (attached_in k on') w (stays_in k (call_of c) on on' stays) due.admits refl
-    (written none due.admits)) in
-    let is : state_with told' link' on' k' ss' n os' t' x m rs' l' f' past ≡ after =
-    (λ i. state_with told' link' on' (condition i) ss' n os' t' x m rs' l' (failure i) past)
-    ∙ ends_as k (call_of c) told told' link link' on on' ss ss' n os os' t t' x m rs rs' l l' f past past w tells links none unfailed limit gone lost a b d e
-    ∙ same_past s now (call_of c) w refl in
-    acts_as s c after (state_with told' link' on' k' ss' n os' t' x m rs' l' f' past) (written_reply w) said act is reply
+module _ {D L : Type 0} (applied : L → Option (List Entry)) where
+  -- a call that uses the store, where it fails too
+  pub written_call : (told told' over : Bool) (k k' : Condition) (ss ss' ss'' : List Session) (n : ℕ) (os os' : List (Option UnitKey))
+      (t t' t'' : Server D L) (x m : ℕ) (rs rs' : List NumberRange) (l l' : Ledger) (f f' : Failure) (past : List PastEntry) (w : Written) (c : Command)
+      (said : Reply) (start : ℕ)
+      → restarts (call_of c) ≡ false → IsDue (state_with applied told over k ss n os t x m rs l f []) past c
+      → told' ≡ told → is_some (applied t'.copy.link) ≡ is_some (applied t.copy.link) → Stays (call_of c) t.copy.attached t'.copy.attached
+      → k' ≡ written_condition k (length past) w → f' ≡ written_failure f (caller_of (call_of c)) w → said ≡ written_reply w
+      → OnAnswer w ((locks_of applied k x t').limit ≡ (locks_of applied k x t).limit)
+      → OnFailure w (LoseAlike l.start t.table.entries t'.table.entries ss)
+      → OnFailure w (ss' ≡ ss) → OnFailure w (os' ≡ os) → OnStoreFailure w (l' ≡ l) → HasRanges (call_of c) w rs rs' → start ≡ l.start
+      → ss'' ≡ written_sessions k start t'.table.entries ss' w → OnAnswer w (t'' ≡ t') → t''.copy ≡ t'.copy
+      → (flight_over l f ≡ None → Admits (state_with applied told over k ss n os t x m rs l f past) c
+      → IsWritten (state_with applied told over k ss n os t x m rs l f past) c
+      (rewritten (state_with applied told over k ss n os t x m rs l f past) ss' os' (locks_of applied k x t').entries rs' l') w)
+      → IsAct (state_with applied told over k ss n os t x m rs l f past) c (state_with applied told' over k' ss'' n os' t'' x m rs' l' f' past) said
+  written_call told told' over k k' ss ss' ss'' n os os' t t' t'' x m rs rs' l l' f f' past w c said start off due tells links stays condition failure reply
+      limit lost a b d e is marked same copies written =
+      let s : State = state_with applied told over k ss n os t x m rs l f past in
+      let serving = is_serving s c off due.admits in
+      let none : flight_over l f ≡ None = outside k _ serving due.kept.steady.settled in
+      let unfailed : f.caller ≡ None = outside k _ serving due.kept.steady.unfailed in
+      let put : State = rewritten s ss' os' (locks_of applied k x t').entries rs' l' in
+      let now : State = record put { attached = attached_in k t'.copy.attached } in
+      let after : State = written_state s (call_of c) now w in
+      let act : IsAct s c after (written_reply w) =
+      written_act s c now w
+      (shipped_written s c put (attached_in k t'.copy.attached) w (stays_in k (call_of c) t.copy.attached t'.copy.attached stays) due.admits refl
+      (written none due.admits)) in
+      let as_made : state_with applied told' over k' ss'' n os' t'' x m rs' l' f' past ≡ after =
+      (λ i. state_with applied told' over (condition i) ss'' n os' t'' x m rs' l' (failure i) past)
+      ∙ ends_as applied k (call_of c) told told' over ss ss' ss'' n os os' t t' t'' x m rs rs' l l' f past past w start tells links none unfailed limit lost a b
+      d e is marked same copies
+      ∙ same_past s now (call_of c) w refl in
+      acts_as s c after (state_with applied told' over k' ss'' n os' t'' x m rs' l' f' past) (written_reply w) said act as_made reply
 
--- the same of a call that wants a server
-pub written_up : (told told' link link' on on' : Bool) (k k' : Condition) (ss ss' : List Session) (n : ℕ) (os os' : List (Option UnitKey)) (t t' : Table)
-    (x m : ℕ) (rs rs' : List NumberRange) (l l' : Ledger) (f f' : Failure) (past : List PastEntry) (w : Written) (c : Command) (said : Reply)
-    → wants_server (call_of c) ≡ true → IsDue (state_with told link on k ss n os t x m rs l f []) past c
-    → told' ≡ told → link' ≡ link → Stays (call_of c) on on' → k' ≡ written_condition k (length past) w → f' ≡ written_failure f (caller_of (call_of c)) w
-    → said ≡ written_reply w
-    → t'.limit ≡ t.limit → OnFailure w (unhanded t'.entries ≡ unhanded t.entries) → OnFailure w (ss' ≡ ss) → OnFailure w (os' ≡ os) → OnStoreFailure w (l' ≡ l)
-    → HasRanges (call_of c) w rs rs'
-    → (flight_over l f ≡ None → Admits (state_with told link on Up ss n os t x m rs l f past) c
-    → IsWritten (state_with told link on Up ss n os t x m rs l f past) c
-    (rewritten (state_with told link on Up ss n os t x m rs l f past) ss' os' t' rs' l') w)
-    → IsAct (state_with told link on k ss n os t x m rs l f past) c (state_with told' link' on' k' ss' n os' t' x m rs' l' f' past) said
-written_up told told' link link' on on' k k' ss ss' n os os' t t' x m rs rs' l l' f f' past w c said wants due tells links stays condition failure reply limit
-    lost a b d e written =
-    let before : Condition → State = λ q. state_with told link on q ss n os t x m rs l f past in
-    let up : k ≡ Up = due_up (state_with told link on k ss n os t x m rs l f []) past c wants due in
-    let gone : gone_in k t'.entries ≡ gone_in k t.entries = subst (λ q. gone_in q t'.entries ≡ gone_in q t.entries) (sym up) refl in
-    written_call told told' link link' on on' k k' ss ss' n os os' t t' x m rs rs' l l' f f' past w c said
-    (wants_none (call_of c) wants) due tells links stays condition failure reply limit (also_answered _ w gone) lost a b d e
-    (λ none room. subst (λ q. IsWritten (before q) c (rewritten (before q) ss' os' t' rs' l') w) (sym up)
-    (written none (subst (λ q. Admits (before q) c) up room)))
+  -- the same of a call that wants a server
+  pub written_up : (told told' over : Bool) (k k' : Condition) (ss ss' ss'' : List Session) (n : ℕ) (os os' : List (Option UnitKey))
+      (t t' t'' : Server D L) (x m : ℕ) (rs rs' : List NumberRange) (l l' : Ledger) (f f' : Failure) (past : List PastEntry) (w : Written) (c : Command)
+      (said : Reply) (start : ℕ)
+      → wants_server (call_of c) ≡ true → IsDue (state_with applied told over k ss n os t x m rs l f []) past c
+      → told' ≡ told → is_some (applied t'.copy.link) ≡ is_some (applied t.copy.link) → Stays (call_of c) t.copy.attached t'.copy.attached
+      → k' ≡ written_condition k (length past) w → f' ≡ written_failure f (caller_of (call_of c)) w → said ≡ written_reply w
+      → t'.table.limit ≡ t.table.limit → OnFailure w (LoseAlike l.start t.table.entries t'.table.entries ss)
+      → OnFailure w (ss' ≡ ss) → OnFailure w (os' ≡ os) → OnStoreFailure w (l' ≡ l) → HasRanges (call_of c) w rs rs' → start ≡ l.start
+      → ss'' ≡ written_sessions k start t'.table.entries ss' w → OnAnswer w (t'' ≡ t') → t''.copy ≡ t'.copy
+      → (flight_over l f ≡ None → Admits (state_with applied told over Up ss n os t x m rs l f past) c
+      → IsWritten (state_with applied told over Up ss n os t x m rs l f past) c
+      (rewritten (state_with applied told over Up ss n os t x m rs l f past) ss' os' t'.table.entries rs' l') w)
+      → IsAct (state_with applied told over k ss n os t x m rs l f past) c (state_with applied told' over k' ss'' n os' t'' x m rs' l' f' past) said
+  written_up told told' over k k' ss ss' ss'' n os os' t t' t'' x m rs rs' l l' f f' past w c said start wants due tells links stays condition failure reply
+      limit lost a b d e is marked same copies written =
+      let before : Condition → State = λ q. state_with applied told over q ss n os t x m rs l f past in
+      let up : k ≡ Up = due_up (state_with applied told over k ss n os t x m rs l f []) past c wants due in
+      let limits : (locks_of applied k x t').limit ≡ (locks_of applied k x t).limit =
+      subst (λ q. (locks_of applied q x t').limit ≡ (locks_of applied q x t).limit) (sym up) limit in
+      written_call told told' over k k' ss ss' ss'' n os os' t t' t'' x m rs rs' l l' f f' past w c said start
+      (wants_none (call_of c) wants) due tells links stays condition failure reply (also_answered _ w limits) lost a b d e is marked same copies
+      (λ none room. subst (λ q. IsWritten (before q) c (rewritten (before q) ss' os' (locks_of applied q x t').entries rs' l') w) (sym up)
+      (written none (subst (λ q. Admits (before q) c) up room)))
+
+  -- the locks behind a post are those of the table, and where there is no server those of a replica
+  pub posted_in : (k : Condition) (x part : ℕ) (t t' : Server D L) → (nat_eq part 1 ≡ true → k ≡ Up)
+      → (nat_eq part 1 ≡ false → t'.table.entries ≡ t.table.entries) → (nat_eq part 1 ≡ false → t'.copy ≡ t.copy)
+      → locks_posted part (locks_of applied k x t).entries t'.table.entries ≡ (locks_of applied k x t').entries
+  posted_in k x part t t' up same copies = by_part (nat_eq part 1) up same copies
+    where
+      same_as : (q : Condition) → t'.table.entries ≡ t.table.entries → t'.copy ≡ t.copy → (locks_of applied q x t).entries ≡ (locks_of applied q x t').entries
+      same_as condition.Up e e' = sym e
+      same_as condition.NoServer e e' = ap (told_list applied) (sym e')
+      same_as (condition.Doubt n) e e' = refl
+
+      by_part : (b : Bool) → (b ≡ true → k ≡ Up) → (b ≡ false → t'.table.entries ≡ t.table.entries) → (b ≡ false → t'.copy ≡ t.copy)
+          → (if b then t'.table.entries else (locks_of applied k x t).entries) ≡ (locks_of applied k x t').entries
+      by_part true up same copies = subst (λ q. t'.table.entries ≡ (locks_of applied q x t').entries) (sym (up refl)) refl
+      by_part false up same copies = same_as k (same refl) (copies refl)
+
+  -- and so is the limit
+  pub posted_limit : (k : Condition) (x part : ℕ) (t t' : Server D L) → t'.table.limit ≡ t.table.limit → (nat_eq part 1 ≡ true → k ≡ Up)
+      → (nat_eq part 1 ≡ false → t'.copy ≡ t.copy) → (locks_of applied k x t').limit ≡ (locks_of applied k x t).limit
+  posted_limit k x part t t' limit up copies = by_part (nat_eq part 1) up copies
+    where
+      same_as : (q : Condition) → t'.copy ≡ t.copy → (locks_of applied q x t').limit ≡ (locks_of applied q x t).limit
+      same_as condition.Up e = limit
+      same_as condition.NoServer e = ap (λ l. (replicated x l).limit) (ap (told_list applied) e)
+      same_as (condition.Doubt n) e = refl
+
+      by_part : (b : Bool) → (b ≡ true → k ≡ Up) → (b ≡ false → t'.copy ≡ t.copy) → (locks_of applied k x t').limit ≡ (locks_of applied k x t).limit
+      by_part true up copies = subst (λ q. (locks_of applied q x t').limit ≡ (locks_of applied q x t).limit) (sym (up refl)) limit
+      by_part false up copies = same_as k (copies refl)
+
+all_alike : (start : ℕ) (es : List Entry) (sessions : List Session) → LoseAlike start es es sessions
+all_alike start es [] = tt
+all_alike start es (x ∷ sessions) = (refl, all_alike start es sessions)
+
+same_alike : (start : ℕ) (old new : List Entry) (sessions : List Session) → new ≡ old → LoseAlike start old new sessions
+same_alike start old new sessions same = subst (λ es. LoseAlike start old es sessions) (sym same) (all_alike start old sessions)
 
 -- a table that is as it was
-pub lost_none : (old new : Table) (w : Written) → OnFailure w (new ≡ old) → OnFailure w (unhanded new.entries ≡ unhanded old.entries)
-lost_none old new (Answered r) same = tt
-lost_none old new (Failed change) same = ap (λ (t : Table). unhanded t.entries) same
-lost_none old new Unfiled same = ap (λ (t : Table). unhanded t.entries) same
-
--- the locks behind a post are those of the table, and where there is no server none
-pub posted_in : (k : Condition) (part : ℕ) (old new : List Entry) → (nat_eq part 1 ≡ true → k ≡ Up) → (nat_eq part 1 ≡ false → new ≡ old)
-    → locks_posted part (locks_in k old) new ≡ locks_in k new
-posted_in k part old new up same = by_part (nat_eq part 1) up same
-  where
-    by_part : (b : Bool) → (b ≡ true → k ≡ Up) → (b ≡ false → new ≡ old) → (if b then new else locks_in k old) ≡ locks_in k new
-    by_part true up same = sym (ap (λ q. locks_in q new) (up refl))
-    by_part false up same = ap (locks_in k) (sym (same refl))
-
--- and what sessions had of one that is there no more stays
-pub posted_gone : (k : Condition) (part : ℕ) (old new : List Entry) → (nat_eq part 1 ≡ true → k ≡ Up) → (nat_eq part 1 ≡ false → new ≡ old)
-    → gone_in k new ≡ gone_in k old
-posted_gone k part old new up same = by_part (nat_eq part 1) up same
-  where
-    by_part : (b : Bool) → (b ≡ true → k ≡ Up) → (b ≡ false → new ≡ old) → gone_in k new ≡ gone_in k old
-    by_part true up same = subst (λ q. gone_in q new ≡ gone_in q old) (sym (up refl)) refl
-    by_part false up same = ap (gone_in k) (same refl)
+pub lost_none : (start : ℕ) (old new : Table) (sessions : List Session) (w : Written) → OnFailure w (new ≡ old)
+    → OnFailure w (LoseAlike start old.entries new.entries sessions)
+lost_none start old new sessions (Answered r) same = tt
+lost_none start old new sessions (Failed change) same = same_alike start old.entries new.entries sessions (ap (λ (t : Table). t.entries) same)
+lost_none start old new sessions Unfiled same = same_alike start old.entries new.entries sessions (ap (λ (t : Table). t.entries) same)
 
 -- ---- a call that isn't served
 
@@ -219,7 +250,11 @@ pub refused_telling : (s : State) (c : Command) (r : Refusal) → unavailable s 
 refused_telling s c r shut = record {
   act = record {
     outcome = all_well;
-    possible = record { reading = tt; event = tt; lost = tt };
+    possible = record {
+      reading = tt;
+      event = subst (MayBeDone (call_of c)) (sym (refused_verdict (found_in s) s (call_of c) r shut)) (refused_done (call_of c) r);
+      lost = tt;
+    };
     same =
         ap (judged s) (refused_verdict (found_in s) s (call_of c) r shut);
   };
@@ -490,13 +525,25 @@ given_noted made given (inl same) noted = ap is_unrecorded same ∙ noted
 given_noted made given (inr (row, is)) noted = ap is_unrecorded is
 
 -- no change is in flight where a call is due
-pub no_flight : (told link on : Bool) (k : Condition) (ss : List Session) (n : ℕ) (os : List (Option UnitKey)) (t : Table) (x m : ℕ) (rs : List NumberRange)
-    (l : Ledger) (f : Failure) (past : List PastEntry) (c : Command) → restarts (call_of c) ≡ false
-    → IsDue (state_with told link on k ss n os t x m rs l f []) past c
+pub no_flight : {D L : Type 0} (applied : L → Option (List Entry)) (told over : Bool) (k : Condition) (ss : List Session) (n : ℕ)
+    (os : List (Option UnitKey)) (t : Server D L) (x m : ℕ) (rs : List NumberRange) (l : Ledger) (f : Failure) (past : List PastEntry) (c : Command)
+    → restarts (call_of c) ≡ false → IsDue (state_with applied told over k ss n os t x m rs l f []) past c
     → (f.pending ≡ None) × (f.found ≡ None)
-no_flight told link on k ss n os t x m rs l f past c off due =
-    let serving = due_serving (state_with told link on k ss n os t x m rs l f []) past c off due in
+no_flight applied told over k ss n os t x m rs l f past c off due =
+    let serving = due_serving (state_with applied told over k ss n os t x m rs l f []) past c off due in
     (none_before f l (outside k _ serving due.kept.steady.settled), outside k _ serving due.kept.steady.unknown)
+
+-- a call that left these devices, behind which the lock table was ended
+pub at_devices : {K D L : Type 0} (held : K → Option Rows) (may_leave : K → Rows → Type 0) (faults : K → ℕ) (disk_faults : D → ℕ) (gives : L → List Entry)
+    (applied : L → Option (List Entry)) (link_faults refusals : L → ℕ) (old : View K D L) (state : State) (keeper : K) (file file' : BackupView D)
+    (copy copy' : Following L) (past : List PastEntry) (c : Command) (r : Reply) → file' ≡ file → copy' ≡ copy
+    → Serves held may_leave faults disk_faults gives applied link_faults refusals old
+    (record { state = state; keeper = keeper; file = file; follower = copy }) past c r
+    → Serves held may_leave faults disk_faults gives applied link_faults refusals old
+    (record { state = state; keeper = keeper; file = file'; follower = copy' }) past c r
+at_devices held may_leave faults disk_faults gives applied link_faults refusals old state keeper file file' copy copy' past c r same_file same_copy h =
+    subst (λ v. Serves held may_leave faults disk_faults gives applied link_faults refusals old v past c r)
+    (λ i. record { state = state; keeper = keeper; file = sym same_file i; follower = sym same_copy i }) h
 
 -- a V2 part isn't one whose locks end
 pub posts_file : {D : Type 0} (faults : D → ℕ) (old new : BackupView D) (part worker : ℕ) (r : Reply) → IsPart part → MayFile faults old new r

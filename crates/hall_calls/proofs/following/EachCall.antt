@@ -10,7 +10,6 @@ use Rattle.hall_model.specs.Acts.{IsAct}
 use Rattle.hall_model.specs.Calls.{Call, LogsOn, OfSession, OfWorker, OfAdmin, Kills, FailsOver, Restarts, Attaches, Cancels, Resubmits, call_of, fails_over, renews_replica, restarts, talks, touches_file}
 use Rattle.hall_model.specs.Devices.{AllWell, Wanting, StoreFails, BackupFails, LinkFails, NotRemade, RemakeFault, MeetsWant, FindsBad, FindsBadStore, MayHappen, fault_told, found_by, reaches_store}
 use Rattle.hall_model.specs.History.{Served, served}
-use Rattle.hall_calls.specs.Remaking.{OnRefusedFirst}
 use Rattle.hall_calls.specs.Serving.{DoesStore, Follows, HasLinkCause, IsOver, LeavesFile, Serves, with_calls}
 use Rattle.hall_model.specs.State.{State}
 use Rattle.hall_calls.specs.View.{View}
@@ -19,8 +18,7 @@ use Rattle.hall_model.specs.declared.command.Command.{Command}
 use Rattle.hall_model.specs.declared.command.PastEntry.{PastEntry}
 use Rattle.hall_model.specs.declared.command.Reply.{Reply}
 use Rattle.hall_model.specs.declared.command.Reply.TheVariants as reply
-use Rattle.hall_calls.specs.declared.remaking.Remade.{Remade}
-use Rattle.hall_calls.specs.declared.remaking.Remade.TheVariants.{Done, Refused, InDoubt}
+use Rattle.hall_calls.specs.declared.remaking.Remade.TheVariants.{Refused}
 use Rattle.hall_model.proofs.PlainRefusals.{IsPlain}
 use Rattle.hall_calls.proofs.verdicts.Replies.{is_fault_reply, verdict_answered}
 
@@ -106,17 +104,11 @@ pub plain_link : (r : Refusal) (before now : ℕ) → IsPlain r → HasLinkCause
 plain_link refusal.LinkFault before now plain = absurd (true_not_false plain)
 plain_link _ before now plain = tt
 
--- only a failover that is done has taken a list
-pub refused_over : (over : Bool) (locks given : List Entry) (r : Refusal) → IsOver over locks given (reply.Refused r)
-refused_over true locks given r = tt
-refused_over false locks given r = tt
-
--- a restart that is refused first leaves what follows
-pub unshipped_still : {L : Type 0} (remade : Remade) (old new : Following L) → OnRefusedFirst remade (new ≡ old)
-    → OnRefusedFirst remade (new.attached ≡ old.attached)
-unshipped_still (Done taken) old new h = tt
-unshipped_still (Refused r) old new h = ap (λ (f : Following _). f.attached) h
-unshipped_still (InDoubt r read) old new h = tt
+-- nor of the list that it gave
+pub refused_over : (over : Bool) (locks given : List Entry) (r : Refusal) → IsPlain r → IsOver over locks given (reply.Refused r)
+refused_over true locks given (refusal.Unsound found) plain = absurd (true_not_false plain)
+refused_over true locks given _ plain = tt
+refused_over false locks given r plain = tt
 
 -- whatever the call, the link's counts don't fall
 pub any_link : {L : Type 0} (applied : L → Option (List Entry)) (faults refusals : L → ℕ) (old new : Following L) (renews : Bool)

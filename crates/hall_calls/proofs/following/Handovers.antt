@@ -1,24 +1,29 @@
 -- A lock server that goes on with the list of a replica, and a replica that is attached.
-use Rattle.std.proofs.Common.{◌≡◌, ℕ, Bool, true, false, List, refl, sym, ap, ◌∙◌, subst, is_some}
-use Rattle.std.specs.Prelude.{if◌then◌else◌, Option, Some, None, IfSome}
+use Rattle.std.proofs.Common.{◌≡◌, inl, inr, ℕ, ◌<◌, ◌^◌, Bool, true, false, List, [], length, refl, sym, ap, ◌∙◌, subst, is_some, arith}
+use Rattle.std.specs.Prelude.{if◌then◌else◌, nat_le, Option, Some, None, IfSome}
+use Rattle.std.specs.Option.{unwrap_or}
+use Rattle.std.proofs.lemmas.Bool.{cases_Bool}
+use Rattle.std.proofs.lemmas.Bool.Decides.{nat_tests}
 use Rattle.enq_base.specs.declared.condition.Bad.TheVariants as bad
 use Rattle.enq_base.specs.declared.condition.Condition.{Condition}
 use Rattle.enq_base.specs.declared.condition.Condition.TheVariants as condition
 use Rattle.enq_base.specs.declared.refusal.Refusal.{Refusal}
 use Rattle.enq_base.specs.declared.refusal.Refusal.TheVariants as refusal
-use Rattle.enq_server.specs.Following.{Following, IsOverFault, may_replace}
+use Rattle.enq_server.specs.Following.{Following, IsOverFault, told_list}
+use Rattle.enq_server.specs.Server.{larger, replicated}
 use Rattle.enq_server.specs.declared.fault.OverFault.{OverFault}
 use Rattle.enq_server.specs.declared.fault.OverFault.TheVariants as over
 use Rattle.lock_entry.specs.Sound.{IsSound, first_clash}
+use Rattle.lock_entry.specs.Table.{IsTable}
 use Rattle.lock_entry.specs.declared.entry.Entry.{Entry}
 use Rattle.hall_model.specs.Acts.{Admits, IsAct}
 use Rattle.hall_model.specs.Calls.{OfAdmin, Attaches, FailsOver}
-use Rattle.hall_model.specs.Devices.{AllWell, AsKnown, Hands, IsTold, LinkFails, MayHappen, Wanting, found_by, only}
+use Rattle.hall_model.specs.Devices.{AllWell, AsKnown, Hands, IsTold, LeavesTable, LinkFails, MayHappen, Wanting, found_by, only}
 use Rattle.hall_model.specs.History.{judged}
 use Rattle.hall_calls.specs.Remaking.{over_refusal}
-use Rattle.hall_calls.specs.Serving.{HasLinkCause}
-use Rattle.hall_model.specs.State.{State}
-use Rattle.hall_model.specs.Step.{Found, Verdict, Refuses, Leaves, attached, call_verdict, detached, found_in, leaves, own_verdict, clashing, followed_over, from_replica, handing, not_over}
+use Rattle.hall_calls.specs.Serving.{HasLinkCause, IsOver}
+use Rattle.hall_model.specs.State.{State, table_for}
+use Rattle.hall_model.specs.Step.{Found, Verdict, Refuses, Leaves, attached, call_verdict, detached, found_in, leaves, own_verdict, clashing, followed_over, from_replica, handing}
 use Rattle.hall_model.specs.declared.command.Command.TheVariants as command
 use Rattle.hall_model.specs.declared.command.Reply.{Reply}
 use Rattle.hall_model.specs.declared.command.Reply.TheVariants as reply
@@ -41,26 +46,39 @@ comes_to found s k is = ap (over_in found s) is
 pub over_up : (s : State) → s.condition ≡ condition.Up → Admits s command.FailOver → IsAct s command.FailOver s (reply.Refused refusal.ServerUp)
 over_up s up room = refuses s command.FailOver refusal.ServerUp room (comes_to (found_in s) s condition.Up up)
 
--- by whether the locks may stand together, and whether they may take the place of the table
-abbrev handing_as : State → List Entry → (sound replaces : Bool) → Verdict
-handing_as s list sound replaces =
-    if sound then (if replaces then Leaves (followed_over list s) reply.Done else not_over s 0 0) else clashing s (first_clash list)
+-- by whether the locks may stand together
+abbrev pub handing_as : State → List Entry → (sound : Bool) → Verdict
+handing_as s list sound = if sound then Leaves (followed_over list s) reply.Done else clashing s (first_clash list)
 
 -- a list that is handed over is not refused
 clashing_leaves : (s : State) (o : Option (ℕ × ℕ)) → leaves (clashing s o) ≡ true
 clashing_leaves s None = refl
 clashing_leaves s (Some places) = refl
 
-handing_leaves : (s : State) (list : List Entry) (sound replaces : Bool) → leaves (handing_as s list sound replaces) ≡ true
-handing_leaves s list true true = refl
-handing_leaves s list true false = refl
-handing_leaves s list false replaces = clashing_leaves s (first_clash list)
+handing_leaves : (s : State) (list : List Entry) (sound : Bool) → leaves (handing_as s list sound) ≡ true
+handing_leaves s list true = refl
+handing_leaves s list false = clashing_leaves s (first_clash list)
 
 -- where the link tells its list, that is what it gives
-told_list : (told : Bool) (applied : Option (List Entry)) (list table locks : List Entry) → told ≡ is_some applied → locks ≡ table
-    → IfSome applied (λ _. list ≡ table) → IsTold told (list ≡ locks)
-told_list told None list table locks is same h = subst (λ b. IsTold b (list ≡ locks)) (sym is) tt
-told_list told (Some applied) list table locks is same h = subst (λ b. IsTold b (list ≡ locks)) (sym is) (h ∙ sym same)
+given_told : (told on : Bool) (applied : Option (List Entry)) (list locks : List Entry) → told ≡ is_some applied → on ≡ true
+    → locks ≡ (if on then unwrap_or applied [] else []) → IfSome applied (λ l. list ≡ l) → IsTold told (list ≡ locks)
+given_told told on None list locks is follows same h = subst (λ b. IsTold b (list ≡ locks)) (sym is) tt
+given_told told on (Some l) list locks is follows same h =
+    subst (λ b. IsTold b (list ≡ locks)) (sym is) (h ∙ sym (same ∙ ap (λ b. if b then l else []) follows))
+
+-- a table without entries has room for as many
+larger_fits : (a b : ℕ) → larger a b < 2 ^ 32 → larger a 0 < 2 ^ 32
+larger_fits a b h = elim (cases_Bool (nat_le a b)) [
+  | inl within ↦ grind (arith, nat_tests)
+  | inr beyond ↦ grind (arith, nat_tests)
+]
+
+pub bare_good : (limit : ℕ) (list : List Entry) → IsTable (replicated limit list) → IsTable (replicated limit [])
+bare_good limit list h = record {
+  sound = record { names = refl; counts = refl; conflicts = refl };
+  within = omega arith;
+  limit_fits = larger_fits limit (length list) h.limit_fits;
+}
 
 module _ (s : State) (none : s.condition ≡ condition.NoServer) (room : Admits s command.FailOver) where
   abbrev Comes : State → Reply → Type 0
@@ -77,7 +95,7 @@ module _ (s : State) (none : s.condition ≡ condition.NoServer) (room : Admits 
       ∙ ap (λ b. if b then handing s found.list else Refuses refusal.NotAttached) on
 
   leaves_any : s.attached ≡ true → leaves (call_verdict (found_in s) s (OfAdmin FailsOver)) ≡ true
-  leaves_any on = ap leaves (handed on (found_in s)) ∙ handing_leaves s s.locks _ _
+  leaves_any on = ap leaves (handed on (found_in s)) ∙ handing_leaves s s.locks _
 
   unlinked : s.attached ≡ true → Comes (detached s) (reply.Refused refusal.LinkFault)
   unlinked on = record { outcome = only LinkFails; possible = record { reading = tt; event = (leaves_any on, refl); lost = tt }; same = refl }
@@ -85,70 +103,93 @@ module _ (s : State) (none : s.condition ≡ condition.NoServer) (room : Admits 
   over_wanting : s.attached ≡ true → Comes s (reply.Refused refusal.NoMemory)
   over_wanting on = is_wanting s command.FailOver room.served (leaves_any on)
 
+  -- no replica follows, and there is no list
+  bare : (table_for s.condition s.max_locks (record { entries = s.locks; limit = s.limit }) []) ≡ replicated s.max_locks []
+  bare = ap (λ k. table_for k s.max_locks (record { entries = s.locks; limit = s.limit }) []) none
+
   -- a list that the link gave
   module _ (list : List Entry) (told : IsTold s.link_told (list ≡ s.locks)) (on : s.attached ≡ true) where
-    hands : (after : State) (r : Reply) → handing s list ≡ Leaves after r → Comes after r
-    hands after r is = record {
+    hands : (after : State) (r : Reply) → IsTable (record { entries = after.locks; limit = after.limit }) → handing s list ≡ Leaves after r → Comes after r
+    hands after r good is = record {
       outcome = record { event = AllWell; reading = Hands list; lost = false };
-      possible = record { reading = told; event = tt; lost = tt };
+      possible = record { reading = told; event = subst LeavesTable (sym (handed on (found_by (Hands list) s) ∙ is)) good; lost = tt };
       same = ap (judged s) (handed on (found_by (Hands list) s) ∙ is);
     }
 
-    pub goes_on : IsSound list → may_replace s.locks list ≡ true → Comes (followed_over list s) reply.Done
-    goes_on sound replaces = hands (followed_over list s) reply.Done (λ i. handing_as s list (sound_of list sound i) (replaces i))
+    pub goes_on : IsTable (replicated s.max_locks list) → Comes (followed_over list s) reply.Done
+    goes_on good = hands (followed_over list s) reply.Done good (ap (handing_as s list) (sound_of list good.sound))
 
-    clashes : (first second : ℕ) → (IsSound list → ⊥) → first_clash list ≡ Some (first, second)
+    clashes : (first second : ℕ) → IsTable (replicated s.max_locks []) → (IsSound list → ⊥) → first_clash list ≡ Some (first, second)
         → Comes (detached s) (reply.Refused (refusal.Unsound (bad.Replica first second)))
-    clashes first second never at =
-        hands (detached s) (reply.Refused (refusal.Unsound (bad.Replica first second)))
-        (ap (λ b. handing_as s list b (may_replace s.locks list)) (not_sound list never) ∙ ap (clashing s) at)
-
-    strays : IsSound list → may_replace s.locks list ≡ false → Comes (detached s) (reply.Refused (refusal.Unsound (bad.Replica 0 0)))
-    strays sound other = hands (detached s) (reply.Refused (refusal.Unsound (bad.Replica 0 0))) (λ i. handing_as s list (sound_of list sound i) (other i))
+    clashes first second good never at =
+        hands (detached s) (reply.Refused (refusal.Unsound (bad.Replica first second))) (subst IsTable (sym bare) good)
+        (ap (handing_as s list) (not_sound list never) ∙ ap (clashing s) at)
 
   -- what the lock server tells of it
-  module _ {L : Type 0} (faults : L → ℕ) (gives : L → List Entry) (applied : L → Option (List Entry)) (table : List Entry) (old new : Following L)
-      (locks : s.locks ≡ table) (is : s.attached ≡ old.attached) (tells : s.link_told ≡ is_some (applied old.link))
-      (told : old.attached ≡ true → IfSome (applied old.link) (λ _. gives old.link ≡ table)) where
+  module _ {L : Type 0} (faults : L → ℕ) (gives : L → List Entry) (applied : L → Option (List Entry)) (old new : Following L)
+      (locks : s.locks ≡ told_list applied old) (limit : s.limit ≡ (replicated s.max_locks (told_list applied old)).limit) (is : s.attached ≡ old.attached)
+      (tells : s.link_told ≡ is_some (applied old.link)) (told : IfSome (applied old.link) (λ l. gives old.link ≡ l)) where
     pub given : old.attached ≡ true → IsTold s.link_told (gives old.link ≡ s.locks)
-    given on = told_list s.link_told (applied old.link) (gives old.link) table s.locks tells locks (told on)
+    given on = given_told s.link_told old.attached (applied old.link) (gives old.link) s.locks tells on locks told
 
-    abbrev Ends : Bool → OverFault → Type 0
-    Ends now fault = Comes (record s { attached = now }) (reply.Refused (over_refusal fault))
+    -- with what follows now
+    abbrev pub following : State
+    following = record s { attached = new.attached; locks = told_list applied new; limit = (replicated s.max_locks (told_list applied new)).limit }
 
-    ends_as : (now : Bool) (fault : OverFault) → new.attached ≡ now → Ends now fault → Ends new.attached fault
-    ends_as now fault e h = subst (λ b. Ends b fault) (sym e) h
+    -- that is as before
+    still : (r : Reply) → told_list applied new ≡ told_list applied old → new.attached ≡ old.attached → Comes s r → Comes following r
+    still r list now h =
+        at_state s command.FailOver s following r
+        (λ i. record s {
+          attached = (is ∙ sym now) i;
+          locks = (locks ∙ sym list) i;
+          limit = (limit ∙ ap (λ l. (replicated s.max_locks l).limit) (sym list)) i;
+        }) h
 
-    pub not_over_so : (fault : OverFault) → IsOverFault faults gives applied table old new fault → Ends new.attached fault
-    not_over_so over.NotAttached h =
-        let now : s.attached ≡ new.attached = is ∙ sym (ap (λ (f : Following L). f.attached) h.1) in
-        at_state s command.FailOver s (record s { attached = new.attached }) (reply.Refused refusal.NotAttached)
-        (λ i. record s { attached = now i }) (unattached (is ∙ h.0))
-    not_over_so over.Link h = ends_as false over.Link h.1 (unlinked (is ∙ h.0))
-    not_over_so (over.Clash first second) h =
-        ends_as false (over.Clash first second) h.1 (clashes (gives old.link) (given h.0) (is ∙ h.0) first second h.2 h.3)
-    not_over_so over.Other h =
-        ends_as false over.Other h.1
-        (strays (gives old.link) (given h.0) (is ∙ h.0) h.2 (ap (λ es. may_replace es (gives old.link)) locks ∙ h.3))
-    not_over_so over.NoMemory h =
-        let now : s.attached ≡ new.attached = is ∙ h.before ∙ sym h.now in
-        at_state s command.FailOver s (record s { attached = new.attached }) (reply.Refused refusal.NoMemory)
-        (λ i. record s { attached = now i }) (over_wanting (is ∙ h.before))
+    -- or none does
+    gone : (r : Reply) → new.attached ≡ false → Comes (detached s) r → Comes following r
+    gone r off h =
+        let list : told_list applied new ≡ [] = ap (λ b. if b then unwrap_or (applied new.link) [] else []) off in
+        let table = bare ∙ ap (replicated s.max_locks) (sym list) in
+        at_state s command.FailOver (detached s) following r
+        (λ i. record s { attached = sym off i; locks = (table i).entries; limit = (table i).limit }) h
+
+    pub not_over_so : (fault : OverFault) → IsTable (replicated s.max_locks []) → IsOverFault faults gives applied old new fault
+        → Comes following (reply.Refused (over_refusal fault))
+    not_over_so over.NotAttached good h =
+        still (reply.Refused refusal.NotAttached) (ap (told_list applied) h.1) (ap (λ (f : Following L). f.attached) h.1) (unattached (is ∙ h.0))
+    not_over_so over.Link good h = gone (reply.Refused refusal.LinkFault) h.1 (unlinked (is ∙ h.0))
+    not_over_so (over.Clash first second) good h =
+        gone (reply.Refused (refusal.Unsound (bad.Replica first second))) h.1
+        (clashes (gives old.link) (given h.0) (is ∙ h.0) first second good h.2 h.3)
+    not_over_so over.NoMemory good h =
+        let now : new.attached ≡ old.attached = h.now ∙ sym h.before in
+        still (reply.Refused refusal.NoMemory) (λ i. if now i then unwrap_or (h.told i) [] else []) now (over_wanting (is ∙ h.before))
 
 -- that the link failed is told where its count of faults has risen
-pub over_cause : {L : Type 0} (faults : L → ℕ) (gives : L → List Entry) (applied : L → Option (List Entry)) (table : List Entry)
-    (old new : Following L) (fault : OverFault) (r : Refusal) → r ≡ over_refusal fault → IsOverFault faults gives applied table old new fault
-    → HasLinkCause (faults old.link) (faults new.link) (reply.Refused r)
-over_cause faults gives applied table old new over.NotAttached r is h =
-    subst (λ x. HasLinkCause (faults old.link) (faults new.link) (reply.Refused x)) (sym is) tt
-over_cause faults gives applied table old new over.Link r is h =
-    subst (λ x. HasLinkCause (faults old.link) (faults new.link) (reply.Refused x)) (sym is) h.2
-over_cause faults gives applied table old new (over.Clash first second) r is h =
-    subst (λ x. HasLinkCause (faults old.link) (faults new.link) (reply.Refused x)) (sym is) tt
-over_cause faults gives applied table old new over.Other r is h =
-    subst (λ x. HasLinkCause (faults old.link) (faults new.link) (reply.Refused x)) (sym is) tt
-over_cause faults gives applied table old new over.NoMemory r is h =
-    subst (λ x. HasLinkCause (faults old.link) (faults new.link) (reply.Refused x)) (sym is) tt
+pub over_cause : {L : Type 0} (faults : L → ℕ) (gives : L → List Entry) (applied : L → Option (List Entry)) (old new : Following L) (fault : OverFault)
+    (r : Refusal) → r ≡ over_refusal fault → IsOverFault faults gives applied old new fault → HasLinkCause (faults old.link) (faults new.link) (reply.Refused r)
+over_cause faults gives applied old new fault r is h =
+    subst (λ x. HasLinkCause (faults old.link) (faults new.link) (reply.Refused x)) (sym is) (by_fault fault h)
+  where
+    by_fault : (x : OverFault) → IsOverFault faults gives applied old new x → HasLinkCause (faults old.link) (faults new.link) (reply.Refused (over_refusal x))
+    by_fault over.NotAttached h = tt
+    by_fault over.Link h = h.2
+    by_fault (over.Clash first second) h = tt
+    by_fault over.NoMemory h = tt
+
+-- and two places where the list that it gave can't stand
+pub over_told : {L : Type 0} (faults : L → ℕ) (gives : L → List Entry) (applied : L → Option (List Entry)) (old new : Following L) (fault : OverFault)
+    (r : Refusal) (locks : List Entry) → r ≡ over_refusal fault → IsOverFault faults gives applied old new fault
+    → IsOver true locks (gives old.link) (reply.Refused r)
+over_told faults gives applied old new fault r locks is h =
+    subst (λ x. IsOver true locks (gives old.link) (reply.Refused x)) (sym is) (by_fault fault h)
+  where
+    by_fault : (x : OverFault) → IsOverFault faults gives applied old new x → IsOver true locks (gives old.link) (reply.Refused (over_refusal x))
+    by_fault over.NotAttached h = tt
+    by_fault over.Link h = tt
+    by_fault (over.Clash first second) h = (h.2, h.3)
+    by_fault over.NoMemory h = tt
 
 -- ---- a replica that is attached
 
@@ -158,7 +199,7 @@ either P false f g = g refl
 
 module _ (s : State) (room : Admits s command.Attach) where
   pub attaches : IsAct s command.Attach (attached s) reply.Done
-  attaches = is_done s command.Attach (attached s) room refl
+  attaches = is_done s command.Attach (attached s) tt room refl
 
   leaves_attached : leaves (call_verdict (found_in s) s (OfAdmin Attaches)) ≡ true
   leaves_attached = ap leaves (admitted (found_in s) s command.Attach room)
@@ -170,7 +211,7 @@ module _ (s : State) (room : Admits s command.Attach) where
   wants = (room.served, leaves_attached)
 
   -- one that followed is lost
-  lost_wanting : s.attached ≡ true → IsAct s command.Attach (detached s) (reply.Refused refusal.NoMemory)
+  lost_wanting : s.attached ≡ true → IsAct s command.Attach (record s { attached = false }) (reply.Refused refusal.NoMemory)
   lost_wanting on = record {
     outcome = record { event = Wanting; reading = AsKnown; lost = true };
     possible = record { reading = tt; event = wants; lost = record { served = room.served; attached = on; may = refl } };
@@ -178,10 +219,10 @@ module _ (s : State) (room : Admits s command.Attach) where
   }
 
   -- and where none did none does
-  none_wanting : s.attached ≡ false → IsAct s command.Attach (detached s) (reply.Refused refusal.NoMemory)
+  none_wanting : s.attached ≡ false → IsAct s command.Attach (record s { attached = false }) (reply.Refused refusal.NoMemory)
   none_wanting off =
       subst (λ b. IsAct s command.Attach (record s { attached = b }) (reply.Refused refusal.NoMemory)) off
       (is_wanting s command.Attach room.served leaves_attached)
 
-  pub attach_wanting : IsAct s command.Attach (detached s) (reply.Refused refusal.NoMemory)
+  pub attach_wanting : IsAct s command.Attach (record s { attached = false }) (reply.Refused refusal.NoMemory)
   attach_wanting = either _ s.attached lost_wanting none_wanting

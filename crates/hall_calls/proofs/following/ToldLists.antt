@@ -1,11 +1,9 @@
--- A link that tells its list hands over one that may take the place of the table.
+-- A link that tells its list hands over one whose locks may stand together.
 use Rattle.std.proofs.Common.{◌≡◌, ℕ, Bool, true, false, List, refl, sym, ap, ◌∙◌, subst}
-use Rattle.std.specs.Prelude.{◌&&◌, if◌then◌else◌, nat_eq}
+use Rattle.std.specs.Prelude.{if◌then◌else◌, nat_eq}
 use Rattle.enq_base.specs.declared.owner.UnitKey.{UnitKey}
 use Rattle.enq_base.specs.declared.refusal.Refusal.{Refusal}
 use Rattle.enq_base.specs.declared.refusal.Refusal.TheVariants as refusal
-use Rattle.enq_server.specs.Following.{may_replace}
-use Rattle.enq_server.proofs.Replacing.{replaces_itself}
 use Rattle.lock_entry.specs.Table.{IsTable}
 use Rattle.lock_entry.specs.declared.entry.Entry.{Entry}
 use Rattle.hall_model.specs.Acts.{IsAct}
@@ -51,7 +49,7 @@ found_told (Hands list) s call told may = handed list s call told may
 never_astray : (s : State) (found : Found) → IsTable (record { entries = s.locks; limit = s.limit }) → found.list ≡ s.locks → IsStray found s → ⊥
 never_astray s found table same stray =
     let odd : true ≡ false =
-    sym (λ i. sound_of s.locks table.sound i && replaces_itself s.locks i) ∙ sym (ap (λ l. is_sound l && may_replace s.locks l) same) ∙ stray.astray in
+    sym (sound_of s.locks table.sound) ∙ sym (ap is_sound same) ∙ stray.astray in
     absurd (cc)
 
 plain_replica : (r : Refusal) → IsPlain r → is_unsound_replica (reply.Refused r) ≡ false
@@ -86,7 +84,7 @@ good_verdict found s table same = record {
   posts = λ worker part unit e. posted_replica part unit (found.part part unit);
   drops = λ worker unit e. refl;
   kills = λ up. refl;
-  fails_over = λ list can. refl;
+  fails_over = λ can. refl;
   strays = λ first second stray. absurd (never_astray s found table same stray);
   restarts = λ off. refl;
   attaches = λ up. refl;

@@ -17,7 +17,7 @@ use Rattle.update_records.specs.Marks.{may_follow, status_of}
 use Rattle.update_records.specs.declared.records.MarkKind.TheVariants.{Again1, Again2, Gone, Num}
 use Rattle.update_records.specs.declared.stored.StoredInterval.{StoredInterval}
 use Rattle.hall_calls.specs.Written.{OnStoreFailure}
-use Rattle.enq_server.specs.Server.{lasting, with_list}
+use Rattle.enq_server.specs.Server.{with_list}
 use Rattle.update_records.specs.declared.records.Unit.{Unit as UnitOfWork}
 use Rattle.hall_calls.specs.Commits.{IsOfCommit, RecordsNumbers}
 use Rattle.hall_calls.specs.Filing.{FilesAs, HasOpenLists, IsSaved, is_open, lists_ended, locks_ended}
@@ -31,7 +31,7 @@ use Rattle.hall_calls.specs.declared.units.Written.{Written}
 use Rattle.hall_calls.specs.declared.units.Written.TheVariants.{Answered, Failed}
 use Rattle.hall_calls.proofs.ending.StateBehind.{IsPart}
 use Rattle.hall_calls.proofs.ending.OverFile.{AgreesBoth, answered_files, failed_before, same_file}
-use Rattle.hall_calls.proofs.lists.BehindMarks.{again_same, committed_lists, ended_agree, ended_lists, ended_without, ends_first, ends_gone, ends_second, gone_same, gone_second_same, numbers_same, same_agree, same_lists, second_same, uncommitted_agree}
+use Rattle.hall_calls.proofs.lists.BehindMarks.{again_same, committed_lists, ended_agree, ended_lists, ended_without, ends_first, ends_gone, ends_second, gone_same, gone_second_same, numbers_same, same_agree, same_lists, saved_locks, second_same, uncommitted_agree}
 
 -- ---- a part that is posted
 
@@ -152,10 +152,10 @@ module _ {D : Type 0} (tells : Bool) (reads : D → List ℕ) (may_leave : D →
 -- whether its list was written or not, the open units agree with the lists as long as it isn't recorded
 pub unsaved_agree : (ledger now : Ledger) (unit : UnitOfWork) (locks : List Entry) → IsOfCommit ledger unit locks → now ≡ ledger → (lists : List Handed)
     → AreOpenLists ledger lists
-    → AgreeAll now lists × AgreeAll now (with_list unit.key (lasting unit.key locks) lists)
+    → AgreeAll now lists × AgreeAll now (with_list unit.key (saved_locks unit locks) lists)
 unsaved_agree ledger now unit locks commit is lists just =
-    subst (λ l. AgreeAll l lists × AgreeAll l (with_list unit.key (lasting unit.key locks) lists)) (sym is)
-    (just.agree, uncommitted_agree ledger unit.key (lasting unit.key locks) lists commit.fresh just.agree)
+    subst (λ l. AgreeAll l lists × AgreeAll l (with_list unit.key (saved_locks unit locks) lists)) (sym is)
+    (just.agree, uncommitted_agree ledger unit.key (saved_locks unit locks) lists commit.fresh just.agree)
 
 module _ {D : Type 0} (tells : Bool) (reads : D → List ℕ) (may_leave : D → List ℕ → Type 0) where
   -- it was recorded
@@ -179,14 +179,14 @@ module _ {D : Type 0} (tells : Bool) (reads : D → List ℕ) (may_leave : D →
   pub written_saved : (ledger : Ledger) (unit : UnitOfWork) (levels : List StoredInterval) (locks : List Entry) (old new : BackupView D)
       → HasOpenLists tells reads may_leave ledger old → new.failed ≡ false → IsOfCommit ledger unit locks
       → (IsTrue tells → (lists : List Handed) → IsReady reads may_leave old lists
-      → IsReady reads may_leave new (with_list unit.key (lasting unit.key locks) lists))
+      → IsReady reads may_leave new (with_list unit.key (saved_locks unit locks) lists))
       → IsSaved tells reads may_leave ledger (with_intervals levels (with_unit ledger unit)) new
   written_saved ledger unit levels locks old new has usable commit written = record {
     usable = usable;
     ready = λ t. let h = has.ready t in (
-      with_list unit.key (lasting unit.key locks) h.lists,
+      with_list unit.key (saved_locks unit locks) h.lists,
       written t h.lists h.ready,
-      uncommitted_agree ledger unit.key (lasting unit.key locks) h.lists commit.fresh h.just.agree,
+      uncommitted_agree ledger unit.key (saved_locks unit locks) h.lists commit.fresh h.just.agree,
       committed_lists ledger unit levels locks h.lists commit h.just,
     );
   }

@@ -1,23 +1,29 @@
 -- What a recorded unit or a mark leaves of the lists of the open units.
-use Rattle.std.proofs.Common.{◌≡◌, inl, inr, ℕ, Bool, true, false, not, cond, List, [], ◌∷◌, ◌++◌, refl, sym, ap, ◌∙◌, subst, arith}
+use Rattle.std.proofs.Common.{◌≡◌, inl, inr, ℕ, Bool, true, false, not, cond, List, [], ◌∷◌, ◌++◌, map, refl, sym, ap, ◌∙◌, subst, arith}
 use Rattle.std.specs.Prelude.{if◌then◌else◌, Option, Some, None}
 use Rattle.std.specs.List.{AllByRecursion, filter}
 use Rattle.std.specs.Option.{option_map_or}
 use Rattle.std.proofs.lemmas.Bool.{cases_Bool}
 use Rattle.std.proofs.lemmas.List.Elements.{All-from_recursion}
 use Rattle.enq_base.specs.Owners.{same_unit}
+use Rattle.enq_base.specs.declared.owner.Owner.TheVariants.{Upd}
 use Rattle.enq_base.specs.declared.owner.UnitKey.{UnitKey}
 use Rattle.enq_base.specs.declared.unit.Num.{Num as Number}
 use Rattle.enq_base.specs.declared.unit.Parts.{Parts}
 use Rattle.enq_base.specs.declared.unit.Status.{Status}
 use Rattle.enq_base.specs.declared.unit.Status.TheVariants.{Open, Posted, Bad, Bad2 as BadSecond}
+use Rattle.lock_entry.specs.Freeing.{handed_over}
+use Rattle.lock_entry.specs.Names.{is_of}
 use Rattle.lock_entry.specs.declared.entry.Entry.{Entry}
-use Rattle.backup_file.specs.Handing.{handed_of}
+use Rattle.mode_rules.specs.declared.Mode.TheVariants.{O}
+use Rattle.mode_rules.specs.Modes.{same_mode}
+use Rattle.backup_file.specs.Handing.{as_handed, handed_of}
 use Rattle.backup_file.specs.Lists.{without}
+use Rattle.backup_file.specs.Spelling.{user_of}
 use Rattle.backup_file.specs.declared.handed.Handed.{Handed}
-use Rattle.enq_server.proofs.Listed.{entries-with, entries-without, handed_as_kept, returned_as_kept}
+use Rattle.enq_server.proofs.Listed.{entries-with, entries-without, returned_as_kept}
 use Rattle.enq_server.specs.Recovery.{entries_of as listed_of}
-use Rattle.enq_server.specs.Server.{lasting, with_list}
+use Rattle.enq_server.specs.Server.{lasting, of_user, with_list}
 use Rattle.ledger_steps.specs.Intervals.{with_intervals}
 use Rattle.ledger_steps.specs.Posts.{entries_of, kind_for}
 use Rattle.ledger_steps.specs.Steps.{IsOpenUnit}
@@ -32,12 +38,11 @@ use Rattle.update_records.specs.declared.records.MarkKind.TheVariants.{Num, Agai
 use Rattle.update_records.specs.declared.records.Unit.{Unit as UnitOfWork}
 use Rattle.update_records.specs.declared.stored.StoredInterval.{StoredInterval}
 use Rattle.hall_calls.specs.Commits.{IsOfCommit}
-use Rattle.hall_model.specs.Kept.{HasGoodLocks, HasItsUser, HaveMarks, OfLock}
+use Rattle.hall_model.specs.Kept.{HasGoodLocks, HaveMarks}
 use Rattle.hall_calls.specs.OpenLists.{AgreeAll, AreOpenLists}
-use Rattle.hall_model.specs.Sessions.{session_at, unit_key}
-use Rattle.hall_model.specs.Step.{unit_of}
+use Rattle.hall_model.specs.Sessions.{unit_key}
+use Rattle.hall_model.specs.Step.{handed_locks, unit_of}
 use Rattle.hall_model.specs.declared.command.Session.{Session}
-use Rattle.hall_model.proofs.HandedLocks.{lasting_used}
 use Rattle.hall_model.proofs.OtherStatuses.{EndsFirst, apart_from_ended, marked_other, numbers_leave, recorded_open, recorded_other, status_in, status_marked, two_statuses}
 use Rattle.hall_calls.proofs.lists.OfOpenUnits.{AgreeEach, FollowUnits, IsOfOpen, all_agree, are_open_lists, each_agree, follow_units, none_listed}
 use Rattle.hall_model.proofs.EachLock.{recorded_here, every_append, every_more}
@@ -114,41 +119,67 @@ entries_recorded : (ledger : Ledger) (unit : UnitOfWork) → unit_at ledger.unit
 entries_recorded ledger unit none = ap (λ o. option_map_or (λ (u : UnitOfWork). u.entries) o []) (unit_new ledger.units unit none)
 
 -- of a session that is logged on
-pub of_session : (ledger : Ledger) (sessions : List Session) (name : List ℕ) (x : Session) (locks : List Entry) (parts : Parts) (numbers : List Number)
-    → session_at sessions name ≡ Some x → status_in ledger (unit_key ledger.start x) ≡ None → HaveMarks ledger
-    → AllByRecursion (OfLock (HasItsUser ledger.start sessions)) locks
-    → IsOfCommit ledger (unit_of ledger.start locks x parts numbers) locks
-of_session ledger sessions name x locks parts numbers found fresh marked users = record {
-  fresh = fresh;
-  new = marked (unit_key ledger.start x) fresh;
-  entries = refl;
-  used = lasting_used locks sessions name ledger.start x found users;
-}
+pub of_session : (ledger : Ledger) (x : Session) (locks : List Entry) (parts : Parts) (numbers : List Number)
+    → status_in ledger (unit_key ledger.start x) ≡ None → HaveMarks ledger → IsOfCommit ledger (unit_of ledger.start locks x parts numbers) locks
+of_session ledger x locks parts numbers fresh marked =
+    record { fresh = fresh; new = marked (unit_key ledger.start x) fresh; entries = refl }
+
+-- the locks as they are saved in the backup file, under the unit's user
+abbrev pub saved_locks : UnitOfWork → List Entry → List Entry
+saved_locks unit locks = of_user unit.user (lasting unit.key locks)
+
+put_once : (user : List ℕ) (es : List Entry) → map (as_handed user) (of_user user es) ≡ map (as_handed user) es
+put_once user [] = refl
+put_once user (e ∷ es) = ap (λ xs. as_handed user e ∷ xs) (put_once user es)
+
+by_first : (user : List ℕ) (es : List Entry) → map (as_handed (user_of (of_user user es))) (of_user user es) ≡ map (as_handed user) es
+by_first user [] = refl
+by_first user (e ∷ es) = put_once user (e ∷ es)
+
+handed_alike : (unit : UnitKey) (user : List ℕ) (table : List Entry)
+    → map (as_handed user) (lasting unit table) ≡ of_user user (filter (is_of (Upd unit)) (handed_over table unit))
+handed_alike unit user [] = refl
+handed_alike unit user (e ∷ table) =
+    let rest = handed_alike unit user table in
+    elim (cases_Bool (is_of (Upd unit) e)) [
+      | inr other ↦ rw (other, other, other) rest
+      | inl own ↦
+          elim (cases_Bool (same_mode e.mode O)) [
+            | inl optimistic ↦ rw (own, optimistic) rest
+            | inr lasts ↦ rw (own, lasts, own, own) (ap (λ xs. as_handed user e ∷ xs) rest)
+          ]
+    ]
+
+-- flagged as handed they are those that are stored
+handed_as_stored : (unit : UnitKey) (user : List ℕ) (table : List Entry)
+    → (handed_of unit (of_user user (lasting unit table))).entries ≡ handed_locks user table unit
+handed_as_stored unit user table = by_first user (lasting unit table) ∙ handed_alike unit user table
 
 recorded_agree : (ledger : Ledger) (unit : UnitOfWork) (locks : List Entry) (lists : List Handed) → IsOfCommit ledger unit locks → FollowUnits ledger lists
-    → AgreeEach (with_unit ledger unit) (with_list unit.key (lasting unit.key locks) lists)
+    → AgreeEach (with_unit ledger unit) (with_list unit.key (saved_locks unit locks) lists)
 recorded_agree ledger unit locks lists new h other waits =
     let key = unit.key in
-    let written = with_list key (lasting key locks) lists in
+    let saved = saved_locks unit locks in
+    let written = with_list key saved lists in
     let unlisted = none_listed ledger lists key (λ here. unheard_shut ledger key new.fresh here) h.only in
     let own : entries_of (ledger.units ++ unit ∷ []) key ≡ listed_of written key =
     entries_recorded ledger unit new.new
     ∙ new.entries
-    ∙ sym (handed_as_kept key unit.user locks (All-from_recursion (λ (e : Entry). e.user ≡ unit.user) (lasting key locks) new.used))
-    ∙ sym (listed_own lists key (lasting key locks) unlisted) in
+    ∙ sym (handed_as_stored key unit.user locks)
+    ∙ sym (listed_own lists key saved unlisted) in
     elim (cases_Bool (same_unit key other)) [
       | inl same ↦ subst (λ (k : UnitKey). entries_of (ledger.units ++ unit ∷ []) k ≡ listed_of written k) (one_unit key other same) own
       | inr apart ↦
           entries_beside ledger unit other apart
           ∙ h.agree other (sym (recorded_other ledger unit other new.fresh apart) ∙ waits)
-          ∙ sym (listed_other lists key other (lasting key locks) apart)
+          ∙ sym (listed_other lists key other saved apart)
     ]
 
 recorded_lists : (ledger : Ledger) (unit : UnitOfWork) (locks : List Entry) (lists : List Handed) → IsOfCommit ledger unit locks → FollowUnits ledger lists
-    → FollowUnits (with_unit ledger unit) (with_list unit.key (lasting unit.key locks) lists)
+    → FollowUnits (with_unit ledger unit) (with_list unit.key (saved_locks unit locks) lists)
 recorded_lists ledger unit locks lists new h = record {
   agree = recorded_agree ledger unit locks lists new h;
-  only = every_with (IsOpenUnit (with_unit ledger unit)) lists unit.key (lasting unit.key locks) (recorded_here ledger unit)
+  only = every_with (IsOpenUnit (with_unit ledger unit)) lists unit.key (saved_locks unit locks) (recorded_here ledger unit)
       (every_more (IsOfOpen ledger) (IsOfOpen (with_unit ledger unit)) (λ x waits. recorded_open ledger unit x.unit new.fresh waits) lists h.only);
 }
 
@@ -271,9 +302,9 @@ ended_lists ledger key kind lists ends h =
 -- once the unit's list is written and the unit is recorded, with these levels
 pub committed_lists : (ledger : Ledger) (unit : UnitOfWork) (levels : List StoredInterval) (locks : List Entry) (lists : List Handed)
     → IsOfCommit ledger unit locks → AreOpenLists ledger lists
-    → AreOpenLists (with_intervals levels (with_unit ledger unit)) (with_list unit.key (lasting unit.key locks) lists)
+    → AreOpenLists (with_intervals levels (with_unit ledger unit)) (with_list unit.key (saved_locks unit locks) lists)
 committed_lists ledger unit levels locks lists new h =
-    let written = with_list unit.key (lasting unit.key locks) lists in
+    let written = with_list unit.key (saved_locks unit locks) lists in
     same_lists (with_unit ledger unit) (with_intervals levels (with_unit ledger unit)) written (levels_same (with_unit ledger unit) levels)
     (are_open_lists (with_unit ledger unit) written (recorded_lists ledger unit locks lists new (follow_units ledger lists h)))
 

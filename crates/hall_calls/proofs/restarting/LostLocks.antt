@@ -1,15 +1,16 @@
 -- Sessions that lose a lock of their own with a lock server.
-use Rattle.std.proofs.Common.{◌≡◌, ℕ, zero, suc, ◌+◌, ◌<◌, Bool, true, false, not, ◌&&◌, ◌||◌, cond, refl, sym, ap, ◌∙◌, arith, add-one, List, [], ◌∷◌, length, map, set, take, get_or, slice_get, Some, IfSome}
-use Rattle.std.specs.Prelude.{if◌then◌else◌}
-use Rattle.std.specs.List.{AllByRecursion, filter, list_any}
+use Rattle.std.proofs.Common.{◌≡◌, ℕ, zero, suc, ◌+◌, ◌<◌, Bool, true, false, not, ◌&&◌, ◌||◌, cond, refl, sym, ap, ◌∙◌, arith, add-one, List, [], ◌∷◌, length, map, set, slice_get, Some, IfSome}
+use Rattle.std.specs.Prelude.{if◌then◌else◌, Option}
+use Rattle.std.specs.List.{AllByRecursion, list_any}
 use Rattle.std.specs.Map.{values_of}
 use Rattle.indexmap.specs.IndexMap.{set_value_at}
+use Rattle.lock_entry.specs.Freeing.{has_unhanded}
 use Rattle.lock_entry.specs.Names.{is_of}
 use Rattle.lock_entry.specs.Pairs.{in_pair}
 use Rattle.lock_entry.specs.declared.entry.Asker.{Asker}
 use Rattle.lock_entry.specs.declared.entry.Entry.{Entry}
 use Rattle.hall_calls.specs.Named.{AreNamed}
-use Rattle.hall_model.specs.Sessions.{bereft}
+use Rattle.hall_model.specs.Sessions.{bereft, bereft_if, loses}
 use Rattle.hall_model.specs.State.{unhanded}
 use Rattle.hall_model.specs.declared.command.Session.{Session}
 
@@ -29,24 +30,19 @@ any_kept : {X : Type 0} (p : X → Bool) (b : Bool) (x : X) (xs : List X) → li
 any_kept p true x xs = refl
 any_kept p false x xs = refl
 
--- one of the locks wasn't handed over
-abbrev pub any_unhanded : List Entry → Bool
-any_unhanded es = list_any (λ (e : Entry). not e.handed) es
-
 -- a pair of owners has a lock that wasn't handed over, or one of the two has
 pub either_has : (asker : Asker) (es : List Entry)
-    → (any_unhanded (filter (is_of asker.dialogue) es) || any_unhanded (filter (is_of asker.update) es))
-    ≡ list_any (λ (e : Entry). in_pair asker e.owner) (unhanded es)
+    → (has_unhanded asker.dialogue es || has_unhanded asker.update es) ≡ list_any (λ (e : Entry). in_pair asker e.owner) (unhanded es)
 either_has asker [] = refl
 either_has asker (e ∷ es) =
     let own : Entry → Bool = λ x. in_pair asker x.owner in
-    let free : Entry → Bool = λ x. not x.handed in
-    let dialogue = filter (is_of asker.dialogue) es in
-    let update = filter (is_of asker.update) es in
-    (λ i. any_kept free (is_of asker.dialogue e) e dialogue i || any_kept free (is_of asker.update e) e update i)
-    ∙ either_owner (not e.handed) (is_of asker.dialogue e) (is_of asker.update e) (any_unhanded dialogue) (any_unhanded update)
+    either_owner (not e.handed) (is_of asker.dialogue e) (is_of asker.update e) (has_unhanded asker.dialogue es) (has_unhanded asker.update es)
     ∙ ap (λ r. (not e.handed && in_pair asker e.owner) || r) (either_has asker es)
     ∙ sym (any_kept own (not e.handed) e (unhanded es))
+
+-- a session that may lose keeps its name
+pub bereft_named : (caller : Option (List ℕ)) (x : Session) → (bereft_if caller x).name ≡ x.name
+bereft_named caller x = elim (loses caller x) as (λ b. (if b then bereft x else x).name ≡ x.name) [ true ↦ refl | false ↦ refl ]
 
 -- ---- a value that is found by its place
 
@@ -67,63 +63,41 @@ all_at P [] i h = tt
 all_at P (x ∷ xs) zero h = h.0
 all_at P (x ∷ xs) (suc i) h = all_at P xs i h.1
 
--- ---- the sessions of which each is looked at in turn
+-- ---- a list whose elements are changed in turn
 
--- as far as it is told whether they lose a lock, those that do are bereft
-abbrev pub bereft_by : List Bool → List Session → List Session
-bereft_by [] xs = xs
-bereft_by (b ∷ bs) [] = []
-bereft_by (b ∷ bs) (x ∷ xs) = (if b then bereft x else x) ∷ bereft_by bs xs
+-- the first of them are changed
+abbrev pub first_changed : {X : Type 0} → (X → X) → ℕ → List X → List X
+first_changed f zero xs = xs
+first_changed f (suc i) [] = []
+first_changed f (suc i) (x ∷ xs) = f x ∷ first_changed f i xs
 
 -- the next one is as it was
-pub next_as_before : (bs : List Bool) (xs : List Session) (i : ℕ) → slice_get (bereft_by (take i bs) xs) i ≡ slice_get xs i
-next_as_before bs xs zero = refl
-next_as_before [] xs (suc i) = refl
-next_as_before (b ∷ bs) [] (suc i) = refl
-next_as_before (b ∷ bs) (x ∷ xs) (suc i) = next_as_before bs xs i
+pub next_as_before : {X : Type 0} (f : X → X) (xs : List X) (i : ℕ) → slice_get (first_changed f i xs) i ≡ slice_get xs i
+next_as_before f xs zero = refl
+next_as_before f [] (suc i) = refl
+next_as_before f (x ∷ xs) (suc i) = next_as_before f xs i
 
-next_bereft : (bs : List Bool) (xs : List Session) (i : ℕ) (x : Session) (d : Bool) → i < length bs → get_or bs i d ≡ true → slice_get xs i ≡ Some x
-    → set (bereft_by (take i bs) xs) i (bereft x) ≡ bereft_by (take (suc i) bs) xs
-next_bereft [] xs i x d within loses at = absurd (omega arith)
-next_bereft (b ∷ bs) [] zero x d within loses at = absurd (cc)
-next_bereft (b ∷ bs) [] (suc i) x d within loses at = absurd (cc)
-next_bereft (b ∷ bs) (y ∷ xs) zero x d within loses at =
-    let is : x ≡ y = cc in
-    ap (λ z. bereft z ∷ xs) is ∙ ap (λ c. (if c then bereft y else y) ∷ xs) (sym loses)
-next_bereft (b ∷ bs) (y ∷ xs) (suc i) x d within loses at =
-    ap (λ zs. (if b then bereft y else y) ∷ zs) (next_bereft bs xs i x d (omega arith) loses at)
-
-next_kept : (bs : List Bool) (xs : List Session) (i : ℕ) (d : Bool) → i < length bs → get_or bs i d ≡ false
-    → bereft_by (take i bs) xs ≡ bereft_by (take (suc i) bs) xs
-next_kept [] xs i d within keeps = absurd (omega arith)
-next_kept (b ∷ bs) [] zero d within keeps = refl
-next_kept (b ∷ bs) [] (suc i) d within keeps = refl
-next_kept (b ∷ bs) (y ∷ xs) zero d within keeps = ap (λ c. (if c then bereft y else y) ∷ xs) (sym keeps)
-next_kept (b ∷ bs) (y ∷ xs) (suc i) d within keeps = ap (λ zs. (if b then bereft y else y) ∷ zs) (next_kept bs xs i d (omega arith) keeps)
-
-one_bereft : (bs : List Bool) (xs : List Session) (i : ℕ) (x : Session) (d : Bool) → i < length bs → get_or bs i d ≡ true → slice_get xs i ≡ Some x
-    → set (bereft_by (take i bs) xs) i (bereft x) ≡ bereft_by (take (i + 1) bs) xs
-one_bereft bs xs i x d within loses at = next_bereft bs xs i x d within loses at ∙ ap (λ n. bereft_by (take n bs) xs) (sym (add-one i))
+next_changed : {X : Type 0} (f : X → X) (xs : List X) (i : ℕ) (x : X) → slice_get xs i ≡ Some x
+    → set (first_changed f i xs) i (f x) ≡ first_changed f (suc i) xs
+next_changed f [] zero x at = absurd (cc)
+next_changed f [] (suc i) x at = absurd (cc)
+next_changed f (y ∷ xs) zero x at = let is : x ≡ y = cc in ap (λ z. f z ∷ xs) is
+next_changed f (y ∷ xs) (suc i) x at = ap (λ zs. f y ∷ zs) (next_changed f xs i x at)
 
 there : {X : Type 0} (xs : List X) (i : ℕ) → i < length xs → (x : X) × (slice_get xs i ≡ Some x)
 there [] i within = absurd (omega arith)
 there (x ∷ xs) zero within = (x, refl)
 there (x ∷ xs) (suc i) within = there xs i (omega arith)
 
--- one more that loses a lock
-pub one_changed : (bs : List Bool) (xs now next : List Session) (i : ℕ) (d : Bool) → i < length bs → length bs ≡ length xs → get_or bs i d ≡ true
-    → now ≡ bereft_by (take i bs) xs → ((x : Session) → slice_get now i ≡ Some x → next ≡ set now i (bereft x)) → next ≡ bereft_by (take (i + 1) bs) xs
-one_changed bs xs now next i d within each loses so_far change =
-    let one = there xs i (omega arith) in
-    let at : slice_get now i ≡ Some one.0 = ap (λ ys. slice_get ys i) so_far ∙ next_as_before bs xs i ∙ one.1 in
-    change one.0 at ∙ ap (λ ys. set ys i (bereft one.0)) so_far ∙ one_bereft bs xs i one.0 d within loses one.1
+-- one more
+pub one_changed : {X : Type 0} (f : X → X) (xs now next : List X) (i : ℕ) → i < length xs → now ≡ first_changed f i xs
+    → ((x : X) → slice_get now i ≡ Some x → next ≡ set now i (f x)) → next ≡ first_changed f (i + 1) xs
+one_changed f xs now next i within so_far change =
+    let one = there xs i within in
+    let at : slice_get now i ≡ Some one.0 = ap (λ ys. slice_get ys i) so_far ∙ next_as_before f xs i ∙ one.1 in
+    change one.0 at ∙ ap (λ ys. set ys i (f one.0)) so_far ∙ next_changed f xs i one.0 one.1 ∙ ap (λ n. first_changed f n xs) (sym (add-one i))
 
--- one more that doesn't
-pub one_kept : (bs : List Bool) (xs : List Session) (i : ℕ) (d : Bool) → i < length bs → get_or bs i d ≡ false
-    → bereft_by (take i bs) xs ≡ bereft_by (take (i + 1) bs) xs
-one_kept bs xs i d within keeps = next_kept bs xs i d within keeps ∙ ap (λ n. bereft_by (take n bs) xs) (sym (add-one i))
-
--- once all are looked at
-pub all_bereft : (loses : Session → Bool) (xs : List Session) → bereft_by (map loses xs) xs ≡ map (λ x. if loses x then bereft x else x) xs
-all_bereft loses [] = refl
-all_bereft loses (x ∷ xs) = ap (λ zs. (if loses x then bereft x else x) ∷ zs) (all_bereft loses xs)
+-- once all are changed
+pub all_changed : {X : Type 0} (f : X → X) (xs : List X) → first_changed f (length xs) xs ≡ map f xs
+all_changed f [] = refl
+all_changed f (x ∷ xs) = ap (λ zs. f x ∷ zs) (all_changed f xs)

@@ -18,30 +18,30 @@ use Rattle.enq_server.specs.Recovery.{entries_of, is_one_of, left, stays}
 use Rattle.enq_server.specs.Server.{IsRecovered, recovered}
 use Rattle.enq_server.specs.declared.fault.OpenFault.{OpenFault}
 use Rattle.enq_server.specs.declared.fault.OpenFault.TheVariants as opening
-use Rattle.lock_entry.specs.Table.{Table}
-use Rattle.lock_entry.specs.declared.entry.Entry.{Entry}
+use Rattle.lock_entry.specs.Table.{IsTable, Table}
 use Rattle.lock_entry.specs.declared.entry.UnitLocks.{UnitLocks}
 use Rattle.ledger_steps.specs.Views.{open_locks}
 use Rattle.update_records.proofs.Status.{one_unit}
 use Rattle.update_records.specs.Ledger.{Ledger}
 use Rattle.hall_model.specs.Acts.{Admits, IsTelling}
 use Rattle.hall_model.specs.Calls.{OfAdmin, Restarts}
-use Rattle.hall_model.specs.Devices.{AllWell, AsKnown, BackupFails, FindsBad, FindsBadStore, MayFind, MayRead, MeetsWant, NotRemade, Reading, RemakeFault, Reopens, StoreFails, Wanting, IsAsBefore, all_well, fault_told, found_by, is_doubt, only}
+use Rattle.hall_model.specs.Devices.{AllWell, AsKnown, BackupFails, FindsBad, FindsBadStore, LeavesTable, MayFind, MayRead, MeetsWant, NotRemade, Reading, RemakeFault, Reopens, StoreFails, Wanting, IsAsBefore, all_well, fault_told, found_by, is_doubt, only}
 use Rattle.hall_calls.specs.Filing.{AllRecover, HasFileCause, HasOpenLists, RecoversFrom, UnlessTaken, UnlessUntaken}
-use Rattle.hall_model.specs.History.{doubted, judged, known_behind, pending_after, read_anew, refused, stored_before_file, unfiled}
+use Rattle.hall_model.specs.History.{doubted, had_lock, judged, known_behind, pending_after, read_anew, refused, stored_before_file, unfiled}
 use Rattle.hall_model.specs.Kept.{IsInFlight}
 use Rattle.hall_calls.specs.Leaving.{HasStoreCause}
 use Rattle.hall_calls.specs.OpenLists.{AgreeAll}
 use Rattle.hall_model.specs.OpenUnits.{OfPending}
 use Rattle.hall_calls.specs.Remaking.{IsReadFault, remade_state, remake_refusal}
-use Rattle.hall_model.specs.Sessions.{bereft_if}
-use Rattle.hall_model.specs.State.{State, gone_in, unhanded}
-use Rattle.hall_model.specs.Step.{Found, Verdict, Refuses, Leaves, call_verdict, found_in, is_taken, leaves, own_verdict, recovered_table, restarted, settled, stored_anew}
+use Rattle.hall_model.specs.Sessions.{bereft_if, with_marks}
+use Rattle.hall_model.specs.State.{State}
+use Rattle.hall_model.specs.Step.{Found, Verdict, Refuses, Leaves, call_verdict, found_in, has_lock, is_taken, leaves, own_verdict, recovered_table, restarted, settled, stored_anew}
 use Rattle.hall_model.specs.declared.command.Command.TheVariants as command
 use Rattle.hall_model.specs.declared.command.Reply.{Reply}
 use Rattle.hall_model.specs.declared.command.Reply.TheVariants as reply
 use Rattle.hall_model.specs.declared.command.Session.{Session}
 use Rattle.hall_calls.specs.declared.remaking.Remade.TheVariants.{Done}
+use Rattle.hall_calls.proofs.ending.StateBehind.{marks_kept}
 use Rattle.hall_calls.proofs.verdicts.EachCall.{admitted}
 use Rattle.hall_calls.proofs.lists.OfOpenUnits.{all_agree, each_agree, one_of_open, recovered_lists}
 
@@ -68,7 +68,28 @@ pub restarts_up : (s : State) (k : Condition) → s.condition ≡ k → k ≡ co
     → IsTelling s command.Restart false s (reply.Refused refusal.ServerUp)
 restarts_up s k is up free =
     let v = admitted (found_in s) s command.Restart free ∙ comes_to (found_in s) s condition.Up (is ∙ up) in
-    record { act = record { outcome = all_well; possible = record { reading = tt; event = tt; lost = tt }; same = ap (judged s) v }; taken = refl }
+    record {
+      act = record {
+        outcome = all_well;
+        possible = record { reading = tt; event = subst LeavesTable (sym v) tt; lost = tt };
+        same = ap (judged s) v;
+      };
+      taken = refl;
+    }
+
+-- each session has the mark that it had
+abbrev had_in : State → Condition → Session → Bool
+had_in s k x =
+    elim k [
+      | condition.Up ↦ has_lock s x
+      | condition.NoServer ↦ x.marked
+      | condition.Doubt n ↦ x.marked
+    ]
+
+unmarked : (s : State) (k : Condition) → (k ≡ condition.Up → ⊥) → with_marks (had_in s k) s.sessions ≡ s.sessions
+unmarked s condition.Up down = absurd (down refl)
+unmarked s condition.NoServer down = marks_kept s.sessions
+unmarked s (condition.Doubt n) down = marks_kept s.sessions
 
 -- where it isn't, the call is done if the devices do well
 module _ (s : State) (k : Condition) (is : s.condition ≡ k) (down : k ≡ condition.Up → ⊥) (free : Admits s command.Restart) where
@@ -88,6 +109,14 @@ module _ (s : State) (k : Condition) (is : s.condition ≡ k) (down : k ≡ cond
   }
 
   -- ---- no lock server could be made
+
+  -- the sessions are as they were
+  pub sessions_kept : (read : Option Bool) (sessions : List Session) (r : Reply) → sessions ≡ s.sessions
+      → Tells false (doubted s (OfAdmin Restarts) read s.pending) r
+      → Tells false (record (doubted s (OfAdmin Restarts) read s.pending) { sessions = sessions }) r
+  sessions_kept read sessions r same h =
+      let marks : with_marks (had_lock s) s.sessions ≡ s.sessions = ap (λ c. with_marks (had_in s c) s.sessions) is ∙ unmarked s k down in
+      subst (λ xs. Tells false (record (doubted s (OfAdmin Restarts) read s.pending) { sessions = xs }) r) (marks ∙ sym same) h
 
   -- what was read of the change in flight
   abbrev reading_of : Option Bool → Reading
@@ -166,58 +195,54 @@ module _ (s : State) (k : Condition) (is : s.condition ≡ k) (down : k ≡ cond
 
   -- ---- one was made
 
-  made_of : (read : Option Bool) → MayHaveRead read → Tells (is_taken read) (restarted (is_taken read) s) reply.Done
-  made_of None may = record {
-    act = record { outcome = all_well; possible = record { reading = tt; event = tt; lost = tt }; same = ap (judged s) (given (found_in s)) };
+  made_of : (read : Option Bool) → MayHaveRead read → IsTable (recovered_table (settled (is_taken read) s))
+      → Tells (is_taken read) (restarted (is_taken read) s) reply.Done
+  made_of None may good = record {
+    act = record {
+      outcome = all_well;
+      possible = record { reading = tt; event = subst LeavesTable (sym (given (found_in s))) good; lost = tt };
+      same = ap (judged s) (given (found_in s));
+    };
     taken = refl;
   }
-  made_of (Some taken) may = record {
+  made_of (Some taken) may good = record {
     act = record {
       outcome = record { event = AllWell; reading = Reopens taken; lost = false };
-      possible = record { reading = may; event = tt; lost = tt };
+      possible = record { reading = may; event = subst LeavesTable (sym (given (found_by (Reopens taken) s))) good; lost = tt };
       same = ap (judged s) (given (found_by (Reopens taken) s));
     };
     taken = refl;
   }
 
-  gone_so : (c : Condition) (entries : List Entry) → (c ≡ condition.Up → ⊥) → gone_in c entries ≡ unhanded entries
-  gone_so condition.Up entries off = absurd (off refl)
-  gone_so condition.NoServer entries off = refl
-  gone_so (condition.Doubt n) entries off = refl
-
   -- what it has of the store and of the table, of sessions and orders
-  pub record IsMadeOf (read : Option Bool) (after : List Session) (orders : List (Option UnitKey)) (table : Table) (entries : List Entry)
-      (ledger : Ledger) : Type 0 where
+  pub record IsMadeOf (read : Option Bool) (after : List Session) (orders : List (Option UnitKey)) (table : Table) (ledger : Ledger) : Type 0 where
     pub stored : ledger ≡ stored_anew (is_taken read) s.stored s.pending
-    pub gone : s.gone ≡ gone_in k entries
-    pub bereaved : after ≡ map (bereft_if s.stored.start (unhanded entries) s.failed_caller) s.sessions
+    pub bereaved : after ≡ map (bereft_if s.failed_caller) s.sessions
     pub idle : orders ≡ replicate 256 None
     pub made : table ≡ recovered s.max_locks (open_locks ledger)
+    pub good : IsTable table
 
-  pub remakes : (read : Option Bool) (after : List Session) (orders : List (Option UnitKey)) (table : Table) (entries : List Entry) (ledger : Ledger)
-      → MayHaveRead read → IsMadeOf read after orders table entries ledger
+  pub remakes : (read : Option Bool) (after : List Session) (orders : List (Option UnitKey)) (table : Table) (ledger : Ledger)
+      → MayHaveRead read → IsMadeOf read after orders table ledger
       → Tells (is_taken read) (remade_state s after orders table ledger (Done (is_taken read))) reply.Done
-  remakes read after orders table entries ledger may h =
-      let taken : s.gone ≡ unhanded entries = h.gone ∙ gone_so k entries down in
-      let now : map (bereft_if s.stored.start s.gone s.failed_caller) s.sessions ≡ after =
-      ap (λ g. map (bereft_if s.stored.start g s.failed_caller) s.sessions) taken ∙ sym h.bereaved in
+  remakes read after orders table ledger may h =
       let new : recovered_table (settled (is_taken read) s) ≡ table =
       ap (λ (l : Ledger). recovered s.max_locks (open_locks l)) (sym h.stored) ∙ sym h.made in
       subst (λ t. Tells (is_taken read) t reply.Done)
       (λ i. record s {
         condition = condition.Up;
-        sessions = now i;
+        sessions = sym h.bereaved i;
         orders = sym h.idle i;
         locks = (new i).entries;
         limit = (new i).limit;
+        taken_over = false;
         attached = false;
         stored = sym h.stored i;
         pending = None;
         found = None;
-        gone = [];
         failed_caller = None;
       })
-      (made_of read may)
+      (made_of read may (subst IsTable (sym new) h.good))
 
 -- ---- what is left of the file
 

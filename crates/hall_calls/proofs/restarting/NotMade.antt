@@ -1,5 +1,5 @@
 -- A lock server that isn't made anew since the store isn't read, or memory is wanting for the units that wait.
-use Rattle.std.proofs.Common.{◌≡◌, ℕ, ◌+◌, Bool, true, false, List, refl, sym, ap, subst}
+use Rattle.std.proofs.Common.{◌≡◌, ℕ, ◌+◌, Bool, true, false, List, refl, sym, ap, ◌∙◌, subst}
 use Rattle.std.specs.Prelude.{Option, Some, None, IfSome, IsTrue, is_some}
 use Rattle.backup_file.specs.Backup.{BackupView}
 use Rattle.enq_base.specs.declared.condition.Bad.TheVariants as bad
@@ -18,9 +18,9 @@ use Rattle.hall_model.specs.Devices.{IsAsBefore, MayFind, is_doubt}
 use Rattle.hall_calls.specs.Filing.{AllRecover, HasFileCause}
 use Rattle.hall_model.specs.History.{known_behind}
 use Rattle.hall_model.specs.Kept.{IsInFlight}
-use Rattle.hall_calls.specs.Remaking.{IsLeftReady, IsReadFault, IsUnread, LeavesKnown, LeavesRemade, OnNotRemade, OnRefusedFirst, OnRemade, flight_over, remade_reply, remade_state, remade_taken}
+use Rattle.hall_calls.specs.Remaking.{IsLeftReady, IsReadFault, IsUnread, LeavesKnown, LeavesRemade, OnNotRemade, OnRefusedFirst, OnRemade, flight_over, remade_condition, remade_reply, remade_state, remade_taken}
 use Rattle.hall_calls.specs.Serving.{DoesStore}
-use Rattle.hall_model.specs.State.{State}
+use Rattle.hall_model.specs.State.{State, is_up}
 use Rattle.hall_model.specs.Unsound.{is_unsound_file}
 use Rattle.hall_model.specs.declared.command.Command.TheVariants as command
 use Rattle.hall_model.specs.declared.command.Reply.TheVariants as reply
@@ -28,7 +28,7 @@ use Rattle.hall_model.specs.declared.command.Session.{Session}
 use Rattle.hall_calls.specs.declared.remaking.Remade.{Remade}
 use Rattle.hall_calls.specs.declared.remaking.Remade.TheVariants.{Done, Refused, InDoubt}
 use Rattle.hall_calls.specs.declared.units.Failure.{Failure}
-use Rattle.hall_calls.proofs.restarting.MadeAnew.{not_read, restart_wanting, same_recovers, untouched_recovers}
+use Rattle.hall_calls.proofs.restarting.MadeAnew.{not_read, restart_wanting, same_recovers, sessions_kept, untouched_recovers}
 use Rattle.hall_calls.proofs.restarting.StoreRead.{unread_known}
 
 -- ---- by what came of it
@@ -37,6 +37,17 @@ pub all_not_remade : (remade : Remade) (P : Type 0) → P → OnNotRemade remade
 all_not_remade (Done taken) P h = tt
 all_not_remade (Refused r) P h = h
 all_not_remade (InDoubt r read) P h = h
+
+pub all_refused_first : (remade : Remade) (P : Type 0) → P → OnRefusedFirst remade P
+all_refused_first (Done taken) P h = tt
+all_refused_first (Refused r) P h = h
+all_refused_first (InDoubt r read) P h = tt
+
+-- without a lock server, or in doubt
+pub not_up : (k : Condition) → (k ≡ condition.Up → ⊥) → is_up k ≡ false
+not_up condition.Up down = absurd (down refl)
+not_up condition.NoServer down = refl
+not_up (condition.Doubt n) down = refl
 
 -- the state has what the books and the failure have
 pub record IsOf (s : State) (ledger : Ledger) (failure : Failure) : Type 0 where
@@ -75,14 +86,25 @@ module _ {K : Type 0} (held : K → Option Rows) (may_leave : K → Rows → Typ
   Unread remade = IsUnread held may_leave faults k failure old new remade
 
   pub unread_acts : (remade : Remade) → Unread remade → (k ≡ condition.Up → ⊥) → (s : State) → s.condition ≡ k → IsOf s old.ledger failure
-      → Admits s command.Restart
-      → (sessions : List Session) (orders : List (Option UnitKey)) (table : Table) (ledger : Ledger)
+      → Admits s command.Restart → (sessions : List Session) (orders : List (Option UnitKey)) (table : Table) (ledger : Ledger) → sessions ≡ s.sessions
       → IsTelling s command.Restart (remade_taken remade) (remade_state s sessions orders table ledger remade) (remade_reply remade)
-  unread_acts (Done taken) h down s is own free sessions orders table ledger = absurd h
-  unread_acts (Refused r) h down s is own free sessions orders table ledger =
+  unread_acts (Done taken) h down s is own free sessions orders table ledger same = absurd h
+  unread_acts (Refused r) h down s is own free sessions orders table ledger same =
       subst (λ x. IsTelling s command.Restart false s (reply.Refused x)) (sym h.0) (restart_wanting s k is down free)
-  unread_acts (InDoubt r read) h down s is own free sessions orders table ledger =
-      not_read s k is down free h.0 r read h.1.why (may_have s old.ledger failure own read h.1.flight h.1.known)
+  unread_acts (InDoubt r read) h down s is own free sessions orders table ledger same =
+      sessions_kept s k is down free read sessions (reply.Refused r) same
+      (not_read s k is down free h.0 r read h.1.why (may_have s old.ledger failure own read h.1.flight h.1.known))
+
+  doubt_down : (c : Condition) → is_doubt c ≡ true → is_up c ≡ false
+  doubt_down condition.Up e = absurd (cc)
+  doubt_down condition.NoServer e = absurd (cc)
+  doubt_down (condition.Doubt n) e = refl
+
+  -- whether a table stands is as it was
+  pub unread_stands : (remade : Remade) (stands : Bool) (calls : ℕ) → Unread remade → stands ≡ is_up k → stands ≡ is_up (remade_condition k calls remade)
+  unread_stands (Done taken) stands calls h was = absurd h
+  unread_stands (Refused r) stands calls h was = was
+  unread_stands (InDoubt r read) stands calls h was = was ∙ doubt_down k h.0
 
   pub unread_usable : (remade : Remade) (P : Type 0) → Unread remade → OnRemade remade P
   unread_usable (Done taken) P h = absurd h

@@ -118,3 +118,8 @@ pub found_sound : (P : Ledger → Type 0) (taken : Bool) (stored : Ledger) (pend
 found_sound P false stored pending h landed = h
 found_sound P true stored None h landed = h
 found_sound P true stored (Some changed) h landed = landed
+
+-- what holds of a change in flight under a premise that is given
+pub pending_under : (T : Type 0) (pending : Option Ledger) (P : Ledger → Type 0) → T → OfPending pending (λ ledger. T → P ledger) → OfPending pending P
+pending_under T None P given h = tt
+pending_under T (Some changed) P given h = h given

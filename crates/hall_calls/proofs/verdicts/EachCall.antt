@@ -23,8 +23,8 @@ use Rattle.hall_model.specs.declared.command.Reply.{Reply}
 use Rattle.hall_model.specs.declared.command.Reply.TheVariants as reply
 use Rattle.hall_model.specs.declared.command.Session.{Session}
 use Rattle.hall_model.specs.Acts.{Admits, IsAct}
-use Rattle.hall_model.specs.Calls.{OfSession, SessionCall, LogsOff, Asks, Frees, FreesAll, Converts, RollsBack, call_of, only_reads, writes_store_first}
-use Rattle.hall_model.specs.Devices.{AsKnown, BackupFails, StoreFails, Wanting, all_well, may_want, only, uses_file, uses_store}
+use Rattle.hall_model.specs.Calls.{Call, LogsOn, OfSession, OfWorker, OfAdmin, Kills, FailsOver, Restarts, Attaches, Cancels, Resubmits, SessionCall, LogsOff, Asks, Frees, FreesAll, Converts, RollsBack, call_of, only_reads, writes_store_first}
+use Rattle.hall_model.specs.Devices.{AsKnown, BackupFails, MayBeDone, StoreFails, Wanting, all_well, may_want, only, uses_file, uses_store}
 use Rattle.hall_model.specs.History.{doubted, is_unread, judged, pending_after, refused, stored_before_file, unfiled, without_stock}
 use Rattle.hall_model.specs.Sessions.{begun, session_at, without_session, with_session, with_fresh_unit, pair_of}
 use Rattle.hall_model.specs.State.{State}
@@ -37,24 +37,39 @@ admitted found s c h = ap (λ o. unless_refused o (own_verdict found s (call_of 
 
 -- ---- what calls come to
 
+-- where a call is refused nothing more is asked
+pub refused_done : (call : Call) (r : Refusal) → MayBeDone call (Refuses r)
+refused_done (LogsOn name user) r = tt
+refused_done (OfSession name call) r = tt
+refused_done (OfWorker worker call) r = tt
+refused_done (OfAdmin Kills) r = tt
+refused_done (OfAdmin FailsOver) r = tt
+refused_done (OfAdmin Restarts) r = tt
+refused_done (OfAdmin Attaches) r = tt
+refused_done (OfAdmin (Cancels unit)) r = tt
+refused_done (OfAdmin (Resubmits unit)) r = tt
+
 -- the devices did well
-pub tells : (s : State) (c : Command) (v : Verdict) (after : State) (r : Reply) → Admits s c → own_verdict (found_in s) s (call_of c) ≡ v
-    → judged s v ≡ record { state = after; reply = r } → IsAct s c after r
-tells s c v after r h e j = record {
-  outcome = all_well;
-  possible = record { reading = tt; event = tt; lost = tt };
-  same = ap (judged s) (admitted (found_in s) s c h ∙ e) ∙ j;
-}
+pub tells : (s : State) (c : Command) (v : Verdict) (after : State) (r : Reply) → MayBeDone (call_of c) v → Admits s c
+    → own_verdict (found_in s) s (call_of c) ≡ v → judged s v ≡ record { state = after; reply = r } → IsAct s c after r
+tells s c v after r may h e j =
+    let is = admitted (found_in s) s c h ∙ e in
+    record {
+      outcome = all_well;
+      possible = record { reading = tt; event = subst (MayBeDone (call_of c)) (sym is) may; lost = tt };
+      same = ap (judged s) is ∙ j;
+    }
 
 pub refuses : (s : State) (c : Command) (r : Refusal) → Admits s c → own_verdict (found_in s) s (call_of c) ≡ Refuses r → IsAct s c s (reply.Refused r)
-refuses s c r h e = tells s c (Refuses r) s (reply.Refused r) h e refl
+refuses s c r h e = tells s c (Refuses r) s (reply.Refused r) (refused_done (call_of c) r) h e refl
 
-pub leaves_as : (s : State) (c : Command) (after : State) (r : Reply) → Admits s c → own_verdict (found_in s) s (call_of c) ≡ Leaves after r → IsAct s c after r
-leaves_as s c after r h e = tells s c (Leaves after r) after r h e refl
+pub leaves_as : (s : State) (c : Command) (after : State) (r : Reply) → MayBeDone (call_of c) (Leaves after r) → Admits s c
+    → own_verdict (found_in s) s (call_of c) ≡ Leaves after r → IsAct s c after r
+leaves_as s c after r may h e = tells s c (Leaves after r) after r may h e refl
 
-pub is_done : (s : State) (c : Command) (after : State) → Admits s c → own_verdict (found_in s) s (call_of c) ≡ Leaves after reply.Done
-    → IsAct s c after reply.Done
-is_done s c after h e = leaves_as s c after reply.Done h e
+pub is_done : (s : State) (c : Command) (after : State) → MayBeDone (call_of c) (Leaves after reply.Done) → Admits s c
+    → own_verdict (found_in s) s (call_of c) ≡ Leaves after reply.Done → IsAct s c after reply.Done
+is_done s c after may h e = leaves_as s c after reply.Done may h e
 
 -- memory was wanting
 pub is_wanting : (s : State) (c : Command) → unavailable s (call_of c) ≡ None → IsTrue (may_want s (verdict (found_in s) s c) (call_of c))
@@ -140,7 +155,7 @@ logs_on s sessions next name user e f room free limit =
     let free : is_some (session_at s.sessions name) ≡ false = ap (λ xs. is_some (session_at xs name)) e ∙ free in
     let limit : nat_le 1024 (length s.sessions) ≡ false = ap (λ xs. nat_le 1024 (length xs)) e ∙ limit in
     at_state _ _ (entered s name user) _ _ (λ i. record s { sessions = e i ++ begun name user (f i) ∷ []; next_session = f i + 1 })
-    (is_done s (command.Logon name user) (entered s name user) room (logon_free s name user false free limit))
+    (is_done s (command.Logon name user) (entered s name user) tt room (logon_free s name user false free limit))
 
 -- ---- calls of a session
 
@@ -169,7 +184,7 @@ pub frees : (s : State) (start : ℕ) (sessions : List Session) (name : List ℕ
     → IsAct s (command.Free name requests) (record s { locks = entries }) reply.Done
 frees s start sessions name x pair requests entries k room e =
     let own = own_pair s start sessions name x pair k in
-    is_done s (command.Free name requests) (record s { locks = entries }) room
+    is_done s (command.Free name requests) (record s { locks = entries }) tt room
     (of_session s start sessions name x pair (Frees requests) k ∙ ap (λ p. Leaves (record s { locks = fold freed s.locks (halves p requests) }) reply.Done) own
     ∙ ap (λ l. Leaves (record s { locks = l }) reply.Done) (sym e))
 
@@ -180,7 +195,7 @@ pub logs_off : (s : State) (start : ℕ) (sessions : List Session) (name : List 
 logs_off s start sessions name x pair after entries k room e f =
     let own = own_pair s start sessions name x pair k in
     let rest : after ≡ without_session x.name s.sessions = e ∙ ap (without_session x.name) (sym k.sessions_are) in
-    is_done s (command.Logoff name) (record s { sessions = after; locks = entries }) room
+    is_done s (command.Logoff name) (record s { sessions = after; locks = entries }) tt room
     (of_session s start sessions name x pair LogsOff k
     ∙ ap (λ p. Leaves (record s { sessions = without_session x.name s.sessions; locks = freed_owner (freed_owner s.locks p.dialogue) p.update }) reply.Done)
     own
@@ -191,7 +206,7 @@ pub frees_all : (s : State) (start : ℕ) (sessions : List Session) (name : List
     → IsAct s (command.FreeAll name) (record s { locks = entries }) reply.Done
 frees_all s start sessions name x pair entries k room f =
     let own = own_pair s start sessions name x pair k in
-    is_done s (command.FreeAll name) (record s { locks = entries }) room
+    is_done s (command.FreeAll name) (record s { locks = entries }) tt room
     (of_session s start sessions name x pair FreesAll k
     ∙ ap (λ p. Leaves (record s { locks = freed_owner (freed_owner s.locks p.dialogue) p.update }) reply.Done) own
     ∙ ap (λ l. Leaves (record s { locks = l }) reply.Done) (sym f))
@@ -202,7 +217,7 @@ pub rolls_back : (s : State) (start : ℕ) (sessions : List Session) (name : Lis
 rolls_back s start sessions name x pair after entries k room e f =
     let own = own_pair s start sessions name x pair k in
     let next : after ≡ with_session x.name with_fresh_unit s.sessions = e ∙ ap (with_session x.name with_fresh_unit) (sym k.sessions_are) in
-    is_done s (command.Rollback name) (record s { sessions = after; locks = entries }) room
+    is_done s (command.Rollback name) (record s { sessions = after; locks = entries }) tt room
     (of_session s start sessions name x pair RollsBack k
     ∙ ap (λ p. Leaves (record s { sessions = with_session x.name with_fresh_unit s.sessions; locks = freed_owner s.locks p.update }) reply.Done) own
     ∙ (λ i. Leaves (record s { sessions = sym next i; locks = sym f i }) reply.Done))
@@ -245,7 +260,7 @@ pub converts : (s : State) (start : ℕ) (sessions : List Session) (name : List 
     (c : Conversion) → Caller s start sessions name x pair → s.locks ≡ entries → Admits s (command.Convert name asked) → converted entries pair asked ≡ Ok c
     → IsAct s (command.Convert name asked) (record s { locks = c.entries }) reply.Done
 converts s start sessions name x pair asked entries c k locks room e =
-    is_done s (command.Convert name asked) (record s { locks = c.entries }) room (turning s start sessions name x pair asked entries (Ok c) k locks e)
+    is_done s (command.Convert name asked) (record s { locks = c.entries }) tt room (turning s start sessions name x pair asked entries (Ok c) k locks e)
 
 not_converted : (s : State) (start : ℕ) (sessions : List Session) (name : List ℕ) (x : Session) (pair : Asker) (asked : List Asked) (entries : List Entry)
     (f : AskFault) → Caller s start sessions name x pair → s.locks ≡ entries → Admits s (command.Convert name asked)
@@ -284,7 +299,7 @@ pub asks : (s : State) (start : ℕ) (sessions : List Session) (name : List ℕ)
     (entries : List Entry) → Caller s start sessions name x pair → s.locks ≡ t.entries → s.limit ≡ t.limit → Admits s (command.Ask name requests)
     → asked t pair x.user requests ≡ Ok entries → IsAct s (command.Ask name requests) (record s { locks = entries }) reply.Done
 asks s start sessions name x pair requests t entries k locks limit room e =
-    is_done s (command.Ask name requests) (record s { locks = entries }) room (asking s start sessions name x pair requests t (Ok entries) k locks limit e)
+    is_done s (command.Ask name requests) (record s { locks = entries }) tt room (asking s start sessions name x pair requests t (Ok entries) k locks limit e)
 
 is_refused : (s : State) (start : ℕ) (sessions : List Session) (name : List ℕ) (x : Session) (pair : Asker) (requests : List Request) (t : Table) (f : AskFault)
     → Caller s start sessions name x pair → s.locks ≡ t.entries → s.limit ≡ t.limit → Admits s (command.Ask name requests)

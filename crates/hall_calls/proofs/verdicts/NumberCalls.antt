@@ -251,7 +251,7 @@ module _ (s : State) (sessions : List Session) (ranges : List NumberRange) (ledg
           at_state _ _ (drawn s d.session i number) _ _
           (ap (λ b. if b then record taken { ranges = handed_out i taken.ranges; stored = raised_to i number taken.stored } else taken) plain
           ∙ (λ k. record s { sessions = e k; ranges = at.own_ranges k; stored = at.own_ledger k }))
-          (leaves_as s draws_call (drawn s d.session i number) _ room leaves_number)
+          (leaves_as s draws_call (drawn s d.session i number) _ tt room leaves_number)
 
       named_so : name_of i ≡ (object, nr)
       named_so = ap name_of d.interval ∙ (range_found ranges object nr d.range d.chosen).name
@@ -269,7 +269,7 @@ module _ (s : State) (sessions : List Session) (ranges : List NumberRange) (ledg
           at_state _ _ (drawn s d.session i number) _ _
           (ap (λ b. if b then record taken { ranges = handed_out i taken.ranges; stored = raised_to i number taken.stored } else taken) buffered
           ∙ (λ k. record s { sessions = e k; ranges = f k; stored = g k }))
-          (leaves_as s draws_call (drawn s d.session i number) _ room leaves_number)
+          (leaves_as s draws_call (drawn s d.session i number) _ tt room leaves_number)
 
       pub draws_in_doubt : is_buffered i ≡ true → nat_eq level i.level ≡ false
           → IsAct s draws_call (doubted s (OfSession name (Draws object nr)) None (Some (with_intervals (row_at i level ∷ []) s.stored)))
@@ -365,7 +365,7 @@ module _ (s : State) (sessions : List Session) (ranges : List NumberRange) (ledg
           ∙ ap (λ l. raised_by i l ledger) (sym d.reserved) ∙ sym raised in
           subst (λ n. IsAct s reserves_call (record s { stored = new }) (reply.Level n)) is_block
           (at_state _ _ (record s { stored = raised_to i upto s.stored }) _ _ (λ k. record s { stored = g k })
-          (leaves_as s reserves_call (record s { stored = raised_to i upto s.stored }) _ room leaves_level))
+          (leaves_as s reserves_call (record s { stored = raised_to i upto s.stored }) _ tt room leaves_level))
 
       pub reserves_in_doubt : nat_eq level i.level ≡ false → IsAct s reserves_call
           (doubted s (OfSession name (Reserves object nr upto)) None (Some (with_intervals (row_at i level ∷ []) s.stored))) (reply.Refused refusal.StoreFault)

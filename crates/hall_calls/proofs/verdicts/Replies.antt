@@ -92,7 +92,7 @@ answered found s = record {
   posts = λ worker part unit e. plainly s _ _ _ (posted part unit (found.part part unit));
   drops = λ worker unit e. plainly s _ _ _ (of_unit unit);
   kills = λ up. plainly s _ _ _ done;
-  fails_over = λ list can. plainly s _ _ _ done;
+  fails_over = λ can. plainly s _ _ _ done;
   strays = λ first second none. plainly s _ _ _ (record { own = refl; noted = refl; no_row = refl });
   attaches = λ up. plainly s _ _ _ done;
   restarts = λ off. plainly s _ _ _ done;

@@ -1,9 +1,10 @@
 -- Commits, orders and posts come to what their commands' verdicts say.
 use Rattle.std.proofs.Common.{◌≡◌, ℕ, zero, suc, ◌+◌, ◌-◌, ◌≤◌, ◌<◌, Bool, true, false, cond, not, List, [], ◌∷◌, ◌++◌, length, drop, set, refl, sym, ap, ◌∙◌, subst, arith}
 use Rattle.std.specs.Prelude.{◌&&◌, ◌||◌, IsTrue, Option, Some, None, Result, Ok, Err, IfSome, is_ok, is_some, nat_eq, nat_le, nat_lt, slice_get, if◌then◌else◌}
-use Rattle.std.specs.List.{All, AllByRecursion, find}
+use Rattle.std.specs.List.{All, AllByRecursion, filter, find}
 use Rattle.std.specs.Option.{option_map_or}
 use Rattle.std.proofs.lemmas.Bool.Decides.{nat_tests}
+use Rattle.std.proofs.lemmas.List.{length-map}
 use Rattle.enq_base.specs.declared.owner.UnitKey.{UnitKey}
 use Rattle.enq_base.specs.declared.refusal.Refusal.{Refusal}
 use Rattle.enq_base.specs.declared.refusal.Refusal.TheVariants as refusal
@@ -14,8 +15,10 @@ use Rattle.enq_base.specs.declared.unit.Status.TheVariants.{Bad, Bad2}
 use Rattle.lock_entry.specs.declared.entry.Entry.{Entry}
 use Rattle.enq_base.specs.declared.owner.Owner.TheVariants.{Upd}
 use Rattle.lock_entry.specs.Freeing.{freed_owner, handed_over}
+use Rattle.lock_entry.proofs.Frees.{IsTable-filter, IsTable-handed_over}
 use Rattle.lock_entry.specs.Granting.{readmitted}
-use Rattle.lock_entry.specs.Table.{IsFaultOf, IsTable, Table}
+use Rattle.lock_entry.specs.Names.{is_of}
+use Rattle.lock_entry.specs.Table.{IsFaultOf, IsTable, Table, with_entries}
 use Rattle.lock_entry.specs.declared.fault.AskFault.{AskFault}
 use Rattle.lock_entry.specs.declared.fault.AskFault.TheVariants as fault
 use Rattle.module_effects.specs.Effects.{applied}
@@ -44,9 +47,9 @@ use Rattle.hall_model.specs.declared.command.Session.{Session}
 use Rattle.hall_model.specs.Acts.{Admits, IsAct}
 use Rattle.hall_calls.specs.Written.{locks_posted, post_of}
 use Rattle.hall_model.specs.Calls.{OfAdmin, OfSession, OfWorker, Cancels, Commits, Posts, Reads, Resubmits, call_of, only_reads, writes_store_first}
-use Rattle.hall_model.specs.Devices.{AllWell, AsKnown, BackupFails, Comes, IsTold, MayRead, Shows, StoreFails, found_by, may_want, only, uses_file, uses_store}
+use Rattle.hall_model.specs.Devices.{AllWell, AsKnown, BackupFails, Comes, IsTold, MayBeDone, MayRead, Shows, StoreFails, found_by, may_want, only, uses_file, uses_store}
 use Rattle.hall_calls.specs.Filing.{is_open}
-use Rattle.enq_server.specs.Server.{lasting}
+use Rattle.enq_server.specs.Server.{lasting, with_user}
 use Rattle.enq_base.specs.declared.unit.Status.TheVariants as status
 use Rattle.update_records.specs.Marks.{has_status, status_of}
 use Rattle.hall_model.proofs.Cancels.{can_be}
@@ -54,16 +57,16 @@ use Rattle.hall_model.proofs.Resubmissions.{can_be_tried}
 use Rattle.std.proofs.lemmas.Bool.{and_from}
 use Rattle.hall_model.specs.Coming.{MayComeTo, outcome_in, outcome_of}
 use Rattle.hall_model.specs.History.{doubted, is_unread, judged, pending_after, refused, stored_before_file, unfiled, without_stock}
-use Rattle.hall_model.specs.Kept.{HasItsUser, IsAhead, OfLock}
+use Rattle.hall_model.specs.Kept.{IsAhead}
 use Rattle.hall_model.specs.Orders.{first_unclaimed, is_claimed, order_for, order_of}
 use Rattle.hall_model.specs.Sessions.{is_called, owners_of, session_at, unit_key, with_next_unit, with_session, without_draws}
 use Rattle.hall_model.specs.Numbers.{stocked, with_numbers}
 use Rattle.hall_model.specs.State.{State}
-use Rattle.hall_model.specs.Step.{Found, Verdict, Refuses, Leaves, ask_refusal, called, cancel, cancelled, cancelling, commit, committed, effects_in, found_in, leaves, locks_behind, locks_without, marked, numbered, own_verdict, passing, posted_reply, posting, reopened, reopening, reposted, resubmit, resubmitting, row_in, to_cancel, to_resubmit, unit_of, with_room}
+use Rattle.hall_model.specs.Step.{Found, Verdict, Refuses, Leaves, ask_refusal, call_verdict, called, cancel, cancelled, cancelling, commit, committed, effects_in, found_in, leaves, locks_behind, locks_without, marked, numbered, own_verdict, passing, posted_reply, posting, reopened, reopening, reposted, resubmit, resubmitting, row_in, to_cancel, to_resubmit, unit_of, with_room}
 use Rattle.hall_calls.proofs.verdicts.EachCall.{admitted, at_state, fails, fails_filing, found_at, is_done, is_wanting, leaves_as, refuses}
 use Rattle.hall_calls.proofs.ending.StateBehind.{IsPart, posts_part}
 use Rattle.hall_model.proofs.FoundSessions.{found_in as found_all_in}
-use Rattle.hall_model.proofs.HandedLocks.{all_held, handed_table}
+use Rattle.hall_model.proofs.HandedLocks.{all_held, handed_good}
 
 -- ---- orders
 
@@ -129,7 +132,7 @@ pub drops : (s : State) (orders after : List (Option UnitKey)) (worker : ℕ) (u
 drops s orders after worker unit e room found is =
     let e' : set s.orders worker None ≡ after = ap (λ xs. set xs worker None) e ∙ sym is in
     at_state _ _ _ _ _ (λ i. record s { orders = e' i })
-    (leaves_as s (command.DropOrder worker) (record s { orders = set s.orders worker None }) (reply.Unit unit) room
+    (leaves_as s (command.DropOrder worker) (record s { orders = set s.orders worker None }) (reply.Unit unit) tt room
     (ap (λ o. elim o [ None ↦ Refuses refusal.NoOrder | Some u ↦ Leaves (record s { orders = set s.orders worker None }) (reply.Unit u) ])
     (ordered s orders worker (Some unit) e found)))
 
@@ -215,7 +218,7 @@ comes part c s worker unit o posts room at space may =
       outcome = record { event = AllWell; reading = Comes o; lost = false };
       possible = record {
         reading = subst (MayRead (Comes o) s) (sym posts) (subst (λ x. IfSome x (λ u. MayComeTo s.told s.stored part u o)) (sym at) may);
-        event = tt;
+        event = subst (λ call. MayBeDone call (call_verdict found s (call_of c))) (sym posts) tt;
         lost = tt;
       };
       same = ap (judged s) (admitted found s c room ∙ own_post part c found s worker (Some unit) posts at ∙ fits s _ space);
@@ -378,7 +381,7 @@ cancels s orders entries left ledger new limit unit status e f g m room h a b =
     let f' : locks_without status s.locks unit ≡ left = ap (λ xs. locks_without status xs unit) f ∙ sym a in
     let g' : with_mark s.stored unit Gone ≡ new = ap (λ l. with_mark l unit Gone) g ∙ sym b in
     at_state _ _ (cancelled s unit status) _ _ (λ i. record s { locks = f' i; stored = g' i })
-    (leaves_as s (command.Cancel unit) (cancelled s unit status) (reply.Unit unit) room (own_cancel s orders ledger limit unit (Ok status) e g m h))
+    (leaves_as s (command.Cancel unit) (cancelled s unit status) (reply.Unit unit) tt room (own_cancel s orders ledger limit unit (Ok status) e g m h))
 
 pub cancels_in_doubt : (s : State) (orders : List (Option UnitKey)) (ledger : Ledger) (limit : ℕ) (unit : UnitKey) (status : Status) → s.orders ≡ orders
     → s.stored ≡ ledger → s.mark_limit ≡ limit → Admits s (command.Cancel unit) → to_cancel ledger orders limit unit ≡ Ok status
@@ -431,7 +434,7 @@ pub reposts : (s : State) (entries : List Entry) (ledger new : Ledger) (limit : 
 reposts s entries ledger new limit unit f g m room h b =
     let g' : with_mark s.stored unit Again2 ≡ new = ap (λ l. with_mark l unit Again2) g ∙ sym b in
     at_state _ _ (reposted s unit) _ _ (λ i. record s { locks = f i; stored = g' i })
-    (leaves_as s (command.Resubmit unit) (reposted s unit) (reply.Unit unit) room (own_resubmit s ledger limit unit (Ok Bad2) g m h))
+    (leaves_as s (command.Resubmit unit) (reposted s unit) (reply.Unit unit) tt room (own_resubmit s ledger limit unit (Ok Bad2) g m h))
 
 pub reposts_in_doubt : (s : State) (ledger : Ledger) (limit : ℕ) (unit : UnitKey) → s.stored ≡ ledger → s.mark_limit ≡ limit → Admits s (command.Resubmit unit)
     → to_resubmit ledger limit unit ≡ Ok Bad2 → IsAct s (command.Resubmit unit)
@@ -454,7 +457,7 @@ pub reopens : (s : State) (t : Table) (ledger new : Ledger) (limit : ℕ) (unit 
 reopens s t ledger new limit unit left f l g m room h stand b =
     let g' : with_mark s.stored unit Again1 ≡ new = ap (λ x. with_mark x unit Again1) g ∙ sym b in
     at_state _ _ (reopened s unit left) _ _ (λ i. record s { locks = left; stored = g' i })
-    (leaves_as s (command.Resubmit unit) (reopened s unit left) (reply.Unit unit) room (own_reopen s t ledger limit unit (Ok left) f l g m h stand))
+    (leaves_as s (command.Resubmit unit) (reopened s unit left) (reply.Unit unit) tt room (own_reopen s t ledger limit unit (Ok left) f l g m h stand))
 
 pub reopens_in_doubt : (s : State) (t : Table) (ledger : Ledger) (limit : ℕ) (unit : UnitKey) (left : List Entry) → s.locks ≡ t.entries → s.limit ≡ t.limit
     → s.stored ≡ ledger → s.mark_limit ≡ limit → Admits s (command.Resubmit unit) → to_resubmit ledger limit unit ≡ Ok Bad
@@ -644,7 +647,7 @@ module _ (s : State) (sessions : List Session) (ranges : List NumberRange) (entr
   commits_nothing few none =
       at_state _ _ (stocked stock s) _ _
       (λ i. record s { sessions = at.own_sessions i; ranges = passed stock (at.own_ranges i); locks = at.own_locks i; stored = at.own_ledger i })
-      (is_done s (command.Commit name parts stock) (stocked stock s) at.admits (own ∙ tested s x parts stock false true _ few none refl))
+      (is_done s (command.Commit name parts stock) (stocked stock s) tt at.admits (own ∙ tested s x parts stock false true _ few none refl))
 
   pub commits_wanting : (new : Ledger) → new ≡ ledger → IsAct s (command.Commit name parts stock)
       (record s { sessions = sessions; ranges = ranges; locks = entries; stored = new }) (reply.Refused refusal.NoMemory)
@@ -693,7 +696,8 @@ module _ (s : State) (sessions : List Session) (ranges : List NumberRange) (entr
       (reply.Unit u)) k'
       (at_state _ _ (stocked stock (committed s x parts numbers)) _ _
       (λ i. record s { sessions = e' i; ranges = passed stock (at.own_ranges i); locks = f' i; stored = g' i })
-      (leaves_as s (command.Commit name parts stock) (stocked stock (committed s x parts numbers)) _ at.admits (leaves_unit few effects some space)))
+      (leaves_as s (command.Commit name parts stock) (stocked stock (committed s x parts numbers)) _ tt at.admits
+      (leaves_unit few effects some space)))
 
   -- the call uses the store
   pub uses_to_commit : is_nothing numbers parts ≡ false → IsTrue (uses_store s (OfSession name (Commits parts stock)))
@@ -768,7 +772,7 @@ module _ (s : State) (sessions : List Session) (ranges : List NumberRange) (entr
       (with_mark l (unit_key l.start x) (Num numbers))) ∙ sym c in
       at_state _ _ (stocked stock (numbered s x numbers)) _ _
       (λ i. record s { sessions = e' i; ranges = passed stock (at.own_ranges i); locks = at.own_locks i; stored = g' i })
-      (leaves_as s (command.Commit name parts stock) (stocked stock (numbered s x numbers)) _ at.admits (leaves_numbers few alone some space))
+      (leaves_as s (command.Commit name parts stock) (stocked stock (numbered s x numbers)) _ tt at.admits (leaves_numbers few alone some space))
 
   pub numbers_in_doubt : is_too_much numbers parts ≡ false → nat_eq (effects_in parts) 0 ≡ true → is_nothing numbers parts ≡ false
       → nat_le limit (length ledger.marks) ≡ false
@@ -788,10 +792,13 @@ module _ (s : State) (sessions : List Session) (ranges : List NumberRange) (entr
 -- the unit of a session that is logged on may be recorded
 pub may_record : (ledger : Ledger) (sessions : List Session) (name : List ℕ) (x : Session) (parts : Parts) (numbers : List Number) (start : ℕ) (t : Table)
     (unit : UnitOfWork) → start ≡ ledger.start → unit ≡ unit_of start t.entries x parts numbers → All HasDigits numbers → length numbers ≤ 64
-    → session_at sessions name ≡ Some x → AllByRecursion (IsAhead ledger) sessions → AllByRecursion (OfLock (HasItsUser ledger.start sessions)) t.entries
-    → IsTable t → 1 ≤ ledger.start → 1 ≤ effects_in parts → effects_in parts ≤ 200 → IsNewUnit ledger unit
-may_record ledger sessions name x parts numbers start t unit same is digits few_draws found ahead users good started some few =
-    let held = handed_table t ledger.start x good in
+    → session_at sessions name ≡ Some x → AllByRecursion (IsAhead ledger) sessions → IsTable t → 1 ≤ ledger.start → 1 ≤ effects_in parts
+    → effects_in parts ≤ 200 → IsNewUnit ledger unit
+may_record ledger sessions name x parts numbers start t unit same is digits few_draws found ahead good started some few =
+    let key = unit_key ledger.start x in
+    let own_locks = filter (is_of (Upd key)) (handed_over t.entries key) in
+    let table = IsTable-filter (with_entries t (handed_over t.entries key)) (is_of (Upd key)) (IsTable-handed_over t key good) in
+    let as_many = length-map own_locks (with_user x.user) in
     subst (IsNewUnit ledger) (sym (is ∙ ap (λ n. unit_of n t.entries x parts numbers) same)) (record {
       fresh = found_all_in (IsAhead ledger) (is_called name) sessions x found ahead x.luw (omega arith);
       first = started;
@@ -800,7 +807,7 @@ may_record ledger sessions name x parts numbers start t unit same is digits few_
       few = few;
       few_numbers = few_draws;
       digits = digits;
-      few_entries = omega (arith, held.within, held.limit_fits);
-      held = all_held t sessions name ledger.start x parts numbers found users good;
-      distinct = held.sound.names;
+      few_entries = omega (arith, as_many, table.within, table.limit_fits);
+      held = all_held t ledger.start x parts numbers good;
+      distinct = (handed_good t ledger.start x parts numbers good).own.names;
     })

@@ -7,7 +7,6 @@ use Rattle.std.proofs.lemmas.Bool.{cases_Bool}
 use Rattle.hall_model.proofs.ByCall.{OfEach, by_call, by_event, by_stock}
 use Rattle.hall_model.proofs.NotedCalls.{by_noting}
 use Rattle.hall_model.proofs.FoundSessions.{found_name}
-use Rattle.lock_entry.specs.declared.entry.Entry.{Entry}
 use Rattle.hall_model.specs.declared.command.Command.{Command}
 use Rattle.hall_model.specs.declared.command.Command.TheVariants as command
 use Rattle.hall_model.specs.declared.command.Reply.{Reply}
@@ -15,15 +14,15 @@ use Rattle.hall_model.specs.declared.command.Reply.TheVariants as reply
 use Rattle.hall_model.specs.declared.command.Session.{Session}
 use Rattle.hall_model.specs.Calls.{Call, LogsOn, OfSession, OfWorker, OfAdmin, LogsOff, call_of}
 use Rattle.hall_model.specs.Devices.{DeviceOutcome}
-use Rattle.hall_model.specs.History.{IsStep, Served, judged, served, step, takes_flight, without_stock}
-use Rattle.hall_model.specs.Sessions.{begun, bereft, bereft_if, is_called, loses, session_at, with_draw, with_fresh_unit, with_next_unit, with_session, without_draws, without_session}
+use Rattle.hall_model.specs.History.{IsStep, Served, had_lock, judged, served, step, takes_flight, without_stock}
+use Rattle.hall_model.specs.Sessions.{begun, bereft, bereft_if, is_called, loses, session_at, with_draw, with_fresh_unit, with_mark, with_marks, with_next_unit, with_session, without_draws, without_session}
 use Rattle.hall_model.specs.Numbers.{drawn, raised_to}
 use Rattle.ledger_steps.specs.Drawn.{handed_out, num_of}
 use Rattle.hall_model.specs.State.{State}
 use Rattle.number_ranges.specs.Intervals.{is_buffered}
 use Rattle.number_ranges.specs.declared.interval.Interval.{Interval}
 use Rattle.ledger_steps.specs.Levels.{present}
-use Rattle.hall_model.specs.Step.{Found, Leaves, logged_off}
+use Rattle.hall_model.specs.Step.{Found, Leaves, has_lock, logged_off}
 
 abbrev pub IsLoggedOn : List Session → List ℕ → Type 0
 IsLoggedOn sessions name = IsTrue (is_some (session_at sessions name))
@@ -102,10 +101,11 @@ logged_map change own (x ∷ xs) n h =
       | false ↦ λ k. logged_map change own xs n k
     ] h)
 
-bereft_called : (start : ℕ) (locks : List Entry) (caller : Option (List ℕ)) (m : List ℕ) (x : Session)
-    → is_called m (bereft_if start locks caller x) ≡ is_called m x
-bereft_called start locks caller m x =
-    elim (loses start locks caller x) as (λ b. is_called m (if b then bereft x else x) ≡ is_called m x) [ true ↦ refl | false ↦ refl ]
+logged_marks : (had : Session → Bool) (xs : List Session) (n : List ℕ) → IsLoggedOn xs n → IsLoggedOn (with_marks had xs) n
+logged_marks had xs n h = logged_map (with_mark had) (λ m x. refl) xs n h
+
+bereft_called : (caller : Option (List ℕ)) (m : List ℕ) (x : Session) → is_called m (bereft_if caller x) ≡ is_called m x
+bereft_called caller m x = elim (loses caller x) as (λ b. is_called m (if b then bereft x else x) ≡ is_called m x) [ true ↦ refl | false ↦ refl ]
 
 -- ---- a call
 
@@ -150,13 +150,11 @@ keeps found s = record {
   takes = λ worker part unit free e n off h. h;
   posts = λ worker part unit e n off h. h;
   drops = λ worker unit e n off h. h;
-  kills = λ up n off h. h;
-  fails_over = λ list can n off h. h;
+  kills = λ up n off h. logged_marks (has_lock s) s.sessions n h;
+  fails_over = λ can n off h. logged_marks (λ x. false) s.sessions n h;
   strays = λ first second none n off h. h;
   attaches = λ up n off h. h;
-  restarts = λ was n off h.
-      let start = s.stored.start in
-      logged_map (bereft_if start s.gone s.failed_caller) (bereft_called start s.gone s.failed_caller) s.sessions n h;
+  restarts = λ was n off h. logged_map (bereft_if s.failed_caller) (bereft_called s.failed_caller) s.sessions n h;
   cancels = λ unit status can n off h. h;
   reopens = λ unit es here stand n off h. h;
   reposts = λ unit here n off h. h;
@@ -168,11 +166,14 @@ failing_keeps s call n h = by_stock (λ c t. IsLoggedOn t.sessions n) s (λ name
 
 pub step_keeps : (o : DeviceOutcome) (s : State) (line : ℕ) (c : Command) → KeepsSessions s (call_of c) (step o s line c)
 step_keeps o s line c =
+    let call = call_of c in
+    let t = without_stock call s in
     let h =
-    by_event (KeepsSessions s (call_of c)) o s c (λ lost done h. h) (λ found. by_call (λ call v. KeepsSessions s call (judged s v)) found s (keeps found s) _)
+    by_event (KeepsSessions s call) o s c (λ lost done h. h) (λ found. by_call (λ other v. KeepsSessions s other (judged s v)) found s (keeps found s) _)
     (λ n off k. k) (λ n off k. k)
-    (λ reading n off k. failing_keeps s (call_of c) n k) (λ reading n off k. k) (λ read r n off k. k) in
-    by_noting (KeepsSessions s (call_of c)) line c (takes_flight o) (served o s c) h h
+    (λ reading n off k. logged_marks (had_lock t) t.sessions n (failing_keeps s call n k))
+    (λ reading n off k. logged_marks (had_lock s) s.sessions n k) (λ read r n off k. logged_marks (had_lock s) s.sessions n k) in
+    by_noting (KeepsSessions s call) line c (takes_flight o) (served o s c) h h
 
 -- ---- a logon
 
@@ -218,7 +219,7 @@ enters found s = record {
   posts = λ worker part unit e. tt;
   drops = λ worker unit e. tt;
   kills = λ up. tt;
-  fails_over = λ list can. tt;
+  fails_over = λ can. tt;
   strays = λ first second none. tt;
   attaches = λ up. tt;
   restarts = λ off. tt;

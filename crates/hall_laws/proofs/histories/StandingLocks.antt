@@ -1,7 +1,7 @@
 -- A unit that was committed waits for its V1 part with its locks until a call ends that, and while there is a lock server they
 -- stand.
 use Rattle.std.proofs.Common.{◌≡◌, ◌≢◌, ℕ, ◌+◌, ◌≤◌, Bool, true, false, List, [], ◌∷◌, ◌++◌, refl, sym, ap, ◌∙◌, subst}
-use Rattle.std.specs.Prelude.{Contains, if◌then◌else◌, nat_eq, nat_le, Some, None}
+use Rattle.std.specs.Prelude.{Contains, IsTrue, if◌then◌else◌, nat_eq, nat_le, Some, None}
 use Rattle.std.proofs.lemmas.Bool.{or_parts}
 use Rattle.std.proofs.lemmas.List.Sums.{fold-append}
 use Rattle.enq_base.specs.Owners.{same_owner, same_unit}
@@ -48,7 +48,7 @@ use Rattle.hall_model.specs.Orders.{order_of}
 use Rattle.hall_model.specs.Recall.{AreModelAnswers, IsModelAnswer, Made, StaysSound, again, recalled, state_after}
 use Rattle.hall_model.specs.Sessions.{unit_key, with_draw, with_session}
 use Rattle.hall_laws.specs.Standing.{FirmAreHanded, IsCommitOf, IsFirm, LocksReturn, LocksStand, ReturnsLocked, StillWaits, WaitsLocked, NoneEndsWait, NoneOfServer, ends_wait, is_commit, with_handed}
-use Rattle.hall_model.specs.State.{State, opened}
+use Rattle.hall_model.specs.State.{State, is_honest, opened}
 use Rattle.hall_model.specs.Step.{Found, call_verdict, committed, is_taken, numbered, posted_reply, stored_anew, unit_of}
 use Rattle.hall_laws.proofs.starting.FirstKeeps.{AgreeWith, IsFirst}
 use Rattle.hall_model.proofs.ByCall.{OfEach, by_call, by_event, by_stock, in_doubt_refused}
@@ -179,7 +179,7 @@ each-stands found s steady nothing = record {
   posts = λ worker part unit e. posted-stands part s.stored unit (found.part part unit) (held_for part s.stored (order_of s.orders worker) unit e).1;
   drops = λ worker unit e. stands_still s.stored _;
   kills = λ up. stands_still s.stored _;
-  fails_over = λ list can. stands_still s.stored _;
+  fails_over = λ can. stands_still s.stored _;
   strays = λ first second none. stands_still s.stored _;
   attaches = λ up. stands_still s.stored _;
   restarts = λ off. anew-stands (is_taken found.anew) s _ nothing;
@@ -244,6 +244,7 @@ reached_after s (m ∷ ms) answers h = reached_after (recalled s m) ms answers.1
 -- what a commit leaves of its unit
 record Hands (unit : UnitKey) (s t : State) : Type 0 where
   locks : t.locks ≡ handed_over s.locks unit
+  told : is_honest t ≡ is_honest s
   waits : StillWaits unit t
 
 abbrev HandsIf : UnitKey → State → Call → Served → Type 0
@@ -256,6 +257,7 @@ committed-hands unit s x parts numbers stock up e =
     let here = recorded_here s.stored (unit_of s.stored.start s.locks x parts numbers) in
     record {
       locks = ap (handed_over s.locks) same;
+      told = refl;
       waits = record { up = up; waits = subst (IsOpenUnit (committed s x parts numbers).stored) same here };
     }
 
@@ -288,7 +290,7 @@ each-hands unit found s up = record {
   posts = λ worker part other e is told. absurd (no_commit is);
   drops = λ worker other e is told. absurd (no_commit is);
   kills = λ was is told. absurd (no_commit is);
-  fails_over = λ list can is told. absurd (no_commit is);
+  fails_over = λ can is told. absurd (no_commit is);
   strays = λ first second none is told. absurd (no_commit is);
   attaches = λ was is told. absurd (no_commit is);
   restarts = λ off is told. absurd (no_commit is);
@@ -347,11 +349,11 @@ recalled-hands unit s m answer is =
     let Q : Served → Type 0 = HandsIf unit s (call_of c) in
     let h =
     by_event Q m.outcome s c
-    (λ lost done h is told. let k = h is told in record { locks = k.locks; waits = record { up = k.waits.up; waits = k.waits.waits } })
+    (λ lost done h is told. let k = h is told in record { locks = k.locks; told = k.told; waits = record { up = k.waits.up; waits = k.waits.waits } })
     (λ found. verdict-hands unit found s (call_of c)) (λ is told. absurd (no_unit unit _ told)) (λ is told. absurd (no_unit unit _ told))
     (λ reading is told. absurd (no_unit unit _ told)) (λ reading is told. absurd (no_unit unit _ told)) (λ read r is told. absurd (no_unit unit _ told)) in
     by_noting Q m.call.line c (takes_flight m.outcome) (served m.outcome s c) h
-    (λ is told. let k = h is told in record { locks = k.locks; waits = record { up = k.waits.up; waits = k.waits.waits } })
+    (λ is told. let k = h is told in record { locks = k.locks; told = k.told; waits = record { up = k.waits.up; waits = k.waits.waits } })
     is.commits (answer.reply ∙ is.answered)
 
 firm_mode : (e : Entry) → e.mode ≢ O → same_mode e.mode O ≡ false
@@ -437,14 +439,14 @@ stays_up unit t (m ∷ ms) answers on off up =
 quiet_up : (t : State) → IsReached t → t.condition ≡ condition.Up → t.pending ≡ None
 quiet_up t reached up = subst (λ c. OutsideDoubt c (t.pending ≡ None)) up reached.all.holds.steady.settled
 
--- the locks that were stored with it stand where there is a lock server
+-- the locks that were stored with it stand where there is a lock server, and its locks can be told
 stays_locked : (unit : UnitKey) (t : State) (ms : List Made) → IsReached t → AnswersFrom t ms → NoneEndsWait unit ms → t.pending ≡ None
-    → IsOpenUnit t.stored unit
+    → IsOpenUnit t.stored unit → IsTrue (is_honest (state_after t ms))
     → (state_after t ms).condition ≡ condition.Up → (e : Entry) → Among (entries_of t.stored.units unit) e → Contains (state_after t ms).locks e
-stays_locked unit t ms reached answers on nothing waits up e k =
+stays_locked unit t ms reached answers on nothing waits honest up e k =
     let now = state_after t ms in
     let stays = stays_stored unit t ms reached answers on nothing waits in
-    let held = holds_up now (reached_after t ms answers reached).all.open_units up in
+    let held = holds_up now (reached_after t ms answers reached).all.open_units up honest in
     contains_from now.locks e (in_table unit now e held stays.waits (subst (λ es. Among es e) (sym stays.same) k))
 
 waits_locked : (unit : UnitKey) (s t : State) (ms : List Made) → Hands unit s t → IsReached t → AnswersFrom t ms → NoneEndsWait unit ms
@@ -452,13 +454,14 @@ waits_locked : (unit : UnitKey) (s t : State) (ms : List Made) → Hands unit s 
 waits_locked unit s t ms hands reached answers on =
     let waits = hands.waits.waits in
     let nothing = quiet_up t reached hands.waits.up in
-    let held = holds_up t reached.all.open_units hands.waits.up in
     record {
       waits = (stays_stored unit t ms reached answers on nothing waits).waits;
       up = λ off. stays_up unit t ms answers on off hands.waits.up;
-      locks = while_up (state_after t ms).condition (FirmAreHanded unit s (state_after t ms))
+      locks = λ before now.
+          let held = holds_up t reached.all.open_units hands.waits.up (hands.told ∙ before) in
+          while_up (state_after t ms).condition (FirmAreHanded unit s (state_after t ms))
           (λ up e firm k.
-          stays_locked unit t ms reached answers on nothing waits up (with_handed e)
+          stays_locked unit t ms reached answers on nothing waits now up (with_handed e)
           (in_store unit t (with_handed e) held waits firm.owner (handed-among unit s t e hands.locks firm (among_from s.locks e k))));
     }
 
@@ -469,8 +472,9 @@ returns_locked unit t ms waits reached answers on =
     record {
       waits = (stays_stored unit t ms reached answers on nothing waits.waits).waits;
       up = λ off. stays_up unit t ms answers on off waits.up;
-      locks = while_up (state_after t ms).condition ((e : Entry) → Contains (entries_of t.stored.units unit) e → Contains (state_after t ms).locks e)
-          (λ up e k. stays_locked unit t ms reached answers on nothing waits.waits up e (among_from (entries_of t.stored.units unit) e k));
+      locks = λ now.
+          while_up (state_after t ms).condition ((e : Entry) → Contains (entries_of t.stored.units unit) e → Contains (state_after t ms).locks e)
+          (λ up e k. stays_locked unit t ms reached answers on nothing waits.waits now up e (among_from (entries_of t.stored.units unit) e k));
     }
 
 -- ---- whole histories

@@ -1,9 +1,9 @@
 -- What each call keeps.
 use Rattle.std.proofs.Common.{◌≡◌, ℕ, ◌+◌, ◌≤◌, Bool, true, false, List, [], ◌∷◌, ◌++◌, length, fold, set, refl, sym, ap, ◌∙◌, subst, arith, cond}
-use Rattle.std.specs.Prelude.{◌&&◌, if◌then◌else◌, is_some, nat_eq, nat_le, nat_lt, not, Option, Some, None, Ok}
-use Rattle.std.specs.List.{AllByRecursion, filter, find}
+use Rattle.std.specs.Prelude.{◌&&◌, ◌||◌, if◌then◌else◌, is_some, nat_eq, nat_le, nat_lt, not, Option, Some, None, Ok}
+use Rattle.std.specs.List.{AllByRecursion, filter, find, list_all}
 use Rattle.std.proofs.lemmas.List.{length-set}
-use Rattle.std.proofs.lemmas.Bool.{or_from}
+use Rattle.std.proofs.lemmas.Bool.{and_parts, false≢true, or_from}
 use Rattle.std.proofs.lemmas.Bool.Decides.{nat_tests}
 use Rattle.enq_base.specs.Owners.{same_unit}
 use Rattle.enq_base.specs.declared.condition.Condition.{Condition}
@@ -22,7 +22,7 @@ use Rattle.lock_entry.specs.declared.entry.Request.{Request}
 use Rattle.lock_entry.specs.Converting.{Conversion, conversion, converted}
 use Rattle.lock_entry.specs.Freeing.{freed, freed_owner, handed_over}
 use Rattle.lock_entry.specs.Granting.{asked, readmitted}
-use Rattle.lock_entry.specs.Names.{halves}
+use Rattle.lock_entry.specs.Names.{halves, is_of}
 use Rattle.ledger_steps.specs.Posts.{entries_of, kind_for, status_for}
 use Rattle.update_records.specs.Growing.{with_mark, with_unit}
 use Rattle.update_records.specs.Business.{numbers_of}
@@ -34,8 +34,8 @@ use Rattle.ledger_steps.specs.Steps.{waiting_for}
 use Rattle.hall_model.specs.declared.command.Command.{Command}
 use Rattle.hall_model.specs.declared.command.PastEntry.{PastEntry}
 use Rattle.hall_model.specs.declared.command.Session.{Session}
-use Rattle.hall_model.specs.Devices.{DeviceOutcome, Event, AllWell, Wanting, StoreFails, BackupFails, LinkFails, NotRemade, IsAllowed, MayRead, found_by, Reading, AsKnown, Comes, Shows, Reopens, Hands}
-use Rattle.hall_model.specs.History.{doubted, ends_in, judged, known_behind, pending_after, read_anew, served, stored_before_file, unfiled, without_stock}
+use Rattle.hall_model.specs.Devices.{DeviceOutcome, Event, AllWell, Wanting, StoreFails, BackupFails, LinkFails, NotRemade, IsAllowed, IsTold, MayRead, found_by, Reading, AsKnown, Comes, Shows, Reopens, Hands}
+use Rattle.hall_model.specs.History.{doubted, ends_in, had_lock, judged, known_behind, pending_after, read_anew, served, stored_before_file, unfiled, without_stock}
 use Rattle.number_ranges.specs.Intervals.{block_level, is_buffered, with_level}
 use Rattle.number_ranges.specs.declared.interval.Interval.{Interval}
 use Rattle.ledger_steps.specs.Intervals.{with_levels}
@@ -47,27 +47,29 @@ use Rattle.hall_model.specs.Numbers.{drawn, next_number, raised_to, stocked}
 use Rattle.hall_model.specs.Kept.{draws_in, AreOrders, HasFew, HasGoodLocks, HasItsUser, HasLanding, HasOpenUnits, HasSoundLocks, IsAhead, IsKnown, IsKnownRight, IsOwned, IsSteady, IsWaiting, IsYoung, MayHold, OfLock, OfStored, OutsideDoubt, may_hold}
 use Rattle.hall_model.specs.OpenUnits.{OfPending}
 use Rattle.hall_model.specs.Orders.{first_unclaimed, is_claimed, order_for, order_of, without_order}
-use Rattle.hall_model.specs.Sessions.{begun, is_called, owners_of, pair_of, session_at, unit_key, with_draw, with_fresh_unit, with_next_unit, with_session, without_draws, without_session}
+use Rattle.hall_model.specs.Sessions.{begun, with_marks, without_marks, is_called, owners_of, pair_of, session_at, unit_key, with_draw, with_fresh_unit, with_next_unit, with_session, without_draws, without_session}
 use Rattle.hall_model.specs.Calls.{Call, Commits, OfAdmin, OfSession, Restarts, call_of}
-use Rattle.hall_model.specs.State.{State}
+use Rattle.hall_model.specs.State.{State, is_honest, table_for}
 use Rattle.hall_model.specs.Stocks.{IsStockIn, MayCall}
-use Rattle.hall_model.specs.Step.{Found, Verdict, call_verdict, cancelled, committed, entered, followed_over, is_taken, killed, locks_behind, locks_without, marked, numbered, reopened, reposted, restarted, stored_anew, taken, unit_of}
-use Rattle.hall_laws.proofs.keeping.SessionsAlike.{AreAlike, HaveOneStatus, ahead_alike, alike_all, alike_self, alike_with, count_alike, numbered_alike, orders_alike, owned_alike, with_others, young_alike}
+use Rattle.hall_model.specs.Step.{Found, Verdict, call_verdict, cancelled, committed, detached, entered, followed_over, has_lock, is_taken, killed, locks_behind, locks_without, marked, numbered, reopened, reposted, restarted, stored_anew, taken, unit_of}
+use Rattle.hall_laws.proofs.keeping.SessionsAlike.{AreAlike, HaveOneStatus, ahead_alike, alike_all, alike_self, alike_with, count_alike, marked_few, marked_steady, numbered_alike, orders_alike, owned_alike, with_other_marks, with_others, young_alike}
+use Rattle.hall_model.proofs.HandedLocks.{handed_good}
+use Rattle.lock_entry.proofs.Naming.{same_owner-same}
 use Rattle.hall_model.proofs.ByCall.{CanDraw, IsHandedOver, OfEach, by_anew, by_doubt, by_filing, by_made, by_restart, by_stock, pending_stays}
 use Rattle.hall_model.proofs.Cancels.{CanBeCancelled, unclaimed}
 use Rattle.hall_laws.proofs.keeping.WorkerOrders.{found_all, orders_marked, orders_posted, orders_recorded, orders_with, orders_without, outside_more}
 use Rattle.hall_model.proofs.PartOrders.{held_for}
 use Rattle.hall_model.proofs.BlockLevels.{AreRightIn}
 use Rattle.hall_laws.proofs.keeping.DrawnNumbers.{CommitsNone, drawn_back, drawn_buffered, drawn_entered, drawn_left, drawn_marked, drawn_numbered, drawn_plain, drawn_raised, drawn_recorded, drawn_stocked, marks_marked, marks_recorded, named_filter, named_push, named_with, post_commits_none}
-use Rattle.hall_laws.proofs.keeping.Unchanged.{may_find, reads_none}
+use Rattle.hall_laws.proofs.keeping.Unchanged.{list_told, may_find, reads_none}
 use Rattle.hall_model.proofs.FoundSessions.{found_name}
 use Rattle.hall_laws.proofs.keeping.UnitsToCome.{fresh_committed, fresh_entered, fresh_left, fresh_marked, fresh_next, number_below, open_unheard}
 use Rattle.hall_model.proofs.OtherStatuses.{all_waiting, apart_from_waiting, numbers_leave, status_in}
 use Rattle.hall_model.proofs.LockLists.{allowed, Allows, asked_allows, converted_allows}
 use Rattle.hall_laws.proofs.keeping.Owners.{owned_back, owned_beside, owned_by_none, owned_entered, owned_freed, owned_left, owned_locks, owned_next, owned_recorded}
 use Rattle.hall_model.proofs.Resubmissions.{readmitted_is, table_in}
-use Rattle.hall_laws.proofs.keeping.Restarts.{killed_steady, over_steady, restart_lands, restarted_few, restarted_steady}
-use Rattle.hall_laws.proofs.histories.LockUsers.{every_conversion, every_freed, every_freed_owner, every_granted, every_of, known_dialogue, known_update, one_number, only_dialogue, only_update}
+use Rattle.hall_laws.proofs.keeping.Restarts.{restart_lands, restarted_few, restarted_steady}
+use Rattle.hall_laws.proofs.histories.LockUsers.{every_conversion, every_freed, every_freed_owner, every_granted, known_dialogue, known_update, one_number, only_dialogue, only_update}
 use Rattle.hall_model.proofs.EachLock.{every_handed}
 
 young_more : (n m : ℕ) (xs : List Session) → n ≤ m → AllByRecursion (IsYoung n) xs → AllByRecursion (IsYoung m) xs
@@ -128,12 +130,12 @@ by_condition P s h quiet down = by_condition_is P s s.condition refl h quiet dow
 
 -- whose these locks are, with the rest of the state
 abbrev AreOwned : State → List Entry → Type 0
-AreOwned s locks = IsOwned s.stored s.next_session s.sessions locks
+AreOwned s locks = IsOwned (is_honest s) s.stored s.next_session s.sessions locks
 
 -- what holds of the locks so far holds of these, which follow from them by owner and user alone
 owned_by : (s : State) (locks : List Entry) → ((Q : Owner → List ℕ → Type 0) → AllByRecursion (OfLock Q) s.locks → AllByRecursion (OfLock Q) locks) → IsSteady s
     → AreOwned s locks
-owned_by s locks keeps steady = owned_locks s.stored s.next_session s.sessions s.locks locks keeps steady.owned
+owned_by s locks keeps steady = owned_locks (is_honest s) s.stored s.next_session s.sessions s.locks locks keeps steady.owned
 
 -- other locks
 holds_locks : (n : ℕ) (s : State) (locks : List Entry) → AreOwned s locks → Holds n s → Holds (n + 1) (record s { locks = locks })
@@ -183,7 +185,7 @@ left-holds n s name locks own h =
         fresh = record { numbered = fresh.numbered; ahead = fresh.ahead; later = fresh.later };
         places = steady.places;
         orders = steady.orders;
-        owned = owned_left s.stored s.next_session s.sessions p locks own;
+        owned = owned_left (is_honest s) s.stored s.next_session s.sessions p locks own;
       };
     }
 
@@ -236,7 +238,7 @@ alike-holds n s sessions ranges levels marks alike same drawn known h =
         };
         places = steady.places;
         orders = outside_more s.condition (λ k. orders_alike s.stored levels marks same s.orders k) steady.orders;
-        owned = owned_alike s.stored levels marks same s.next_session s.sessions sessions s.locks alike steady.owned;
+        owned = owned_alike s.stored levels marks same (is_honest s) s.next_session s.sessions sessions s.locks alike steady.owned;
       };
     }
 
@@ -262,7 +264,7 @@ next-holds n s name x locks at own h =
         fresh = record { numbered = fresh.numbered; ahead = fresh.ahead; later = fresh.later };
         places = steady.places;
         orders = steady.orders;
-        owned = owned_next s.stored s.next_session name s.sessions locks own;
+        owned = owned_next (is_honest s) s.stored s.next_session name s.sessions locks own;
       };
     }
 
@@ -275,10 +277,21 @@ rolled-holds n s name x locks at own h =
     (subst (λ ds. AreDrawnRight s.ranges s.stored.levels ds (numbers_of s.stored.units s.stored.marks)) (sym (renewed_draws name s.sessions)) next.steady.drawn)
     next.steady.known next
 
+-- what is said of the unit's owner and the session's user is said of the locks that are stored with the unit
+of_unit : (Q : Owner → List ℕ → Type 0) (key : UnitKey) (user : List ℕ) (es : List Entry) → list_all (is_of (Upd key)) es ≡ true
+    → AllByRecursion (λ (e : Entry). e.user ≡ user) es → Q (Upd key) user → AllByRecursion (OfLock Q) es
+of_unit Q key user [] own used h = tt
+of_unit Q key user (e ∷ es) own used h =
+    let parts = and_parts (is_of (Upd key) e) (list_all (is_of (Upd key)) es) own in (
+      subst (λ o. Q o e.user) (sym (same_owner-same e.owner (Upd key) parts.0))
+          (subst (λ u. Q (Upd key) u) (sym used.0) h),
+      of_unit Q key user es parts.1 used.1 h,
+    )
+
 -- the session that commits is the one of that name
 commit-holds : (n : ℕ) (s : State) (x : Session) (parts : Parts) (stock : List Number) → session_at s.sessions x.name ≡ Some x → IsStockIn s stock
-    → s.found ≡ None → Holds n s → Holds (n + 1) (stocked stock (committed s x parts (x.draws ++ stock)))
-commit-holds n s x parts stock at fits unread h =
+    → s.found ≡ None → HasSoundLocks s → Holds n s → Holds (n + 1) (stocked stock (committed s x parts (x.draws ++ stock)))
+commit-holds n s x parts stock at fits unread sound h =
     let few = few_more n s h.few in
     let steady = h.steady in
     let key = unit_key s.stored.start x in
@@ -287,12 +300,16 @@ commit-holds n s x parts stock at fits unread h =
     let levels = with_levels (settled_rows s.stored.levels s.ranges (x.draws ++ stock)) s.stored.levels in
     let sessions = with_session x.name with_next_unit s.sessions in
     let unheard = open_unheard s x.name x at steady.fresh in
-    let own = steady.owned in
-    let its : (Q : Owner → List ℕ → Type 0) → AllByRecursion (OfLock Q) s.locks → OfStored Q unit =
-    λ Q k. every_of Q (handed_over s.locks key) (Upd key) (every_handed Q s.locks key k) in
+    let start = s.stored.start in
+    let good = handed_good (table_in s) start x parts (x.draws ++ stock) sound.table in
+    let its : (Q : Owner → List ℕ → Type 0) → Q (Upd key) x.user → OfStored Q unit =
+    λ Q k. of_unit Q key x.user unit.entries good.own.owners good.used k in
+    let below = number_below s.next_session x.name x s.sessions at steady.fresh.numbered in
     let recorded =
-    owned_recorded s.stored s.next_session s.sessions (handed_over s.locks key) unit unheard
-    (its (λ owner user. IsKnown s.stored.start s.next_session owner) own.known) (its (HasItsUser s.stored.start s.sessions) own.users)
+    owned_recorded (is_honest s) s.stored s.next_session s.sessions (handed_over s.locks key) unit unheard
+    (its (λ owner user. IsKnown start s.next_session owner) (known_update start s.next_session x below))
+    (its (HasItsUser start s.sessions)
+    (one_number start s.next_session x.name x (Upd key) s.sessions (only_update start x) at steady.fresh.numbered))
     (owned_by s (handed_over s.locks key) (λ Q k. every_handed Q s.locks key k) steady) in
     let fresh = fresh_committed s unit x.name x at refl steady.fresh in
     record {
@@ -313,9 +330,10 @@ commit-holds n s x parts stock at fits unread h =
         orders = outside_more s.condition
             (λ k. orders_alike recorded_ledger levels recorded_ledger.marks (λ other. refl) s.orders (orders_recorded s.stored unit s.orders unheard k))
             steady.orders;
-        owned = owned_alike recorded_ledger levels recorded_ledger.marks (λ other. refl) s.next_session sessions sessions (handed_over s.locks key)
+        owned = owned_alike recorded_ledger levels recorded_ledger.marks (λ other. refl) (is_honest s) s.next_session sessions sessions
+            (handed_over s.locks key)
             (alike_all sessions)
-            (owned_next recorded_ledger s.next_session x.name s.sessions (handed_over s.locks key) recorded);
+            (owned_next (is_honest s) recorded_ledger s.next_session x.name s.sessions (handed_over s.locks key) recorded);
       };
     }
 
@@ -329,13 +347,13 @@ granted-owned s name x rs found steady =
     let start = s.stored.start in
     let own = steady.owned in
     asked_allows (AreOwned s) (table_in s) pair x.user rs (record {
-      known = every_granted (λ owner user. IsKnown start s.next_session owner) s.locks x.user pair rs (known_dialogue start s.next_session x below)
-          (known_update start s.next_session x below) own.known;
-      users = every_granted (HasItsUser start s.sessions) s.locks x.user pair rs
+      known = λ t. every_granted (λ owner user. IsKnown start s.next_session owner) s.locks x.user pair rs (known_dialogue start s.next_session x below)
+          (known_update start s.next_session x below) (own.known t);
+      users = λ t. every_granted (HasItsUser start s.sessions) s.locks x.user pair rs
           (one_number start s.next_session name x pair.dialogue s.sessions (only_dialogue start x) found steady.fresh.numbered)
-          (one_number start s.next_session name x pair.update s.sessions (only_update start x) found steady.fresh.numbered) own.users;
-      holders = every_granted (λ owner user. MayHold s.stored owner) s.locks x.user pair rs tt
-          (ap may_hold (open_unheard s name x found steady.fresh)) own.holders;
+          (one_number start s.next_session name x pair.update s.sessions (only_update start x) found steady.fresh.numbered) (own.users t);
+      holders = λ t. every_granted (λ owner user. MayHold s.stored owner) s.locks x.user pair rs tt
+          (ap may_hold (open_unheard s name x found steady.fresh)) (own.holders t);
       stored_known = own.stored_known;
       stored_users = own.stored_users;
     })
@@ -380,7 +398,7 @@ entered-holds n s name user free h =
         fresh = record { numbered = fresh.numbered; ahead = fresh.ahead; later = fresh.later };
         places = steady.places;
         orders = steady.orders;
-        owned = owned_entered s.stored s.sessions y s.locks steady.owned;
+        owned = owned_entered (is_honest s) s.stored s.sessions y s.locks steady.owned;
       };
     }
 
@@ -447,13 +465,13 @@ dropped-holds n s worker h =
 
 -- with the V1 part of a unit its locks go; one that waits for its V2 part has none
 behind_marked : (s : State) (part : ℕ) (unit : UnitKey) (kind : MarkKind) → status_in s.stored unit ≡ Some (status_for part) → AreOwned s s.locks
-    → IsOwned (with_mark s.stored unit kind) s.next_session s.sessions (locks_behind part s.locks unit)
+    → IsOwned (is_honest s) (with_mark s.stored unit kind) s.next_session s.sessions (locks_behind part s.locks unit)
 behind_marked s part unit kind waits own =
     elim (nat_eq part 1)
     as (λ b. status_in s.stored unit ≡ Some (if b then Open else Posted)
-    → IsOwned (with_mark s.stored unit kind) s.next_session s.sessions (if b then freed_owner s.locks (Upd unit) else s.locks)) [
-      | true ↦ λ w. owned_freed s.stored s.next_session s.sessions s.locks unit kind own
-      | false ↦ λ w. owned_beside s.stored s.next_session s.sessions s.locks unit kind Posted w refl own
+    → IsOwned (is_honest s) (with_mark s.stored unit kind) s.next_session s.sessions (if b then freed_owner s.locks (Upd unit) else s.locks)) [
+      | true ↦ λ w. owned_freed (is_honest s) s.stored s.next_session s.sessions s.locks unit kind own
+      | false ↦ λ w. owned_beside (is_honest s) s.stored s.next_session s.sessions s.locks unit kind Posted w refl own
     ] waits
 
 marked-holds : (n part : ℕ) (s : State) (worker : ℕ) (unit : UnitKey) (kind : MarkKind) → CommitsNone kind
@@ -486,13 +504,13 @@ marked-holds n part s worker unit kind none e unread h =
 -- ---- cancelling
 
 without_marked : (s : State) (unit : UnitKey) (status : Status) → status_in s.stored unit ≡ Some status → AreOwned s s.locks
-    → IsOwned (with_mark s.stored unit Gone) s.next_session s.sessions (locks_without status s.locks unit)
-without_marked s unit Open here own = owned_freed s.stored s.next_session s.sessions s.locks unit Gone own
-without_marked s unit Posted here own = owned_beside s.stored s.next_session s.sessions s.locks unit Gone Posted here refl own
-without_marked s unit Bad here own = owned_beside s.stored s.next_session s.sessions s.locks unit Gone Bad here refl own
-without_marked s unit Closed here own = owned_beside s.stored s.next_session s.sessions s.locks unit Gone Closed here refl own
-without_marked s unit Bad2 here own = owned_beside s.stored s.next_session s.sessions s.locks unit Gone Bad2 here refl own
-without_marked s unit Cancelled here own = owned_beside s.stored s.next_session s.sessions s.locks unit Gone Cancelled here refl own
+    → IsOwned (is_honest s) (with_mark s.stored unit Gone) s.next_session s.sessions (locks_without status s.locks unit)
+without_marked s unit Open here own = owned_freed (is_honest s) s.stored s.next_session s.sessions s.locks unit Gone own
+without_marked s unit Posted here own = owned_beside (is_honest s) s.stored s.next_session s.sessions s.locks unit Gone Posted here refl own
+without_marked s unit Bad here own = owned_beside (is_honest s) s.stored s.next_session s.sessions s.locks unit Gone Bad here refl own
+without_marked s unit Closed here own = owned_beside (is_honest s) s.stored s.next_session s.sessions s.locks unit Gone Closed here refl own
+without_marked s unit Bad2 here own = owned_beside (is_honest s) s.stored s.next_session s.sessions s.locks unit Gone Bad2 here refl own
+without_marked s unit Cancelled here own = owned_beside (is_honest s) s.stored s.next_session s.sessions s.locks unit Gone Cancelled here refl own
 
 cancelled-holds : (n : ℕ) (s : State) (unit : UnitKey) (status : Status) → CanBeCancelled s.stored s.orders s.mark_limit unit status → s.found ≡ None
     → Holds n s → Holds (n + 1) (cancelled s unit status)
@@ -533,7 +551,7 @@ not_claimed ledger (Some other ∷ orders) unit status here no_open no_posted h 
     (not_claimed ledger orders unit status here no_open no_posted h.2)
 
 reopened-holds : (n : ℕ) (s : State) (unit : UnitKey) (es : List Entry) → status_in s.stored unit ≡ Some Bad
-    → IsOwned (with_mark s.stored unit Again1) s.next_session s.sessions es → s.found ≡ None → Holds n s → Holds (n + 1) (reopened s unit es)
+    → IsOwned (is_honest s) (with_mark s.stored unit Again1) s.next_session s.sessions es → s.found ≡ None → Holds n s → Holds (n + 1) (reopened s unit es)
 reopened-holds n s unit es here own unread h =
     let few = few_more n s h.few in
     let steady = h.steady in
@@ -581,18 +599,18 @@ reposted-holds n s unit here unread h =
         places = steady.places;
         orders = outside_more s.condition
             (λ k. orders_marked s.stored unit Again2 s.orders (not_claimed s.stored s.orders unit Bad2 here (λ e. cc) (λ e. cc) k) k) steady.orders;
-        owned = owned_beside s.stored s.next_session s.sessions s.locks unit Again2 Bad2 here refl steady.owned;
+        owned = owned_beside (is_honest s) s.stored s.next_session s.sessions s.locks unit Again2 Bad2 here refl steady.owned;
       };
     }
 
 -- the locks of the unit stand behind those of the others
 back-owned : (s : State) (unit : UnitKey) (es : List Entry) → AllByRecursion HasGoodLocks s.stored.units
     → readmitted (table_in s) (owners_of unit) (entries_of s.stored.units unit) ≡ Ok es → AreOwned s s.locks
-    → IsOwned (with_mark s.stored unit Again1) s.next_session s.sessions es
+    → IsOwned (is_honest s) (with_mark s.stored unit Again1) s.next_session s.sessions es
 back-owned s unit es good stand own =
-    subst (IsOwned (with_mark s.stored unit Again1) s.next_session s.sessions)
+    subst (IsOwned (is_honest s) (with_mark s.stored unit Again1) s.next_session s.sessions)
     (sym (readmitted_is (table_in s) (owners_of unit) (entries_of s.stored.units unit) es stand))
-    (owned_back s.stored s.next_session s.sessions s.locks unit good own)
+    (owned_back (is_honest s) s.stored s.next_session s.sessions s.locks unit good own)
 
 -- ---- numbers
 
@@ -658,15 +676,103 @@ numbered-holds n s x stock at fits unread h =
 
 -- ---- the lock server
 
+listed_owned : (follows honest : Bool) (ledger : Ledger) (next : ℕ) (sessions : List Session) (es : List Entry) → IsOwned honest ledger next sessions es
+    → IsOwned honest ledger next sessions (if follows then es else [])
+listed_owned true honest ledger next sessions es h = h
+listed_owned false honest ledger next sessions es h = owned_by_none honest ledger next sessions es h
+
 killed-holds : (n : ℕ) (s : State) → s.condition ≡ condition.Up → Holds n s → Holds (n + 1) (killed s)
 killed-holds n s up h =
-    let few = few_more n s h.few in
-    record { few = record { sessions = few.sessions; units = few.units }; steady = killed_steady s up h.steady }
+    let few = few_more n (with_other_marks (has_lock s) s) (marked_few n (has_lock s) s h.few) in
+    let steady = marked_steady (has_lock s) s h.steady in
+    record {
+      few = record { sessions = few.sessions; units = few.units };
+      steady = record {
+        started = steady.started;
+        limited = steady.limited;
+        locks_fit = steady.locks_fit;
+        named = steady.named;
+        drawn = steady.drawn;
+        marked = steady.marked;
+        settled = subst (λ c. OutsideDoubt c (s.pending ≡ None)) up steady.settled;
+        unknown = subst (λ c. OutsideDoubt c (s.found ≡ None)) up steady.unknown;
+        unfailed = subst (λ c. OutsideDoubt c (s.failed_caller ≡ None)) up steady.unfailed;
+        known = steady.known;
+        fresh = record { numbered = steady.fresh.numbered; ahead = steady.fresh.ahead; later = steady.fresh.later };
+        places = steady.places;
+        orders = subst (λ c. OutsideDoubt c (AreOrders s.stored s.orders)) up steady.orders;
+        owned = listed_owned (s.attached && s.link_told) (is_honest s) s.stored s.next_session (with_marks (has_lock s) s.sessions) s.locks steady.owned;
+      };
+    }
 
-over-holds : (n : ℕ) (s : State) (list : List Entry) → IsHandedOver s list → Holds n s → Holds (n + 1) (followed_over list s)
-over-holds n s list can h =
-    let few = few_more n s h.few in
-    record { few = record { sessions = few.sessions; units = few.units }; steady = over_steady s list can h.steady }
+-- a list that the link tells is the table's
+over_owned : (told over : Bool) (ledger : Ledger) (next : ℕ) (sessions : List Session) (es list : List Entry) → IsTold told (list ≡ es)
+    → IsOwned (told || not over) ledger next sessions es → IsOwned (told || not true) ledger next sessions list
+over_owned true over ledger next sessions es list same h = subst (IsOwned true ledger next sessions) (sym same) h
+over_owned false over ledger next sessions es list same h = record {
+  known = λ t. absurd (false≢true t);
+  users = λ t. absurd (false≢true t);
+  holders = λ t. absurd (false≢true t);
+  stored_known = h.stored_known;
+  stored_users = h.stored_users;
+}
+
+over-holds : (n : ℕ) (found : Found) (s : State) → IsHandedOver found s → IsTold s.link_told (found.list ≡ s.locks) → Holds n s
+    → Holds (n + 1) (followed_over found.list s)
+over-holds n found s can told h =
+    let none : Session → Bool = λ x. false in
+    let few = few_more n (with_other_marks none s) (marked_few n none s h.few) in
+    let steady = marked_steady none s h.steady in
+    record {
+      few = record { sessions = few.sessions; units = few.units };
+      steady = record {
+        started = steady.started;
+        limited = steady.limited;
+        locks_fit = steady.locks_fit;
+        named = steady.named;
+        drawn = steady.drawn;
+        marked = steady.marked;
+        settled = subst (λ c. OutsideDoubt c (s.pending ≡ None)) can.none steady.settled;
+        unknown = subst (λ c. OutsideDoubt c (s.found ≡ None)) can.none steady.unknown;
+        unfailed = subst (λ c. OutsideDoubt c (s.failed_caller ≡ None)) can.none steady.unfailed;
+        known = steady.known;
+        fresh = record { numbered = steady.fresh.numbered; ahead = steady.fresh.ahead; later = steady.fresh.later };
+        places = steady.places;
+        orders = subst (λ c. OutsideDoubt c (AreOrders s.stored s.orders)) can.none steady.orders;
+        owned = over_owned s.link_told s.taken_over s.stored s.next_session (without_marks s.sessions) s.locks found.list told steady.owned;
+      };
+    }
+
+-- where there is no lock server the list of the replica goes with it
+detached_owned : (c : Condition) (honest : Bool) (max limit : ℕ) (ledger : Ledger) (next : ℕ) (sessions : List Session) (es : List Entry)
+    → IsOwned honest ledger next sessions es → IsOwned honest ledger next sessions (table_for c max (record { entries = es; limit = limit }) []).entries
+detached_owned condition.Up honest max limit ledger next sessions es h = h
+detached_owned condition.NoServer honest max limit ledger next sessions es h = owned_by_none honest ledger next sessions es h
+detached_owned (condition.Doubt k) honest max limit ledger next sessions es h = owned_by_none honest ledger next sessions es h
+
+detached-holds : (n : ℕ) (s : State) → Holds n s → Holds n (detached s)
+detached-holds n s h =
+    let few = h.few in
+    let steady = h.steady in
+    record {
+      few = record { sessions = few.sessions; units = few.units };
+      steady = record {
+        started = steady.started;
+        limited = steady.limited;
+        locks_fit = steady.locks_fit;
+        named = steady.named;
+        drawn = steady.drawn;
+        marked = steady.marked;
+        settled = steady.settled;
+        unknown = steady.unknown;
+        unfailed = steady.unfailed;
+        known = steady.known;
+        fresh = record { numbered = steady.fresh.numbered; ahead = steady.fresh.ahead; later = steady.fresh.later };
+        places = steady.places;
+        orders = steady.orders;
+        owned = detached_owned s.condition (is_honest s) s.max_locks s.limit s.stored s.next_session s.sessions s.locks steady.owned;
+      };
+    }
 
 -- a replica follows, or none
 following-holds : (n : ℕ) (s : State) (follows : Bool) → Holds n s → Holds n (record s { attached = follows })
@@ -698,10 +804,10 @@ restarted-holds n taken s landing h = record { few = restarted_few n taken s h.f
 
 -- ---- all calls
 
-pub each-holds : (n : ℕ) (found : Found) (s : State) → HasSoundLocks s → HasLanding s (stored_anew (is_taken found.anew) s.stored s.pending) → s.found ≡ None
-    → Holds n s
+pub each-holds : (n : ℕ) (found : Found) (s : State) → HasSoundLocks s → HasLanding s (stored_anew (is_taken found.anew) s.stored s.pending)
+    → IsTold s.link_told (found.list ≡ s.locks) → s.found ≡ None → Holds n s
     → OfEach (λ call v. MayCall s call → Holds (n + 1) (judged s v).state) found s
-each-holds n found s sound landing unread h = record {
+each-holds n found s sound landing told unread h = record {
   refuses = λ call r plain may. holds_more n s h;
   enters = λ name user free may. entered-holds n s name user free h;
   logs_off = λ name x at may. left-holds n s x.name _ (both-owned s x h.steady) h;
@@ -718,7 +824,7 @@ each-holds n found s sound landing unread h = record {
   reserves = λ name x object nr upto r at can may.
       raises-holds n s object nr upto r can.range (not_no (is_buffered r.interval) can.buffered) can.within unread h;
   commits_numbers = λ name x parts stock at may. numbered-holds n s x stock (own_name s name x at) may unread h;
-  commits = λ name x parts stock at may. commit-holds n s x parts stock (own_name s name x at) may unread h;
+  commits = λ name x parts stock at may. commit-holds n s x parts stock (own_name s name x at) may unread sound h;
   rolls_back = λ name x at may.
       let update = (pair_of s.stored.start x).update in
       rolled-holds n s x.name x _ (own_name s name x at) (owned_by s (freed_owner s.locks update) (λ Q k. every_freed_owner Q s.locks update k) h.steady) h;
@@ -727,8 +833,8 @@ each-holds n found s sound landing unread h = record {
       marked-holds n part s worker unit (kind_for part (found.part part unit)) (post_commits_none part (found.part part unit)) e unread h;
   drops = λ worker unit e may. dropped-holds n s worker h;
   kills = λ up may. killed-holds n s up h;
-  fails_over = λ list can may. over-holds n s list can h;
-  strays = λ first second none may. following-holds (n + 1) s false (holds_more n s h);
+  fails_over = λ can may. over-holds n found s can told h;
+  strays = λ first second none may. detached-holds (n + 1) s (holds_more n s h);
   attaches = λ up may. following-holds (n + 1) s true (holds_more n s h);
   restarts = λ off may. restarted-holds n (is_taken found.anew) s landing h;
   cancels = λ unit status can may. cancelled-holds n s unit status can unread h;
@@ -737,11 +843,11 @@ each-holds n found s sound landing unread h = record {
 }
 
 verdict-holds : (n : ℕ) (found : Found) (s : State) (call : Call) → MayCall s call → HasSoundLocks s
-    → HasLanding s (stored_anew (is_taken found.anew) s.stored s.pending) → Holds n s
+    → HasLanding s (stored_anew (is_taken found.anew) s.stored s.pending) → IsTold s.link_told (found.list ≡ s.locks) → Holds n s
     → Holds (n + 1) (judged s (call_verdict found s call)).state
-verdict-holds n found s call may sound landing h =
+verdict-holds n found s call may sound landing told h =
     by_condition (Holds (n + 1) (judged s (call_verdict found s call)).state) s h.steady
-    (λ quiet. by_made (λ c v. Holds (n + 1) (judged s v).state) found s (each-holds n found s sound landing quiet.found h) call may)
+    (λ quiet. by_made (λ c v. Holds (n + 1) (judged s v).state) found s (each-holds n found s sound landing told quiet.found h) call may)
     (λ k down.
     by_doubt (λ c v. Holds (n + 1) (judged s v).state) found s k call down (λ c r. holds_more n s h) (restarted-holds n (is_taken found.anew) s landing h))
 
@@ -750,8 +856,8 @@ verdict-holds n found s call may sound landing h =
 doubted-holds : (n : ℕ) (s : State) (call : Call) (read : Option Bool) (pending : Option Ledger) → IsKnownRight (known_behind s.found read) s.stored pending
     → Holds n s → Holds (n + 1) (doubted s call read pending)
 doubted-holds n s call read pending known h =
-    let few = few_more n s h.few in
-    let steady = h.steady in
+    let few = few_more n (with_other_marks (had_lock s) s) (marked_few n (had_lock s) s h.few) in
+    let steady = marked_steady (had_lock s) s h.steady in
     record {
       few = record { sessions = few.sessions; units = few.units };
       steady = record {
@@ -768,7 +874,7 @@ doubted-holds n s call read pending known h =
         fresh = record { numbered = steady.fresh.numbered; ahead = steady.fresh.ahead; later = steady.fresh.later };
         places = steady.places;
         orders = tt;
-        owned = owned_by_none s.stored s.next_session s.sessions s.locks steady.owned;
+        owned = owned_by_none (is_honest s) s.stored s.next_session (with_marks (had_lock s) s.sessions) s.locks steady.owned;
       };
     }
 
@@ -817,36 +923,51 @@ failing_known reading found s call steady =
 abbrev StoredHolds : ℕ → State → Call → Option Bool → Ledger → Type 0
 StoredHolds n s call read stored = Holds n (unfiled s call read stored)
 
+-- nothing is said of locks where there are none
+owned_from : (before honest : Bool) (ledger : Ledger) (next : ℕ) (sessions : List Session) (es : List Entry) → IsOwned before ledger next sessions es
+    → IsOwned honest ledger next sessions []
+owned_from before honest ledger next sessions es h = record {
+  known = λ t. tt;
+  users = λ t. tt;
+  holders = λ t. tt;
+  stored_known = h.stored_known;
+  stored_users = h.stored_users;
+}
+
 -- a mark stands already
 filed-holds : (n : ℕ) (s t : State) (call : Call) (read : Option Bool) → known_behind s.found read ≡ None → t.sessions ≡ s.sessions
     → t.next_session ≡ s.next_session → t.ranges ≡ s.ranges → Holds n s → Holds (n + 1) t → t.mark_limit ≡ s.mark_limit → length t.orders ≡ length s.orders
     → StoredHolds (n + 1) s call read t.stored
 filed-holds n s t call read unread sessions next ranges before h marks places =
-    let steady = h.steady in
-    let few = few_more n s before.few in
+    let marks = had_lock s in
+    let steady = marked_steady marks t h.steady in
+    let few = few_more n (with_other_marks marks s) (marked_few n marks s before.few) in
+    let earlier = marked_steady marks s before.steady in
+    let marked_in : List Session → List Session = λ xs. with_marks marks xs in
     record {
       few = record { sessions = few.sessions; units = few.units };
       steady = record {
         started = steady.started;
-        limited = before.steady.limited;
-        locks_fit = before.steady.locks_fit;
-        named = before.steady.named;
-        drawn = subst (λ xs. AreDrawnRight s.ranges t.stored.levels (draws_in xs) (numbers_of t.stored.units t.stored.marks)) sessions
-            (subst (λ rs. AreDrawnRight rs t.stored.levels (draws_in t.sessions) (numbers_of t.stored.units t.stored.marks)) ranges steady.drawn);
+        limited = earlier.limited;
+        locks_fit = earlier.locks_fit;
+        named = earlier.named;
+        drawn = subst (λ xs. AreDrawnRight s.ranges t.stored.levels (draws_in (marked_in xs)) (numbers_of t.stored.units t.stored.marks)) sessions
+            (subst (λ rs. AreDrawnRight rs t.stored.levels (draws_in (marked_in t.sessions)) (numbers_of t.stored.units t.stored.marks)) ranges steady.drawn);
         marked = steady.marked;
         settled = tt;
         unknown = tt;
         unfailed = tt;
         known = unread_known (known_behind s.found read) t.stored s.pending unread;
         fresh = record {
-          numbered = before.steady.fresh.numbered;
-          ahead = subst (AllByRecursion (IsAhead t.stored)) sessions steady.fresh.ahead;
+          numbered = earlier.fresh.numbered;
+          ahead = subst (λ xs. AllByRecursion (IsAhead t.stored) (marked_in xs)) sessions steady.fresh.ahead;
           later = λ session luw from. steady.fresh.later session luw (subst (λ k. k ≤ session) (sym next) from);
         };
-        places = before.steady.places;
+        places = earlier.places;
         orders = tt;
-        owned = owned_by_none t.stored s.next_session s.sessions t.locks
-            (subst (λ xs. IsOwned t.stored s.next_session xs t.locks) sessions (subst (λ k. IsOwned t.stored k t.sessions t.locks) next steady.owned));
+        owned = owned_from (is_honest t) (is_honest s) t.stored s.next_session (marked_in s.sessions) t.locks
+            (subst (λ xs. IsOwned (is_honest t) t.stored s.next_session (marked_in xs) t.locks) sessions
+            (subst (λ k. IsOwned (is_honest t) t.stored k (marked_in t.sessions) t.locks) next steady.owned));
       };
     }
 
@@ -893,12 +1014,12 @@ ended-holds : (n : ℕ) (e : Event) (reading : Reading) (s : State) (call : Call
     → Holds (n + 1) (ends_in e reading s call (call_verdict (found_by reading s) s call)).state
 ended-holds n AllWell reading s call may read sound units landing h =
     let found = found_by reading s in
-    verdict-holds n found s call may sound (restart_lands (is_taken found.anew) s sound.stored h.steady units landing) h
+    verdict-holds n found s call may sound (restart_lands (is_taken found.anew) s sound.stored h.steady units landing) (list_told reading s call read) h
 ended-holds n Wanting reading s call may read sound units landing h = holds_more n s h
 ended-holds n StoreFails reading s call may read sound units landing h =
     failing-holds n s call _ may (failing_known reading (found_by reading s) s call h.steady) h
 ended-holds n BackupFails reading s call may read sound units landing h = failed_filing-holds n reading s call read h
-ended-holds n LinkFails reading s call may read sound units landing h = following-holds (n + 1) s false (holds_more n s h)
+ended-holds n LinkFails reading s call may read sound units landing h = detached-holds (n + 1) s (holds_more n s h)
 ended-holds n (NotRemade fault) reading s call may read sound units landing h =
     doubted-holds n s call (read_anew reading) s.pending (read_known reading s call read h.steady.known) h
 

@@ -19,22 +19,23 @@ use Rattle.hall_model.specs.declared.command.Reply.{Reply}
 use Rattle.hall_model.specs.declared.command.Session.{Session}
 use Rattle.hall_model.specs.Acts.{IsAct}
 use Rattle.hall_model.specs.Calls.{Call, LogsOn, OfSession, OfWorker, OfAdmin, Kills, FailsOver, Restarts, Attaches, Cancels, Resubmits, Takes, Posts, Drops, call_of, only_reads, restarts, LogsOff, Asks, Frees, FreesAll, Converts, Draws, Reserves, Reads, Commits, RollsBack}
-use Rattle.hall_model.specs.Devices.{DeviceOutcome, Event, AllWell, Wanting, StoreFails, BackupFails, LinkFails, NotRemade, IsAllowed, MayHappen, Reading, found_by}
-use Rattle.hall_model.specs.History.{caller_behind, doubted, ends_in, is_unread, judged, pending_after, read_anew, served, step, stored_before_file, takes_flight, unfiled, with_entry, without_stock}
-use Rattle.hall_model.specs.Kept.{AreSameButCaller, HasFew, HasGoodLocks, HasLanding, HasOpenUnits, HasSoundLocks, IsKept, IsMovedOn, MayHaveMoved}
+use Rattle.hall_model.specs.Devices.{DeviceOutcome, Event, AllWell, Wanting, StoreFails, BackupFails, LinkFails, NotRemade, IsAllowed, IsTold, MayHappen, MayRead, Reading, found_by}
+use Rattle.hall_model.specs.History.{caller_behind, doubted, ends_in, had_lock, is_unread, judged, pending_after, read_anew, served, step, stored_before_file, takes_flight, unfiled, with_entry, without_stock}
+use Rattle.hall_model.specs.Kept.{AreSameButCaller, CanStand, HasFew, HasGoodLocks, HasLanding, HasOpenUnits, HasSoundLocks, IsKept, IsMovedOn, MayHaveMoved}
 use Rattle.hall_model.specs.Numbers.{drawn, next_number, raised_to, stocked}
 use Rattle.hall_model.specs.OpenUnits.{OfPending}
-use Rattle.hall_model.specs.Sessions.{is_called, session_at, with_draw, with_next_unit, with_session, without_draws}
-use Rattle.hall_model.specs.State.{State}
+use Rattle.hall_model.specs.Sessions.{is_called, session_at, with_marks, with_draw, with_next_unit, with_session, without_draws}
+use Rattle.hall_model.specs.State.{State, is_honest}
 use Rattle.hall_model.specs.Stocks.{MayCall}
-use Rattle.hall_model.specs.Step.{Found, Verdict, Refuses, Leaves, call_verdict, cancelled, committed, is_full, is_taken, leaves, marked, numbered, reopened, reposted, stored_anew}
+use Rattle.hall_model.specs.Step.{Found, Verdict, Refuses, Leaves, call_verdict, cancelled, committed, detached, is_full, is_taken, leaves, marked, numbered, reopened, reposted, stored_anew}
 use Rattle.hall_model.proofs.ByCall.{CanDraw, OfEach, by_doubt, by_made, by_restart}
-use Rattle.hall_laws.proofs.keeping.SoundLocks.{over_table, served-sound, verdict-sound}
+use Rattle.hall_laws.proofs.keeping.SessionsAlike.{marked_steady, same_marked, with_other_marks}
+use Rattle.hall_laws.proofs.keeping.SoundLocks.{over_table, served-sound, verdict-stored}
 use Rattle.hall_laws.proofs.keeping.EachCall.{Holds, below_limit, by_condition, each-holds, raises-holds, served-holds, stocked-holds, with_past}
 use Rattle.hall_model.proofs.NotedCalls.{by_noting}
-use Rattle.hall_laws.proofs.keeping.Unchanged.{served-past, verdict_pending}
+use Rattle.hall_laws.proofs.keeping.Unchanged.{list_told, served-past, verdict_pending}
 use Rattle.hall_model.proofs.FoundSessions.{found_name}
-use Rattle.hall_laws.proofs.open_units.ChangedLocks.{StandTogether, served-open, verdict-together}
+use Rattle.hall_laws.proofs.open_units.ChangedLocks.{served-open, verdict-together}
 use Rattle.hall_laws.proofs.keeping.Restarts.{may_stay, restart_lands, same_sessions}
 
 -- ---- the session that calls
@@ -63,69 +64,69 @@ numbers_move y = record { name = refl; user = refl; number = refl; low = omega a
 
 -- ---- the change that a call makes
 
--- the locks of its open units may stand together, and so may those of each unit
-record IsFair (changed : Ledger) : Type 0 where
-  together : StandTogether changed
+-- the locks of its open units may stand together, where they can be told from the calls, and so may those of each unit
+record IsFair (honest : Bool) (changed : Ledger) : Type 0 where
+  together : IsTrue honest → CanStand changed
   units : AllByRecursion HasGoodLocks changed.units
 
 -- what was stored before is in order
-same_lands : (n : ℕ) (s : State) (call : Call) (pending : Option Ledger) → Holds n s → IsFair s.stored → HasLanding (doubted s call None pending) s.stored
+same_lands : (n : ℕ) (s : State) (call : Call) (pending : Option Ledger) → Holds n s → IsFair (is_honest s) s.stored
+    → HasLanding (doubted s call None pending) s.stored
 same_lands n s call pending h fair = record {
-  state = s;
+  state = with_other_marks (had_lock s) s;
   stored = refl;
   ranges = refl;
   next = refl;
-  sessions = same_sessions (caller_behind s.failed_caller call) s.sessions;
-  steady = h.steady;
+  sessions = same_sessions (caller_behind s.failed_caller call) (with_marks (had_lock s) s.sessions);
+  steady = marked_steady (had_lock s) s h.steady;
   units = fair.units;
-  together = fair.together.sound;
-  fit = fair.together.fit;
+  together = fair.together;
 }
 
 -- a state that the call would have led to, with the same sessions
 other_lands : (n : ℕ) (s t : State) (call : Call) (pending : Option Ledger) → t.ranges ≡ s.ranges
-    → t.next_session ≡ s.next_session → t.sessions ≡ s.sessions → Holds n t → IsFair t.stored
+    → t.next_session ≡ s.next_session → t.sessions ≡ s.sessions → Holds n t → IsFair (is_honest s) t.stored
     → HasLanding (doubted s call None pending) t.stored
 other_lands n s t call pending ranges next sessions h fair = record {
-  state = t;
+  state = with_other_marks (had_lock s) t;
   stored = refl;
   ranges = ranges;
   next = next;
-  sessions = subst (AreSameButCaller (caller_behind s.failed_caller call) s.sessions) (sym sessions)
-      (same_sessions (caller_behind s.failed_caller call) s.sessions);
-  steady = h.steady;
+  sessions =
+      let marked : List Session = with_marks (had_lock s) s.sessions in
+      let caller = caller_behind s.failed_caller call in
+      subst (λ xs. AreSameButCaller caller marked (with_marks (had_lock s) xs)) (sym sessions) (same_sessions caller marked);
+  steady = marked_steady (had_lock s) t h.steady;
   units = fair.units;
-  together = fair.together.sound;
-  fit = fair.together.fit;
+  together = fair.together;
 }
 
 -- one with another session that calls, and with memory behind a stock
 commit_lands : (n : ℕ) (s t : State) (name : List ℕ) (parts : Parts) (stock : List Num) (pending : Option Ledger)
     → t.ranges ≡ (stocked stock s).ranges → t.next_session ≡ s.next_session → AreSameButCaller (Some name) s.sessions t.sessions
-    → Holds n t → IsFair t.stored → HasLanding (doubted (stocked stock s) (OfSession name (Commits parts stock)) None pending) t.stored
+    → Holds n t → IsFair (is_honest s) t.stored → HasLanding (doubted (stocked stock s) (OfSession name (Commits parts stock)) None pending) t.stored
 commit_lands n s t name parts stock pending ranges next sessions h fair = record {
-  state = t;
+  state = with_other_marks (had_lock s) t;
   stored = refl;
   ranges = ranges;
   next = next;
-  sessions = sessions;
-  steady = h.steady;
+  sessions = same_marked (Some name) (had_lock s) s.sessions t.sessions sessions;
+  steady = marked_steady (had_lock s) t h.steady;
   units = fair.units;
-  together = fair.together.sound;
-  fit = fair.together.fit;
+  together = fair.together;
 }
 
 -- a draw leaves the level that reserves the number, which is given to nobody
 drawn_lands : (n : ℕ) (s : State) (x : Session) (object nr : List ℕ) (call : Call) (r : NumberRange) (pending : Option Ledger) → CanDraw s x object nr r
     → s.found ≡ None → Holds n s
-    → IsFair (drawn s x (present s.stored.levels r.interval) (next_number r (present s.stored.levels r.interval) x)).stored
+    → IsFair (is_honest s) (drawn s x (present s.stored.levels r.interval) (next_number r (present s.stored.levels r.interval) x)).stored
     → HasLanding (doubted s call None pending) (drawn s x (present s.stored.levels r.interval) (next_number r (present s.stored.levels r.interval) x)).stored
 drawn_lands n s x object nr call r pending can unread h =
     let i = present s.stored.levels r.interval in
     let number = next_number r i x in
     let t : State = record s { sessions = with_session x.name (with_draw (num_of i number)) s.sessions } in
     let behind : Bool → Ledger = λ b. (if b then record t { ranges = handed_out i t.ranges; stored = raised_to i number t.stored } else t).stored in
-    elim (is_buffered i) as (λ b. is_buffered r.interval ≡ b → IsFair (behind b) → HasLanding (doubted s call None pending) (behind b)) [
+    elim (is_buffered i) as (λ b. is_buffered r.interval ≡ b → IsFair (is_honest s) (behind b) → HasLanding (doubted s call None pending) (behind b)) [
       | true ↦ λ is fair.
           other_lands (n + 1) s (record s { stored = raised_to i number s.stored }) call pending refl refl refl
           (raises-holds n s object nr number r can.range is can.within unread h) fair
@@ -137,7 +138,7 @@ drawn_lands n s x object nr call r pending can unread h =
 -- where the store fails in it there is a landing, whatever else is in flight
 abbrev Lands : State → Call → Verdict → Type 0
 Lands s call v =
-    IsTrue (leaves v) → IsFair (judged s v).state.stored → (pending : Option Ledger)
+    IsTrue (leaves v) → IsFair (is_honest s) (judged s v).state.stored → (pending : Option Ledger)
     → HasLanding (doubted (without_stock call s) call None pending) (judged s v).state.stored
 
 no_leaving : {P : Type 0} → IsTrue false → P
@@ -146,22 +147,21 @@ no_leaving is = absurd (false≢true is)
 -- a restart leaves what was stored before, or what was in flight
 anew_doubted : (s : State) (pending : Option Ledger) (changed : Ledger) → HasLanding s changed → HasLanding (doubted s (OfAdmin Restarts) None pending) changed
 anew_doubted s pending changed h = record {
-  state = h.state;
+  state = with_other_marks (had_lock s) h.state;
   stored = h.stored;
   ranges = h.ranges;
   next = h.next;
-  sessions = h.sessions;
-  steady = h.steady;
+  sessions = same_marked s.failed_caller (had_lock s) s.sessions h.state.sessions h.sessions;
+  steady = marked_steady (had_lock s) h.state h.steady;
   units = h.units;
   together = h.together;
-  fit = h.fit;
 }
 
-landings : (n : ℕ) (found : Found) (s : State) → HasSoundLocks s → HasLanding s (stored_anew (is_taken found.anew) s.stored s.pending) → s.found ≡ None
-    → Holds n s
+landings : (n : ℕ) (found : Found) (s : State) → HasSoundLocks s → HasLanding s (stored_anew (is_taken found.anew) s.stored s.pending)
+    → IsTold s.link_told (found.list ≡ s.locks) → s.found ≡ None → Holds n s
     → OfEach (λ call v. MayCall s call → Lands s call v) found s
-landings n found s sound anew unread h =
-    let each = each-holds n found s sound anew unread h in
+landings n found s sound anew told unread h =
+    let each = each-holds n found s sound anew told unread h in
     record {
       refuses = λ call r plain may is. no_leaving is;
       enters = λ name user free may is fair pending. same_lands n s (LogsOn name user) pending h fair;
@@ -192,7 +192,7 @@ landings n found s sound anew unread h =
           refl refl refl (each.posts worker part unit e may) fair;
       drops = λ worker unit e may is fair pending. same_lands n s (OfWorker worker Drops) pending h fair;
       kills = λ up may is fair pending. same_lands n s (OfAdmin Kills) pending h fair;
-      fails_over = λ list can may is fair pending. same_lands n s (OfAdmin FailsOver) pending h fair;
+      fails_over = λ can may is fair pending. same_lands n s (OfAdmin FailsOver) pending h fair;
       strays = λ first second none may is fair pending. same_lands n s (OfAdmin FailsOver) pending h fair;
       attaches = λ up may is fair pending. same_lands n s (OfAdmin Attaches) pending h fair;
       restarts = λ off may is fair pending. anew_doubted s pending (stored_anew (is_taken found.anew) s.stored s.pending) anew;
@@ -231,15 +231,14 @@ LandsIn s = OfPending s.pending (HasLanding s)
 -- the change in flight stays
 reland : (s : State) (read : Option Bool) (changed : Ledger) → HasLanding s changed → HasLanding (doubted s (OfAdmin Restarts) read s.pending) changed
 reland s read changed h = record {
-  state = h.state;
+  state = with_other_marks (had_lock s) h.state;
   stored = h.stored;
   ranges = h.ranges;
   next = h.next;
-  sessions = h.sessions;
-  steady = h.steady;
+  sessions = same_marked s.failed_caller (had_lock s) s.sessions h.state.sessions h.sessions;
+  steady = marked_steady (had_lock s) h.state h.steady;
   units = h.units;
   together = h.together;
-  fit = h.fit;
 }
 
 unmade_lands : (s : State) (read : Option Bool) → LandsIn s → LandsIn (doubted s (OfAdmin Restarts) read s.pending)
@@ -257,11 +256,25 @@ relink s follows changed h = record {
   steady = h.steady;
   units = h.units;
   together = h.together;
-  fit = h.fit;
 }
 
 following_lands : (s : State) (follows : Bool) → LandsIn s → LandsIn (record s { attached = follows })
 following_lands s follows h = of_pending_more s.pending (HasLanding s) (HasLanding (record s { attached = follows })) (relink s follows) h
+
+unlink : (s : State) (changed : Ledger) → HasLanding s changed → HasLanding (detached s) changed
+unlink s changed h = record {
+  state = h.state;
+  stored = h.stored;
+  ranges = h.ranges;
+  next = h.next;
+  sessions = h.sessions;
+  steady = h.steady;
+  units = h.units;
+  together = h.together;
+}
+
+detached_lands : (s : State) → LandsIn s → LandsIn (detached s)
+detached_lands s h = of_pending_more s.pending (HasLanding s) (HasLanding (detached s)) (unlink s) h
 
 -- ---- all that is kept, but for the length of the history
 
@@ -275,14 +288,15 @@ anew_lands : (n : ℕ) (found : Found) (s : State) → HoldsAll n s → HasLandi
 anew_lands n found s h = restart_lands (is_taken found.anew) s h.sound.stored h.holds.steady h.open_units h.landing
 
 -- the store fails
-failing_lands : (n : ℕ) (reading : Reading) (found : Found) (s : State) (call : Call) → MayCall s call → HoldsAll n s
+failing_lands : (n : ℕ) (reading : Reading) (found : Found) (s : State) (call : Call) → MayCall s call → IsTold s.link_told (found.list ≡ s.locks)
+    → HoldsAll n s
     → IsTrue (leaves (call_verdict found s call))
     → LandsIn (doubted (without_stock call s) call None (pending_after reading s call (call_verdict found s call)))
-failing_lands n reading found s call may h =
+failing_lands n reading found s call may told h =
     let steady = h.holds.steady in
-    let fair : IsFair (judged s (call_verdict found s call)).state.stored = record {
+    let fair : IsFair (is_honest s) (judged s (call_verdict found s call)).state.stored = record {
       together = verdict-together found s call steady h.sound h.open_units h.landing;
-      units = (verdict-sound found s call steady h.sound h.open_units h.landing).stored;
+      units = verdict-stored found s call steady h.sound h.open_units h.landing;
     } in
     let P : Call → Verdict → Type 0 = λ c v. IsTrue (leaves v) → LandsIn (doubted (without_stock c s) c None (pending_after reading s c v)) in
     by_condition (P call (call_verdict found s call)) s steady
@@ -290,7 +304,7 @@ failing_lands n reading found s call may h =
     let v = call_verdict found s call in
     let pending = pending_after reading s call v in
     failing_flies (HasLanding (doubted (without_stock call s) call None pending)) reading s call v quiet.pending is
-    (by_made (Lands s) found s (landings n found s h.sound (anew_lands n found s h) quiet.found h.holds) call may is fair pending))
+    (by_made (Lands s) found s (landings n found s h.sound (anew_lands n found s h) told quiet.found h.holds) call may is fair pending))
     (λ k down. by_doubt P found s k call down (λ c r is. no_leaving is) (λ is. unmade_lands s None h.landing))
 
 -- nothing fails
@@ -316,15 +330,15 @@ remade_lands s call read is h =
     by_restart (λ c. IsTrue (restarts c) → LandsIn (doubted s c read s.pending)) (λ anew. unmade_lands s read h)
     (λ c off anew. absurd (false≢true (sym off ∙ anew))) call is
 
-ended_lands : (n : ℕ) (e : Event) (reading : Reading) (s : State) (call : Call) → MayCall s call
+ended_lands : (n : ℕ) (e : Event) (reading : Reading) (s : State) (call : Call) → MayCall s call → MayRead reading s call
     → MayHappen e s call (call_verdict (found_by reading s) s call) → HoldsAll n s
     → LandsIn (ends_in e reading s call (call_verdict (found_by reading s) s call)).state
-ended_lands n AllWell reading s call may happens h = done_lands n (found_by reading s) s call h
-ended_lands n Wanting reading s call may happens h = h.landing
-ended_lands n StoreFails reading s call may happens h = failing_lands n reading (found_by reading s) s call may h happens.0
-ended_lands n BackupFails reading s call may happens h = unfiled_lands n (read_anew reading) (found_by reading s) s call h happens.0
-ended_lands n LinkFails reading s call may happens h = following_lands s false h.landing
-ended_lands n (NotRemade fault) reading s call may happens h = remade_lands s call (read_anew reading) happens.1 h.landing
+ended_lands n AllWell reading s call may read happens h = done_lands n (found_by reading s) s call h
+ended_lands n Wanting reading s call may read happens h = h.landing
+ended_lands n StoreFails reading s call may read happens h = failing_lands n reading (found_by reading s) s call may (list_told reading s call read) h happens.0
+ended_lands n BackupFails reading s call may read happens h = unfiled_lands n (read_anew reading) (found_by reading s) s call h happens.0
+ended_lands n LinkFails reading s call may read happens h = detached_lands s h.landing
+ended_lands n (NotRemade fault) reading s call may read happens h = remade_lands s call (read_anew reading) happens.1 h.landing
 
 pub served_all : (n : ℕ) (o : DeviceOutcome) (s : State) (c : Command) → IsAllowed o s c → HoldsAll n s → HoldsAll (n + 1) (served o s c).state
 served_all n o s c allowed h =
@@ -332,9 +346,10 @@ served_all n o s c allowed h =
     let t = (ends_in o.event o.reading s (call_of c) (call_verdict (found_by o.reading s) s (call_of c))).state in
     record {
       holds = served-holds n o s c allowed h.sound h.open_units h.landing h.holds;
-      sound = served-sound o s c steady h.sound h.open_units h.landing;
-      open_units = served-open o s c steady h.sound h.open_units h.landing;
-      landing = following_lands t (not o.lost && t.attached) (ended_lands n o.event o.reading s (call_of c) allowed.call allowed.possible.event h);
+      sound = served-sound o s c allowed.possible steady h.sound h.open_units h.landing;
+      open_units = served-open o s c allowed steady h.sound h.open_units h.landing;
+      landing = following_lands t (not o.lost && t.attached)
+          (ended_lands n o.event o.reading s (call_of c) allowed.call allowed.possible.reading allowed.possible.event h);
     }
 
 -- ---- the history
@@ -349,7 +364,6 @@ past_lands s past changed h = record {
   steady = h.steady;
   units = h.units;
   together = h.together;
-  fit = h.fit;
 }
 
 pub with_past_all : (n : ℕ) (s : State) (past : List PastEntry) → HoldsAll n s → HoldsAll n (record s { past = past })
@@ -358,7 +372,7 @@ with_past_all n s past h =
     record {
       holds = with_past n s past h.holds;
       sound = over_table h.sound.stored h.sound.table;
-      open_units = record { held = units.held; stored = units.stored; fit = units.fit; pending = units.pending };
+      open_units = record { held = units.held; stored = units.stored; pending = units.pending };
       landing = of_pending_more s.pending (HasLanding s) (HasLanding (record s { past = past })) (past_lands s past) h.landing;
     }
 

@@ -1,11 +1,9 @@
--- A lock server that is ended, one that a replica's list brings back, and one that is made anew: what each leaves of a state in order.
-use Rattle.std.proofs.Common.{◌≡◌, ◌⊎◌, inl, inr, ℕ, ◌+◌, ◌≤◌, ◌<◌, Bool, true, false, List, [], ◌∷◌, map, refl, sym, ap, ◌∙◌, subst, arith}
+-- A lock server that is made anew: what it leaves of a state in order.
+use Rattle.std.proofs.Common.{◌≡◌, ◌⊎◌, inl, inr, ℕ, ◌+◌, ◌≤◌, ◌<◌, Bool, true, false, not, List, [], ◌∷◌, map, refl, sym, ap, ◌∙◌, subst, arith}
 use Rattle.std.specs.Prelude.{◌||◌, count_by, if◌then◌else◌, Option, Some, None}
 use Rattle.std.specs.List.{AllByRecursion}
 use Rattle.std.specs.Str.{bytes_eq}
-use Rattle.enq_base.specs.declared.condition.Condition.TheVariants as condition
 use Rattle.enq_base.specs.declared.owner.Owner.{Owner}
-use Rattle.enq_server.proofs.Replacing.{replacing_all}
 use Rattle.lock_entry.specs.declared.entry.Entry.{Entry}
 use Rattle.draw_laws.proofs.Counting.{bit, count_cons}
 use Rattle.draw_laws.proofs.SessionDraws.{AreFewer, fewer_drawn, fewer_gone, fewer_new, fewer_none, fewer_same}
@@ -13,57 +11,15 @@ use Rattle.ledger_steps.specs.Drawn.{AreDrawnRight}
 use Rattle.ledger_steps.specs.declared.range.NumberRange.{NumberRange}
 use Rattle.update_records.specs.Business.{numbers_of}
 use Rattle.update_records.specs.Ledger.{Ledger}
-use Rattle.hall_model.specs.Kept.{AreNumbered, AreOrders, AreSameButCaller, HasFew, HasGoodLocks, HasItsUser, HasLanding, HasOpenUnits, HaveMarks, HaveOwnNames, IsSteady, MayHaveMoved, OutsideDoubt, draws_in, IsAhead, IsOwned, IsUnheard, IsUserOf, IsYoung, OfLock, OfStored, is_of_session}
+use Rattle.hall_model.specs.Kept.{AreNumbered, AreSameButCaller, HasFew, HasGoodLocks, HasItsUser, HasLanding, HasOpenUnits, HaveMarks, HaveOwnNames, IsSteady, MayHaveMoved, draws_in, IsAhead, IsOwned, IsUnheard, IsUserOf, IsYoung, OfLock, OfStored, is_of_session}
 use Rattle.hall_model.specs.OpenUnits.{OfPending, open_entries}
-use Rattle.hall_model.specs.Sessions.{bereft, bereft_if, has_one_of, is_called, is_caller, loses}
-use Rattle.hall_model.specs.State.{State}
-use Rattle.hall_model.specs.Step.{followed_over, killed, restarted, stored_anew}
+use Rattle.hall_model.specs.Sessions.{bereft, bereft_if, is_called, is_caller, loses}
+use Rattle.hall_model.specs.State.{State, is_honest}
+use Rattle.hall_model.specs.Step.{restarted, stored_anew}
 use Rattle.hall_model.specs.declared.command.Session.{Session}
 use Rattle.hall_laws.proofs.starting.FirstKeeps.{idle, no_orders}
-use Rattle.hall_model.proofs.ByCall.{IsHandedOver}
 use Rattle.hall_laws.proofs.open_units.StoredLocks.{open_owned}
-use Rattle.hall_laws.proofs.keeping.Owners.{owned_locks}
 use Rattle.hall_model.proofs.EachLock.{every_map, every_more}
-
--- ---- an end
-
-pub killed_steady : (s : State) → s.condition ≡ condition.Up → IsSteady s → IsSteady (killed s)
-killed_steady s up h = record {
-  started = h.started;
-  limited = h.limited;
-  locks_fit = h.locks_fit;
-  named = h.named;
-  drawn = h.drawn;
-  marked = h.marked;
-  settled = subst (λ c. OutsideDoubt c (s.pending ≡ None)) up h.settled;
-  unknown = subst (λ c. OutsideDoubt c (s.found ≡ None)) up h.unknown;
-  unfailed = subst (λ c. OutsideDoubt c (s.failed_caller ≡ None)) up h.unfailed;
-  known = h.known;
-  fresh = record { numbered = h.fresh.numbered; ahead = h.fresh.ahead; later = h.fresh.later };
-  places = h.places;
-  orders = subst (λ c. OutsideDoubt c (AreOrders s.stored s.orders)) up h.orders;
-  owned = h.owned;
-}
-
--- ---- a replica's list in place of the table
-
-pub over_steady : (s : State) (list : List Entry) → IsHandedOver s list → IsSteady s → IsSteady (followed_over list s)
-over_steady s list can h = record {
-  started = h.started;
-  limited = h.limited;
-  locks_fit = h.locks_fit;
-  named = h.named;
-  drawn = h.drawn;
-  marked = h.marked;
-  settled = subst (λ c. OutsideDoubt c (s.pending ≡ None)) can.none h.settled;
-  unknown = subst (λ c. OutsideDoubt c (s.found ≡ None)) can.none h.unknown;
-  unfailed = subst (λ c. OutsideDoubt c (s.failed_caller ≡ None)) can.none h.unfailed;
-  known = h.known;
-  fresh = record { numbered = h.fresh.numbered; ahead = h.fresh.ahead; later = h.fresh.later };
-  places = h.places;
-  orders = subst (λ c. OutsideDoubt c (AreOrders s.stored s.orders)) can.none h.orders;
-  owned = owned_locks s.stored s.next_session s.sessions s.locks list (λ Q k. replacing_all (OfLock Q) s.locks list can.replaces k) h.owned;
-}
 
 -- ---- sessions that may have lost a lock
 
@@ -138,15 +94,16 @@ fewer_behind (x ∷ xs) (y ∷ ys) b =
           (fewer_gone x.draws (draws_in xs) ([] ∷ draws_in ys) (fewer_new (draws_in xs) (draws_in ys) rest))
     ]
 
-owned_behind : (ledger : Ledger) (next : ℕ) (xs ys : List Session) (es : List Entry) → AreBehind xs ys → IsOwned ledger next xs es → IsOwned ledger next ys es
-owned_behind ledger next xs ys es b h =
+owned_behind : (honest : Bool) (ledger : Ledger) (next : ℕ) (xs ys : List Session) (es : List Entry) → AreBehind xs ys → IsOwned honest ledger next xs es
+    → IsOwned honest ledger next ys es
+owned_behind honest ledger next xs ys es b h =
     let before = HasItsUser ledger.start xs in
     let after = HasItsUser ledger.start ys in
     let moved : (e : Entry) → OfLock before e → OfLock after e =
     λ e k. each_behind (IsUserOf ledger.start e.owner e.user) (IsUserOf ledger.start e.owner e.user) (user_one ledger.start e.owner e.user) xs ys b k in
     record {
       known = h.known;
-      users = every_more (OfLock before) (OfLock after) moved es h.users;
+      users = λ t. every_more (OfLock before) (OfLock after) moved es (h.users t);
       holders = h.holders;
       stored_known = h.stored_known;
       stored_users = every_more (OfStored before) (OfStored after)
@@ -177,13 +134,11 @@ one_behind true false x y m = subst (λ z. IsBehind z (bereft x)) (sym m) (behin
 one_behind false true x y m = record { name = sym m.name; user = sym m.user; number = sym m.number; low = m.high; draws = inr refl }
 one_behind false false x y m = subst (λ z. IsBehind z x) (sym m) (behind_self x)
 
-behind_caller : (start : ℕ) (gone : List Entry) (caller : Option (List ℕ)) (xs ys : List Session) → AreSameButCaller caller xs ys
-    → AreBehind ys (map (bereft_if start gone caller) xs)
-behind_caller start gone caller [] [] h = tt
-behind_caller start gone caller [] (y ∷ ys) h = absurd h
-behind_caller start gone caller (x ∷ xs) [] h = absurd h
-behind_caller start gone caller (x ∷ xs) (y ∷ ys) h =
-    (one_behind (has_one_of start gone x) (is_caller caller x) x y h.0, behind_caller start gone caller xs ys h.1)
+behind_caller : (caller : Option (List ℕ)) (xs ys : List Session) → AreSameButCaller caller xs ys → AreBehind ys (map (bereft_if caller) xs)
+behind_caller caller [] [] h = tt
+behind_caller caller [] (y ∷ ys) h = absurd h
+behind_caller caller (x ∷ xs) [] h = absurd h
+behind_caller caller (x ∷ xs) (y ∷ ys) h = (one_behind x.marked (is_caller caller x) x y h.0, behind_caller caller xs ys h.1)
 
 young_one : (n : ℕ) (b : Bool) (x : Session) → IsYoung n x → IsYoung (n + 1) (if b then bereft x else x)
 young_one n true x young = omega (arith, young)
@@ -191,11 +146,10 @@ young_one n false x young = omega (arith, young)
 
 pub restarted_few : (n : ℕ) (taken : Bool) (s : State) → HasFew n s → HasFew (n + 1) (restarted taken s)
 restarted_few n taken s h =
-    let start = s.stored.start in
     record {
       sessions = omega (arith, h.sessions);
-      units = every_map (IsYoung (n + 1)) (IsYoung (n + 1 + 1)) (bereft_if start s.gone s.failed_caller)
-          (λ x young. young_one (n + 1) (loses start s.gone s.failed_caller x) x young) s.sessions h.units;
+      units = every_map (IsYoung (n + 1)) (IsYoung (n + 1 + 1)) (bereft_if s.failed_caller)
+          (λ x young. young_one (n + 1) (loses s.failed_caller x) x young) s.sessions h.units;
     }
 
 -- ---- a server that is made anew
@@ -210,7 +164,6 @@ own_landing s good steady units = record {
   steady = steady;
   units = good;
   together = units.stored;
-  fit = units.fit;
 }
 
 -- what is so of what was stored, and of what was in flight, is so of what a restart finds in the store
@@ -236,21 +189,22 @@ landed_drawn s changed l =
     (subst (λ (rs : List NumberRange). AreDrawnRight rs l.state.stored.levels draws (numbers_of l.state.stored.units l.state.stored.marks))
     l.ranges l.steady.drawn)
 
-landed_owned : (s : State) (changed : Ledger) (l : HasLanding s changed) → IsOwned changed s.next_session l.state.sessions (open_entries changed)
-landed_owned s changed l =
+landed_owned : (honest : Bool) (s : State) (changed : Ledger) (l : HasLanding s changed)
+    → IsOwned honest changed s.next_session l.state.sessions (open_entries changed)
+landed_owned honest s changed l =
     let t = l.state in
-    open_owned changed s.next_session t.sessions t.locks l.units
-    (of_landing (λ g. IsOwned g s.next_session t.sessions t.locks) s changed l
-    (subst (λ n. IsOwned t.stored n t.sessions t.locks) l.next l.steady.owned))
+    let told = is_honest t in
+    open_owned told honest changed s.next_session t.sessions t.locks l.units
+    (of_landing (λ g. IsOwned told g s.next_session t.sessions t.locks) s changed l
+    (subst (λ n. IsOwned told t.stored n t.sessions t.locks) l.next l.steady.owned))
 
 pub restarted_steady : (taken : Bool) (s : State) → IsSteady s → HasLanding s (stored_anew taken s.stored s.pending) → IsSteady (restarted taken s)
 restarted_steady taken s h l =
     let changed = stored_anew taken s.stored s.pending in
     let t = l.state in
-    let start = s.stored.start in
-    let turned = map (bereft_if start s.gone s.failed_caller) s.sessions in
-    let own = behind_caller start s.gone s.failed_caller s.sessions s.sessions (same_sessions s.failed_caller s.sessions) in
-    let behind = behind_caller start s.gone s.failed_caller s.sessions t.sessions l.sessions in
+    let turned = map (bereft_if s.failed_caller) s.sessions in
+    let own = behind_caller s.failed_caller s.sessions s.sessions (same_sessions s.failed_caller s.sessions) in
+    let behind = behind_caller s.failed_caller s.sessions t.sessions l.sessions in
     record {
       started = of_landing (λ (g : Ledger). 1 ≤ g.start) s changed l l.steady.started;
       limited = h.limited;
@@ -271,5 +225,7 @@ restarted_steady taken s h l =
       };
       places = idle 256;
       orders = no_orders changed 256;
-      owned = owned_behind changed s.next_session t.sessions turned (open_entries changed) behind (landed_owned s changed l);
+      owned =
+          let honest = s.link_told || not false in
+          owned_behind honest changed s.next_session t.sessions turned (open_entries changed) behind (landed_owned honest s changed l);
     }

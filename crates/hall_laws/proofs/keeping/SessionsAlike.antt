@@ -1,5 +1,5 @@
 -- Sessions that differ in what they have drawn alone.
-use Rattle.std.proofs.Common.{◌≡◌, ℕ, ◌≤◌, ◌<◌, ◌+◌, true, false, cond, List, [], ◌∷◌, inl, inr, refl, sym, ap, ◌∙◌, subst}
+use Rattle.std.proofs.Common.{◌≡◌, ℕ, ◌≤◌, ◌<◌, ◌+◌, Bool, true, false, cond, List, [], ◌∷◌, inl, inr, refl, sym, ap, ◌∙◌, subst}
 use Rattle.std.specs.Prelude.{Option, Some, None, count_by}
 use Rattle.std.specs.List.{AllByRecursion}
 use Rattle.std.specs.Str.{bytes_eq}
@@ -11,8 +11,11 @@ use Rattle.draw_laws.proofs.Counting.{bit, count_cons}
 use Rattle.update_records.specs.Ledger.{Ledger, Levels}
 use Rattle.update_records.specs.Marks.{status_of}
 use Rattle.update_records.specs.declared.records.Mark.{Mark}
-use Rattle.hall_model.specs.Kept.{AreNumbered, AreOrders, HasItsUser, IsAhead, IsOwned, IsUserOf, IsWaiting, IsYoung, MayHold, OfLock, OfStored, is_of_session, may_hold}
-use Rattle.hall_model.specs.Sessions.{is_called, with_session}
+use Rattle.hall_model.specs.Kept.{draws_in, AreNumbered, AreOrders, AreSameButCaller, HasFew, IsSteady, MayHaveMoved, HasItsUser, IsAhead, IsOwned, IsUserOf, IsWaiting, IsYoung, MayHold, OfLock, OfStored, is_of_session, may_hold}
+use Rattle.hall_model.specs.Sessions.{is_called, is_caller, with_mark, with_marks, with_session}
+use Rattle.hall_model.specs.State.{State, is_honest}
+use Rattle.ledger_steps.specs.Drawn.{AreDrawnRight}
+use Rattle.update_records.specs.Business.{numbers_of}
 use Rattle.hall_model.specs.declared.command.Session.{Session}
 use Rattle.hall_model.proofs.OtherStatuses.{status_in}
 use Rattle.hall_model.proofs.EachLock.{every_more}
@@ -81,6 +84,15 @@ count_alike name (x ∷ xs) (y ∷ ys) a =
     ∙ ap (λ k. bit (is_called name x) + k) (count_alike name xs ys a.1)
     ∙ sym (count_cons (is_called name) x xs)
 
+-- they have other marks
+pub alike_marks : (had_lock : Session → Bool) (xs : List Session) → AreAlike xs (with_marks had_lock xs)
+alike_marks had_lock [] = tt
+alike_marks had_lock (x ∷ xs) = (record { name = refl; user = refl; number = refl; luw = refl }, alike_marks had_lock xs)
+
+pub draws_marks : (had_lock : Session → Bool) (xs : List Session) → draws_in (with_marks had_lock xs) ≡ draws_in xs
+draws_marks had_lock [] = refl
+draws_marks had_lock (x ∷ xs) = ap (λ ds. x.draws ∷ ds) (draws_marks had_lock xs)
+
 -- ---- over a ledger with other levels, and with marks by which each unit has the same status
 
 abbrev pub with_others : Ledger → Levels → List Mark → Ledger
@@ -119,18 +131,77 @@ module _ (ledger : Ledger) (levels : Levels) (marks : List Mark) (same : HaveOne
   user_alike owner user x y a h own = h (subst (λ n. is_of_session ledger.start n owner ≡ true) a.number own) ∙ sym a.user
 
   -- whose the locks are
-  pub owned_alike : (next : ℕ) (xs ys : List Session) (locks : List Entry) → AreAlike xs ys → IsOwned ledger next xs locks → IsOwned now next ys locks
-  owned_alike next xs ys locks a h =
+  pub owned_alike : (honest : Bool) (next : ℕ) (xs ys : List Session) (locks : List Entry) → AreAlike xs ys → IsOwned honest ledger next xs locks
+      → IsOwned honest now next ys locks
+  owned_alike honest next xs ys locks a h =
       let before = HasItsUser ledger.start xs in
       let after = HasItsUser ledger.start ys in
       let moved : (e : Entry) → OfLock before e → OfLock after e =
       λ e k. each_alike (IsUserOf ledger.start e.owner e.user) (IsUserOf ledger.start e.owner e.user) (user_alike e.owner e.user) xs ys a k in
       record {
         known = h.known;
-        users = every_more (OfLock before) (OfLock after) moved locks h.users;
-        holders = every_more (OfLock (λ owner user. MayHold ledger owner)) (OfLock (λ owner user. MayHold now owner))
-            (λ e k. holder_alike e.owner k) locks h.holders;
+        users = λ t. every_more (OfLock before) (OfLock after) moved locks (h.users t);
+        holders = λ t. every_more (OfLock (λ owner user. MayHold ledger owner)) (OfLock (λ owner user. MayHold now owner))
+            (λ e k. holder_alike e.owner k) locks (h.holders t);
         stored_known = h.stored_known;
         stored_users = every_more (OfStored before) (OfStored after) (λ unit k. every_more (OfLock before) (OfLock after) moved unit.entries k) ledger.units
             h.stored_users;
       }
+
+-- ---- a state whose sessions have other marks
+
+abbrev pub with_other_marks : (Session → Bool) → State → State
+with_other_marks had_lock s = record s { sessions = with_marks had_lock s.sessions }
+
+pub marked_steady : (had_lock : Session → Bool) (s : State) → IsSteady s → IsSteady (with_other_marks had_lock s)
+marked_steady had_lock s h =
+    let sessions = with_marks had_lock s.sessions in
+    let alike = alike_marks had_lock s.sessions in
+    record {
+      started = h.started;
+      limited = h.limited;
+      locks_fit = h.locks_fit;
+      named = λ name. subst (λ k. k ≤ 1) (sym (count_alike name s.sessions sessions alike)) (h.named name);
+      drawn = subst (λ ds. AreDrawnRight s.ranges s.stored.levels ds (numbers_of s.stored.units s.stored.marks))
+          (sym (draws_marks had_lock s.sessions)) h.drawn;
+      marked = h.marked;
+      settled = h.settled;
+      unknown = h.unknown;
+      unfailed = h.unfailed;
+      known = h.known;
+      fresh = record {
+        numbered = numbered_alike s.next_session s.sessions sessions alike h.fresh.numbered;
+        ahead = ahead_alike s.stored s.stored.levels s.stored.marks (λ key. refl) s.sessions sessions alike h.fresh.ahead;
+        later = h.fresh.later;
+      };
+      places = h.places;
+      orders = h.orders;
+      owned = owned_alike s.stored s.stored.levels s.stored.marks (λ key. refl) (is_honest s) s.next_session s.sessions sessions s.locks alike h.owned;
+    }
+
+pub marked_few : (n : ℕ) (had_lock : Session → Bool) (s : State) → HasFew n s → HasFew n (with_other_marks had_lock s)
+marked_few n had_lock s h = record {
+  sessions = h.sessions;
+  units = young_alike (n + 1) s.sessions (with_marks had_lock s.sessions) (alike_marks had_lock s.sessions) h.units;
+}
+
+moved_marked : (called : Bool) (had_lock : Session → Bool) (x y : Session) → MayHaveMoved called x y
+    → MayHaveMoved called (with_mark had_lock x) (with_mark had_lock y)
+moved_marked true had_lock x y m = record { name = m.name; user = m.user; number = m.number; low = m.low; high = m.high }
+moved_marked false had_lock x y m = ap (with_mark had_lock) m
+
+marked_caller : (caller : Option (List ℕ)) (had_lock : Session → Bool) (x : Session) → is_caller caller (with_mark had_lock x) ≡ is_caller caller x
+marked_caller None had_lock x = refl
+marked_caller (Some name) had_lock x = refl
+
+-- the same sessions but for the caller's stay so
+pub same_marked : (caller : Option (List ℕ)) (had_lock : Session → Bool) (xs ys : List Session) → AreSameButCaller caller xs ys
+    → AreSameButCaller caller (with_marks had_lock xs) (with_marks had_lock ys)
+same_marked caller had_lock [] [] h = tt
+same_marked caller had_lock [] (y ∷ ys) h = absurd h
+same_marked caller had_lock (x ∷ xs) [] h = absurd h
+same_marked caller had_lock (x ∷ xs) (y ∷ ys) h = (
+  subst (λ b. MayHaveMoved b (with_mark had_lock x) (with_mark had_lock y)) (sym (marked_caller caller had_lock x))
+      (moved_marked (is_caller caller x) had_lock x y h.0),
+  same_marked caller had_lock xs ys h.1,
+)

@@ -1,14 +1,15 @@
 -- Each call keeps the locks sound.
-use Rattle.std.proofs.Common.{◌≡◌, ℕ, ◌<◌, ◌≤◌, ◌^◌, arith, ◌&&◌, not, cond, Bool, true, false, List, [], ◌∷◌, ◌++◌, fold, length, refl}
+use Rattle.std.proofs.Common.{◌≡◌, ℕ, ◌<◌, ◌≤◌, ◌^◌, arith, ◌&&◌, Bool, true, false, List, [], ◌∷◌, ◌++◌, fold, length, refl}
 use Rattle.std.specs.Prelude.{if◌then◌else◌, nat_eq, nat_le, Option, None}
 use Rattle.std.specs.List.{AllByRecursion}
-use Rattle.std.proofs.lemmas.Bool.{and_from, and_parts, eq-eqb}
+use Rattle.std.proofs.lemmas.Bool.{and_from, eq-eqb}
 use Rattle.std.proofs.lemmas.Bool.Decides.{nat_tests}
+use Rattle.enq_base.specs.declared.condition.Condition.{Condition}
+use Rattle.enq_base.specs.declared.condition.Condition.TheVariants as condition
 use Rattle.enq_base.specs.declared.owner.Owner.TheVariants.{Upd}
 use Rattle.enq_base.specs.declared.owner.UnitKey.{UnitKey}
 use Rattle.enq_base.specs.declared.unit.Status.{Status}
 use Rattle.enq_base.specs.declared.unit.Status.TheVariants.{Open, Posted, Bad, Closed, Bad2, Cancelled}
-use Rattle.enq_server.specs.Following.{may_replace, same_entry}
 use Rattle.enq_server.specs.Server.{larger, recovered, replicated}
 use Rattle.lock_entry.specs.declared.entry.Entry.{Entry}
 use Rattle.lock_entry.specs.declared.entry.LockName.{LockName}
@@ -25,22 +26,22 @@ use Rattle.ledger_steps.specs.Posts.{entries_of}
 use Rattle.ledger_steps.specs.Views.{open_locks}
 use Rattle.hall_model.specs.declared.command.Command.{Command}
 use Rattle.hall_model.specs.declared.command.Session.{Session}
-use Rattle.hall_model.specs.Devices.{DeviceOutcome, found_by}
+use Rattle.hall_model.specs.Devices.{DeviceOutcome, Event, AllWell, Wanting, StoreFails, BackupFails, LinkFails, NotRemade, IsPossible, MayBeDone, MayHappen, Reading, found_by}
 use Rattle.hall_model.specs.Calls.{Call, call_of}
-use Rattle.hall_model.specs.History.{doubted, judged, read_anew, served, unfiled, without_stock}
+use Rattle.hall_model.specs.History.{doubted, ends_in, judged, read_anew, served, unfiled, without_stock}
 use Rattle.hall_model.specs.Kept.{HasGoodLocks, HasLanding, HasOpenUnits, HasSoundLocks, IsSteady}
 use Rattle.hall_model.specs.OpenUnits.{OfPending, open_entries}
 use Rattle.hall_model.specs.Sessions.{owners_of, pair_of, unit_key, with_draw, with_session}
 use Rattle.hall_model.specs.Numbers.{drawn, raised_to}
 use Rattle.ledger_steps.specs.Drawn.{handed_out, num_of, stored_as}
-use Rattle.hall_model.specs.State.{State}
+use Rattle.hall_model.specs.State.{State, table_for}
 use Rattle.number_ranges.specs.Intervals.{block_level, is_buffered, with_level}
 use Rattle.number_ranges.specs.declared.interval.Interval.{Interval}
 use Rattle.ledger_steps.specs.Intervals.{with_intervals}
 use Rattle.ledger_steps.specs.Levels.{present}
-use Rattle.hall_model.specs.Step.{Found, call_verdict, cancelled, is_sound, is_taken, restarted, stored_anew, unit_of}
+use Rattle.hall_model.specs.Step.{Found, call_verdict, cancelled, detached, is_taken, unit_of}
 use Rattle.update_records.specs.Ledger.{Ledger}
-use Rattle.hall_model.proofs.ByCall.{IsHandedOver, OfEach, by_call, by_event, by_filing, by_stock}
+use Rattle.hall_model.proofs.ByCall.{OfEach, by_call, by_filing, by_stock}
 use Rattle.hall_model.proofs.HandedLocks.{handed_good}
 use Rattle.hall_model.proofs.EachLock.{may_be_readmitted, every_append}
 use Rattle.hall_model.proofs.Resubmissions.{table_in}
@@ -57,12 +58,12 @@ freed-good : (t : Table) (names : List LockName) → IsTable t → IsTable (with
 freed-good t [] h = h
 freed-good t (n ∷ ns) h = freed-good (with_entries t (freed t.entries n)) ns (IsTable-freed t n h)
 
-behind-sound : (s : State) (unit : UnitKey) (first : Bool) → IsTable (table_in s)
+pub behind-sound : (s : State) (unit : UnitKey) (first : Bool) → IsTable (table_in s)
     → IsTable (with_entries (table_in s) (if first then freed_owner s.locks (Upd unit) else s.locks))
 behind-sound s unit true good = IsTable-freed_owner (table_in s) (Upd unit) good
 behind-sound s unit false good = good
 
-without-sound : (s : State) (unit : UnitKey) (status : Status) → IsTable (table_in s) → IsTable (table_in (cancelled s unit status))
+pub without-sound : (s : State) (unit : UnitKey) (status : Status) → IsTable (table_in s) → IsTable (table_in (cancelled s unit status))
 without-sound s unit Open good = IsTable-freed_owner (table_in s) (Upd unit) good
 without-sound s unit Posted good = good
 without-sound s unit Bad good = good
@@ -114,109 +115,143 @@ remade-sound max_locks ledger limited together fit =
     let count = length (open_entries ledger) in
     record { sound = together; within = larger_within max_locks count; limit_fits = larger_fits max_locks count limited fit }
 
--- ---- a replica's list in place of the table
+-- ---- no replica
 
--- it is no longer than the table
-replacing_length : (table list : List Entry) → may_replace table list ≡ true → length list ≤ length table
-replacing_length [] [] may = omega arith
-replacing_length [] (x ∷ xs) may = absurd (cc)
-replacing_length (e ∷ es) [] may = omega arith
-replacing_length (e ∷ es) (x ∷ xs) may =
-    elim (same_entry e x) as (λ b. cond b (may_replace es xs) (not e.handed && may_replace es (x ∷ xs)) ≡ true → length (x ∷ xs) ≤ length (e ∷ es)) [
-      | true ↦ λ k. let rest = replacing_length es xs k in omega (arith, rest)
-      | false ↦ λ k. let rest = replacing_length es (x ∷ xs) (and_parts (not e.handed) _ k).1 in omega (arith, rest)
-    ] may
+detached-table : (c : Condition) (max limit : ℕ) (es : List Entry) → max < 2 ^ 32 → IsTable (record { entries = es; limit = limit })
+    → IsTable (table_for c max (record { entries = es; limit = limit }) [])
+detached-table condition.Up max limit es fits good = good
+detached-table condition.NoServer max limit es fits good = none_stands (larger max 0) (larger_fits max 0 fits (omega arith))
+detached-table (condition.Doubt k) max limit es fits good = none_stands (larger max 0) (larger_fits max 0 fits (omega arith))
 
-sound_list : (list : List Entry) → is_sound list ≡ true → IsSound list
-sound_list list h =
-    let names = and_parts _ _ h in
-    let counts = and_parts _ _ names.1 in
-    record { names = names.0; counts = counts.0; conflicts = counts.1 }
+pub detached-sound : (s : State) → s.max_locks < 2 ^ 32 → HasSoundLocks s → HasSoundLocks (detached s)
+detached-sound s fits good = over_table good.stored (detached-table s.condition s.max_locks s.limit s.locks fits good.table)
 
-replicated-sound : (s : State) (list : List Entry) → IsHandedOver s list → s.max_locks < 2 ^ 32 → IsTable (table_in s) → IsTable (replicated s.max_locks list)
-replicated-sound s list can limited good =
-    let count = length list in
-    let fewer = replacing_length s.locks list can.replaces in
+-- what a replica has of a table that is gone may stand together too
+listed-table : (follows : Bool) (max limit : ℕ) (es : List Entry) → max < 2 ^ 32 → IsTable (record { entries = es; limit = limit })
+    → IsTable (replicated max (if follows then es else []))
+listed-table true max limit es fits good =
     let within = good.within in
-    let fits = good.limit_fits in
-    record {
-      sound = sound_list list can.sound;
-      within = larger_within s.max_locks count;
-      limit_fits = larger_fits s.max_locks count limited (omega (arith, fewer, within, fits));
-    }
+    let limited = good.limit_fits in
+    let few : length es < 2 ^ 32 = omega (arith, within, limited) in
+    record { sound = good.sound; within = larger_within max (length es); limit_fits = larger_fits max (length es) fits few }
+listed-table false max limit es fits good = none_stands (larger max 0) (larger_fits max 0 fits (omega arith))
 
 -- ---- all calls
 
-restarted-sound : (taken : Bool) (s : State) → IsSteady s → HasLanding s (stored_anew taken s.stored s.pending) → HasSoundLocks (restarted taken s)
-restarted-sound taken s steady l = over_table l.units (remade-sound s.max_locks (stored_anew taken s.stored s.pending) steady.locks_fit l.together l.fit)
-
-sound : (found : Found) (s : State) → IsSteady s → HasOpenUnits s → HasSoundLocks s → OfPending s.pending (HasLanding s)
-    → OfEach (λ call v. HasSoundLocks (judged s v).state) found s
-sound found s steady units good landing = record {
-  refuses = λ call r plain. good;
-  enters = λ name user free. over_table good.stored good.table;
-  logs_off = λ name x at. over_table good.stored (both_freed s x good.table);
-  grants = λ name x rs locks at e.
+pub each-sound : (found : Found) (s : State) → IsSteady s → HasOpenUnits s → HasSoundLocks s → OfPending s.pending (HasLanding s)
+    → OfEach (λ call v. MayBeDone call v → HasSoundLocks (judged s v).state) found s
+each-sound found s steady units good landing = record {
+  refuses = λ call r plain done. good;
+  enters = λ name user free done. over_table good.stored good.table;
+  logs_off = λ name x at done. over_table good.stored (both_freed s x good.table);
+  grants = λ name x rs locks at e done.
       over_table good.stored (IsTable-asked (table_in s) (pair_of s.stored.start x) x.user rs good.table (pair_of-IsPair s.stored.start x) locks e);
-  lowers = λ name x rs at. over_table good.stored (freed-good (table_in s) (halves (pair_of s.stored.start x) rs) good.table);
-  frees = λ name x at. over_table good.stored (both_freed s x good.table);
-  converts = λ name x wanted c at e.
+  lowers = λ name x rs at done. over_table good.stored (freed-good (table_in s) (halves (pair_of s.stored.start x) rs) good.table);
+  frees = λ name x at done. over_table good.stored (both_freed s x good.table);
+  converts = λ name x wanted c at e done.
       over_table good.stored (IsTable-converted (table_in s) (pair_of s.stored.start x) wanted c good.table (pair_of-IsPair s.stored.start x) e);
-  draws = λ name x object nr r at can. drawn-sound s x (present s.stored.levels r.interval) _ good;
-  reserves = λ name x object nr upto r at can. raised-sound s (present s.stored.levels r.interval) upto good;
-  reads = λ name x table key at. good;
-  commits_nothing = λ name x parts stock at. good;
-  commits_numbers = λ name x parts stock at. over_table good.stored good.table;
-  commits = λ name x parts stock at. record {
+  draws = λ name x object nr r at can done. drawn-sound s x (present s.stored.levels r.interval) _ good;
+  reserves = λ name x object nr upto r at can done. raised-sound s (present s.stored.levels r.interval) upto good;
+  reads = λ name x table key at done. good;
+  commits_nothing = λ name x parts stock at done. good;
+  commits_numbers = λ name x parts stock at done. over_table good.stored good.table;
+  commits = λ name x parts stock at done. record {
     table = IsTable-handed_over (table_in s) (unit_key s.stored.start x) good.table;
     stored = every_append HasGoodLocks s.stored.units (unit_of s.stored.start s.locks x parts (x.draws ++ stock) ∷ []) good.stored
-        (handed_good (table_in s) s.sessions name s.stored.start x parts (x.draws ++ stock) at steady.owned.users good.table, tt);
+        (handed_good (table_in s) s.stored.start x parts (x.draws ++ stock) good.table, tt);
   };
-  rolls_back = λ name x at. over_table good.stored (IsTable-freed_owner (table_in s) (pair_of s.stored.start x).update good.table);
-  takes = λ worker part unit free e. over_table good.stored good.table;
-  posts = λ worker part unit e. over_table good.stored (behind-sound s unit (nat_eq part 1) good.table);
-  drops = λ worker unit e. over_table good.stored good.table;
-  kills = λ up. over_table good.stored good.table;
-  fails_over = λ list can. over_table good.stored (replicated-sound s list can steady.locks_fit good.table);
-  strays = λ first second none. over_table good.stored good.table;
-  attaches = λ up. over_table good.stored good.table;
-  restarts = λ off. let taken = is_taken found.anew in restarted-sound taken s steady (restart_lands taken s good.stored steady units landing);
-  cancels = λ unit status can. over_table good.stored (without-sound s unit status good.table);
-  reopens = λ unit es here stand.
+  rolls_back = λ name x at done. over_table good.stored (IsTable-freed_owner (table_in s) (pair_of s.stored.start x).update good.table);
+  takes = λ worker part unit free e done. over_table good.stored good.table;
+  posts = λ worker part unit e done. over_table good.stored (behind-sound s unit (nat_eq part 1) good.table);
+  drops = λ worker unit e done. over_table good.stored good.table;
+  kills = λ up done. over_table good.stored (listed-table (s.attached && s.link_told) s.max_locks s.limit s.locks steady.locks_fit good.table);
+  fails_over = λ can done. over_table good.stored done;
+  strays = λ first second none done. detached-sound s steady.locks_fit good;
+  attaches = λ up done. over_table good.stored good.table;
+  restarts = λ off done. over_table (restart_lands (is_taken found.anew) s good.stored steady units landing).units done;
+  cancels = λ unit status can done. over_table good.stored (without-sound s unit status good.table);
+  reopens = λ unit es here stand done.
       over_table good.stored
       (IsTable-readmitted (table_in s) (owners_of unit) (entries_of s.stored.units unit) es good.table (owners_of-IsPair unit)
       (may_be_readmitted s.stored.units unit good.stored) stand);
-  reposts = λ unit here. over_table good.stored good.table;
+  reposts = λ unit here done. over_table good.stored good.table;
 }
 
 pub verdict-sound : (found : Found) (s : State) (call : Call) → IsSteady s → HasSoundLocks s → HasOpenUnits s → OfPending s.pending (HasLanding s)
-    → HasSoundLocks (judged s (call_verdict found s call)).state
+    → MayBeDone call (call_verdict found s call) → HasSoundLocks (judged s (call_verdict found s call)).state
 verdict-sound found s call steady good units landing =
-    by_call (λ call v. HasSoundLocks (judged s v).state) found s (sound found s steady units good landing) call
+    by_call (λ call v. MayBeDone call v → HasSoundLocks (judged s v).state) found s (each-sound found s steady units good landing) call
+
+-- what calls leave stored with units stands, whatever became of it
+stored-good : (found : Found) (s : State) (steady : IsSteady s) → HasOpenUnits s → HasSoundLocks s → OfPending s.pending (HasLanding s)
+    → OfEach (λ call v. AllByRecursion HasGoodLocks (judged s v).state.stored.units) found s
+stored-good found s steady units good landing =
+    let each = each-sound found s steady units good landing in
+    record {
+      refuses = λ call r plain. good.stored;
+      enters = λ name user free. good.stored;
+      logs_off = λ name x at. good.stored;
+      grants = λ name x rs locks at e. good.stored;
+      lowers = λ name x rs at. good.stored;
+      frees = λ name x at. good.stored;
+      converts = λ name x wanted c at e. good.stored;
+      draws = λ name x object nr r at can. (each.draws name x object nr r at can tt).stored;
+      reserves = λ name x object nr upto r at can. (each.reserves name x object nr upto r at can tt).stored;
+      reads = λ name x table key at. good.stored;
+      commits_nothing = λ name x parts stock at. good.stored;
+      commits_numbers = λ name x parts stock at. good.stored;
+      commits = λ name x parts stock at. (each.commits name x parts stock at tt).stored;
+      rolls_back = λ name x at. good.stored;
+      takes = λ worker part unit free e. good.stored;
+      posts = λ worker part unit e. good.stored;
+      drops = λ worker unit e. good.stored;
+      kills = λ up. good.stored;
+      fails_over = λ can. good.stored;
+      strays = λ first second none. good.stored;
+      attaches = λ up. good.stored;
+      restarts = λ off. (restart_lands (is_taken found.anew) s good.stored steady units landing).units;
+      cancels = λ unit status can. good.stored;
+      reopens = λ unit es here stand. good.stored;
+      reposts = λ unit here. good.stored;
+    }
+
+pub verdict-stored : (found : Found) (s : State) (call : Call) → IsSteady s → HasSoundLocks s → HasOpenUnits s → OfPending s.pending (HasLanding s)
+    → AllByRecursion HasGoodLocks (judged s (call_verdict found s call)).state.stored.units
+verdict-stored found s call steady good units landing =
+    by_call (λ call v. AllByRecursion HasGoodLocks (judged s v).state.stored.units) found s (stored-good found s steady units good landing) call
 
 abbrev StoredGood : State → Call → Option Bool → Ledger → Type 0
 StoredGood s call read stored = HasSoundLocks (unfiled s call read stored)
 
-unfiled-sound : (s : State) (call : Call) (read : Option Bool) (stored : Ledger) → HasSoundLocks s → AllByRecursion HasGoodLocks stored.units
+unfiled-sound : (s : State) (call : Call) (read : Option Bool) (stored : Ledger) → s.max_locks < 2 ^ 32 → AllByRecursion HasGoodLocks stored.units
     → StoredGood s call read stored
-unfiled-sound s call read stored good units = over_table units (none_stands s.limit good.table.limit_fits)
+unfiled-sound s call read stored fits units = over_table units (none_stands (larger s.max_locks 0) (larger_fits s.max_locks 0 fits (omega arith)))
 
-failing-sound : (s : State) (call : Call) (pending : Option Ledger) → HasSoundLocks s → HasSoundLocks (doubted (without_stock call s) call None pending)
-failing-sound s call pending good =
+failing-sound : (s : State) (call : Call) (pending : Option Ledger) → s.max_locks < 2 ^ 32 → HasSoundLocks s
+    → HasSoundLocks (doubted (without_stock call s) call None pending)
+failing-sound s call pending fits good =
+    let none = none_stands (larger s.max_locks 0) (larger_fits s.max_locks 0 fits (omega arith)) in
     by_stock (λ other t. HasSoundLocks (doubted t other None pending)) s
-    (λ name parts stock. over_table good.stored (none_stands s.limit good.table.limit_fits))
-    (λ other. over_table good.stored (none_stands s.limit good.table.limit_fits)) call
+    (λ name parts stock. over_table good.stored none) (λ other. over_table good.stored none) call
 
-pub served-sound : (o : DeviceOutcome) (s : State) (c : Command) → IsSteady s → HasSoundLocks s → HasOpenUnits s → OfPending s.pending (HasLanding s)
-    → HasSoundLocks (served o s c).state
-served-sound o s c steady good units landing =
-    by_event (λ r. HasSoundLocks r.state) o s c
-    (λ lost done h. over_table h.stored h.table)
-    (λ found. verdict-sound found s (call_of c) steady good units landing) good (over_table good.stored good.table)
-    (λ reading. failing-sound s (call_of c) _ good)
-    (λ reading.
+ended-sound : (e : Event) (reading : Reading) (s : State) (call : Call) → IsSteady s → HasSoundLocks s → HasOpenUnits s → OfPending s.pending (HasLanding s)
+    → MayHappen e s call (call_verdict (found_by reading s) s call) → HasSoundLocks (ends_in e reading s call (call_verdict (found_by reading s) s call)).state
+ended-sound AllWell reading s call steady good units landing may = verdict-sound (found_by reading s) s call steady good units landing may
+ended-sound Wanting reading s call steady good units landing may = good
+ended-sound StoreFails reading s call steady good units landing may = failing-sound s call _ steady.locks_fit good
+ended-sound BackupFails reading s call steady good units landing may =
     let found = found_by reading s in
     let read = read_anew reading in
-    by_filing (StoredGood s (call_of c) read) found s (call_of c) (unfiled-sound s (call_of c) read s.stored good good.stored)
-    (λ worker part unit e. unfiled-sound s (call_of c) read _ good good.stored) (λ unit status can. unfiled-sound s (call_of c) read _ good good.stored))
-    (λ read r. over_table good.stored (none_stands s.limit good.table.limit_fits))
+    let fits = steady.locks_fit in
+    by_filing (StoredGood s call read) found s call (unfiled-sound s call read s.stored fits good.stored)
+    (λ worker part unit e. unfiled-sound s call read _ fits good.stored) (λ unit status can. unfiled-sound s call read _ fits good.stored)
+ended-sound LinkFails reading s call steady good units landing may = detached-sound s steady.locks_fit good
+ended-sound (NotRemade fault) reading s call steady good units landing may =
+    over_table good.stored (none_stands (larger s.max_locks 0) (larger_fits s.max_locks 0 steady.locks_fit (omega arith)))
+
+pub served-sound : (o : DeviceOutcome) (s : State) (c : Command) → IsPossible o s c → IsSteady s → HasSoundLocks s → HasOpenUnits s
+    → OfPending s.pending (HasLanding s)
+    → HasSoundLocks (served o s c).state
+served-sound o s c possible steady good units landing =
+    let done = ended-sound o.event o.reading s (call_of c) steady good units landing possible.event in
+    over_table done.stored done.table

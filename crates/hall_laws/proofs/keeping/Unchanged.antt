@@ -1,12 +1,13 @@
 -- What no call changes, and a call with its place in the history.
-use Rattle.std.proofs.Common.{◌≡◌, ◌⊎◌, inl, inr, ℕ, ◌+◌, Bool, true, false, [], ◌∷◌, ◌++◌, length, refl, sym, ap, ◌∙◌, subst}
+use Rattle.std.proofs.Common.{◌≡◌, ◌⊎◌, inl, inr, ℕ, ◌+◌, Bool, true, false, List, [], ◌∷◌, ◌++◌, length, refl, sym, ap, ◌∙◌, subst}
 use Rattle.std.proofs.lemmas.List.{append-nil}
 use Rattle.std.specs.Prelude.{if◌then◌else◌, IsTrue, Option, None}
 use Rattle.enq_base.specs.declared.condition.Condition.{Condition}
 use Rattle.enq_base.specs.declared.condition.Condition.TheVariants as condition
+use Rattle.lock_entry.specs.declared.entry.Entry.{Entry}
 use Rattle.hall_model.specs.Acts.{IsTelling}
-use Rattle.hall_model.specs.Calls.{Call, call_of, is_of_server, restarts}
-use Rattle.hall_model.specs.Devices.{DeviceOutcome, Event, AllWell, Wanting, StoreFails, BackupFails, LinkFails, NotRemade, MayFind, MayRead, found_by, Reading, AsKnown, Comes, Shows, Reopens, Hands}
+use Rattle.hall_model.specs.Calls.{Kills, FailsOver, Restarts, Attaches, Cancels, Resubmits, Call, LogsOn, OfSession, OfWorker, OfAdmin, call_of, is_of_server, restarts}
+use Rattle.hall_model.specs.Devices.{DeviceOutcome, Event, AllWell, Wanting, StoreFails, BackupFails, LinkFails, NotRemade, IsTold, MayFind, MayRead, found_by, Reading, AsKnown, Comes, Shows, Reopens, Hands}
 use Rattle.hall_model.specs.History.{IsStep, Served, doubted, is_unrecorded, judged, noted, past_entry, pending_after, read_anew, served, step, takes_flight, with_entry, without_stock}
 use Rattle.hall_model.specs.Recall.{HasBegun}
 use Rattle.hall_model.specs.Numbers.{drawn, raised_to}
@@ -63,7 +64,7 @@ framed found s = record {
   posts = λ worker part unit e. record { mark_limit = refl; past = refl };
   drops = λ worker unit e. record { mark_limit = refl; past = refl };
   kills = λ up. record { mark_limit = refl; past = refl };
-  fails_over = λ list can. record { mark_limit = refl; past = refl };
+  fails_over = λ can. record { mark_limit = refl; past = refl };
   strays = λ first second none. record { mark_limit = refl; past = refl };
   attaches = λ up. record { mark_limit = refl; past = refl };
   restarts = λ off. record { mark_limit = refl; past = refl };
@@ -103,7 +104,7 @@ flights Q found s h none = record {
   posts = λ worker part unit e. h;
   drops = λ worker unit e. h;
   kills = λ up. h;
-  fails_over = λ list can. h;
+  fails_over = λ can. h;
   strays = λ first second none. h;
   attaches = λ up. h;
   restarts = λ off. none;
@@ -147,7 +148,7 @@ conditions found s = record {
   posts = λ worker part unit e off. refl;
   drops = λ worker unit e off. refl;
   kills = λ up off. of_server off;
-  fails_over = λ list can off. of_server off;
+  fails_over = λ can off. of_server off;
   strays = λ first second none off. of_server off;
   attaches = λ up off. refl;
   restarts = λ was off. of_server off;
@@ -184,7 +185,7 @@ doubts found s = record {
   posts = λ worker part unit e. inl refl;
   drops = λ worker unit e. inl refl;
   kills = λ up. inl (sym (ap doubt_in up));
-  fails_over = λ list can. inr refl;
+  fails_over = λ can. inr refl;
   strays = λ first second none. inl refl;
   attaches = λ up. inl refl;
   restarts = λ off. inr refl;
@@ -253,6 +254,31 @@ reads_none (Comes outcome) s call off may = refl
 reads_none (Shows text) s call off may = refl
 reads_none (Reopens taken) s call off may = absurd (reads_anew taken s call off may)
 reads_none (Hands list) s call off may = refl
+
+-- ---- the list that a link hands over
+
+told_refl : (b : Bool) (list : List Entry) → IsTold b (list ≡ list)
+told_refl true list = refl
+told_refl false list = tt
+
+hands_told : (list : List Entry) (s : State) (call : Call) → MayRead (Hands list) s call → IsTold s.link_told (list ≡ s.locks)
+hands_told list s (LogsOn name user) may = absurd may
+hands_told list s (OfSession name call) may = absurd may
+hands_told list s (OfWorker worker call) may = absurd may
+hands_told list s (OfAdmin Kills) may = absurd may
+hands_told list s (OfAdmin FailsOver) may = may
+hands_told list s (OfAdmin Restarts) may = absurd may
+hands_told list s (OfAdmin Attaches) may = absurd may
+hands_told list s (OfAdmin (Cancels unit)) may = absurd may
+hands_told list s (OfAdmin (Resubmits unit)) may = absurd may
+
+-- where the link tells its list, it is the one of the state
+pub list_told : (reading : Reading) (s : State) (call : Call) → MayRead reading s call → IsTold s.link_told ((found_by reading s).list ≡ s.locks)
+list_told AsKnown s call may = told_refl s.link_told s.locks
+list_told (Comes outcome) s call may = told_refl s.link_told s.locks
+list_told (Shows text) s call may = told_refl s.link_told s.locks
+list_told (Reopens taken) s call may = told_refl s.link_told s.locks
+list_told (Hands list) s call may = hands_told list s call may
 
 -- ---- steps
 

@@ -3,7 +3,6 @@ use Rattle.std.proofs.Common.{◌≡◌, ℕ, Bool, true, false, not, List, [], 
 use Rattle.std.specs.Prelude.{if◌then◌else◌, nat_eq, nat_le, ◌-◌, Option, Some, None, Ok}
 use Rattle.std.specs.List.{AllByRecursion, filter, find, list_all}
 use Rattle.std.specs.Option.{option_map_or}
-use Rattle.std.proofs.lemmas.Bool.{and_parts}
 use Rattle.std.proofs.lemmas.List.{append-nil}
 use Rattle.std.proofs.lemmas.List.Elements.{filter-append}
 use Rattle.enq_base.specs.Owners.{same_owner, same_unit}
@@ -15,7 +14,6 @@ use Rattle.enq_base.specs.declared.unit.Parts.{Parts}
 use Rattle.enq_base.specs.declared.unit.Reason.{Reason}
 use Rattle.enq_base.specs.declared.unit.Status.{Status}
 use Rattle.enq_base.specs.declared.unit.Status.TheVariants.{Open, Posted, Bad, Closed, Bad2 as BadSecond, Cancelled}
-use Rattle.enq_server.proofs.Replacing.{replacing_all, replacing_named}
 use Rattle.lock_entry.proofs.Naming.{same_owner-same}
 use Rattle.lock_entry.specs.Converting.{Conversion, conversion, converted, gives_way, turns}
 use Rattle.lock_entry.specs.Freeing.{flagged, freed, freed_owner, handed_over, lowered, without_optimistic}
@@ -47,22 +45,23 @@ use Rattle.update_records.specs.declared.records.MarkKind.{MarkKind}
 use Rattle.update_records.specs.declared.records.MarkKind.TheVariants as mark
 use Rattle.update_records.specs.declared.records.Unit.{Unit as UnitOfWork}
 use Rattle.hall_model.specs.declared.command.Session.{Session}
-use Rattle.hall_model.specs.Calls.{Call}
+use Rattle.hall_model.specs.Calls.{Call, is_of_server}
 use Rattle.hall_model.specs.History.{judged}
-use Rattle.hall_model.specs.Kept.{HasGoodLocks, HasLanding, HasSoundLocks, IsSteady, is_firm}
+use Rattle.hall_model.specs.Kept.{HasGoodLocks, HasItsUser, HasSoundLocks, IsSteady, OfLock, is_firm}
 use Rattle.hall_model.specs.Numbers.{drawn, next_number, raised_to}
 use Rattle.hall_model.specs.OpenUnits.{HasItsLocks, HoldsOpenUnits, IsOpenIfHanded, IsOpenOwner}
 use Rattle.hall_model.specs.Orders.{order_of}
-use Rattle.hall_model.specs.Sessions.{owners_of, pair_of, unit_key, with_draw, with_session}
+use Rattle.hall_model.specs.Sessions.{owners_of, pair_of, session_at, unit_key, with_draw, with_session}
 use Rattle.hall_model.specs.State.{State}
-use Rattle.hall_model.specs.Step.{Found, Verdict, committed, freed_all, handed_locks, is_taken, locks_behind, locks_without, lowered as names_lowered, numbered, stored_anew, unit_of}
+use Rattle.hall_model.specs.Step.{Found, Verdict, committed, freed_all, locks_behind, locks_without, lowered as names_lowered, numbered, unit_of}
 use Rattle.hall_laws.proofs.keeping.SessionsAlike.{HaveOneStatus, with_others}
-use Rattle.hall_model.proofs.ByCall.{IsHandedOver, OfEach}
+use Rattle.hall_model.proofs.ByCall.{OfEach}
+use Rattle.hall_model.proofs.HandedLocks.{handed_as_stood}
+use Rattle.hall_model.proofs.NotedCalls.{of_server}
 use Rattle.hall_model.proofs.PartOrders.{held_for}
 use Rattle.hall_laws.proofs.keeping.UnitsToCome.{open_unheard}
 use Rattle.hall_model.proofs.OtherStatuses.{apart_by, apart_by_status, marked_other, numbers_leave, recorded_open, recorded_other, status_in, status_marked}
-use Rattle.hall_model.proofs.LockLists.{all_among, allowed, asked_allows, converted_allows, filter_source, kept_filter}
-use Rattle.hall_laws.proofs.open_units.StoredLocks.{first_held}
+use Rattle.hall_model.proofs.LockLists.{allowed, asked_allows, converted_allows, filter_source}
 use Rattle.hall_model.proofs.EachLock.{every_at, every_by, may_be_readmitted, recorded_here, stored_firm, every_append, every_filter, every_map, every_more}
 use Rattle.hall_laws.proofs.keeping.Owners.{stored_owner}
 use Rattle.hall_laws.proofs.histories.OwnLocks.{IsOther, filter_all, halves_of_others, none_of_others, none_stay, its_conversion, its_freed, its_freed_owner, its_granted, its_handed_over}
@@ -200,7 +199,7 @@ keeps_open : (ledger after : Ledger) (owner : Owner) → ((unit : UnitKey) → I
 keeps_open ledger after (Dlg start session) keeps h = absurd h
 keeps_open ledger after (Upd unit) keeps h = keeps unit h
 
-beside-held : (ledger : Ledger) (levels : Levels) (marks : List Mark) (es : List Entry) → HaveOneStatus ledger marks → HoldsOpenUnits es ledger
+pub beside-held : (ledger : Ledger) (levels : Levels) (marks : List Mark) (es : List Entry) → HaveOneStatus ledger marks → HoldsOpenUnits es ledger
     → HoldsOpenUnits es (with_others ledger levels marks)
 beside-held ledger levels marks es same h =
     let after = with_others ledger levels marks in
@@ -211,7 +210,7 @@ beside-held ledger levels marks es same h =
       handed = every_more (IsOpenIfHanded ledger) (IsOpenIfHanded after) stays es h.handed;
     }
 
-raised-held : (ledger : Ledger) (i : Interval) (upto : ℕ) (es : List Entry) → HoldsOpenUnits es ledger → HoldsOpenUnits es (raised_to i upto ledger)
+pub raised-held : (ledger : Ledger) (i : Interval) (upto : ℕ) (es : List Entry) → HoldsOpenUnits es ledger → HoldsOpenUnits es (raised_to i upto ledger)
 raised-held ledger i upto es h =
     let levels = with_levels (stored_as (with_level (block_level i upto) i) ∷ []) ledger.levels in
     elim (nat_le upto i.level) as (λ b. HoldsOpenUnits es (if b then ledger else with_others ledger levels ledger.marks)) [
@@ -222,7 +221,7 @@ raised-held ledger i upto es h =
 abbrev HoldsIn : State → Type 0
 HoldsIn s = HoldsOpenUnits s.locks s.stored
 
-drawn-held : (s : State) (x : Session) (i : Interval) (number : ℕ) → HoldsIn s → HoldsIn (drawn s x i number)
+pub drawn-held : (s : State) (x : Session) (i : Interval) (number : ℕ) → HoldsIn s → HoldsIn (drawn s x i number)
 drawn-held s x i number h =
     let t : State = record s { sessions = with_session x.name (with_draw (num_of i number)) s.sessions } in
     elim (is_buffered i) as (λ b. HoldsIn (if b then record t { ranges = handed_out i t.ranges; stored = raised_to i number t.stored } else t)) [
@@ -230,7 +229,7 @@ drawn-held s x i number h =
       | false ↦ h
     ]
 
-numbered-held : (s : State) (x : Session) (numbers : List Num) → HoldsIn s → HoldsIn (numbered s x numbers)
+pub numbered-held : (s : State) (x : Session) (numbers : List Num) → HoldsIn s → HoldsIn (numbered s x numbers)
 numbered-held s x numbers h =
     let key = unit_key s.stored.start x in
     let levels = with_levels (settled_rows s.stored.levels s.ranges numbers) s.stored.levels in
@@ -256,7 +255,8 @@ stored_other units unit key apart = ap (λ o. option_map_or (λ (u : UnitOfWork)
 
 -- with the locks that are handed over to it
 recorded-held : (ledger : Ledger) (unit : UnitOfWork) (es : List Entry) → status_in ledger unit.key ≡ None → unit_at ledger.units unit.key ≡ None
-    → unit.entries ≡ handed_locks es unit.key → HoldsOpenUnits es ledger → HoldsOpenUnits (handed_over es unit.key) (with_unit ledger unit)
+    → unit.entries ≡ filter (is_of (Upd unit.key)) (handed_over es unit.key) → HoldsOpenUnits es ledger
+    → HoldsOpenUnits (handed_over es unit.key) (with_unit ledger unit)
 recorded-held ledger unit es fresh none is h =
     let after = with_unit ledger unit in
     let locks = handed_over es unit.key in
@@ -271,13 +271,14 @@ recorded-held ledger unit es fresh none is h =
           (without_optimistic es (Upd unit.key)) (every_filter (IsOpenIfHanded ledger) _ es h.handed);
     }
 
-committed-held : (s : State) (x : Session) (parts : Parts) (numbers : List Num) → IsNew s x
-    → unit_at s.stored.units (unit_key s.stored.start x) ≡ None → HoldsIn s → HoldsIn (committed s x parts numbers)
-committed-held s x parts numbers new none h =
+committed-held : (s : State) (name : List ℕ) (x : Session) (parts : Parts) (numbers : List Num) → session_at s.sessions name ≡ Some x → IsNew s x
+    → unit_at s.stored.units (unit_key s.stored.start x) ≡ None → AllByRecursion (OfLock (HasItsUser s.stored.start s.sessions)) s.locks → HoldsIn s
+    → HoldsIn (committed s x parts numbers)
+committed-held s name x parts numbers at new none users h =
     let unit = unit_of s.stored.start s.locks x parts numbers in
     let after = with_unit s.stored unit in
     beside-held after (with_levels (settled_rows s.stored.levels s.ranges numbers) s.stored.levels) after.marks (handed_over s.locks unit.key) (λ key. refl)
-    (recorded-held s.stored unit s.locks new none refl h)
+    (recorded-held s.stored unit s.locks new none (handed_as_stood s.locks s.sessions name s.stored.start x at users) h)
 
 -- ---- a mark
 
@@ -312,7 +313,7 @@ v2-ends b before h = cc
 bad2-ends : (index : ℕ) (reason : Reason) → Ends (mark.Bad2 index reason)
 bad2-ends index reason b before h = cc
 
-again2-ends : Ends mark.Again2
+pub again2-ends : Ends mark.Again2
 again2-ends b before h = cc
 
 gone-ends : Ends mark.Gone
@@ -354,7 +355,7 @@ open_by_status ledger key kind status owner here closed h =
     keeps_open ledger after owner (λ unit waits. marked_other ledger key unit kind (apart_by ledger key unit status Open here waits closed) ∙ waits) h
 
 -- one that didn't wait for its V1 part, and doesn't behind the mark, has none that were handed over
-unopened-held : (ledger : Ledger) (key : UnitKey) (kind : MarkKind) (status : Status) (es : List Entry) → status_in ledger key ≡ Some status
+pub unopened-held : (ledger : Ledger) (key : UnitKey) (kind : MarkKind) (status : Status) (es : List Entry) → status_in ledger key ≡ Some status
     → (status ≡ Open → ⊥) → Ends kind → HoldsOpenUnits es ledger → HoldsOpenUnits es (with_mark ledger key kind)
 unopened-held ledger key kind status es here closed ends h =
     let after = with_mark ledger key kind in
@@ -398,7 +399,7 @@ HoldsBy es ledger unit one two first =
     status_in ledger unit ≡ Some (if first then Open else Posted)
     → HoldsOpenUnits (if first then freed_owner es (Upd unit) else es) (with_mark ledger unit (if first then one else two))
 
-posted-held : (part : ℕ) (ledger : Ledger) (unit : UnitKey) (o : Outcome) (es : List Entry) → WaitsFor part ledger unit → HoldsOpenUnits es ledger
+pub posted-held : (part : ℕ) (ledger : Ledger) (unit : UnitKey) (o : Outcome) (es : List Entry) → WaitsFor part ledger unit → HoldsOpenUnits es ledger
     → HoldsOpenUnits (locks_behind part es unit) (with_mark ledger unit (kind_for part o))
 posted-held part ledger unit outcome.Done es waits h =
     elim (nat_eq part 1) as (HoldsBy es ledger unit mark.V1 mark.V2) [
@@ -413,7 +414,7 @@ posted-held part ledger unit (outcome.Refused index reason) es waits h =
 
 -- ---- a unit that is cancelled
 
-cancelled-held : (ledger : Ledger) (unit : UnitKey) (status : Status) (es : List Entry) → status_in ledger unit ≡ Some status
+pub cancelled-held : (ledger : Ledger) (unit : UnitKey) (status : Status) (es : List Entry) → status_in ledger unit ≡ Some status
     → HoldsOpenUnits es ledger → HoldsOpenUnits (locks_without status es unit) (with_mark ledger unit mark.Gone)
 cancelled-held ledger unit Open es here h = ended-held ledger unit mark.Gone es gone-ends h
 cancelled-held ledger unit Posted es here h = unopened-held ledger unit mark.Gone Posted es here (λ e. cc) gone-ends h
@@ -428,56 +429,42 @@ reopens-held : (s : State) (unit : UnitKey) (es : List Entry) → es ≡ freed_o
     → AllByRecursion HasGoodLocks s.stored.units → HoldsIn s → HoldsOpenUnits es (with_mark s.stored unit mark.Again1)
 reopens-held s unit es is good h = subst (λ xs. HoldsOpenUnits xs (with_mark s.stored unit mark.Again1)) (sym is) (reopened-held s.stored unit s.locks good h)
 
--- the handed locks of a list that may take the place of the table are those of the table
-followed-held : (s : State) (list : List Entry) → IsHandedOver s list → AllByRecursion HasGoodLocks s.stored.units → HoldsIn s → HoldsOpenUnits list s.stored
-followed-held s list can good h =
-    let firm : (unit : UnitKey) → IsOpenUnit s.stored unit → list_all is_firm (filter (is_of (Upd unit)) s.locks) ≡ true =
-    λ unit waits. subst (λ es. list_all is_firm es ≡ true) (sym (h.units unit waits)) (stored_firm s.stored.units unit good) in
-    let handed : (unit : UnitKey) → IsOpenUnit s.stored unit → AllByRecursion (λ (e : Entry). is_of (Upd unit) e ≡ true → e.handed ≡ true) s.locks =
-    λ unit waits.
-    every_by (λ (e : Entry). is_of (Upd unit) e ≡ true → e.handed ≡ true) s.locks
-    (λ e k own.
-    let its = filter (is_of (Upd unit)) s.locks in
-    (and_parts e.handed _ (all_among is_firm its e (firm unit waits) (kept_filter (is_of (Upd unit)) s.locks e own k))).0) in
-    record {
-      units = λ unit waits. replacing_named (is_of (Upd unit)) s.locks list can.replaces (handed unit waits) ∙ h.units unit waits;
-      handed = replacing_all (IsOpenIfHanded s.stored) s.locks list can.replaces h.handed;
-    }
-
--- each call outside doubt keeps it
+-- what each call leaves of it, but for those that end a lock server or bring one
 abbrev pub HoldsAfter : State → Call → Verdict → Type 0
-HoldsAfter s call v = HoldsOpenUnits (judged s v).state.locks (judged s v).state.stored
+HoldsAfter s call v = is_of_server call ≡ false → HoldsOpenUnits (judged s v).state.locks (judged s v).state.stored
 
-pub held_call : (found : Found) (s : State) → IsSteady s → HasSoundLocks s → HasLanding s (stored_anew (is_taken found.anew) s.stored s.pending)
+pub held_call : (found : Found) (s : State) → IsSteady s → HasSoundLocks s → AllByRecursion (OfLock (HasItsUser s.stored.start s.sessions)) s.locks
     → HoldsOpenUnits s.locks s.stored → OfEach (HoldsAfter s) found s
-held_call found s steady sound landing h = record {
-  refuses = λ call r plain. h;
-  enters = λ name user free. h;
-  logs_off = λ name x at. freed-held s x (open_unheard s name x at steady.fresh) h;
-  grants = λ name x rs locks at e. granted-held s x rs locks (open_unheard s name x at steady.fresh) e h;
-  lowers = λ name x rs at. lowered-held s x rs (open_unheard s name x at steady.fresh) h;
-  frees = λ name x at. freed-held s x (open_unheard s name x at steady.fresh) h;
-  converts = λ name x wanted c at e. converted-held s x wanted c (open_unheard s name x at steady.fresh) sound.stored e h;
-  draws = λ name x object nr r at can.
+held_call found s steady sound users h = record {
+  refuses = λ call r plain off. h;
+  enters = λ name user free off. h;
+  logs_off = λ name x at off. freed-held s x (open_unheard s name x at steady.fresh) h;
+  grants = λ name x rs locks at e off. granted-held s x rs locks (open_unheard s name x at steady.fresh) e h;
+  lowers = λ name x rs at off. lowered-held s x rs (open_unheard s name x at steady.fresh) h;
+  frees = λ name x at off. freed-held s x (open_unheard s name x at steady.fresh) h;
+  converts = λ name x wanted c at e off. converted-held s x wanted c (open_unheard s name x at steady.fresh) sound.stored e h;
+  draws = λ name x object nr r at can off.
       let i = present s.stored.levels r.interval in
       drawn-held s x i (next_number r i x) h;
-  reserves = λ name x object nr upto r at can. raised-held s.stored (present s.stored.levels r.interval) upto s.locks h;
-  reads = λ name x table key at. h;
-  commits_nothing = λ name x parts stock at. h;
-  commits_numbers = λ name x parts stock at. numbered-held s x (x.draws ++ stock) h;
-  commits = λ name x parts stock at.
-      let new = open_unheard s name x at steady.fresh in committed-held s x parts (x.draws ++ stock) new (steady.marked (unit_key s.stored.start x) new) h;
-  rolls_back = λ name x at. update-held s x s.locks (open_unheard s name x at steady.fresh) h;
-  takes = λ worker part unit free e. h;
-  posts = λ worker part unit e. posted-held part s.stored unit (found.part part unit) s.locks (held_for part s.stored (order_of s.orders worker) unit e).1 h;
-  drops = λ worker unit e. h;
-  kills = λ up. h;
-  fails_over = λ list can. followed-held s list can sound.stored h;
-  strays = λ first second none. h;
-  attaches = λ up. h;
-  restarts = λ off. first_held (stored_anew (is_taken found.anew) s.stored s.pending) landing.units;
-  cancels = λ unit status can. cancelled-held s.stored unit status s.locks can.recorded h;
-  reopens = λ unit es here stand.
+  reserves = λ name x object nr upto r at can off. raised-held s.stored (present s.stored.levels r.interval) upto s.locks h;
+  reads = λ name x table key at off. h;
+  commits_nothing = λ name x parts stock at off. h;
+  commits_numbers = λ name x parts stock at off. numbered-held s x (x.draws ++ stock) h;
+  commits = λ name x parts stock at off.
+      let new = open_unheard s name x at steady.fresh in
+      committed-held s name x parts (x.draws ++ stock) at new (steady.marked (unit_key s.stored.start x) new) users h;
+  rolls_back = λ name x at off. update-held s x s.locks (open_unheard s name x at steady.fresh) h;
+  takes = λ worker part unit free e off. h;
+  posts = λ worker part unit e off.
+      posted-held part s.stored unit (found.part part unit) s.locks (held_for part s.stored (order_of s.orders worker) unit e).1 h;
+  drops = λ worker unit e off. h;
+  kills = λ up off. of_server off;
+  fails_over = λ can off. of_server off;
+  strays = λ first second none off. of_server off;
+  attaches = λ up off. h;
+  restarts = λ was off. of_server off;
+  cancels = λ unit status can off. cancelled-held s.stored unit status s.locks can.recorded h;
+  reopens = λ unit es here stand off.
       reopens-held s unit es (readmitted_is (table_in s) (owners_of unit) (entries_of s.stored.units unit) es stand) sound.stored h;
-  reposts = λ unit here. unopened-held s.stored unit mark.Again2 BadSecond s.locks here (λ e. cc) again2-ends h;
+  reposts = λ unit here off. unopened-held s.stored unit mark.Again2 BadSecond s.locks here (λ e. cc) again2-ends h;
 }

@@ -174,23 +174,23 @@ first_held ledger good = record {
 }
 
 -- whose its locks are, where it is known of the stored ones
-pub open_owned : (ledger : Ledger) (next : ℕ) (sessions : List Session) (es : List Entry) → AllByRecursion HasGoodLocks ledger.units
-    → IsOwned ledger next sessions es → IsOwned ledger next sessions (open_entries ledger)
-open_owned ledger next sessions es good h =
+pub open_owned : (before honest : Bool) (ledger : Ledger) (next : ℕ) (sessions : List Session) (es : List Entry) → AllByRecursion HasGoodLocks ledger.units
+    → IsOwned before ledger next sessions es → IsOwned honest ledger next sessions (open_entries ledger)
+open_owned before honest ledger next sessions es good h =
     let Known : Owner → List ℕ → Type 0 = λ owner user. IsKnown ledger.start next owner in
     let Users : Owner → List ℕ → Type 0 = HasItsUser ledger.start sessions in
     record {
-      known = every_open (OfLock Known) ledger
+      known = λ t. every_open (OfLock Known) ledger
           (λ key waits e k. every_at (OfLock Known) (entries_of ledger.units key) e (every_stored Known ledger.units key h.stored_known) k);
-      users = every_open (OfLock Users) ledger
+      users = λ t. every_open (OfLock Users) ledger
           (λ key waits e k. every_at (OfLock Users) (entries_of ledger.units key) e (every_stored Users ledger.units key h.stored_users) k);
-      holders = every_open (OfLock (λ owner user. MayHold ledger owner)) ledger
+      holders = λ t. every_open (OfLock (λ owner user. MayHold ledger owner)) ledger
           (λ key waits e k. subst (MayHold ledger) (sym (stored_owner ledger.units key e good k)) (ap may_hold waits));
       stored_known = h.stored_known;
       stored_users = h.stored_users;
     }
 
-pub first_owned : (ledger : Ledger) → IsFirst ledger → IsOwned ledger 1 [] (open_entries ledger)
-first_owned ledger first =
-    open_owned ledger 1 [] [] (first_stored ledger first)
-    (record { known = tt; users = tt; holders = tt; stored_known = first_known ledger first; stored_users = first_users ledger })
+pub first_owned : (honest : Bool) (ledger : Ledger) → IsFirst ledger → IsOwned honest ledger 1 [] (open_entries ledger)
+first_owned honest ledger first =
+    open_owned honest honest ledger 1 [] [] (first_stored ledger first)
+    (record { known = λ t. tt; users = λ t. tt; holders = λ t. tt; stored_known = first_known ledger first; stored_users = first_users ledger })

@@ -12,7 +12,7 @@ use Rattle.ledger_steps.specs.Levels.{first_ranges}
 use Rattle.update_records.specs.Ledger.{Ledger}
 use Rattle.hall_model.specs.Kept.{HasFew, HasOpenUnits, HasSoundLocks, IsKept, IsSteady}
 use Rattle.hall_model.specs.OpenUnits.{open_entries}
-use Rattle.hall_model.specs.State.{opened, state_of}
+use Rattle.hall_model.specs.State.{is_honest, opened, state_of}
 use Rattle.hall_model.specs.declared.command.PastEntry.{PastEntry}
 use Rattle.hall_model.specs.declared.command.Session.{Session}
 use Rattle.hall_laws.proofs.starting.FirstKeeps.{AgreeWith, IsFirst, first_marks, first_started, first_stored, first_unheard, idle, no_orders, nothing_drawn}
@@ -56,7 +56,7 @@ first_steady limit mark_limit intervals told link ledger limited good agree firs
   fresh = record { numbered = tt; ahead = tt; later = λ session luw from. first_unheard ledger first session luw };
   places = idle 256;
   orders = no_orders ledger 256;
-  owned = first_owned ledger first;
+  owned = first_owned (is_honest (opened limit mark_limit intervals told link ledger)) ledger first;
 }
 
 pub first_few : (limit mark_limit : ℕ) (intervals : List Interval) (told link : Bool) (ledger : Ledger)
@@ -66,9 +66,8 @@ first_few limit mark_limit intervals told link ledger = record { sessions = omeg
 pub first_open : (limit mark_limit : ℕ) (intervals : List Interval) (told link : Bool) (ledger : Ledger) → IsFirstTable limit ledger → IsFirst ledger
     → HasOpenUnits (opened limit mark_limit intervals told link ledger)
 first_open limit mark_limit intervals told link ledger good first = record {
-  held = first_held ledger (first_stored ledger first);
-  stored = good.sound;
-  fit = under (length (open_entries ledger)) _ good.within good.limit_fits;
+  held = λ honest. first_held ledger (first_stored ledger first);
+  stored = λ honest. record { together = good.sound; fit = under (length (open_entries ledger)) _ good.within good.limit_fits };
   pending = tt;
 }
 
@@ -87,10 +86,10 @@ first_here told link max_locks mark_limit intervals ledger limited agree first g
 pub first_kept : (told link : Bool) (table : Table) (max_locks mark_limit : ℕ) (intervals : List Interval) (ledger : Ledger) (sessions : List Session)
     (orders : List (Option UnitKey)) (past : List PastEntry) → mark_limit ≤ 1048576 → AgreeWith intervals ledger → IsFirst ledger → IsTable table
     → table ≡ recovered max_locks (open_locks ledger) → sessions ≡ [] → orders ≡ replicate 256 None → past ≡ []
-    → IsKept (state_of told link false condition.Up sessions 1 orders table max_locks mark_limit
+    → IsKept (state_of told link false false condition.Up sessions 1 orders table [] max_locks mark_limit
     (first_ranges ledger.levels intervals) ledger None None None past)
 first_kept told link table max_locks mark_limit intervals ledger sessions orders past limited agree first good free none unclaimed new =
     let ranges = first_ranges ledger.levels intervals in
-    subst IsKept (λ i. state_of told link false condition.Up (sym none i) 1 (sym unclaimed i) (sym free i) max_locks mark_limit ranges ledger None None None
-    (sym new i))
+    subst IsKept (λ i. state_of told link false false condition.Up (sym none i) 1 (sym unclaimed i) (sym free i) [] max_locks mark_limit ranges ledger
+    None None None (sym new i))
     (first_here told link max_locks mark_limit intervals ledger limited agree first (subst IsTable free good))

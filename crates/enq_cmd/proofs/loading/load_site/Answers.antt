@@ -86,7 +86,7 @@ returns-in-Ok-open_hall-clause-line_fault g c bytes =
     (subst (IsToBlame c.load-why.result) c.in-Ok.ensures c.load-why.ensures.line_fault))
 
 pub returns-in-Ok-open_hall-clause-complete : goal.returns-in-Ok-open_hall-clause-complete
-returns-in-Ok-open_hall-clause-complete g c document told_document other gives told good fit tells file steady quiet kept still =
+returns-in-Ok-open_hall-clause-complete g c document told_document other gives told good fit on tells file steady quiet kept still =
     let held = g.K.Keeper.held in
     let faults = g.K.Keeper.faults in
     let disk_faults = g.D.Disk.faults in
@@ -102,7 +102,7 @@ returns-in-Ok-open_hall-clause-complete g c document told_document other gives t
     c.in-Ok.source text c.in-Ok.ensures _ _ _ _ _ r in
     let end = completes_as (g.K.Keeper.may_leave c.args.site.keeper) o.land (is_some (held c.args.site.keeper))
     (is_some (g.L.Link.applied c.args.site.link)) _ _ _ _ text _ _ r.end r.end o.first refl
-    (c.load-why.ensures.good_file tells
+    (c.load-why.ensures.good_file (ap (λ l. is_some (g.L.Link.applied l)) o.linked ∙ on) tells
     (first_sound is_unsound_file o.land (is_some (held c.args.site.keeper))
     (is_some (g.L.Link.applied c.args.site.link)) c.in-Ok-open_hall.hall.state.stored c.in-Ok-open_hall.hall.state o.first))
     (c.load-why.ensures.good_store (o.told ∙ told)
@@ -115,27 +115,28 @@ returns-in-Ok-open_hall-clause-complete g c document told_document other gives t
     (sink.faults c.load-why.new.sink)) (sym c.make_ended.ensures.why) r.shown) quiet
 
 pub returns-clause-complete : goal.returns-clause-complete
-returns-clause-complete g c document told_document other gives told good fit tells file steady quiet kept still =
+returns-clause-complete g c document told_document other gives told good fit on tells file steady quiet kept still =
     c.in-Err.ensures.complete document told_document other gives told good fit tells file steady kept still
 
 pub returns-in-Ok-open_hall-clause-bad_backup : goal.returns-in-Ok-open_hall-clause-bad_backup
-returns-in-Ok-open_hall-clause-bad_backup g c is_told place is =
+returns-in-Ok-open_hall-clause-bad_backup g c on is_told place is =
     let o = c.in-Ok-open_hall.ensures.opened in
     let before = c.in-Ok-open_hall.hall.state in
     let t = is_some (g.K.Keeper.held c.args.site.keeper) in
     let linked = is_some (g.L.Link.applied c.args.site.link) in
     absurd (never_bad is_unsound_file o.land t linked before.stored before c.load-why.new.hall.state (bad.Backup place) refl o.first
-    (c.load-why.ensures.good_file is_told (first_sound is_unsound_file o.land t linked before.stored before o.first))
+    (c.load-why.ensures.good_file (ap (λ l. is_some (g.L.Link.applied l)) o.linked ∙ on) is_told
+    (first_sound is_unsound_file o.land t linked before.stored before o.first))
     (c.load-why.ensures.bad_backup place (sym c.make_ended.ensures.why ∙ is)))
 
 pub returns-in-Ok-open_hall-clause-bad_file : goal.returns-in-Ok-open_hall-clause-bad_file
-returns-in-Ok-open_hall-clause-bad_file g c is_told place is =
+returns-in-Ok-open_hall-clause-bad_file g c is_told none place is =
     let o = c.in-Ok-open_hall.ensures.opened in
     let before = c.in-Ok-open_hall.hall.state in
     let t = is_some (g.K.Keeper.held c.args.site.keeper) in
     let linked = is_some (g.L.Link.applied c.args.site.link) in
     absurd (never_bad is_unsound_file o.land t linked before.stored before c.load-why.new.hall.state (bad.Backup place) refl o.first
-    (c.load-why.ensures.good_file is_told (first_sound is_unsound_file o.land t linked before.stored before o.first))
+    (none_answered is_unsound_file c.load-why.new.hall.state.past (sym (c.make_ended.ensures.past ∙ c.into_site-keeper.ensures.past) ∙ none))
     (c.load-why.ensures.bad_backup place (sym c.make_ended.ensures.why ∙ is)))
 
 pub returns-in-Ok-open_hall-clause-link_told : goal.returns-in-Ok-open_hall-clause-link_told

@@ -62,11 +62,11 @@ returns-in-Err-clause-served g c =
     c.in-Err.ensures.past c.in-Err.ensures.linked c.in-Err.ensures.unserved
 
 pub returns-in-Err-clause-complete : goal.returns-in-Err-clause-complete
-returns-in-Err-clause-complete g c bytes left script document told_document other gives told good fit tells file steady calm quiet kept still =
+returns-in-Err-clause-complete g c bytes left script document told_document other gives told good fit on tells file steady calm quiet kept still =
     c.in-Err.ensures.complete document told_document other gives told good fit tells file steady kept still
 
 pub returns-in-Ok-clause-complete : goal.returns-in-Ok-clause-complete
-returns-in-Ok-clause-complete g c bytes left script document told_document other gives told good fit tells file steady calm quiet kept still =
+returns-in-Ok-clause-complete g c bytes left script document told_document other gives told good fit on tells file steady calm quiet kept still =
     let held = g.K.Keeper.held in
     let faults = g.K.Keeper.faults in
     let disk_faults = g.D.Disk.faults in
@@ -75,7 +75,8 @@ returns-in-Ok-clause-complete g c bytes left script document told_document other
     let linked = is_some (g.L.Link.applied c.args.site.link) in
     completes_as (g.K.Keeper.may_leave c.args.site.keeper) o.land t linked c.in-Ok.hall.state.stored _ c.in-Ok.hall.state c.replay-why.new.hall.state bytes _ _
     c.replay-why.result c.make_ended.result.why o.first (sym c.make_ended.ensures.why)
-    (c.replay-why.ensures.good_file tells (first_sound is_unsound_file o.land t linked c.in-Ok.hall.state.stored c.in-Ok.hall.state o.first))
+    (c.replay-why.ensures.good_file (ap (λ l. is_some (g.L.Link.applied l)) o.linked ∙ on) tells
+    (first_sound is_unsound_file o.land t linked c.in-Ok.hall.state.stored c.in-Ok.hall.state o.first))
     (c.replay-why.ensures.good_store (o.told ∙ told) (first_sound is_unsound_store o.land t linked c.in-Ok.hall.state.stored c.in-Ok.hall.state o.first))
     (c.replay-why.ensures.complete bytes left script calm quiet
     (still_by (faults c.in-Ok.hall.keeper) (faults c.replay-why.new.hall.keeper) (faults c.args.site.keeper) (faults c.make_ended.result.site.keeper) o.counts
@@ -99,23 +100,24 @@ returns-in-Ok-clause-bad_store g c =
     (c.replay-why.ensures.bad_store table row (sym c.make_ended.ensures.why ∙ is)))
 
 pub returns-in-Ok-clause-bad_backup : goal.returns-in-Ok-clause-bad_backup
-returns-in-Ok-clause-bad_backup g c is_told place is =
+returns-in-Ok-clause-bad_backup g c on is_told place is =
     let o = c.in-Ok.ensures.opened in
     let before = c.in-Ok.hall.state in
     let t = is_some (g.K.Keeper.held c.args.site.keeper) in
     let linked = is_some (g.L.Link.applied c.args.site.link) in
     absurd (never_bad is_unsound_file o.land t linked before.stored before c.replay-why.new.hall.state (bad.Backup place) refl o.first
-    (c.replay-why.ensures.good_file is_told (first_sound is_unsound_file o.land t linked before.stored before o.first))
+    (c.replay-why.ensures.good_file (ap (λ l. is_some (g.L.Link.applied l)) o.linked ∙ on) is_told
+    (first_sound is_unsound_file o.land t linked before.stored before o.first))
     (c.replay-why.ensures.bad_backup place (sym c.make_ended.ensures.why ∙ is)))
 
 pub returns-in-Ok-clause-bad_file : goal.returns-in-Ok-clause-bad_file
-returns-in-Ok-clause-bad_file g c is_told place is =
+returns-in-Ok-clause-bad_file g c is_told none place is =
     let o = c.in-Ok.ensures.opened in
     let before = c.in-Ok.hall.state in
     let t = is_some (g.K.Keeper.held c.args.site.keeper) in
     let linked = is_some (g.L.Link.applied c.args.site.link) in
     absurd (never_bad is_unsound_file o.land t linked before.stored before c.replay-why.new.hall.state (bad.Backup place) refl o.first
-    (c.replay-why.ensures.good_file is_told (first_sound is_unsound_file o.land t linked before.stored before o.first))
+    (none_answered is_unsound_file c.replay-why.new.hall.state.past (sym (c.make_ended.ensures.past ∙ c.into_site-keeper.ensures.past) ∙ none))
     (c.replay-why.ensures.bad_backup place (sym c.make_ended.ensures.why ∙ is)))
 
 pub returns-in-Ok-clause-link_told : goal.returns-in-Ok-clause-link_told

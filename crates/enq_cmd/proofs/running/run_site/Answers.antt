@@ -1,5 +1,6 @@
 use Rattle.std.proofs.Common.{◌≡◌, true, inl, inr, length, sym, ap, ◌∙◌, subst}
 use Rattle.std.specs.Prelude.{IfSome, is_some}
+use Rattle.hall_model.specs.Unsound.{is_unsound_file}
 use Rattle.script_runner.specs.Faults.{is_link_fault}
 use Rattle.thread_runner.specs.Threads.{EndsWhole}
 use Rattle.whole_script.specs.Reading.{BlamesFirst}
@@ -81,7 +82,7 @@ returns-in-Ok-clause-line_fault g c bytes left =
     subst (BlamesFirst bytes) (sym c.make_ended.ensures.why) (c.run-hall.ensures.blamed bytes left)
 
 pub returns-in-Ok-clause-complete : goal.returns-in-Ok-clause-complete
-returns-in-Ok-clause-complete g c bytes left script document told_document other gives told good fit tells file steady calm quiet stays still =
+returns-in-Ok-clause-complete g c bytes left script document told_document other gives told good fit on tells file steady calm quiet stays still =
     let held = g.K.Keeper.held in
     let may_leave = g.K.Keeper.may_leave in
     let faults = g.K.Keeper.faults in
@@ -99,7 +100,7 @@ returns-in-Ok-clause-complete g c bytes left script document told_document other
     (ap faults (sym kept)) stays)
     (still_by (disk_faults c.in-Ok.hall.file.disk) (disk_faults c.run-hall.result.0.file.disk) (disk_faults c.args.site.disk)
     (disk_faults c.make_ended.result.site.disk) o.file_counts (ap disk_faults (sym kept_disk)) still)
-    (o.told ∙ told) tells))
+    (o.told ∙ told) (ap (λ l. is_some (applied l)) o.linked ∙ on) tells))
 
 pub returns-in-Ok-clause-full : goal.returns-in-Ok-clause-full
 returns-in-Ok-clause-full g c is =
@@ -187,7 +188,7 @@ returns-in-Ok-clause-bad_store g c =
     c.make_ended.result.past history c.run-hall.ensures.led told))
 
 pub returns-in-Ok-clause-bad_backup : goal.returns-in-Ok-clause-bad_backup
-returns-in-Ok-clause-bad_backup g c is_told place is =
+returns-in-Ok-clause-bad_backup g c on is_told place is =
     let held = g.K.Keeper.held in
     let may_leave = g.K.Keeper.may_leave in
     let faults = g.K.Keeper.faults in
@@ -202,25 +203,12 @@ returns-in-Ok-clause-bad_backup g c is_told place is =
     (threads_good held may_leave faults g.D.Disk.tells g.D.Disk.reads g.D.Disk.may_leave disk_faults applied g.L.Link.faults g.L.Link.refusals _
     c.args.site.keeper c.args.site.disk c.args.site.link c.in-Ok.hall c.in-Ok.objects o
     c.run-hall.result.0 c.make_ended.result.site.keeper c.make_ended.result.site.disk c.make_ended.result.site.link kept kept_disk kept_link
-    c.make_ended.result.past history c.run-hall.ensures.led is_told))
+    c.make_ended.result.past history c.run-hall.ensures.led (ap (λ l. is_some (applied l)) o.linked ∙ on) is_told))
 
 pub returns-in-Ok-clause-bad_file : goal.returns-in-Ok-clause-bad_file
-returns-in-Ok-clause-bad_file g c is_told place is =
-    let held = g.K.Keeper.held in
-    let may_leave = g.K.Keeper.may_leave in
-    let faults = g.K.Keeper.faults in
-    let disk_faults = g.D.Disk.faults in
-    let applied = g.L.Link.applied in
-    let o = c.in-Ok.ensures.opened in
-    let kept = c.make_ended.ensures.keeper ∙ c.into_site-keeper.ensures.keeper in
-    let kept_disk = c.make_ended.ensures.disk ∙ c.into_site-keeper.ensures.disk in
-    let kept_link = c.make_ended.ensures.link ∙ c.into_site-keeper.ensures.link in
-    let history = c.make_ended.ensures.past ∙ c.into_site-keeper.ensures.past in
+returns-in-Ok-clause-bad_file g c is_told none place is =
     absurd (threads_file _ _ _ _ _ _ c.run-hall.result.1 place c.run-hall.ensures.runs (sym c.make_ended.ensures.why ∙ is)
-    (threads_good held may_leave faults g.D.Disk.tells g.D.Disk.reads g.D.Disk.may_leave disk_faults applied g.L.Link.faults g.L.Link.refusals _
-    c.args.site.keeper c.args.site.disk c.args.site.link c.in-Ok.hall c.in-Ok.objects o
-    c.run-hall.result.0 c.make_ended.result.site.keeper c.make_ended.result.site.disk c.make_ended.result.site.link kept kept_disk kept_link
-    c.make_ended.result.past history c.run-hall.ensures.led is_told))
+    ∣ none_answered is_unsound_file c.run-hall.result.0.state.past (sym (c.make_ended.ensures.past ∙ c.into_site-keeper.ensures.past) ∙ none) ∣₁)
 
 pub returns-in-Ok-clause-no_start : goal.returns-in-Ok-clause-no_start
 returns-in-Ok-clause-no_start g c =
@@ -241,7 +229,7 @@ returns-in-Err-clause-line_fault g c bytes left =
     c.in-Err.ended.why bytes c.in-Err.ensures.unserved
 
 pub returns-in-Err-clause-complete : goal.returns-in-Err-clause-complete
-returns-in-Err-clause-complete g c bytes left script document told_document other gives told good fit tells file steady calm quiet kept still =
+returns-in-Err-clause-complete g c bytes left script document told_document other gives told good fit on tells file steady calm quiet kept still =
     inl (c.in-Err.ensures.complete document told_document other gives told good fit tells file steady kept still)
 
 pub returns-in-Err-clause-full : goal.returns-in-Err-clause-full

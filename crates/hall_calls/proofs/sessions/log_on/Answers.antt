@@ -33,7 +33,15 @@ returns-in_err-push c = record {
 pub returns : goal.returns
 returns c = record {
   act = λ s sessions next room.
-      let named : List Num → Session = λ d. record { name = c.args.name; user = c.args.user; number = c.args.next.now; luw = 1; draws = d; lost = false } in
+      let named : List Num → Session = λ d. record {
+        name = c.args.name;
+        user = c.args.user;
+        number = c.args.next.now;
+        luw = 1;
+        draws = d;
+        marked = false;
+        lost = false;
+      } in
       let is = ap (λ d. c.args.sessions.now ++ named d ∷ []) (sym c.no_numbers.ensures) ∙ sym c.in_ok-push.ensures.pushed in
       at_state _ _ _ _ _ (λ i. record s { sessions = is i; next_session = c.args.next.now + 1 })
       (logs_on s c.args.sessions.now c.args.next.now c.args.name c.args.user sessions next room (search rules) (search rules));

@@ -145,9 +145,8 @@ record_unit-requires-clause-commits g c =
     let numbers = c.in-Ok-draws_and.numbers.items in
     subst (λ u. IsOfCommit ledger u c.args.locks.now.table.entries)
     (sym (c.in-Ok-unit_of.ensures.unit ∙ ap (λ n. unit_of n c.args.locks.now.table.entries x c.args.parts.now numbers) c.start-2.ensures))
-    (of_session ledger c.args.sessions.now c.args.name.now x c.args.locks.now.table.entries c.args.parts.now numbers c.in-Ok.ensures.found
-    (found_in (IsAhead ledger) (is_called c.args.name.now) c.args.sessions.now x c.in-Ok.ensures.found c.requires.fresh x.luw (omega arith)) c.requires.marked
-    c.requires.users)
+    (of_session ledger x c.args.locks.now.table.entries c.args.parts.now numbers
+    (found_in (IsAhead ledger) (is_called c.args.name.now) c.args.sessions.now x c.in-Ok.ensures.found c.requires.fresh x.luw (omega arith)) c.requires.marked)
 
 pub record_unit-requires-clause-new : goal.record_unit-requires-clause-new
 record_unit-requires-clause-new g c =
@@ -159,7 +158,7 @@ record_unit-requires-clause-new g c =
     (draws_digits c.args.sessions.now c.args.name.now c.in-Ok.session.now c.in-Ok.ensures.found c.args.books.now.ledger
     c.args.ranges.now c.args.stock.now c.requires.drawn c.requires.stock c.in-Ok-draws_and.numbers.items c.in-Ok-draws_and.ensures)
     (omega (arith, c.if-drawn-gt-DRAWS_LIMIT.false, same, whole))
-    c.in-Ok.ensures.found c.requires.fresh c.requires.users c.in-Ok-unit_of.ensures.good c.requires.started
+    c.in-Ok.ensures.found c.requires.fresh c.in-Ok-unit_of.ensures.good c.requires.started
     (omega (arith, c.if-effects-eq0-2.false, c.effects_in-effects.ensures))
     (omega (arith, c.if-effects-gt-EFFECTS_LIMIT.false, c.effects_in-effects.ensures))
 

@@ -1,6 +1,6 @@
 use Rattle.std.proofs.Common.{inr, Err, refl, sym, ap, subst}
 use Rattle.enq_base.specs.declared.refusal.Refusal.TheVariants as refusal
-use Rattle.enq_server.specs.Server.{lasting, with_list}
+use Rattle.enq_server.specs.Server.{with_list}
 use Rattle.ledger_steps.specs.Intervals.{with_intervals}
 use Rattle.update_records.specs.Growing.{with_unit}
 use Rattle.update_records.specs.Ledger.{Ledger}
@@ -8,6 +8,7 @@ use Rattle.hall_calls.specs.Commits.{RecordsUnit}
 use Rattle.hall_calls.specs.Filing.{IsSaved}
 use Rattle.hall_calls.proofs.ending.OverFile.{before_files, half_written_files, refused_files, same_file}
 use Rattle.hall_calls.proofs.lists.AsCallsEnd.{unsaved_agree, written_saved}
+use Rattle.hall_calls.proofs.lists.BehindMarks.{saved_locks}
 use Rattle.hall_calls.proofs.ending.OverStore.{ready_ends, unfiled_ends, unready_ends}
 use Rattle.hall_calls.proofs.units.record_unit.Goals as goal
 
@@ -61,7 +62,7 @@ returns-in-Err-NoMemory-clause-store g c =
 pub returns-clause-file : goal.returns-clause-file
 returns-clause-file g c =
     half_written_files g.D.Disk.tells g.D.Disk.reads g.D.Disk.may_leave g.D.Disk.faults c.args.books.now.ledger c.prepare_unit.new.books.ledger
-    (λ lists. with_list c.args.unit.key (lasting c.args.unit.key c.args.locks.now.table.entries) lists) c.args.locks.now.file c.save.new.self.file
+    (λ lists. with_list c.args.unit.key (saved_locks c.args.unit c.args.locks.now.table.entries) lists) c.args.locks.now.file c.save.new.self.file
     c.requires.filed c.save.ensures.images
     (unsaved_agree c.args.books.now.ledger c.prepare_unit.new.books.ledger c.args.unit c.args.locks.now.table.entries c.requires.commits
     c.prepare_unit.ensures.unmoved.ledger)

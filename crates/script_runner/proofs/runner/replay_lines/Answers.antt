@@ -13,7 +13,7 @@ pub lines-init : goal.lines-init
 lines-init g c = (
   begins _ _ _ c.new-reader.ensures.number c.new-reader.ensures.reading,
   refl,
-  λ yes none. none,
+  λ linked yes none. none,
   λ yes none. none,
   same_link _ _ _ _,
   λ quiet none. none,
@@ -37,7 +37,7 @@ lines-preserved g c = (
       (taken_at _ _ _ _ _ _ _ _ _ _ _ _ _ c.number.ensures c.line.ensures c.in_default.ensures.turn)
       c.take_turn.ensures.later,
   c.in_default.ensures.turn.devices.told ∙ c.lines.invariant.1,
-  λ yes none. c.take_turn.ensures.good_file yes (c.lines.invariant.2 yes none),
+  λ linked yes none. c.take_turn.ensures.good_file (c.lines.invariant.4.told ∙ linked) yes (c.lines.invariant.2 linked yes none),
   λ yes none. c.take_turn.ensures.good_store (c.lines.invariant.1 ∙ yes) (c.lines.invariant.3 yes none),
   link_on _ _ _ _ _ _ c.lines.invariant.4 c.take_turn.ensures.link,
   tells_on _ _ _ c.args.hall.now.state.past c.lines.hall.state.past c.take_turn.new.hall.state.past c.lines.invariant.4.faults_later
@@ -75,7 +75,8 @@ pub returns-in-Err-clause-good_file : goal.returns-in-Err-clause-good_file
 returns-in-Err-clause-good_file g c = c.lines.invariant.2
 
 pub returns-in-Err-take_turn-clause-good_file : goal.returns-in-Err-take_turn-clause-good_file
-returns-in-Err-take_turn-clause-good_file g c = λ yes none. c.take_turn.ensures.good_file yes (c.lines.invariant.2 yes none)
+returns-in-Err-take_turn-clause-good_file g c =
+    λ linked yes none. c.take_turn.ensures.good_file (c.lines.invariant.4.told ∙ linked) yes (c.lines.invariant.2 linked yes none)
 
 pub returns-in-Ok-false-clause-good_store : goal.returns-in-Ok-false-clause-good_store
 returns-in-Ok-false-clause-good_store g c = c.lines.invariant.3

@@ -17,7 +17,8 @@ invariant-lines g l =
     (g.D.Disk.faults l.hall.file.disk))
     l.reader
     × (is_some (g.K.Keeper.held l.hall.keeper) ≡ is_some (g.K.Keeper.held l.initial.hall.keeper))
-    × (IsTrue g.D.Disk.tells → NoneUnsound l.initial.hall.state.past → NoneUnsound l.hall.state.past)
+    × (is_some (g.L.Link.applied l.initial.hall.follower.link) ≡ true → IsTrue g.D.Disk.tells → NoneUnsound l.initial.hall.state.past
+    → NoneUnsound l.hall.state.past)
     × (is_some (g.K.Keeper.held l.initial.hall.keeper) ≡ true → NoneUnsoundStore l.initial.hall.state.past → NoneUnsoundStore l.hall.state.past)
     × IsLater g.L.Link.applied g.L.Link.faults g.L.Link.refusals l.initial.hall.follower l.hall.follower
     × TellsNoFault (g.L.Link.faults l.initial.hall.follower.link) (g.L.Link.faults l.hall.follower.link) l.initial.hall.state.past l.hall.state.past

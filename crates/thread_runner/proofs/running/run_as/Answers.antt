@@ -68,7 +68,7 @@ returns-in-Ok-clause-file_fault g c k is =
     (subst (λ w. ∥ DoesScript objects lines c.args.workers s t o n w ∥₁) is does)
 
 pub returns-in-Ok-clause-complete : goal.returns-in-Ok-clause-complete
-returns-in-Ok-clause-complete g c bytes left script source sink kept filed held tell =
+returns-in-Ok-clause-complete g c bytes left script source sink kept filed held on tell =
     let objects = c.args.objects.now in
     let lines = c.in-Ok.script.lines.items in
     let o = output (g.W.Sink.written c.args.sink.now) (g.W.Sink.faults c.args.sink.now) in
@@ -81,7 +81,7 @@ returns-in-Ok-clause-complete g c bytes left script source sink kept filed held 
     (sym (ap (λ h. h.state) c.into_hall.ensures.hall)) c.do_script-served.ensures.does) in
     let well = ap (λ (x : State). doubt_of x) (sym c.requires.first) ∙ ap doubt_in c.requires.up in
     done_whole objects lines c.args.workers s t o n _ _ _ g.J.Origin.counts _ g.J.Origin.first well c.into_hall.ensures.led
-    c.doubts_have_causes.ensures.store c.doubts_have_causes.ensures.file held tell sink kept filed c.do_script-served.result.1 does
+    c.doubts_have_causes.ensures.store c.doubts_have_causes.ensures.file held on tell sink kept filed c.do_script-served.result.1 does
 
 pub returns-in-Err-clause-runs : goal.returns-in-Err-clause-runs
 returns-in-Err-clause-runs g c =

@@ -1,14 +1,23 @@
-use Rattle.std.proofs.Common.{subst}
+use Rattle.std.proofs.Common.{◌≡◌, true, subst, sym}
+use Rattle.std.specs.Prelude.{is_some}
+use Rattle.lock_entry.specs.Table.{IsTable}
 use Rattle.enq_server.specs.Following.{IsAt}
+use Rattle.enq_server.specs.Server.{table_of}
+use Rattle.enq_server.proofs.Stores.{at_store, good_store}
 use Rattle.enq_server.proofs.Copies.{granted_at}
 use Rattle.enq_server.proofs.server.EnqServer.ask.Goals as goal
 
 pub invariant_of-self-2 : goal.invariant_of-self-2
 invariant_of-self-2 g c =
-    let table = g.T.LockStore.table c.self.inside.table in (
+    let table = g.T.LockStore.table c.in-Some.table in
+    let good = good_store g.T.LockStore.table c.self-inside.inside.0.0 c.in-Some.table c.in-Some.is
+    (subst (λ s. IsTable (table_of g.T.LockStore.table s.table)) (sym c.self-inside.view_is) c.self.invariant.0) in
+    let at = at_store g.T.LockStore.table g.L.Link.applied c.self-inside.inside.0.1.0.follower c.self-inside.inside.0.0 c.in-Some.table c.in-Some.is
+    (subst (λ s. is_some s.table ≡ true → IsAt g.L.Link.applied s.rest.copy (table_of g.T.LockStore.table s.table).entries) (sym c.self-inside.view_is)
+    c.self.invariant.1) in (
       c.in_ok-ask.ensures.good,
-      subst (IsAt g.L.Link.applied c.ship_granted.new.follower)
+      λ _. subst (IsAt g.L.Link.applied c.ship_granted.new.follower)
           (granted_at table c.args.asker.now c.args.user.now c.args.requests.now
-          (g.T.LockStore.table c.ask.new.self).entries c.self.invariant.0 c.in_ok-ask.ensures.granted)
-          (c.ship_granted.ensures.at table.entries c.self.invariant.1),
+          (g.T.LockStore.table c.ask.new.self).entries good c.in_ok-ask.ensures.granted)
+          (c.ship_granted.ensures.at table.entries at),
     )

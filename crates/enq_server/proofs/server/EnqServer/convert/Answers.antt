@@ -1,7 +1,9 @@
-use Rattle.std.proofs.Common.{ap, subst, ◌∙◌}
-use Rattle.enq_server.specs.Following.{IsAt}
-use Rattle.std.proofs.Common.{map}
+use Rattle.std.proofs.Common.{◌≡◌, true, ap, map, sym, subst, ◌∙◌}
 use Rattle.std.specs.List.{flat_map}
+use Rattle.std.specs.Prelude.{is_some}
+use Rattle.enq_server.specs.Following.{IsAt}
+use Rattle.enq_server.specs.Server.{table_of}
+use Rattle.enq_server.proofs.Stores.{at_store}
 use Rattle.replica_link.specs.Operations.{replica}
 use Rattle.replica_link.specs.Shipping.{drop_of, turn_ops}
 use Rattle.enq_server.proofs.Copies.{converted_at}
@@ -9,13 +11,16 @@ use Rattle.enq_server.proofs.server.EnqServer.convert.Goals as goal
 
 pub invariant_of-self-2 : goal.invariant_of-self-2
 invariant_of-self-2 g c =
-    let table = g.T.LockStore.table c.self.inside.table in
+    let table = g.T.LockStore.table c.in-Some.table in
+    let at = at_store g.T.LockStore.table g.L.Link.applied c.self-inside.inside.0.1.0.follower c.self-inside.inside.0.0 c.in-Some.table c.in-Some.is
+    (subst (λ s. is_some s.table ≡ true → IsAt g.L.Link.applied s.rest.copy (table_of g.T.LockStore.table s.table).entries) (sym c.self-inside.view_is)
+    c.self.invariant.1) in
     let turned = replica table.entries (flat_map (turn_ops c.args.asker.now) c.args.asked.now) in (
       c.in_ok-removed.ensures.good,
-      subst (IsAt g.L.Link.applied c.ship_drops.new.follower)
+      λ _. subst (IsAt g.L.Link.applied c.ship_drops.new.follower)
           (ap (λ xs. replica turned (map drop_of xs)) c.as_slice.ensures.value
           ∙ converted_at table.entries c.args.asker.now c.args.asked.now
           (record { entries = (g.T.LockStore.table c.convert.new.self).entries; removed = c.in_ok-removed.removed.items })
           c.in_ok-removed.ensures.converted)
-          (c.ship_drops.ensures.at turned (c.ship_turns.ensures.at table.entries c.self.invariant.1)),
+          (c.ship_drops.ensures.at turned (c.ship_turns.ensures.at table.entries at)),
     )

@@ -1,15 +1,24 @@
-use Rattle.std.proofs.Common.{ap, sym, subst, ◌∙◌}
+use Rattle.std.proofs.Common.{◌≡◌, true, ap, sym, subst, ◌∙◌}
+use Rattle.std.specs.Prelude.{is_some}
+use Rattle.lock_entry.specs.Table.{IsTable}
 use Rattle.enq_server.specs.Following.{IsAt}
+use Rattle.enq_server.specs.Server.{table_of}
+use Rattle.enq_server.proofs.Stores.{at_store, good_store}
 use Rattle.replica_link.proofs.Frees.{freed_ops-freed}
 use Rattle.lock_entry.specs.Names.{named}
 use Rattle.enq_server.proofs.server.EnqServer.free_one.Goals as goal
 
 pub invariant_of-self : goal.invariant_of-self
 invariant_of-self g c =
-    let table = g.T.LockStore.table c.self.inside.table in (
+    let table = g.T.LockStore.table c.in-Some.table in
+    let good = good_store g.T.LockStore.table c.self-inside.inside.0.0 c.in-Some.table c.in-Some.is
+    (subst (λ s. IsTable (table_of g.T.LockStore.table s.table)) (sym c.self-inside.view_is) c.self.invariant.0) in
+    let at = at_store g.T.LockStore.table g.L.Link.applied c.self-inside.inside.0.1.0.follower c.self-inside.inside.0.0 c.in-Some.table c.in-Some.is
+    (subst (λ s. is_some s.table ≡ true → IsAt g.L.Link.applied s.rest.copy (table_of g.T.LockStore.table s.table).entries) (sym c.self-inside.view_is)
+    c.self.invariant.1) in (
       c.free_one.ensures.good,
-      subst (IsAt g.L.Link.applied c.ship_freed.new.follower)
-          (freed_ops-freed table.entries (named c.args.owner.now c.args.asked.now) c.self.invariant.0.sound.names
+      λ _. subst (IsAt g.L.Link.applied c.ship_freed.new.follower)
+          (freed_ops-freed table.entries (named c.args.owner.now c.args.asked.now) good.sound.names
           ∙ sym (ap (λ t. t.entries) c.free_one.ensures.after))
-          (c.ship_freed.ensures.at table.entries c.self.invariant.1),
+          (c.ship_freed.ensures.at table.entries at),
     )

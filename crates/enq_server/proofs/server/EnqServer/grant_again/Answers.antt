@@ -1,7 +1,10 @@
-use Rattle.std.proofs.Common.{ap, sym, subst, ◌∙◌}
-use Rattle.enq_server.specs.Following.{IsAt}
-use Rattle.std.proofs.Common.{map}
+use Rattle.std.proofs.Common.{◌≡◌, true, ap, map, sym, subst, ◌∙◌}
 use Rattle.std.specs.List.{filter}
+use Rattle.std.specs.Prelude.{is_some}
+use Rattle.lock_entry.specs.Table.{IsTable}
+use Rattle.enq_server.specs.Following.{IsAt}
+use Rattle.enq_server.specs.Server.{table_of}
+use Rattle.enq_server.proofs.Stores.{at_store, good_store}
 use Rattle.lock_entry.specs.Names.{is_of}
 use Rattle.replica_link.specs.Operations.{replica}
 use Rattle.replica_link.specs.Shipping.{drop_of}
@@ -10,11 +13,21 @@ use Rattle.enq_server.proofs.server.EnqServer.grant_again.Goals as goal
 
 pub invariant_of-self-2 : goal.invariant_of-self-2
 invariant_of-self-2 g c =
-    let table = g.T.LockStore.table c.self.inside.table in (
+    let table = g.T.LockStore.table c.in-Some.table in
+    let good = good_store g.T.LockStore.table c.self-inside.inside.0.0 c.in-Some.table c.in-Some.is
+    (subst (λ s. IsTable (table_of g.T.LockStore.table s.table)) (sym c.self-inside.view_is) c.self.invariant.0) in
+    let at = at_store g.T.LockStore.table g.L.Link.applied c.self-inside.inside.0.1.0.follower c.self-inside.inside.0.0 c.in-Some.table c.in-Some.is
+    (subst (λ s. is_some s.table ≡ true → IsAt g.L.Link.applied s.rest.copy (table_of g.T.LockStore.table s.table).entries) (sym c.self-inside.view_is)
+    c.self.invariant.1) in
+    let own = filter (is_of c.args.asker.now.update) in (
       c.in_ok-readmit.ensures.good,
-      subst (IsAt g.L.Link.applied c.ship_puts.new.follower)
+      λ _. subst (IsAt g.L.Link.applied c.ship_puts.new.follower)
           (readmitted_at table c.args.asker.now c.args.own.now c.args.entries.now
-          (g.T.LockStore.table c.readmit.new.self).entries c.self.invariant.0 c.requires.entries
-          (c.requires.own ∙ ap (λ s. filter (is_of c.args.asker.now.update) s.table.entries) (sym c.self.view_is)) c.in_ok-readmit.ensures.granted)
-          (c.ship_puts.ensures.at (replica table.entries (map drop_of c.args.own.now)) (c.ship_drops.ensures.at table.entries c.self.invariant.1)),
+          (g.T.LockStore.table c.readmit.new.self).entries good c.requires.entries
+          (c.requires.own
+          ∙ ap (λ s. own s.table.entries) (sym c.self.view_is)
+          ∙ ap (λ s. own (table_of g.T.LockStore.table s.table).entries) (sym c.self-inside.view_is)
+          ∙ ap (λ t. own (table_of g.T.LockStore.table t).entries) c.in-Some.is)
+          c.in_ok-readmit.ensures.granted)
+          (c.ship_puts.ensures.at (replica table.entries (map drop_of c.args.own.now)) (c.ship_drops.ensures.at table.entries at)),
     )

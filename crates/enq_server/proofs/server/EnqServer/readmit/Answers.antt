@@ -7,9 +7,10 @@ use Rattle.enq_server.proofs.server.EnqServer.readmit.Goals as goal
 
 pub returns-in_err-write_hand-clause-images : goal.returns-in_err-write_hand-clause-images
 returns-in_err-write_hand-clause-images g c = λ t l ready bytes may.
-    let inside = ready_same g.D.Disk.reads g.D.Disk.may_leave l c.self.inside.backup c.ready_hand.new.self c.in_ok-ready.ensures.same
-    (subst (λ s. IsReady g.D.Disk.reads g.D.Disk.may_leave s.file l) (sym c.self.view_is) ready) in
-    let file = ap (λ s. s.file) c.self-2.view_is ∙ c.in_ok-grant_again-2.ensures.file in
+    let before = ap (λ s. s.rest.file) c.self-inside.view_is ∙ ap (λ s. s.file) c.self.view_is in
+    let inside = ready_same g.D.Disk.reads g.D.Disk.may_leave l _ c.ready_hand.new.self c.in_ok-ready.ensures.same
+    (subst (λ b. IsReady g.D.Disk.reads g.D.Disk.may_leave b l) (sym before) ready) in
+    let file = ap (λ s. s.rest.file) c.self-inside-2.view_is ∙ ap (λ s. s.file) c.self-2.view_is ∙ c.in_ok-grant_again-2.ensures.file in
     let granted = subst (λ b. IsReady g.D.Disk.reads g.D.Disk.may_leave b l) (sym file) inside in
     let some = eqb-false (length c.args.entries.now) 0 (sym c.is_empty.ensures ∙ c.if-is_empty.false) in
     listed_either c.args.unit.now c.args.entries.now l bytes (omega (arith, some))
@@ -17,9 +18,10 @@ returns-in_err-write_hand-clause-images g c = λ t l ready bytes may.
 
 pub returns-clause-listed : goal.returns-clause-listed
 returns-clause-listed g c = λ t l ready.
-    let inside = ready_same g.D.Disk.reads g.D.Disk.may_leave l c.self.inside.backup c.ready_hand.new.self c.in_ok-ready.ensures.same
-    (subst (λ s. IsReady g.D.Disk.reads g.D.Disk.may_leave s.file l) (sym c.self.view_is) ready) in
-    let file = ap (λ s. s.file) c.self-2.view_is ∙ c.in_ok-grant_again-2.ensures.file in
+    let before = ap (λ s. s.rest.file) c.self-inside.view_is ∙ ap (λ s. s.file) c.self.view_is in
+    let inside = ready_same g.D.Disk.reads g.D.Disk.may_leave l _ c.ready_hand.new.self c.in_ok-ready.ensures.same
+    (subst (λ b. IsReady g.D.Disk.reads g.D.Disk.may_leave b l) (sym before) ready) in
+    let file = ap (λ s. s.rest.file) c.self-inside-2.view_is ∙ ap (λ s. s.file) c.self-2.view_is ∙ c.in_ok-grant_again-2.ensures.file in
     let granted = subst (λ b. IsReady g.D.Disk.reads g.D.Disk.may_leave b l) (sym file) inside in
     let some = eqb-false (length c.args.entries.now) 0 (sym c.is_empty.ensures ∙ c.if-is_empty.false) in
     subst (IsReady g.D.Disk.reads g.D.Disk.may_leave c.write_hand.new.self) (sym (listed c.args.unit.now c.args.entries.now l (omega (arith, some))))
@@ -27,9 +29,10 @@ returns-clause-listed g c = λ t l ready.
 
 pub returns-clause-images : goal.returns-clause-images
 returns-clause-images g c = λ t l ready bytes may.
-    let inside = ready_same g.D.Disk.reads g.D.Disk.may_leave l c.self.inside.backup c.ready_hand.new.self c.in_ok-ready.ensures.same
-    (subst (λ s. IsReady g.D.Disk.reads g.D.Disk.may_leave s.file l) (sym c.self.view_is) ready) in
-    let file = ap (λ s. s.file) c.self-2.view_is ∙ c.in_ok-grant_again-2.ensures.file in
+    let before = ap (λ s. s.rest.file) c.self-inside.view_is ∙ ap (λ s. s.file) c.self.view_is in
+    let inside = ready_same g.D.Disk.reads g.D.Disk.may_leave l _ c.ready_hand.new.self c.in_ok-ready.ensures.same
+    (subst (λ b. IsReady g.D.Disk.reads g.D.Disk.may_leave b l) (sym before) ready) in
+    let file = ap (λ s. s.rest.file) c.self-inside-2.view_is ∙ ap (λ s. s.file) c.self-2.view_is ∙ c.in_ok-grant_again-2.ensures.file in
     let granted = subst (λ b. IsReady g.D.Disk.reads g.D.Disk.may_leave b l) (sym file) inside in
     let some = eqb-false (length c.args.entries.now) 0 (sym c.is_empty.ensures ∙ c.if-is_empty.false) in
     listed_either c.args.unit.now c.args.entries.now l bytes (omega (arith, some))

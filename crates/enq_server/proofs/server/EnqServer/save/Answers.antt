@@ -1,25 +1,38 @@
-use Rattle.std.proofs.Common.{◌⊎◌, inl, ap, sym, subst, ◌∙◌, arith}
+use Rattle.std.proofs.Common.{◌⊎◌, List, inl, ap, sym, subst, ◌∙◌, arith}
+use Rattle.lock_entry.specs.declared.entry.Entry.{Entry}
 use Rattle.backup_file.specs.Backup.{IsReady}
 use Rattle.backup_file.specs.File.{Stands}
-use Rattle.enq_server.specs.Server.{lasting, with_list}
+use Rattle.enq_server.specs.Server.{lasting, of_user, table_of, with_list}
 use Rattle.enq_server.proofs.Lasting.{listed_either}
 use Rattle.enq_server.proofs.server.EnqServer.save.Goals as goal
 use Rattle.enq_server.proofs.server.EnqServer.save.Goals.{then-count-gt0+in_ok-hand, else-count-gt0}
 
 pub returns-in_err-hand-clause-images : goal.returns-in_err-hand-clause-images
 returns-in_err-hand-clause-images g c = λ t l ready bytes may.
-    let inside = subst (λ s. IsReady g.D.Disk.reads g.D.Disk.may_leave s.file l) (sym c.self.view_is) ready in
-    let are = c.as_slice.ensures.value ∙ c.in_ok-entries.ensures.entries ∙ ap (λ s. lasting c.args.unit.now s.table.entries) c.self.view_is in
+    let written : List Entry → List Entry = λ es. of_user c.args.user.now (lasting c.args.unit.now es) in
+    let before = ap (λ s. s.rest.file) c.self-inside.view_is ∙ ap (λ s. s.file) c.self.view_is in
+    let inside = subst (λ b. IsReady g.D.Disk.reads g.D.Disk.may_leave b l) (sym before) ready in
+    let are =
+    c.as_slice.ensures.value
+    ∙ c.in_ok-entries.ensures.entries
+    ∙ ap (λ s. written (table_of g.T.LockStore.table s.table).entries) c.self-inside.view_is
+    ∙ ap (λ s. written s.table.entries) c.self.view_is in
     subst (λ es. Stands bytes l ⊎ Stands bytes (with_list c.args.unit.now es l)) are
     (listed_either c.args.unit.now c.as_slice.result.now l bytes (omega (arith, c.as_slice.ensures.len, c.len.ensures, c.in-Ok.ensures.1, c.if-count-gt0.true))
     (c.hand.ensures.images t l inside bytes may))
 
 pub returns-clause-images : goal.returns-clause-images
 returns-clause-images g c = λ t l ready bytes may.
-    let inside = subst (λ s. IsReady g.D.Disk.reads g.D.Disk.may_leave s.file l) (sym c.self.view_is) ready in
+    let written : List Entry → List Entry = λ es. of_user c.args.user.now (lasting c.args.unit.now es) in
+    let before = ap (λ s. s.rest.file) c.self-inside.view_is ∙ ap (λ s. s.file) c.self.view_is in
+    let inside = subst (λ b. IsReady g.D.Disk.reads g.D.Disk.may_leave b l) (sym before) ready in
     elim c.if-count-gt0.branch [
       | then-count-gt0+in_ok-hand w ↦
-          let are = w.as_slice.ensures.value ∙ c.in_ok-entries.ensures.entries ∙ ap (λ s. lasting c.args.unit.now s.table.entries) c.self.view_is in
+          let are =
+          w.as_slice.ensures.value
+          ∙ c.in_ok-entries.ensures.entries
+          ∙ ap (λ s. written (table_of g.T.LockStore.table s.table).entries) c.self-inside.view_is
+          ∙ ap (λ s. written s.table.entries) c.self.view_is in
           let may_here = subst (λ s. g.D.Disk.may_leave s.file.disk bytes) w.self-is may in
           subst (λ es. Stands bytes l ⊎ Stands bytes (with_list c.args.unit.now es l)) are
           (listed_either c.args.unit.now w.as_slice.result.now l bytes

@@ -15,11 +15,11 @@ invariant_of-result g c =
     let orders = c.args.tables.orders.items in
     let past = c.args.tables.past.items in
     let intervals = intervals_of c.args.ranges in
-    let state : State = state_of told link false Up [] 1 orders table c.args.max_locks c.args.max_marks
+    let state : State = state_of told link false false Up [] 1 orders table [] c.args.max_locks c.args.max_marks
     (first_ranges c.args.books.ledger.levels intervals) c.args.books.ledger None None None past in
     let is : with_calls c.first.result.state past ≡ state =
     (λ i. with_calls (c.first.ensures.state i) past)
-    ∙ (λ i. state_of told link false Up [] 1 (sym c.requires.orders i) (sym c.requires.locks i) c.args.max_locks c.args.max_marks
+    ∙ (λ i. state_of told link false false Up [] 1 (sym c.requires.orders i) (sym c.requires.locks i) [] c.args.max_locks c.args.max_marks
     (first_ranges c.args.books.ledger.levels intervals) c.args.books.ledger None None None past) in (
       c.requires.room,
       subst IsKept (sym is)

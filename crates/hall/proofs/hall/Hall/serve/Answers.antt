@@ -1,4 +1,4 @@
-use Rattle.std.proofs.Common.{◌≡◌, [], ◌∷◌, ◌++◌, true, false, is_some, refl, sym, ◌∙◌, subst, rules}
+use Rattle.std.proofs.Common.{◌≡◌, [], ◌∷◌, ◌++◌, true, false, IsTrue, is_some, refl, sym, ◌∙◌, subst, rules}
 use Rattle.hall_calls.proofs.ending.WithHistory.{given_noted, unrecorded_same}
 use Rattle.hall_laws.proofs.keeping.InFlight.{kept_call}
 use Rattle.hall_laws.proofs.keeping.Unchanged.{noted_step}
@@ -8,6 +8,7 @@ use Rattle.hall_calls.proofs.verdicts.Replies.{given_telling}
 use Rattle.hall_model.specs.History.{IsStep, entry_of}
 use Rattle.hall_model.specs.Kept.{IsKept}
 use Rattle.hall_model.specs.Calls.{call_of, renews_replica}
+use Rattle.hall_model.specs.State.{is_honest}
 use Rattle.hall_calls.specs.Serving.{LosesOnly, with_calls}
 use Rattle.hall_calls.specs.View.{View}
 use Rattle.hall_model.specs.Stocks.{MayCall}
@@ -60,9 +61,16 @@ returns-clause-step g c =
     (given_noted c.serve-answer.result.reply given c.told_twice-noted.ensures.given on)))
 
 pub returns-clause-good_file : goal.returns-clause-good_file
-returns-clause-good_file g c = λ yes.
-    given_sound is_unsound_file c.serve-answer.result.reply c.told_twice-noted.result.1 refl c.told_twice-noted.ensures.given
-    (c.serve-answer.ensures.good_file yes)
+returns-clause-good_file g c =
+    subst (λ (v : View g.row.K.Denot g.row.D.Denot g.row.L.Denot). IsTrue g.D.Disk.tells → IsTrue (is_honest v.state)
+    → is_unsound_file c.told_twice-noted.result.1 ≡ false) c.self.view_is
+    (λ yes honest. given_sound is_unsound_file c.serve-answer.result.reply c.told_twice-noted.result.1 refl c.told_twice-noted.ensures.given
+    (c.serve-answer.ensures.good_file yes honest))
+
+pub returns-clause-linked : goal.returns-clause-linked
+returns-clause-linked g c =
+    subst (λ (v : View g.row.K.Denot g.row.D.Denot g.row.L.Denot). v.state.link_told ≡ is_some (g.L.Link.applied v.follower.link)) c.self.view_is
+    c.read_invariant.ensures.link
 
 pub returns-clause-good_replica : goal.returns-clause-good_replica
 returns-clause-good_replica g c =

@@ -17,15 +17,15 @@ returns g c =
     let old = c.self.inside in
     let told = is_some (g.K.Keeper.held old.books.keeper) in
     let before : Condition → View g.row.K.Denot g.row.D.Denot g.row.L.Denot = λ k. record {
-      state = state_with told (is_some (g.L.Link.applied old.locks.copy.link)) old.locks.copy.attached k old.sessions old.next_session old.orders.items
-          old.locks.table old.max_locks old.max_marks old.ranges old.books.ledger old.failure [];
+      state = state_with g.L.Link.applied told old.taken_over k old.sessions old.next_session old.orders.items
+          old.locks old.max_locks old.max_marks old.ranges old.books.ledger old.failure [];
       keeper = old.books.keeper;
       file = old.locks.file;
       follower = old.locks.copy;
     } in
     let after : Condition → View g.row.K.Denot g.row.D.Denot g.row.L.Denot = λ k. record {
-      state = state_with told (is_some (g.L.Link.applied c.ask.new.locks.copy.link)) c.ask.new.locks.copy.attached k old.sessions old.next_session
-          old.orders.items c.ask.new.locks.table old.max_locks old.max_marks old.ranges old.books.ledger old.failure [];
+      state = state_with g.L.Link.applied told old.taken_over k old.sessions old.next_session
+          old.orders.items c.ask.new.locks old.max_locks old.max_marks old.ranges old.books.ledger old.failure [];
       keeper = old.books.keeper;
       file = c.ask.new.locks.file;
       follower = c.ask.new.locks.copy;

@@ -1,4 +1,4 @@
-use Rattle.std.proofs.Common.{◌≡◌, [], Err, refl, sym, ap, subst, is_some}
+use Rattle.std.proofs.Common.{◌≡◌, [], Err, false, refl, sym, ap, ◌∙◌, subst, is_some}
 use Rattle.enq_base.specs.declared.condition.Condition.{Condition}
 use Rattle.enq_base.specs.declared.condition.Condition.TheVariants.{Up}
 use Rattle.enq_base.specs.declared.refusal.Refusal.TheVariants as refusal
@@ -8,7 +8,7 @@ use Rattle.hall_calls.proofs.ending.StateBehind.{state_with}
 use Rattle.hall_calls.proofs.following.Handovers.{attach_fails, attach_wanting, attaches}
 use Rattle.hall_model.specs.Acts.{Admits, IsAct}
 use Rattle.hall_calls.specs.Serving.{HasLinkCause, IsDue, Serves, with_calls}
-use Rattle.hall_model.specs.State.{State}
+use Rattle.hall_model.specs.State.{State, is_up}
 use Rattle.hall_calls.specs.View.{View}
 use Rattle.hall_model.specs.Step.{attached, detached}
 use Rattle.hall_model.specs.declared.command.Command.TheVariants as command
@@ -16,6 +16,12 @@ use Rattle.hall_model.specs.declared.command.Reply.{Reply}
 use Rattle.hall_model.specs.declared.command.Reply.TheVariants as reply
 use Rattle.hall_calls.proofs.present.Present.attach.Goals as goal
 use Rattle.hall_calls.proofs.present.Present.attach.Goals.{in-Ok, in-Err-Failed, in-Err-NoMemory}
+
+pub attach-requires : goal.attach-requires
+attach-requires g c =
+    let due = subst (λ (v : View g.row.K.Denot g.row.D.Denot g.row.L.Denot). IsDue v.state c.args.past.now.items command.Attach) (sym c.self.view_is)
+    c.requires in
+    record { stands = c.self.invariant.4 ∙ ap is_up (due_up _ c.args.past.now.items command.Attach refl due) }
 
 pub returns : goal.returns
 returns g c =
@@ -28,16 +34,16 @@ returns g c =
     command.Attach r in
     let before : Condition → View g.row.K.Denot g.row.D.Denot g.row.L.Denot = λ k. record {
       state =
-          state_with (is_some (g.K.Keeper.held old.books.keeper)) (is_some (g.L.Link.applied old.locks.copy.link)) old.locks.copy.attached k
-          old.sessions old.next_session old.orders.items old.locks.table old.max_locks old.max_marks old.ranges old.books.ledger old.failure [];
+          state_with g.L.Link.applied (is_some (g.K.Keeper.held old.books.keeper)) old.taken_over k
+          old.sessions old.next_session old.orders.items old.locks old.max_locks old.max_marks old.ranges old.books.ledger old.failure [];
       keeper = old.books.keeper;
       file = old.locks.file;
       follower = old.locks.copy;
     } in
     let after : Condition → View g.row.K.Denot g.row.D.Denot g.row.L.Denot = λ k. record {
       state =
-          state_with (is_some (g.K.Keeper.held old.books.keeper)) (is_some (g.L.Link.applied new.copy.link)) new.copy.attached k
-          old.sessions old.next_session old.orders.items new.table old.max_locks old.max_marks old.ranges old.books.ledger old.failure [];
+          state_with g.L.Link.applied (is_some (g.K.Keeper.held old.books.keeper)) old.taken_over k
+          old.sessions old.next_session old.orders.items new old.max_locks old.max_marks old.ranges old.books.ledger old.failure [];
       keeper = old.books.keeper;
       file = new.file;
       follower = new.copy;
@@ -73,7 +79,7 @@ returns g c =
       | in-Err-NoMemory w ↦
           rw w.result-is
           (serves (reply.Refused refusal.NoMemory)
-          (at_state s command.Attach (detached s) later (reply.Refused refusal.NoMemory)
+          (at_state s command.Attach (record s { attached = false }) later (reply.Refused refusal.NoMemory)
           (λ i. record later { locks = (table i).entries; limit = (table i).limit; attached = sym w.in-Err-NoMemory.ensures.detached i; link_told = links i })
           (attach_wanting s room))
           tt)

@@ -1,22 +1,25 @@
-use Rattle.std.proofs.Common.{◌≡◌, [], false, refl, sym, ap, ◌∙◌, subst, is_some}
+use Rattle.std.proofs.Common.{◌≡◌, [], false, true, refl, sym, ap, ◌∙◌, subst, is_some}
 use Rattle.enq_base.specs.declared.condition.Condition.{Condition}
 use Rattle.enq_base.specs.declared.condition.Condition.TheVariants.{Up, NoServer}
 use Rattle.enq_server.proofs.Following.{keeps_none}
-use Rattle.lock_entry.specs.Sound.{IsSound}
-use Rattle.lock_entry.specs.Table.{Table}
+use Rattle.enq_server.specs.Server.{replicated}
+use Rattle.lock_entry.specs.Table.{IsTable, Table}
 use Rattle.hall_calls.proofs.verdicts.EachCall.{at_state}
 use Rattle.hall_calls.proofs.ending.StateBehind.{state_with}
-use Rattle.hall_calls.proofs.following.Handovers.{given, goes_on, not_over_so, over_cause, over_up}
+use Rattle.hall_calls.proofs.following.Handovers.{bare_good, following, given, goes_on, not_over_so, over_cause, over_told, over_up}
 use Rattle.hall_calls.proofs.following.EachCall.{any_link}
 use Rattle.hall_model.specs.Acts.{IsAct}
 use Rattle.hall_calls.specs.Serving.{IsDue, Serves, with_calls}
 use Rattle.hall_calls.specs.View.{View}
-use Rattle.hall_model.specs.State.{unhanded}
+use Rattle.hall_model.specs.State.{is_up}
 use Rattle.hall_model.specs.Step.{followed_over}
 use Rattle.hall_model.specs.declared.command.Command.TheVariants as command
 use Rattle.hall_model.specs.declared.command.Reply.{Reply}
 use Rattle.hall_model.specs.declared.command.Reply.TheVariants as reply
 use Rattle.hall_calls.proofs.present.Present.fail_over.Goals as goal
+
+pub fail_over-requires : goal.fail_over-requires
+fail_over-requires g c = record { ended = c.self.invariant.4 ∙ ap is_up c.in-NoServer.is }
 
 pub returns-in-Up : goal.returns-in-Up
 returns-in-Up g c =
@@ -39,22 +42,23 @@ returns-in-Ok g c =
     let past = c.args.past.now.items in
     let called = c.fail_over in
     let new = called.new.self in
+    let applied = g.L.Link.applied in
     let does : View g.row.K.Denot g.row.D.Denot g.row.L.Denot → View g.row.K.Denot g.row.D.Denot g.row.L.Denot → Reply → Type 0 = λ v w r.
-    Serves g.K.Keeper.held g.K.Keeper.may_leave g.K.Keeper.faults g.D.Disk.faults g.L.Link.gives g.L.Link.applied g.L.Link.faults g.L.Link.refusals v w past
+    Serves g.K.Keeper.held g.K.Keeper.may_leave g.K.Keeper.faults g.D.Disk.faults g.L.Link.gives applied g.L.Link.faults g.L.Link.refusals v w past
     command.FailOver r in
     let list = g.L.Link.gives old.locks.copy.link in
     let before : Condition → View g.row.K.Denot g.row.D.Denot g.row.L.Denot = λ k. record {
       state =
-          state_with (is_some (g.K.Keeper.held old.books.keeper)) (is_some (g.L.Link.applied old.locks.copy.link)) old.locks.copy.attached k
-          old.sessions old.next_session old.orders.items old.locks.table old.max_locks old.max_marks old.ranges old.books.ledger old.failure [];
+          state_with applied (is_some (g.K.Keeper.held old.books.keeper)) old.taken_over k
+          old.sessions old.next_session old.orders.items old.locks old.max_locks old.max_marks old.ranges old.books.ledger old.failure [];
       keeper = old.books.keeper;
       file = old.locks.file;
       follower = old.locks.copy;
     } in
     let after : View g.row.K.Denot g.row.D.Denot g.row.L.Denot = record {
       state =
-          state_with (is_some (g.K.Keeper.held old.books.keeper)) (is_some (g.L.Link.applied new.copy.link)) new.copy.attached Up
-          old.sessions old.next_session old.orders.items new.table old.max_locks old.max_marks old.ranges old.books.ledger old.failure [];
+          state_with applied (is_some (g.K.Keeper.held old.books.keeper)) true Up c.forgive.new.self old.next_session old.orders.items new old.max_locks
+          old.max_marks old.ranges old.books.ledger old.failure [];
       keeper = old.books.keeper;
       file = new.file;
       follower = new.copy;
@@ -64,18 +68,23 @@ returns-in-Ok g c =
     let s = with_calls (before NoServer).state past in
     let later = with_calls after.state past in
     let on = c.in-Ok.ensures.followed in
-    let told =
-    given s refl due.admits g.L.Link.faults g.L.Link.gives g.L.Link.applied old.locks.table.entries old.locks.copy new.copy refl refl refl
-    called.ensures.told on in
-    let sound : IsSound list = subst (λ (t : Table). IsSound t.entries) c.in-Ok.ensures.table called.ensures.good.sound in
+    let told = given s refl due.admits g.L.Link.faults g.L.Link.gives applied old.locks.copy new.copy refl refl refl refl called.ensures.told on in
     let table = sym c.in-Ok.ensures.table in
+    let good : IsTable (replicated old.max_locks list) = subst IsTable c.in-Ok.ensures.table called.ensures.good in
     let links = sym called.ensures.later.told in
+    let marks = sym c.forgive.ensures in
     subst (λ v. does v after reply.Done) is
     (record {
       call =
           at_state s command.FailOver (followed_over list s) later reply.Done
-          (λ i. record later { locks = (table i).entries; limit = (table i).limit; attached = sym c.in-Ok.ensures.detached i; link_told = links i })
-          (goes_on s refl due.admits list told on sound c.in-Ok.ensures.replaces);
+          (λ i. record later {
+            sessions = marks i;
+            locks = (table i).entries;
+            limit = (table i).limit;
+            attached = sym c.in-Ok.ensures.detached i;
+            link_told = links i;
+          })
+          (goes_on s refl due.admits list told on good);
       store = refl;
       file = called.ensures.file;
       follower = called.ensures.later;
@@ -89,21 +98,22 @@ returns-in-Err g c =
     let past = c.args.past.now.items in
     let called = c.fail_over in
     let new = called.new.self in
+    let applied = g.L.Link.applied in
     let does : View g.row.K.Denot g.row.D.Denot g.row.L.Denot → View g.row.K.Denot g.row.D.Denot g.row.L.Denot → Reply → Type 0 = λ v w r.
-    Serves g.K.Keeper.held g.K.Keeper.may_leave g.K.Keeper.faults g.D.Disk.faults g.L.Link.gives g.L.Link.applied g.L.Link.faults g.L.Link.refusals v w past
+    Serves g.K.Keeper.held g.K.Keeper.may_leave g.K.Keeper.faults g.D.Disk.faults g.L.Link.gives applied g.L.Link.faults g.L.Link.refusals v w past
     command.FailOver r in
     let before : Condition → View g.row.K.Denot g.row.D.Denot g.row.L.Denot = λ k. record {
       state =
-          state_with (is_some (g.K.Keeper.held old.books.keeper)) (is_some (g.L.Link.applied old.locks.copy.link)) old.locks.copy.attached k
-          old.sessions old.next_session old.orders.items old.locks.table old.max_locks old.max_marks old.ranges old.books.ledger old.failure [];
+          state_with applied (is_some (g.K.Keeper.held old.books.keeper)) old.taken_over k
+          old.sessions old.next_session old.orders.items old.locks old.max_locks old.max_marks old.ranges old.books.ledger old.failure [];
       keeper = old.books.keeper;
       file = old.locks.file;
       follower = old.locks.copy;
     } in
     let after : Condition → View g.row.K.Denot g.row.D.Denot g.row.L.Denot = λ k. record {
       state =
-          state_with (is_some (g.K.Keeper.held old.books.keeper)) (is_some (g.L.Link.applied new.copy.link)) new.copy.attached k
-          old.sessions old.next_session old.orders.items new.table old.max_locks old.max_marks old.ranges old.books.ledger old.failure [];
+          state_with applied (is_some (g.K.Keeper.held old.books.keeper)) old.taken_over k
+          old.sessions old.next_session old.orders.items new old.max_locks old.max_marks old.ranges old.books.ledger old.failure [];
       keeper = old.books.keeper;
       file = new.file;
       follower = new.copy;
@@ -113,23 +123,20 @@ returns-in-Err g c =
     let s = with_calls (before NoServer).state past in
     let later = with_calls (after NoServer).state past in
     let r = c.over_refusal.result in
-    let table = sym c.in-Err.ensures.kept in
     let links = sym called.ensures.later.told in
-    let entries = old.locks.table.entries in
+    let behind = following s refl due.admits g.L.Link.faults g.L.Link.gives applied old.locks.copy new.copy refl refl refl refl called.ensures.told in
     subst (λ v. does v (after old.condition) (reply.Refused r)) c.self.view_is
     (subst (λ k. does (before k) (after k) (reply.Refused r)) (sym c.in-NoServer.is)
     (record {
       call =
-          at_state s command.FailOver (record s { attached = new.copy.attached }) later (reply.Refused r)
-          (λ i. record later { locks = (table i).entries; limit = (table i).limit; gone = unhanded (table i).entries; link_told = links i })
-          (subst (λ x. IsAct s command.FailOver (record s { attached = new.copy.attached }) (reply.Refused x)) (sym c.over_refusal.ensures)
-          (not_over_so s refl due.admits g.L.Link.faults g.L.Link.gives g.L.Link.applied entries old.locks.copy new.copy refl refl refl
-          called.ensures.told c.in-Err.fault c.in-Err.ensures.fault));
+          at_state s command.FailOver behind later (reply.Refused r) (λ i. record later { link_told = links i })
+          (subst (λ x. IsAct s command.FailOver behind (reply.Refused x)) (sym c.over_refusal.ensures)
+          (not_over_so s refl due.admits g.L.Link.faults g.L.Link.gives applied old.locks.copy new.copy refl refl refl refl called.ensures.told c.in-Err.fault
+          (bare_good old.max_locks _ due.kept.sound.table) c.in-Err.ensures.fault));
       store = refl;
       file = called.ensures.file;
       follower = called.ensures.later;
-      over = tt;
-      link =
-          over_cause g.L.Link.faults g.L.Link.gives g.L.Link.applied entries old.locks.copy new.copy c.in-Err.fault r c.over_refusal.ensures
+      over = over_told g.L.Link.faults g.L.Link.gives applied old.locks.copy new.copy c.in-Err.fault r later.locks c.over_refusal.ensures
           c.in-Err.ensures.fault;
+      link = over_cause g.L.Link.faults g.L.Link.gives applied old.locks.copy new.copy c.in-Err.fault r c.over_refusal.ensures c.in-Err.ensures.fault;
     }))

@@ -1,4 +1,5 @@
-use Rattle.std.proofs.Common.{sym, subst, [], is_some}
+use Rattle.std.proofs.Common.{sym, subst, [], false, is_some}
+use Rattle.enq_server.specs.Following.{told_list}
 use Rattle.enq_base.specs.declared.condition.Condition.TheVariants.{Up}
 use Rattle.hall_calls.proofs.ending.FirstState.{first_leaves}
 use Rattle.hall_calls.proofs.ending.OverFile.{first_recovers}
@@ -20,12 +21,13 @@ invariant_of-result g c = (
   subst (λ (f : Failure). AllRecover g.D.Disk.tells g.D.Disk.may_leave Up c.args.books.ledger (flight_over c.args.books.ledger f) f.found c.args.locks.file)
       (sym c.none.ensures)
       (first_recovers g.D.Disk.tells g.D.Disk.reads g.D.Disk.may_leave g.D.Disk.faults c.args.books.ledger c.args.locks.file c.requires.filed),
+  c.requires.stands,
 )
 
 pub returns-clause-state : goal.returns-clause-state
 returns-clause-state g c =
-    λ i. state_of (is_some (g.K.Keeper.held c.args.books.keeper)) (is_some (g.L.Link.applied c.args.locks.copy.link)) (c.requires.detached i) Up
-    (c.new.ensures i) 1 (c.requires.orders i) (c.requires.locks i) c.args.max_locks c.args.max_marks
+    λ i. state_of (is_some (g.K.Keeper.held c.args.books.keeper)) (is_some (g.L.Link.applied c.args.locks.copy.link)) (c.requires.detached i) false
+    Up (c.new.ensures i) 1 (c.requires.orders i) (c.requires.locks i) (told_list g.L.Link.applied c.args.locks.copy) c.args.max_locks c.args.max_marks
     (c.requires.levels i) c.args.books.ledger (flight_over c.args.books.ledger (c.none.ensures i)) (c.none.ensures i).found (c.none.ensures i).caller []
 
 pub returns-clause-left : goal.returns-clause-left

@@ -1,7 +1,11 @@
-use Rattle.std.proofs.Common.{◌≡◌, true, false, [], refl, sym, subst, is_some}
+use Rattle.std.proofs.Common.{◌≡◌, true, false, [], refl, sym, ap, ◌∙◌, subst, is_some}
+use Rattle.std.specs.Prelude.{IsTrue}
 use Rattle.hall_calls.proofs.ending.StateBehind.{remade_as, state_with}
 use Rattle.hall_calls.proofs.ending.WithHistory.{store_told}
-use Rattle.hall_calls.proofs.following.EachCall.{quiet_link, unshipped_still}
+use Rattle.hall_calls.proofs.following.EachCall.{quiet_link}
+use Rattle.hall_calls.proofs.restarting.OverRead.{pending_under}
+use Rattle.lock_entry.specs.Sound.{IsSound}
+use Rattle.hall_model.specs.OpenUnits.{open_entries}
 use Rattle.hall_calls.proofs.ending.OverFile.{remade_filed, remade_recovers}
 use Rattle.hall_calls.proofs.ending.AfterStop.{remade_leaves, remade_usable}
 use Rattle.hall_model.specs.Acts.{IsAct, IsTelling}
@@ -10,7 +14,7 @@ use Rattle.hall_model.specs.Kept.{OutsideDoubt}
 use Rattle.hall_model.specs.Devices.{is_doubt}
 use Rattle.hall_calls.specs.Remaking.{remade_reply, remade_taken}
 use Rattle.hall_calls.specs.Serving.{DoesStore, IsDue, Serves, with_calls}
-use Rattle.hall_model.specs.State.{State}
+use Rattle.hall_model.specs.State.{State, is_honest, is_up}
 use Rattle.hall_calls.specs.View.{View}
 use Rattle.hall_model.specs.Unsound.{is_unsound_file, is_unsound_store}
 use Rattle.hall_model.specs.declared.command.Command.TheVariants as command
@@ -33,6 +37,7 @@ invariant_of-self g c =
       remade_recovers g.D.Disk.tells g.D.Disk.reads g.D.Disk.may_leave g.D.Disk.faults called.result old.condition ended.new.condition _ old.books.ledger
           called.new.books.ledger old.failure ended.new.failure old.locks.file called.new.locks.file
           ended.ensures.condition ended.ensures.failure called.ensures.file called.ensures.ledger c.self.invariant.3,
+      called.ensures.stands _ ∙ ap is_up (sym ended.ensures.condition),
     )
 
 -- what the call comes to, over the fields
@@ -44,26 +49,24 @@ told_so g c =
     let called = c.remake-remade in
     let ended = c.settled in
     let due = subst (λ v. IsDue v.state past command.Restart) (sym c.self.view_is) c.requires in
-    let s : State = state_with (is_some (held old.books.keeper)) (is_some (g.L.Link.applied old.locks.copy.link)) old.locks.copy.attached old.condition
-    old.sessions old.next_session old.orders.items old.locks.table old.max_locks old.max_marks old.ranges old.books.ledger old.failure past in
-    let new : State = state_with (is_some (held called.new.books.keeper))
-    (is_some (g.L.Link.applied called.new.locks.copy.link)) called.new.locks.copy.attached ended.new.condition called.new.sessions old.next_session
-    called.new.orders.items called.new.locks.table old.max_locks old.max_marks old.ranges called.new.books.ledger ended.new.failure past in
+    let s : State = state_with g.L.Link.applied (is_some (held old.books.keeper)) old.taken_over old.condition
+    old.sessions old.next_session old.orders.items old.locks old.max_locks old.max_marks old.ranges old.books.ledger old.failure past in
+    let new : State = state_with g.L.Link.applied (is_some (held called.new.books.keeper)) ended.new.taken_over ended.new.condition called.new.sessions
+    old.next_session
+    called.new.orders.items called.new.locks old.max_locks old.max_marks old.ranges called.new.books.ledger ended.new.failure past in
     let told = store_told held g.K.Keeper.may_leave g.K.Keeper.faults old.books.keeper called.new.books.keeper s command.Restart _ called.ensures.store in
     let is =
-    remade_as called.result (is_some (held old.books.keeper)) (is_some (held called.new.books.keeper)) (is_some (g.L.Link.applied old.locks.copy.link))
-    (is_some (g.L.Link.applied called.new.locks.copy.link)) old.locks.copy.attached called.new.locks.copy.attached old.condition ended.new.condition
-    old.sessions called.new.sessions old.next_session old.orders.items called.new.orders.items old.locks.table called.new.locks.table
+    remade_as g.L.Link.applied called.result (is_some (held old.books.keeper)) (is_some (held called.new.books.keeper)) old.taken_over ended.new.taken_over
+    old.condition ended.new.condition old.sessions called.new.sessions old.next_session old.orders.items called.new.orders.items old.locks called.new.locks
     old.max_locks old.max_marks old.ranges old.books.ledger called.new.books.ledger old.failure ended.new.failure past told called.ensures.follower.told
-    called.ensures.detached (unshipped_still called.result old.locks.copy called.new.locks.copy called.ensures.unshipped) ended.ensures.condition
-    ended.ensures.failure
-    called.ensures.sessions called.ensures.orders called.ensures.table called.ensures.ledger in
+    called.ensures.detached called.ensures.untouched ended.ensures.condition ended.ensures.over ended.ensures.failure
+    called.ensures.sessions called.ensures.orders called.ensures.ledger in
     subst (λ (v : View g.row.K.Denot g.row.D.Denot g.row.L.Denot). IsTelling
     (with_calls v.state past) command.Restart ended.result.taken new ended.result.reply) c.self.view_is
     (subst (λ b. IsTelling s command.Restart b new ended.result.reply) (sym ended.ensures.taken)
     (subst (IsTelling s command.Restart (remade_taken called.result) new) (sym ended.ensures.reply)
     (subst (λ t. IsTelling s command.Restart (remade_taken called.result) t (remade_reply called.result)) (sym is)
-    (called.ensures.act s refl refl refl refl refl refl refl refl due.admits))))
+    (called.ensures.act s refl refl refl refl refl refl refl due.admits))))
 
 pub returns-clause-taken : goal.returns-clause-taken
 returns-clause-taken g c = told_so g c
@@ -75,9 +78,9 @@ returns-clause-serves g c =
     let past = c.args.past.now.items in
     let called = c.remake-remade in
     let ended = c.settled in
-    let new : State = state_with (is_some (held called.new.books.keeper))
-    (is_some (g.L.Link.applied called.new.locks.copy.link)) called.new.locks.copy.attached ended.new.condition called.new.sessions old.next_session
-    called.new.orders.items called.new.locks.table old.max_locks old.max_marks old.ranges called.new.books.ledger ended.new.failure [] in
+    let new : State = state_with g.L.Link.applied (is_some (held called.new.books.keeper)) ended.new.taken_over ended.new.condition called.new.sessions
+    old.next_session
+    called.new.orders.items called.new.locks old.max_locks old.max_marks old.ranges called.new.books.ledger ended.new.failure [] in
     let act = (told_so g c).act in
     let after : View g.row.K.Denot g.row.D.Denot g.row.L.Denot =
     record { state = new; keeper = called.new.books.keeper; file = called.new.locks.file; follower = called.new.locks.copy } in
@@ -97,12 +100,13 @@ returns-clause-serves g c =
     }) act
 
 pub returns-clause-good_file : goal.returns-clause-good_file
-returns-clause-good_file g c = λ yes.
-    let old = c.self.inside in
+returns-clause-good_file g c = λ yes honest.
     let past = c.args.past.now.items in
     let due = subst (λ v. IsDue v.state past command.Restart) (sym c.self.view_is) c.requires in
+    let told = subst (λ (v : View g.row.K.Denot g.row.D.Denot g.row.L.Denot). IsTrue (is_honest v.state)) (sym c.self.view_is) honest in
     subst (λ r. is_unsound_file r ≡ false) (sym c.settled.ensures.reply)
-    (c.remake-remade.ensures.good_file yes due.kept.open_units.stored due.kept.open_units.pending)
+    (c.remake-remade.ensures.good_file yes (due.kept.open_units.stored told).together
+    (pending_under _ _ (λ ledger. IsSound (open_entries ledger)) told due.kept.open_units.pending))
 
 pub returns-clause-good_store : goal.returns-clause-good_store
 returns-clause-good_store g c =

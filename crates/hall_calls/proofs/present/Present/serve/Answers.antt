@@ -59,7 +59,7 @@ returns-in-Some-clause-room g c =
     (refused_room s (call_of c.args.command.now) c.in-Some.refusal (sym c.unavailable.ensures ∙ c.in-Some.is))
 
 pub returns-in-Some-clause-good_file : goal.returns-in-Some-clause-good_file
-returns-in-Some-clause-good_file g c = λ yes.
+returns-in-Some-clause-good_file g c = λ yes honest.
     subst (λ (a : Answer). is_unsound_file a.reply ≡ false) (sym c.of.ensures)
     (file_sound (reply.Refused c.in-Some.refusal)
     (refused_sound (with_calls c.args.self.now.state c.args.past.now.items) (call_of c.args.command.now) c.in-Some.refusal
@@ -76,7 +76,8 @@ pub returns-in-Some-clause-over : goal.returns-in-Some-clause-over
 returns-in-Some-clause-over g c =
     let v = c.args.self.now in
     subst (λ (a : Answer). IsOver (fails_over (call_of c.args.command.now)) v.state.locks (g.L.Link.gives v.follower.link) a.reply) (sym c.of.ensures)
-    (refused_over (fails_over (call_of c.args.command.now)) v.state.locks (g.L.Link.gives v.follower.link) c.in-Some.refusal)
+    (refused_over (fails_over (call_of c.args.command.now)) v.state.locks (g.L.Link.gives v.follower.link) c.in-Some.refusal
+    (shut_plain (with_calls v.state c.args.past.now.items) (call_of c.args.command.now) c.in-Some.refusal (sym c.unavailable.ensures ∙ c.in-Some.is)))
 
 pub returns-in-Some-clause-link_cause : goal.returns-in-Some-clause-link_cause
 returns-in-Some-clause-link_cause g c =
@@ -176,7 +177,7 @@ returns-in_default-clause-room g c = λ noted.
     (not_barred (with_calls c.args.self.now.state c.args.past.now.items) (call_of c.args.command.now) (sym c.unavailable.ensures ∙ c.in-None.is))
 
 pub returns-in_default-clause-good_file : goal.returns-in_default-clause-good_file
-returns-in_default-clause-good_file g c = λ yes.
+returns-in_default-clause-good_file g c = λ yes honest.
     subst (λ (a : Answer). is_unsound_file a.reply ≡ false) (sym c.of-in_default.ensures)
     (file_sound c.act.result
     (others_sound (with_calls c.args.self.now.state c.args.past.now.items) c.args.command.now

@@ -1,9 +1,10 @@
-use Rattle.std.proofs.Common.{◌≡◌, ◌+◌, None, Some, true, refl, ap, sym, ◌∙◌, subst, set, slice_get}
+use Rattle.std.proofs.Common.{◌≡◌, None, Some, ap, sym, ◌∙◌, subst, set, slice_get}
 use Rattle.std.specs.Map.{values_of}
 use Rattle.std.specs.Option.{option_copied_mut}
 use Rattle.hall_calls.specs.Named.{AreNamed}
+use Rattle.hall_model.specs.Sessions.{bereft_if}
 use Rattle.hall_model.specs.declared.command.Session.{Session}
-use Rattle.hall_calls.proofs.restarting.LostLocks.{are_named_set, values_set}
+use Rattle.hall_calls.proofs.restarting.LostLocks.{are_named_set, bereft_named, values_set}
 use Rattle.hall_calls.proofs.sessions.Sessions.bereave_at.Goals as goal
 use Rattle.hall_calls.proofs.sessions.Sessions.bereave_at.Goals.{in-Some, in_default}
 
@@ -14,10 +15,9 @@ invariant_of-self c =
       | in-Some w ↦
           let x = w.in-Some.session.now in
           let at = sym c.get_index_mut.ensures.value ∙ ap option_copied_mut w.in-Some.is in
-          let nothing = c.no_numbers-nothing.result in
-          let changed : Session = record { name = x.name; user = x.user; number = x.number; luw = x.luw + 1; draws = nothing; lost = true } in
+          let name = ap (λ (y : Session). y.name) w.lose_if.ensures ∙ bereft_named c.args.caller.now x in
           subst (AreNamed (λ x. x.name)) (sym (ap (λ s. s.by_name.entries) w.self-inside-is))
-          (are_named_set (λ x. x.name) es c.args.place x changed c.self.invariant at refl)
+          (are_named_set (λ x. x.name) es c.args.place x w.lose_if.new.session c.self.invariant at name)
       | in_default w ↦ subst (AreNamed (λ x. x.name)) (sym (ap (λ s. s.by_name.entries) w.self-inside-is)) c.self.invariant
     ]
 
@@ -30,17 +30,9 @@ returns c = λ x at.
           let y = w.in-Some.session.now in
           let found : Some y ≡ Some x = sym (ap option_copied_mut w.in-Some.is) ∙ c.get_index_mut.ensures.value ∙ seen in
           let same : y ≡ x = cc in
-          let nothing = c.no_numbers-nothing.result in
-          let changed : Session = record { name = y.name; user = y.user; number = y.number; luw = y.luw + 1; draws = nothing; lost = true } in
-          ap (λ s. values_of s.by_name.entries) w.self-inside-is ∙ values_set es c.args.place changed
-          ∙ (λ i. set (c.self.view_is i) c.args.place (record {
-            name = (same i).name;
-            user = (same i).user;
-            number = (same i).number;
-            luw = (same i).luw + 1;
-            draws = c.no_numbers-nothing.ensures i;
-            lost = true;
-          }))
+          let lost = w.lose_if.ensures ∙ ap (bereft_if c.args.caller.now) same in
+          ap (λ s. values_of s.by_name.entries) w.self-inside-is ∙ values_set es c.args.place w.lose_if.new.session
+          ∙ (λ i. set (c.self.view_is i) c.args.place (lost i))
       | in_default w ↦
           let none : None ≡ Some x = sym (ap option_copied_mut w.in_default.is) ∙ c.get_index_mut.ensures.value ∙ seen in
           absurd (cc)

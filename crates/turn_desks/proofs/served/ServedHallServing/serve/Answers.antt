@@ -1,7 +1,7 @@
 use Rattle.std.proofs.Common.{ap, ◌∙◌}
 use Rattle.std.proofs.Math.Logic.{∥∥₁_map}
 use Rattle.hall_model.specs.Unsound.{is_unsound_file, is_unsound_replica, is_unsound_store}
-use Rattle.script_runner.proofs.GoodFiles.{step_sound}
+use Rattle.script_runner.proofs.GoodFiles.{step_sound, told_honest}
 use Rattle.script_runner.proofs.Kept.{later_counts, linked_call}
 use Rattle.order_laws.specs.Behind.{is_up}
 use Rattle.turn_desks.specs.Led.{counts_of}
@@ -30,7 +30,8 @@ invariant_of-self g c =
       store = call.cause;
       file = call.file_cause;
       link = linked_call old.state new.state n cmd reply now.link next.link call.step later call.link_cause call.lost;
-      good_file = λ yes none. step_sound is_unsound_file old.state new.state n cmd reply call.step (call.good_file yes) none;
+      good_file = λ on yes none. step_sound is_unsound_file old.state new.state n cmd reply call.step
+          (call.good_file yes (told_honest old.state (call.linked ∙ was.linked ∙ on))) none;
       good_store = λ yes none. step_sound is_unsound_store old.state new.state n cmd reply call.step (call.good_store (was.told ∙ yes)) none;
       good_replica = λ yes none. step_sound is_unsound_replica old.state new.state n cmd reply call.step (call.good_replica (was.linked ∙ yes)) none;
     } in

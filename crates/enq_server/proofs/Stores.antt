@@ -1,0 +1,14 @@
+-- What is said of the table of a store holds of a store that stands.
+use Rattle.std.proofs.Common.{◌≡◌, true, List, Option, Some, refl, subst}
+use Rattle.std.specs.Prelude.{is_some}
+use Rattle.lock_entry.specs.Table.{IsTable, Table}
+use Rattle.lock_entry.specs.declared.entry.Entry.{Entry}
+use Rattle.enq_server.specs.Following.{Following, IsAt}
+use Rattle.enq_server.specs.Server.{table_of}
+
+pub good_store : {T : Type 0} (table : T → Table) (store : Option T) (one : T) → store ≡ Some one → IsTable (table_of table store) → IsTable (table one)
+good_store table store one is good = subst (λ s. IsTable (table_of table s)) is good
+
+pub at_store : {T L : Type 0} (table : T → Table) (applied : L → Option (List Entry)) (f : Following L) (store : Option T) (one : T) → store ≡ Some one
+    → (is_some store ≡ true → IsAt applied f (table_of table store).entries) → IsAt applied f (table one).entries
+at_store table applied f store one is at = subst (λ s. is_some s ≡ true → IsAt applied f (table_of table s).entries) is at refl
