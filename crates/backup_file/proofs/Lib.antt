@@ -7,3 +7,4 @@ pub mod Units
 pub mod Adding
 pub mod Names
 pub mod ReadBack
+pub mod WithEntries

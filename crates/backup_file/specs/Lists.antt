@@ -1,6 +1,6 @@
 -- The lists that units handed over, and what the records of a file do to them.
-use Rattle.std.specs.Prelude.{◌≡◌, Bool, not, cond, List, [], ◌∷◌, ◌++◌, filter, IsTrue}
-use Rattle.std.specs.List.{list_any}
+use Rattle.std.specs.Prelude.{◌≡◌, ◌<◌, Bool, not, cond, List, [], ◌∷◌, ◌++◌, filter, length, IsTrue}
+use Rattle.std.specs.List.{All, list_any}
 use Rattle.enq_base.specs.Owners.{same_unit}
 use Rattle.enq_base.specs.declared.owner.UnitKey.{UnitKey}
 use Rattle.lock_entry.specs.Names.{has_distinct_names}
@@ -21,6 +21,10 @@ is_known u ids = list_any (same_id (id_of u)) ids
 -- these are the units whose lists stand, in whichever order
 abbrev pub AreUnits : List UnitId → List Handed → Type 0
 AreUnits ids l = (u : UnitKey) → is_known u ids ≡ has_unit u l
+
+-- each of these lists has an entry
+abbrev pub HaveEntries : List Handed → Type 0
+HaveEntries l = All (λ (h : Handed). 0 < length h.entries) l
 
 -- the lists but the unit's
 abbrev pub without : UnitKey → List Handed → List Handed

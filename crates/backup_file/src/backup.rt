@@ -4,7 +4,7 @@ ghost use Rattle.bk_disk.specs.Disk.{Follows};
 ghost use Rattle.gate_log.specs.Gates.{IsShut, IsAtRest};
 ghost use Rattle.backup_file.specs.declared.handed.Handed.{Handed};
 ghost use Rattle.backup_file.specs.declared.handed.Record.TheVariants.{Hand, Free};
-ghost use Rattle.backup_file.specs.Lists.{AreUnits, after, has_unit, is_known};
+ghost use Rattle.backup_file.specs.Lists.{AreUnits, HaveEntries, after, has_unit, is_known};
 ghost use Rattle.backup_file.specs.File.{Stands, IsBad, IsShort, IsLong, Keeps, new_file};
 ghost use Rattle.backup_file.specs.Opening.{CountsFault, OnBad};
 ghost use Rattle.backup_file.specs.Handing.{IsHandable, handed_of};
@@ -73,6 +73,7 @@ impl<D: Disk> Backup<D> {
         ensures ready { IsTrue D.tells
             → IfOk result (λ found. IsReady D.reads D.may_leave found.0 found.1.items) }
         ensures units { IfOk result (λ found. AreUnits found.0.units found.1.items) }
+        ensures some { IfOk result (λ found. HaveEntries found.1.items) }
         ensures fresh { IfOk result (λ found. found.0.failed ≡ false) }
         ensures anew { IsTrue D.tells → IsShort (D.reads disk)
             → IfOk result (λ found. D.reads found.0.disk ≡ new_file) }
@@ -117,6 +118,7 @@ impl<D: Disk> Backup<D> {
         ensures ready { IsTrue D.tells
             → IfOk result (λ lists. IsReady D.reads D.may_leave self.new lists.items) }
         ensures units { IfOk result (λ lists. AreUnits self.new.units lists.items) }
+        ensures some { IfOk result (λ lists. HaveEntries lists.items) }
         ensures fresh { OnOk result (self.new.failed ≡ false) }
         ensures shut { OnErr result (self.new.failed ≡ true) }
         ensures anew { IsTrue D.tells → IsShort (D.reads self.old.disk)

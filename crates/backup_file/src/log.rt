@@ -1,7 +1,6 @@
 ghost use Rattle.std.specs.Prelude.{◌≡◌, ◌<◌, ◌↔◌, ℕ, List, length, take, IsTrue, IfOk, IfErr, IsErrOf, IfSome, IfNone, ◌∷◌};
-ghost use Rattle.gate_log.specs.Gates.{IsShut};
-ghost use Rattle.backup_file.specs.File.{name, IsBad, IsLong, IsFront};
-ghost use Rattle.backup_file.specs.Lists.{AreUnits};
+ghost use Rattle.backup_file.specs.File.{name, IsBad, IsLong};
+ghost use Rattle.backup_file.specs.Lists.{AreUnits, HaveEntries};
 ghost use Rattle.backup_file.specs.Opening.{OnBad, IsRead};
 
 use crate::fault::BackFault;
@@ -25,6 +24,7 @@ pub fn read_log(alloc: Global, bytes: &[u8]) -> Result<Found, BackFault>
     requires { IsLong bytes.now }
     ensures shut { IfOk result (λ found. IsRead bytes.now found.gate found.lists.items) }
     ensures units { IfOk result (λ found. AreUnits found.units.keys found.lists.items) }
+    ensures some { IfOk result (λ found. HaveEntries found.lists.items) }
     ensures bad { IfErr result (OnBad (IsBad bytes.now)) }
     ensures not_failed { IsErrOf result BackFault.Failed → ⊥ }
 {

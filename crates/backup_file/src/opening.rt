@@ -2,7 +2,7 @@ ghost use Rattle.std.specs.Prelude.{◌≡◌, IsTrue, IfOk, IfErr};
 ghost use Rattle.bk_disk.specs.Disk.{Follows};
 ghost use Rattle.gate_log.specs.Logs.{SameOrFirst};
 ghost use Rattle.backup_file.specs.File.{Stands, IsBad, IsShort, IsLong, grammar, new_file};
-ghost use Rattle.backup_file.specs.Lists.{AreUnits};
+ghost use Rattle.backup_file.specs.Lists.{AreUnits, HaveEntries};
 ghost use Rattle.backup_file.specs.Opening.{OnBad, HasBackCause, IsOpened};
 
 use crate::fault::BackFault;
@@ -18,6 +18,7 @@ pub fn open_file<D: Disk>(alloc: Global, disk: &mut D) -> Result<Found, BackFaul
     ensures at_rest { IsTrue D.tells
         → IfOk result (λ found. IsOpened (D.reads disk.new) (D.may_leave disk.new) found.gate found.lists.items) }
     ensures units { IfOk result (λ found. AreUnits found.units.keys found.lists.items) }
+    ensures some { IfOk result (λ found. HaveEntries found.lists.items) }
     ensures anew { IsTrue D.tells → IsShort (D.reads disk.old) → IfOk result (λ _. D.reads disk.new ≡ new_file) }
     ensures stays { IsTrue D.tells → IsLong (D.reads disk.old)
         → IfOk result (λ _. D.reads disk.new ≡ D.reads disk.old) }

@@ -19,8 +19,6 @@ mod objects;
 #[cfg(test)]
 mod records;
 #[cfg(test)]
-mod replies;
-#[cfg(test)]
 mod scripts;
 #[cfg(test)]
 mod streams;

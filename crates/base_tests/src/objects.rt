@@ -66,11 +66,11 @@ fn asked(table: &[u8], argument: &[u8]) -> Result<Asked, Fail> {
     })
 }
 
-/// A table T1 with both keys, and a table T2 with one.
+/// A table ZWIDE with both keys, and a table ZNARROW with one.
 fn two_tables(alloc: Global) -> Result<Vec<KeyTable>, Fail> {
     let mut tables = Vec::new(alloc);
-    push_table(&mut tables, alloc, "T1", "F G")?;
-    push_table(&mut tables, alloc, "T2", "G")?;
+    push_table(&mut tables, alloc, "ZWIDE", "F G")?;
+    push_table(&mut tables, alloc, "ZNARROW", "G")?;
     Ok(tables)
 }
 
@@ -108,7 +108,7 @@ fn is_object(alloc: Global, values: &[FieldValue], wanted: &[Asked]) -> Result<b
 #[test]
 fn each_table_has_its_own_argument(rt: HostRuntime) -> Result<(), Fail> {
     let values = [given(b"F", b"AB")?];
-    let wanted = [asked(b"T1", b"AB@")?, asked(b"T2", b"@")?];
+    let wanted = [asked(b"ZWIDE", b"AB@")?, asked(b"ZNARROW", b"@")?];
     assert!(rt; is_object(rt.alloc(), &values, &wanted)?);
     Ok(())
 }

@@ -14,7 +14,8 @@ use Rattle.hall_model.specs.Recall.{HasBegun, Made, recalled, state_after}
 use Rattle.hall_model.specs.State.{State, doubt_in}
 use Rattle.script_runner.specs.Faults.{answer_at, tells_other}
 use Rattle.script_runner.specs.Replay.{IsDoubted, doubt_of}
-use Rattle.turn_desks.specs.Led.{Counts, CountsCalls, IsLed}
+use Rattle.script_runner.specs.Counts.{CountsCalls}
+use Rattle.turn_desks.specs.Led.{Counts, IsLed}
 use Rattle.doubt_laws.proofs.Entries.{answered_again}
 use Rattle.doubt_laws.proofs.Failing.{IsFailed, LeavesDoubt, StaysOrEnds, step_leaves}
 

@@ -19,6 +19,7 @@ use Rattle.lock_objects.specs.Objects.{Object}
 use Rattle.update_records.specs.Ledger.{Ledger}
 use Rattle.hall_model.specs.Unsound.{is_unsound_file, is_unsound_replica, is_unsound_store}
 use Rattle.script_runner.proofs.Kept.{same_counts}
+use Rattle.script_runner.specs.Counts.{CountsCalls, file_fails_in_call, store_fails_in_call}
 use Rattle.script_runner.specs.Faults.{NoneTells, NoneUnsound, NoneUnsoundReplica, NoneUnsoundStore, TellsNoFault, is_link_fault}
 use Rattle.script_runner.specs.Replay.{RunsScript, Seen, seen}
 use Rattle.script_runner.specs.Replicas.{AreLater, CountsLinkEach, GoesOnLinked, HasLinked, LinkCounts, link_counts}
@@ -27,7 +28,7 @@ use Rattle.script_runner.specs.declared.runner.Why.{Why}
 use Rattle.script_runner.specs.declared.runner.Why.TheVariants.{Done, BadWords, BadLandscape, BadLine, SourceFault, SinkFault, LongLine, ManyLines, StoreFault, BackupFault, BadStore, BadBackup, NoStart, NoMemory, LogFull}
 use Rattle.enq_cmd.proofs.Tellings.{HasRun, first_sound, promises_with, served_with, where_told}
 use Rattle.enq_cmd.specs.Writing.{WritesText}
-use Rattle.enq_cmd.specs.Main.{AreServed, EndsComplete, HasLandscape, HasNoStart, IsFaultless, IsBadDocument, IsBadStore, IsFirstBroken, IsLandEnd, IsUnfitEnd, IsServed, IsUnopened, IsUntouched, SiteFound, SiteLeft, first_state, found_in, left_in}
+use Rattle.enq_cmd.specs.Main.{AreServed, EndsComplete, HasLandscape, HasNoStart, IsFaultless, IsBadDocument, IsBadStore, IsFirstBroken, IsLandEnd, IsUnfitEnd, IsServed, IsUnopened, IsUntouched, SiteFound, SiteLeft, first_state, found_in, left_in, made_from}
 use Rattle.enq_cmd.specs.Loading.{HasLoaded, IsRunEnd, IsSilent, RunsLoad, ShowsCounts, unheard}
 use Rattle.enq_cmd.specs.Opening.{IsLandedAlone, IsOpened, IsUnlanded}
 
@@ -50,16 +51,18 @@ module _ {K D L : Type 0} (held : K → Option Rows) (may_leave : K → Rows →
       → (is_some (applied hall.follower.link) ≡ true → IsTrue tells → NoneUnsound after.state.past)
       → (is_some (held hall.keeper) ≡ true → NoneUnsoundStore after.state.past)
       → (is_some (applied hall.follower.link) ≡ true → NoneUnsoundReplica after.state.past)
-      → (past : List PastEntry) → past ≡ after.state.past → (made : List Made) → past ≡ calls_of made
+      → (old new : Seen) (past : List PastEntry) → past ≡ after.state.past → (made : List Made) → past ≡ calls_of made
       → AreModelAnswers (first_state o.land (is_some (held keeper)) (is_some (applied link)) hall.state.stored) made
       → after.state ≡ state_after (first_state o.land (is_some (held keeper)) (is_some (applied link)) hall.state.stored) made
-      → AreServed o.land site (left_with keeper_now disk_now copy) hall.state.stored made past
-  promises_by after keeper_now disk_now kept kept_disk told leaves lists units copy follows files stores replicas past history made calls answers leads =
-      promises_with o.land site (left_with keeper_now disk_now copy) hall.state.stored after.state past made
+      → CountsCalls store_fails_in_call made old.store_faults new.store_faults → CountsCalls file_fails_in_call made old.file_faults new.file_faults
+      → AreServed o.land site (left_with keeper_now disk_now copy) old new hall.state.stored made past
+  promises_by after keeper_now disk_now kept kept_disk told leaves lists units copy follows files stores replicas old new past history made calls answers leads
+      counted filed =
+      promises_with o.land site (left_with keeper_now disk_now copy) old new hall.state.stored after.state past made
       (read_limits o.read.bytes o.land o.read.gives)
       o.sound
       (λ yes. where_told _ (held hall.keeper) (subst IsTrue (sym o.told) yes) o.stored)
-      o.fits o.table o.filed calls answers leads
+      o.fits o.table o.filed calls answers leads counted filed
       (λ yes. subst (λ k. (rows : Rows) → may_leave k rows → StandForState rows after.state) (sym kept)
       (where_told _ (held after.keeper) (subst IsTrue (sym (told ∙ o.told)) yes) leaves))
       (subst (λ d. AllRecover tells images after.state.condition after.state.stored after.state.pending after.state.found (record after.file { disk = d }))
@@ -80,14 +83,15 @@ module _ {K D L : Type 0} (held : K → Option Rows) (may_leave : K → Rows →
       → (known : List Object) (old new : Seen) (past : List PastEntry) (why : Why)
       → HasRun o.land (is_some (held keeper)) (is_some (applied link)) hall.state.stored hall.state after.state known old new past why
       → (s : IsServed o.land site (left_with keeper_now disk_now copy) old new past why)
-      × (after.state ≡ state_after (first_state o.land (is_some (held keeper)) (is_some (applied link)) s.stored) s.made)
+      × (after.state ≡ state_after (first_state o.land (is_some (held keeper)) (is_some (applied link)) s.stored)
+      (made_from o.land (is_some (held keeper)) (is_some (applied link)) s.stored s.turns))
   served_by after keeper_now disk_now kept kept_disk told leaves lists units copy follows files stores replicas known old new past why run =
       served_with o.land site (left_with keeper_now disk_now copy) hall.state.stored hall.state after.state known old new past why
       (promises_by after keeper_now disk_now kept kept_disk told leaves lists units copy follows
       (λ on yes. files on yes (first_sound is_unsound_file o.land (is_some (held keeper)) (is_some (applied link)) hall.state.stored hall.state o.first))
       (λ yes. stores yes (first_sound is_unsound_store o.land (is_some (held keeper)) (is_some (applied link)) hall.state.stored hall.state o.first))
       (λ yes. replicas yes (first_sound is_unsound_replica o.land (is_some (held keeper)) (is_some (applied link)) hall.state.stored hall.state o.first))
-      past run.history)
+      old new past run.history)
       run
 
 -- a run of a script in memory, with the devices as they were given and as they are given back
@@ -277,8 +281,8 @@ run_document why h = by_run (λ w. IsBadDocument w → ⊥) why h (λ d. d) (λ 
 
 ends_so : (before after : State) (objects : List Object) (old new : Seen) (why : Why) → RunsScript objects before after old new why → IsRunEnd why
 ends_so before after objects old new Done run = tt
-ends_so before after objects old new BadWords run = absurd (run.replays.end)
-ends_so before after objects old new (BadLandscape rule place) run = absurd (run.replays.end)
+ends_so before after objects old new BadWords run = absurd (run.runs.replays.end)
+ends_so before after objects old new (BadLandscape rule place) run = absurd (run.runs.replays.end)
 ends_so before after objects old new (BadLine n) run = tt
 ends_so before after objects old new SourceFault run = tt
 ends_so before after objects old new SinkFault run = tt
@@ -288,9 +292,9 @@ ends_so before after objects old new (StoreFault k) run = tt
 ends_so before after objects old new (BackupFault k) run = tt
 ends_so before after objects old new (BadStore table row) run = tt
 ends_so before after objects old new (BadBackup place) run = tt
-ends_so before after objects old new NoStart run = absurd (run.replays.end)
+ends_so before after objects old new NoStart run = absurd (run.runs.replays.end)
 ends_so before after objects old new NoMemory run = tt
-ends_so before after objects old new LogFull run = absurd (run.replays.end)
+ends_so before after objects old new LogFull run = absurd (run.runs.replays.end)
 
 -- the kind of such a run's end
 pub run_kind : (before after : State) (objects : List Object) (old new : Seen) (why end : Why) → end ≡ why → RunsScript objects before after old new why

@@ -1,46 +1,46 @@
 -- The history of a run leads to the state that it ends in.
-use Rattle.std.proofs.Common.{inl, inr, is_some, IsTrue, IfSome, ◌≡◌, ℕ, ◌+◌, Bool, true, false, List, [], ◌∷◌, fold, refl, sym, ap, ◌∙◌, subst}
+use Rattle.std.proofs.Common.{inl, inr, is_some, IsTrue, IfSome, ◌≡◌, ℕ, ◌+◌, Bool, true, false, List, [], refl, sym, ap, ◌∙◌, subst}
 use Rattle.std.specs.Prelude.{Option, Some, None}
+use Rattle.std.specs.List.{All}
+use Rattle.std.proofs.lemmas.List.Elements.{All-from_recursion}
 use Rattle.enq_base.specs.declared.condition.Bad.{Bad}
+use Rattle.enq_base.specs.declared.condition.Condition.{Condition}
+use Rattle.enq_base.specs.declared.condition.Condition.TheVariants as condition
 use Rattle.enq_base.specs.declared.refusal.Refusal.TheVariants as refusal
-use Rattle.hall_model.specs.declared.command.Command.{Command}
 use Rattle.hall_model.specs.declared.command.PastEntry.{PastEntry}
 use Rattle.hall_model.specs.declared.command.Reply.{Reply}
 use Rattle.hall_model.specs.declared.command.Reply.TheVariants as reply
-use Rattle.hall_model.specs.Devices.{DeviceOutcome, IsAllowed}
-use Rattle.hall_model.specs.History.{step}
 use Rattle.hall_model.specs.Recall.{AreModelAnswers, Made, calls_of, state_after}
 use Rattle.hall_model.specs.State.{State, is_honest}
+use Rattle.hall_model.specs.Views.{unless_in_doubt}
 use Rattle.hall_laws.proofs.starting.FirstKeeps.{AgreeWith}
 use Rattle.hall_laws.proofs.starting.FirstState.{IsFirstTable}
 use Rattle.hall_calls.proofs.lists.GoodFiles.{no_bad_place}
 use Rattle.hall_laws.proofs.histories.FlaggedSessions.{just_losers}
 use Rattle.hall_laws.proofs.histories.ToldLosers.{losers_told}
 use Rattle.hall_laws.proofs.histories.StandingLocks.{locks_return, locks_stand, stays_sound}
-use Rattle.hall_laws.proofs.histories.NotedSteps.{IsTold, answers_before, told_first, told-answers}
-use Rattle.hall.proofs.Told.{told_step}
+use Rattle.hall_laws.proofs.histories.NotedSteps.{answers_before, told-answers}
 use Rattle.script_runner.specs.declared.runner.Why.{Why}
 use Rattle.script_runner.specs.declared.runner.Why.TheVariants.{Done, BadWords, BadLandscape, BadLine, SourceFault, SinkFault, LongLine, ManyLines, StoreFault, BackupFault, BadStore, BadBackup, NoStart, NoMemory, LogFull}
 use Rattle.lock_objects.specs.Objects.{Object}
 use Rattle.landscape.specs.declared.landscape.Landscape.{Landscape}
 use Rattle.landscape.proofs.Limits.{HasLimits}
 use Rattle.ledger_steps.specs.Levels.{FitRows}
-use Rattle.script_lang.specs.Memory.{holds_lists}
-use Rattle.script_lang.specs.declared.script_line.ScriptLine.{ScriptLine}
-use Rattle.script_runner.specs.Lines.{Meaning, Silent, Shows, Calls, Declines, Changes, line_in, meaning, settled}
-use Rattle.script_runner.specs.Replay.{RunsScript, Seen, HasBadCause, IsFoundBad, doubt_of}
-use Rattle.script_runner.specs.Run.{AreAllowed, CallMayHave, Called, LineMayHave, LineOutcome, MayHave, NoRoom, Progress, Turn, after_turn, begun, does, line_does, next, run, said}
-use Rattle.script_runner.proofs.TurnLemmas.{answered-world}
-use Rattle.script_runner.specs.World.{World, first_world, world}
+use Rattle.script_runner.specs.Counts.{CountsCalls, file_fails_in_call, store_fails_in_call}
+use Rattle.script_runner.specs.Replay.{RunsLines, RunsScript, Seen, HasBadCause, IsFoundBad, doubt_of}
+use Rattle.script_runner.specs.Run.{Turn, begun}
+use Rattle.script_runner.proofs.MadeCalls.{Leads, run_leads}
+use Rattle.script_runner.specs.World.{World, first_world}
 use Rattle.script_runner.proofs.GoodFiles.{answer_sound, never_met}
 use Rattle.script_runner.specs.Faults.{NoneTells, NoneUnsound, NoneUnsoundReplica, NoneUnsoundStore}
 use Rattle.script_runner.specs.Whole.{IsComplete, IsScript}
-use Rattle.enq_cmd.specs.Main.{AreServed, EndsComplete, HadHanded, HasHanded, IsFaultless, IsGoodFile, IsLedgerBy, IsLedgerOf, IsNextOf, IsServed, Ran, SiteFound, SiteLeft, SurvivesStop, first_state}
+use Rattle.enq_cmd.specs.Main.{AreServed, EndsComplete, HadHanded, HasHanded, IsFaultless, IsGoodFile, IsLedgerBy, IsLedgerOf, IsNextOf, IsServed, Ran, SiteFound, SiteLeft, SurvivesStop, first_state, made_from}
 use Rattle.enq_cmd.proofs.Lands.{landed_intervals}
 use Rattle.enq_cmd.proofs.Numbers.{handed_held, numbers_right}
-use Rattle.ledger_steps.specs.Views.{open_locks}
+use Rattle.ledger_steps.specs.Views.{TellsRefusal, open_locks, views_of}
 use Rattle.ledger_laws.proofs.Books.{books_right, holds_books}
 use Rattle.ledger_laws.proofs.OneLedger.{one_ledger}
+use Rattle.ledger_laws.proofs.Refusals.{views_tell}
 use Rattle.update_records.specs.Growing.{with_start}
 use Rattle.keeper_api.specs.Rows.{Rows}
 use Rattle.posting.specs.Reopening.{HasStood}
@@ -55,50 +55,22 @@ use Rattle.hall_model.specs.OpenUnits.{OfPending, open_entries}
 use Rattle.backup_file.specs.declared.handed.Handed.{Handed}
 use Rattle.lock_entry.specs.Sound.{IsSound as IsSoundTable}
 
-told_does : (first : State) (w : World) (n : ℕ) (l : ScriptLine) (d : DeviceOutcome) (m : Meaning) → ((c : Command) → m ≡ Calls c → IsAllowed d w.hall c)
-    → IsTold first w.hall → IsTold first (does w n l d m).world.hall
-told_does first w n l d Silent allowed h = h
-told_does first w n l d (Shows m) allowed h = h
-told_does first w n l d (Calls c) allowed h =
-    let s = step d w.hall n c in
-    subst (λ (x : World). IsTold first x.hall) (sym (answered-world (world w.objects s.state (settled l s.reply w.sides)) n s.reply))
-    (told_step first w.hall d n c h (allowed c refl))
-told_does first w n l d (Declines r) allowed h = subst (λ (x : World). IsTold first x.hall) (sym (answered-world w n (reply.Refused r))) h
-told_does first w n l d (Changes sides) allowed h = h
+-- the state in which a run from the first one ends is that to which its calls lead
+leads_to : (land : Landscape) (t linked : Bool) (l : Ledger) (after : State) (turns : List Turn) (old new : Seen) (why : Why)
+    → RunsLines land.objects (first_state land t linked l) after turns old new why
+    → Leads (first_state land t linked l) after (made_from land t linked l turns)
+leads_to land t linked l after turns old new why h =
+    let first = first_state land t linked l in
+    subst (λ (x : World). Leads first x.hall (made_from land t linked l turns)) (sym h.replays.world)
+    (run_leads (begun (first_world land.objects first)) turns h.replays.allowed)
 
-may_have : (w : World) (lists : Bool) (l : ScriptLine) (d : DeviceOutcome) → MayHave w lists (Some l) (Called d) → (c : Command) → meaning w l ≡ Calls c
-    → IsAllowed d w.hall c
-may_have w lists l d h c e = subst (λ m. CallMayHave w d m) e h
-
-told_said : (first : State) (w : World) (n : ℕ) (lists : Bool) (known : Option ScriptLine) (o : LineOutcome) → MayHave w lists known o → IsTold first w.hall
-    → IsTold first (said w n known o).world.hall
-told_said first w n lists known NoRoom allowed h = h
-told_said first w n lists None (Called d) allowed h = h
-told_said first w n lists (Some l) (Called d) allowed h =
-    told_does first w n l d (meaning w l) (may_have w lists l d allowed) h
-
-told_line : (first : State) (w : World) (n : ℕ) (bytes : List ℕ) (o : LineOutcome) → LineMayHave w bytes o → IsTold first w.hall
-    → IsTold first (line_does w n bytes o).world.hall
-told_line first w n bytes o allowed h = told_said first w n (holds_lists bytes) (line_in bytes) o allowed h
-
-told_turn : (first : State) (p : Progress) (t : Turn) (stop : Option Why) → LineMayHave p.world t.line t.outcome → IsTold first p.world.hall
-    → IsTold first (after_turn stop p t).world.hall
-told_turn first p t None allowed h = told_line first p.world (p.number + 1) t.line t.outcome allowed h
-told_turn first p t (Some why) allowed h = h
-
-told_turns : (first : State) (p : Progress) (turns : List Turn) → AreAllowed p turns → IsTold first p.world.hall → IsTold first (fold next p turns).world.hall
-told_turns first p [] allowed h = h
-told_turns first p (t ∷ ts) allowed h = told_turns first (next p t) ts allowed.1 (told_turn first p t p.stop allowed.0 h)
-
--- the state in which a run from the first one ends is that to which its history leads
-told_after : (land : Landscape) (t linked : Bool) (l : Ledger) (after : State) (old new : Seen) (why : Why)
-    → RunsScript land.objects (first_state land t linked l) after old new why → IsTold (first_state land t linked l) after
-told_after land t linked l after old new why h =
-    let first = first_world land.objects (first_state land t linked l) in
-    let turns = h.replays.turns in
-    let told : IsTold (first_state land t linked l) (run first turns).world.hall =
-    told_turns (first_state land t linked l) (begun first) turns h.replays.allowed (told_first (first_state land t linked l) refl) in
-    subst (λ (x : World). IsTold (first_state land t linked l) x.hall) (sym h.replays.world) told
+-- each is answered as the model answers it
+answers_lead : (land : Landscape) (t linked : Bool) (l : Ledger) (after : State) (turns : List Turn)
+    → Leads (first_state land t linked l) after (made_from land t linked l turns)
+    → AreModelAnswers (first_state land t linked l) (made_from land t linked l turns)
+answers_lead land t linked l after turns h =
+    told-answers (first_state land t linked l) after
+    (record { made = made_from land t linked l turns; calls = h.past; answers = h.answers; state = h.state })
 
 -- a run, said of what is known of its parts
 pub record HasRun (land : Landscape) (t linked : Bool) (l : Ledger) (before after : State) (objects : List Object) (old new : Seen) (past : List PastEntry)
@@ -115,21 +87,16 @@ runs_first : (land : Landscape) (t linked : Bool) (l : Ledger) (before after : S
 runs_first land t linked l before after objects old new past why h =
     subst (λ s. RunsScript land.objects s after old new why) h.first (subst (λ os. RunsScript os before after old new why) h.known h.runs)
 
--- the calls of a run, each with what the devices did in it
-told_by : (land : Landscape) (t linked : Bool) (l : Ledger) (before after : State) (objects : List Object) (old new : Seen) (past : List PastEntry) (why : Why)
-    → HasRun land t linked l before after objects old new past why → IsTold (first_state land t linked l) after
-told_by land t linked l before after objects old new past why h = told_after land t linked l after old new why
-    (runs_first land t linked l before after objects old new past why h)
-
 ran : (land : Landscape) (t linked : Bool) (l : Ledger) (before after : State) (objects : List Object) (old new : Seen) (past : List PastEntry) (why : Why)
-    → HasRun land t linked l before after objects old new past why → (told : IsTold (first_state land t linked l) after)
-    → Ran land t linked l old new told.made why
-ran land t linked l before after objects old new past why h told =
+    → HasRun land t linked l before after objects old new past why → (turns : List Turn)
+    → RunsLines land.objects (first_state land t linked l) after turns old new why
+    → Leads (first_state land t linked l) after (made_from land t linked l turns) → Ran land t linked l turns old new why
+ran land t linked l before after objects old new past why h turns runs leads =
     record {
       after = after;
-      history = told.calls;
-      leads = told.state;
-      runs = runs_first land t linked l before after objects old new past why h;
+      history = leads.past;
+      leads = leads.state;
+      runs = runs;
       complete = λ bytes left script calm.
           subst (λ s. IsComplete (first_world land.objects s) after bytes old.written new.written why) h.first
           (subst (λ os. IsComplete (first_world os before) after bytes old.written new.written why) h.known (h.complete bytes left script calm));
@@ -266,19 +233,28 @@ follows_on may_leave s left next found =
     let one : found.0 ≡ survives.ledger = one_ledger stood.0 found.0 survives.ledger stood.2 survives.stand in
     (survives.ledger, survives.known, found.2 ∙ ap (λ (l : Ledger). with_start l (l.start + 1)) one)
 
+-- no unit is shown in doubt, and each recorded one elsewhere
+shown_tell : (k : Condition) (ledger : Ledger) → All TellsRefusal (unless_in_doubt k [] (views_of ledger))
+shown_tell condition.Up ledger = views_tell ledger
+shown_tell condition.NoServer ledger = views_tell ledger
+shown_tell (condition.Doubt k) ledger = All-from_recursion TellsRefusal [] tt
+
 -- what is promised of these calls, over a store that was opened
-pub promises_with : (land : Landscape) (site : SiteFound) (site_now : SiteLeft) (l : Ledger) (after : State) (past : List PastEntry) (made : List Made)
+pub promises_with : (land : Landscape) (site : SiteFound) (site_now : SiteLeft) (old new : Seen) (l : Ledger) (after : State) (past : List PastEntry)
+    (made : List Made)
     → HasLimits land → IsRaised IsSound true l → (IsTrue site.told → IsRaised (HasStood site.rows) true l) → FitRows land.ranges l.levels
     → IsFirstTable land.max_locks l → (IsTrue site.tells → HadHanded site.bytes l)
     → past ≡ calls_of made → AreModelAnswers (first_state land site.told site.linked l) made
     → after ≡ state_after (first_state land site.told site.linked l) made
+    → CountsCalls store_fails_in_call made old.store_faults new.store_faults → CountsCalls file_fails_in_call made old.file_faults new.file_faults
     → (IsTrue site.told → (rows : Rows) → site_now.rows rows → StandForState rows after)
     → (IsTrue site.tells → (image : List ℕ) → site_now.images image → RecoversFrom after.condition after.stored after.pending after.found image)
     → HasOpenUnits after → (after.attached ≡ true → IfSome site_now.list (λ list. list ≡ after.locks))
     → (IsTrue site.linked → IsTrue site.tells → NoneUnsound past) → (IsTrue site.told → NoneUnsoundStore past)
     → (IsTrue site.linked → NoneUnsoundReplica past)
-    → AreServed land site site_now l made past
-promises_with land site site_now l after past made limits good found fit table filed calls answers leads left lists units follows files stores replicas =
+    → AreServed land site site_now old new l made past
+promises_with land site site_now old new l after past made limits good found fit table filed calls answers leads counted disk_counted left lists units follows
+    files stores replicas =
     let t = site.told in
     let linked = site.linked in
     let first = first_state land t linked l in
@@ -292,6 +268,8 @@ promises_with land site site_now l after past made limits good found fit table f
       fit = fit;
       calls = calls;
       history = answers;
+      store = counted;
+      file = disk_counted;
       sound = stays_sound land.max_locks land.max_marks land.ranges t linked l made table limits.marks agree good answers;
       stand = locks_stand land.max_locks land.max_marks land.ranges t linked l made table limits.marks agree good answers;
       back = locks_return land.max_locks land.max_marks land.ranges t linked l made table limits.marks agree good answers;
@@ -303,6 +281,7 @@ promises_with land site site_now l after past made limits good found fit table f
       numbers = λ earlier later whole.
           numbers_right land.max_locks land.max_marks land.ranges t linked l earlier table limits.marks agree good
           (answers_before first made earlier later answers whole);
+      errors = λ earlier later whole. let s = state_after first earlier in shown_tell s.condition s.stored;
       left = λ yes rows may. left_after yes rows may;
       handed = λ yes image may. subst (HasHanded image) leads (handed_in image after units (lists yes image may));
       replica = subst (λ (s : State). s.attached ≡ true → IfSome site_now.list (λ list. list ≡ s.locks)) leads follows;
@@ -318,20 +297,25 @@ promises_with land site site_now l after past made limits good found fit table f
 pub served_with : (land : Landscape) (site : SiteFound) (site_now : SiteLeft) (l : Ledger) (before after : State) (objects : List Object) (old new : Seen)
     (past : List PastEntry) (why : Why)
     → ((made : List Made) → past ≡ calls_of made → AreModelAnswers (first_state land site.told site.linked l) made
-    → after ≡ state_after (first_state land site.told site.linked l) made → AreServed land site site_now l made past)
+    → after ≡ state_after (first_state land site.told site.linked l) made
+    → CountsCalls store_fails_in_call made old.store_faults new.store_faults → CountsCalls file_fails_in_call made old.file_faults new.file_faults
+    → AreServed land site site_now old new l made past)
     → HasRun land site.told site.linked l before after objects old new past why
-    → (s : IsServed land site site_now old new past why) × (after ≡ state_after (first_state land site.told site.linked s.stored) s.made)
+    → (s : IsServed land site site_now old new past why)
+    × (after ≡ state_after (first_state land site.told site.linked s.stored) (made_from land site.told site.linked s.stored s.turns))
 served_with land site site_now l before after objects old new past why promised h =
     let t = site.told in
     let linked = site.linked in
-    let told = told_by land t linked l before after objects old new past why h in (
+    let script = runs_first land t linked l before after objects old new past why h in
+    let leads = leads_to land t linked l after script.turns old new why script.runs in (
       record {
         stored = l;
-        made = told.made;
-        promises = promised told.made (h.history ∙ told.calls) (told-answers (first_state land t linked l) after told) told.state;
-        run = ran land t linked l before after objects old new past why h told;
+        turns = script.turns;
+        run = ran land t linked l before after objects old new past why h script.turns script.runs leads;
+        promises = promised (made_from land t linked l script.turns) (h.history ∙ leads.past) (answers_lead land t linked l after script.turns leads)
+            leads.state script.runs.replays.store script.runs.replays.file;
       },
-      told.state,
+      leads.state,
     )
 
 -- the same of what was seen, under other names

@@ -20,7 +20,7 @@ use Rattle.lock_objects.specs.Objects.{Object}
 use Rattle.order_laws.specs.Behind.{NoneHasOrder}
 use Rattle.script_runner.specs.Faults.{NoneUnsound, NoneUnsoundStore}
 use Rattle.script_runner.specs.Replay.{Seen, seen}
-use Rattle.script_runner.specs.Replicas.{CountsLinkEach}
+use Rattle.script_runner.specs.Replicas.{CountsLinkEach, LinkCounts, link_counts}
 use Rattle.script_runner.specs.declared.runner.Why.{Why}
 use Rattle.thread_runner.specs.Threads.{RunsThreads}
 use Rattle.turn_desks.specs.Led.{Counts, IsLed, counts_of}
@@ -124,40 +124,38 @@ module _ {K D L : Type 0} (held : K → Option Rows) (may_leave : K → Rows →
           (subst (λ os. RunsThreads os workers hall.state after.state (seen_old hall.keeper hall.file.disk) (seen_new after.keeper after.file.disk) why)
           (same ∙ o.known) h)))))
 
-      served_so : (counts counts_now : Counts) → Leads after.state counts counts_now
+      served_so : Leads after.state (counted keeper disk link) (counted keeper_now disk_now link_now)
           → RunsThreads known workers hall.state after.state (seen_old hall.keeper hall.file.disk) (seen_new after.keeper after.file.disk) why
           → IsServedByThreads o.land workers (found_in held may_leave tells reads images applied keeper disk link)
           (record { rows = may_leave keeper_now; images = images disk_now; list = copy })
-          (seen_old keeper disk) (seen_new keeper_now disk_now) counts counts_now past end
-      served_so counts counts_now h run = record {
+          (seen_old keeper disk) (seen_new keeper_now disk_now) (link_counts link_faults refusals link) (link_counts link_faults refusals link_now) past end
+      served_so h run = record {
         stored = hall.state.stored;
         made = h.made;
         promises = promises_by held may_leave faults tells reads images file_faults applied left keeper disk link hall objects o
-            after keeper_now disk_now kept kept_disk told leaves lists units copy follows h.good_file h.good_store h.good_replica past history h.made
-            (history ∙ h.calls) h.answers h.state;
+            after keeper_now disk_now kept kept_disk told leaves lists units copy follows h.good_file h.good_store h.good_replica
+            (seen_old keeper disk) (seen_new keeper_now disk_now) past history h.made (history ∙ h.calls) h.answers h.state h.store h.file;
         history = ap (λ (s : State). s.past) (sym h.state) ∙ sym history;
         runs = runs_from (state_after first h.made) h.state run;
-        store = h.store;
-        file = h.file;
-        link = linked_past counts counts_now h;
+        link = linked_past (counted keeper disk link) (counted keeper_now disk_now link_now) h;
       }
 
       pub threads_by : ∥ RunsThreads known workers hall.state after.state (seen_old hall.keeper hall.file.disk) (seen_new after.keeper after.file.disk) why ∥₁
           → ∥ HasThreads workers left (found_in held may_leave tells reads images applied keeper disk link)
           (record { rows = may_leave keeper_now; images = images disk_now; list = copy }) disk disk_now link link_now
-          (seen_old keeper disk) (seen_new keeper_now disk_now) (counted keeper disk link) (counted keeper_now disk_now link_now) past end ∥₁
+          (seen_old keeper disk) (seen_new keeper_now disk_now) (link_counts link_faults refusals link) (link_counts link_faults refusals link_now) past end ∥₁
       threads_by runs =
           ∥∥₁_elim leads ∥∥₁_prop (λ h. ∥∥₁_map runs (λ run. record {
             land = o.land;
             read = o.read;
-            serves = inl (served_so (counted keeper disk link) (counted keeper_now disk_now link_now) h run);
+            serves = inl (served_so h run);
           }))
 
 -- a site of which no server came, beside a script and a sink that nobody touched
 pub unthreaded : {S T K D L : Type 0} (held : K → Option Rows) (may_leave : K → Rows → Type 0) (faults : K → ℕ) (tells : Bool) (reads : D → List ℕ)
     (images : D → List ℕ → Type 0) (file_faults : D → ℕ) (applied : L → Option (List Entry))
     (workers : ℕ) (left : Option (List ℕ)) (before now : ℕ) (script : S) (sink : T) (keeper keeper_now : K) (disk disk_now : D) (link link_now : L)
-    (rest written : Option (List ℕ)) (source_faults sink_faults : ℕ) (counts counts_now : Counts) (past : List PastEntry) (why : Why)
+    (rest written : Option (List ℕ)) (source_faults sink_faults : ℕ) (counts counts_now : LinkCounts) (past : List PastEntry) (why : Why)
     → past ≡ [] → link_now ≡ link
     → IsUnlanded before now keeper keeper_now disk disk_now why ⊎ IsLandedAlone held may_leave faults tells reads images file_faults applied left
     keeper keeper_now disk disk_now link link_now why

@@ -12,7 +12,7 @@ use Rattle.script_runner.specs.Whole.{IsComplete, IsScript}
 use Rattle.script_runner.specs.World.{first_world}
 use Rattle.script_runner.specs.declared.runner.Why.{Why}
 use Rattle.script_runner.specs.declared.runner.Why.TheVariants.{Done, BadWords, BadLandscape, NoStart, LogFull}
-use Rattle.enq_cmd.specs.Main.{IsFaultless, IsRead, IsServed, IsUnopened, SiteFound, SiteLeft, first_state}
+use Rattle.enq_cmd.specs.Main.{IsFaultless, IsRead, IsServed, IsUnopened, SiteFound, SiteLeft, first_state, made_from}
 use Rattle.enq_cmd.specs.Writing.{WritesText}
 
 -- what is seen of a script in memory of which this is left, and of a sink that tells nothing; neither ever fails
@@ -63,9 +63,10 @@ pub record IsLoaded (n : ℕ) (land : Landscape) (site : SiteFound) (site_now : 
   pub served : IsServed land site site_now
       (unheard (script_of n) old.store_faults old.file_faults) (unheard rest new.store_faults new.file_faults) past end
   -- the counts are those of the state to which the calls lead
-  pub shown : ShowsCounts end (state_after (first_state land site.told site.linked served.stored) served.made)
-      old.written
-      new.written old.sink_faults new.sink_faults why
+  pub shown : ShowsCounts end
+      (state_after (first_state land site.told site.linked served.stored)
+      (made_from land site.told site.linked served.stored served.turns))
+      old.written new.written old.sink_faults new.sink_faults why
 
 -- What a program does that has read its landscape and is to do the script of n units: it does, or doesn't open its
 -- store.

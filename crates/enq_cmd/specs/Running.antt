@@ -5,11 +5,10 @@ use Rattle.hall_model.specs.declared.command.PastEntry.{PastEntry}
 use Rattle.keeper_api.specs.Rows.{Rows}
 use Rattle.landscape.specs.declared.landscape.Landscape.{Landscape}
 use Rattle.script_runner.specs.Replay.{Seen}
-use Rattle.script_runner.specs.Replicas.{CountsLinkEach}
+use Rattle.script_runner.specs.Replicas.{CountsLinkEach, LinkCounts}
 use Rattle.script_runner.specs.declared.runner.Why.{Why}
 use Rattle.script_runner.specs.declared.runner.Why.TheVariants.{LogFull}
 use Rattle.thread_runner.specs.Threads.{RunsThreads}
-use Rattle.turn_desks.specs.Led.{Counts, CountsCalls, file_fails_in_call, store_fails_in_call}
 use Rattle.update_records.specs.Ledger.{Ledger}
 use Rattle.enq_cmd.specs.Main.{AreServed, EndsComplete, IsRead, IsUnopened, SiteFound, SiteLeft, first_state}
 use Rattle.enq_cmd.specs.Words.{NamesWork, cover_words, replay_words}
@@ -26,25 +25,23 @@ ReadsScript words = (words ≡ replay_words) ⊎ ((words ≡ cover_words) ⊎ Ru
 -- What a program does that opens its store and its backup file, and has the script done by threads: all their calls are
 -- one history, of which all is promised that is promised of a script that is done line by line.
 pub record IsServedByThreads (land : Landscape) (workers : ℕ) (site : SiteFound) (site_now : SiteLeft) (old new : Seen)
-    (counts counts_now : Counts) (past : List PastEntry) (why : Why) : Type 0 where
+    (counts counts_now : LinkCounts) (past : List PastEntry) (why : Why) : Type 0 where
   -- what the store has when the server begins
   pub stored : Ledger
   -- the calls of the history
   pub made : List Made
-  pub promises : AreServed land site site_now stored made past
+  pub promises : AreServed land site site_now old new stored made past
   -- it is that of the state to which they lead
   pub history : (state_after (first_state land site.told site.linked stored) made).past ≡ past
   -- who made them, what is read and written, and why it ends
   pub runs : RunsThreads land.objects workers (first_state land site.told site.linked stored)
       (state_after (first_state land site.told site.linked stored) made) old new why
-  -- a device's count of faults rose in each call in which it failed, and stood still in each other
-  pub store : CountsCalls store_fails_in_call made counts.store counts_now.store
-  pub file : CountsCalls file_fails_in_call made counts.file counts_now.file
-  pub link : CountsLinkEach false past counts.link counts_now.link
+  -- the counts of the link, call by call
+  pub link : CountsLinkEach false past counts counts_now
 
 -- What a program does that has read its landscape: it has the script done by threads, or doesn't open its store.
 pub record HasThreads {D L : Type 0} (workers : ℕ) (left : Option (List ℕ)) (site : SiteFound) (site_now : SiteLeft)
-    (disk disk_now : D) (link link_now : L) (old new : Seen) (counts counts_now : Counts) (past : List PastEntry)
+    (disk disk_now : D) (link link_now : L) (old new : Seen) (counts counts_now : LinkCounts) (past : List PastEntry)
     (why : Why) : Type 0 where
   pub land : Landscape
   pub read : IsRead left land

@@ -10,7 +10,6 @@ ghost use Rattle.landscape.specs.declared.landscape.Landscape.{Landscape};
 ghost use Rattle.script_runner.specs.Faults.{NoneTells, is_link_fault};
 ghost use Rattle.script_runner.specs.Replicas.{CountsLinkEach, link_counts};
 ghost use Rattle.script_runner.specs.Replay.{seen};
-ghost use Rattle.turn_desks.specs.Led.{counts_of};
 ghost use Rattle.update_records.specs.Ledger.{IsGood};
 ghost use Rattle.whole_script.specs.Reading.{BlamesFirst, IsWholeScript};
 
@@ -57,8 +56,7 @@ pub(crate) fn run_site<
         (D.faults site.disk))
         (seen (S.left script.new) (T.written sink.new) (S.faults script.new) (T.faults sink.new)
         (K.faults result.site.keeper) (D.faults result.site.disk))
-        (counts_of K.faults D.faults L.faults L.refusals site.keeper site.disk site.link)
-        (counts_of K.faults D.faults L.faults L.refusals result.site.keeper result.site.disk result.site.link)
+        (link_counts L.faults L.refusals site.link) (link_counts L.faults L.refusals result.site.link)
         result.past result.why ∥₁
         ⊎ (IsLandEnd (A.faults landscape.old) (A.faults landscape.new) result.why
         × IsUntouched script.old script.new sink.old sink.new site.keeper result.site.keeper site.disk result.site.disk

@@ -32,7 +32,7 @@ same_Ok : {X : Type 0} (r : Result X AskFault) (x y : X) → r ≡ Ok x → r �
 same_Ok (Ok z) x y a b = let one : z ≡ x = cc in let two : z ≡ y = cc in sym one ∙ two
 same_Ok (Err f) x y a b = absurd (cc)
 
-granted_is : (t : Table) (asker : Asker) (user : List ℕ) (requests : List Request) (es : List Entry) → asked t asker user requests ≡ Ok es
+pub granted_is : (t : Table) (asker : Asker) (user : List ℕ) (requests : List Request) (es : List Entry) → asked t asker user requests ≡ Ok es
     → es ≡ granted t.entries user (halves asker requests)
 unfolding asked
 granted_is t asker user requests es h =
@@ -52,7 +52,7 @@ granted_at t asker user requests es good h =
     ap (λ x. replica t.entries (granted_ops x (halves asker requests))) is ∙ granted_ops-granted t.entries user (halves asker requests) good.sound.names
     ∙ sym is
 
-readmitted_is : (t : Table) (asker : Asker) (given es : List Entry) → readmitted t asker given ≡ Ok es → es ≡ freed_owner t.entries asker.update ++ given
+pub readmitted_is : (t : Table) (asker : Asker) (given es : List Entry) → readmitted t asker given ≡ Ok es → es ≡ freed_owner t.entries asker.update ++ given
 unfolding readmitted
 readmitted_is t asker given es h =
     let g = freed_owner t.entries asker.update ++ given in
@@ -66,7 +66,7 @@ readmitted_at t asker own given es good only is h =
     ∙ readmitted_ops-readmitted t.entries asker given good.sound.names only
     ∙ sym (readmitted_is t asker given es h)
 
-converted_is : (es : List Entry) (asker : Asker) (asked : List Asked) (r : Conversion) → converted es asker asked ≡ Ok r → conversion es asker asked ≡ r
+pub converted_is : (es : List Entry) (asker : Asker) (asked : List Asked) (r : Conversion) → converted es asker asked ≡ Ok r → conversion es asker asked ≡ r
 unfolding converted
 converted_is es asker asked r h =
     let g = conversion es asker asked in

@@ -1,8 +1,8 @@
 -- What operations that are shipped one by one do to a replica that follows.
-use Rattle.std.proofs.Common.{◌≡◌, ◌⊎◌, inl, inr, ℕ, zero, suc, ◌+◌, ◌<◌, ◌≤◌, ◌-◌, ◌^◌, min, true, false, List, [], ◌∷◌, ◌++◌, Some, None, Option, map, take, get_or, length, refl, sym, ap, subst, ◌∙◌, arith}
+use Rattle.std.proofs.Common.{◌≡◌, ◌⊎◌, inl, inr, ℕ, zero, suc, ◌+◌, ◌<◌, ◌≤◌, ◌-◌, ◌^◌, min, Bool, true, false, true≢false, List, [], ◌∷◌, ◌++◌, Some, None, Option, map, take, get_or, length, refl, sym, ap, subst, ◌∙◌, arith}
 use Rattle.std.specs.List.{filter, flat_map, slice_get}
 use Rattle.std.proofs.lemmas.Bool.{cases_Bool}
-use Rattle.std.proofs.lemmas.List.{append-nil, map-append, take_more}
+use Rattle.std.proofs.lemmas.List.{append-nil, length-append, map-append, take_more}
 use Rattle.std.proofs.lemmas.List.Concat.{flat_map-append}
 use Rattle.std.proofs.lemmas.List.Elements.{filter-append}
 use Rattle.std.proofs.lemmas.Option.{none-some, same_Some}
@@ -15,7 +15,7 @@ use Rattle.replica_link.specs.Operations.{replica}
 use Rattle.replica_link.specs.Shipping.{drop_of, owner_ops}
 use Rattle.replica_link.specs.declared.operation.TableOp.{TableOp}
 use Rattle.replica_link.proofs.Drops.{replica-append}
-use Rattle.enq_server.specs.Following.{Following, IsAt, KeepsOn}
+use Rattle.enq_server.specs.Following.{Following, IsAt, IsLostBy, KeepsOn}
 
 rose_later : (a b c : ℕ) → a ≤ b → Rose b c → Rose a c
 rose_later a b c less rose = rises a b c (2 ^ 64 - 1) less rose
@@ -60,6 +60,21 @@ keeps_both applied faults refusals a b c one two = record {
           | inl rose ↦ inl (rose_before (faults a.link) (faults b.link) (faults c.link) rose two.faults_later)
           | inr rose ↦ inr (rose_before (refusals a.link) (refusals b.link) (refusals c.link) rose two.refusals_later)
         ]
+
+-- the first list of operations has lost it, or those behind it
+either_lost : (on between now : Bool) (n m : ℕ) → (on ≡ true → between ≡ false → 1 ≤ n) → (between ≡ true → now ≡ false → 1 ≤ m) → on ≡ true → now ≡ false
+    → 1 ≤ n + m
+either_lost on true now n m one two follows gone = let some = two refl gone in omega (arith, some)
+either_lost on false now n m one two follows gone = let some = one follows refl in omega (arith, some)
+
+pub lost_more : {L : Type 0} (a b c : Following L) (ops more all : List TableOp) → all ≡ ops ++ more → IsLostBy a b ops → IsLostBy b c more → IsLostBy a c all
+lost_more a b c ops more all is one two = λ on off.
+    subst (λ n. 1 ≤ n) (sym (ap length is ∙ length-append ops more))
+    (either_lost a.attached b.attached c.attached (length ops) (length more) one two on off)
+
+-- nothing is lost where nothing is sent
+pub lost_none : {L : Type 0} (f : Following L) (ops : List TableOp) → IsLostBy f f ops
+lost_none f ops = λ on off. absurd (true≢false (sym on ∙ off))
 
 -- operations and then more of them
 pub at_more : {L : Type 0} (applied : L → Option (List Entry)) (f : Following L) (list : List Entry) (ops more all : List TableOp) → all ≡ ops ++ more

@@ -3,7 +3,9 @@ pub mod Differences
 pub mod Images
 pub mod Lasting
 pub mod Listed
+pub mod Known
 pub mod Following
 pub mod Copies
 pub mod Held
 pub mod Stores
+pub mod Changed

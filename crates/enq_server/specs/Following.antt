@@ -1,12 +1,14 @@
 -- A replica that follows the lock table.
-use Rattle.std.specs.Prelude.{◌≡◌, ◌⊎◌, ◌≤◌, ℕ, Bool, true, false, if◌then◌else◌, List, []}
+use Rattle.std.specs.Prelude.{◌≡◌, ◌≢◌, ◌⊎◌, ◌≤◌, ℕ, Bool, true, false, if◌then◌else◌, List, [], length}
 use Rattle.std.specs.Prelude.{Option, Some, IfSome, is_some}
 use Rattle.std.specs.Option.{unwrap_or}
 use Rattle.enq_base.specs.Causes.{Rose}
 use Rattle.lock_entry.specs.Sound.{IsSound, first_clash}
+use Rattle.lock_entry.specs.Table.{Table}
 use Rattle.lock_entry.specs.declared.entry.Entry.{Entry}
 use Rattle.replica_link.specs.declared.fault.LinkFault.{LinkFault}
 use Rattle.replica_link.specs.declared.fault.LinkFault.TheVariants as link
+use Rattle.replica_link.specs.declared.operation.TableOp.{TableOp}
 use Rattle.enq_server.specs.declared.fault.OverFault.{OverFault}
 use Rattle.enq_server.specs.declared.fault.OverFault.TheVariants as over
 
@@ -34,6 +36,14 @@ pub record KeepsOn {L : Type 0} (applied : L → Option (List Entry)) (faults re
   pub lost : old.attached ≡ true → new.attached ≡ false → Rose (faults old.link) (faults new.link)
       ⊎ Rose (refusals old.link) (refusals new.link)
   pub told : is_some (applied new.link) ≡ is_some (applied old.link)
+
+-- one that followed is lost only where some of these operations was sent
+abbrev pub IsLostBy : {L : Type 0} → (old new : Following L) → List TableOp → Type 0
+IsLostBy old new ops = old.attached ≡ true → new.attached ≡ false → 1 ≤ length ops
+
+-- one that followed is lost only where the table is another then
+abbrev pub IsLostWith : {L : Type 0} → (old new : Following L) → (before now : Table) → Type 0
+IsLostWith old new before now = old.attached ≡ true → new.attached ≡ false → now ≢ before
 
 -- how a fault of the link is told
 abbrev pub over_fault : LinkFault → OverFault

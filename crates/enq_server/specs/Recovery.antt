@@ -1,6 +1,6 @@
 -- What a server recovers from the lists of its backup file.
-use Rattle.std.specs.Prelude.{ℕ, ◌≡◌, ◌+◌, Bool, not, ◌||◌, ◌∷◌, ◌++◌, [], List, Option, Some, None, if◌then◌else◌}
-use Rattle.std.specs.Prelude.{take}
+use Rattle.std.specs.Prelude.{ℕ, ◌≡◌, ◌+◌, Bool, not, ◌||◌, ◌&&◌, ◌∷◌, ◌++◌, [], List, Option, Some, None}
+use Rattle.std.specs.Prelude.{if◌then◌else◌, length, nat_lt, take}
 use Rattle.std.specs.HashMap.{HashMap, get}
 use Rattle.std.specs.List.{All, filter, flat_map, list_any, slice_get}
 use Rattle.std.specs.Option.{option_map_or}
@@ -35,6 +35,21 @@ ArePlaces places all last = (u : UnitKey) → entries_at all (get same_id places
 -- these are the units
 abbrev pub AreKnown : List UnitId → List UnitLocks → Type 0
 AreKnown ids units = (u : UnitKey) → is_known u ids ≡ is_one_of units u
+
+-- the units that have entries
+abbrev pub locking : List UnitLocks → List UnitLocks
+locking units = filter (λ (u : UnitLocks). nat_lt 0 (length u.entries)) units
+
+-- the same units as before, with this one, where it has entries
+abbrev pub AreWith : UnitKey → List Entry → (before now : List UnitId) → Type 0
+AreWith unit entries before now =
+    (other : UnitKey)
+    → is_known other now ≡ ((nat_lt 0 (length entries) && same_unit unit other) || is_known other before)
+
+-- the same units as before, without this one
+abbrev pub AreWithout : UnitKey → (before now : List UnitId) → Type 0
+AreWithout unit before now =
+    (other : UnitKey) → is_known other now ≡ (is_known other before && not (same_unit unit other))
 
 -- the unit's list has just its entries
 abbrev pub Agrees : List Handed → UnitLocks → Type 0

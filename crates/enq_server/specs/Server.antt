@@ -1,12 +1,14 @@
 -- A lock table and its backup file.
-use Rattle.std.specs.Prelude.{ℕ, ◌≡◌, Bool, ◌&&◌, not, [], ◌∷◌, List, length, if◌then◌else◌, map, nat_le, Ok, Option}
+use Rattle.std.specs.Prelude.{ℕ, ◌≡◌, Bool, ◌&&◌, not, [], ◌∷◌, ◌++◌, List, length, if◌then◌else◌, map, nat_le, Ok, Option}
 use Rattle.std.specs.List.{All, filter}
 use Rattle.std.specs.Option.{option_map_or}
+use Rattle.enq_base.specs.declared.owner.Owner.{Owner}
 use Rattle.enq_base.specs.declared.owner.Owner.TheVariants.{Upd}
 use Rattle.enq_base.specs.declared.owner.UnitKey.{UnitKey}
 use Rattle.mode_rules.specs.declared.Mode.TheVariants.{O}
 use Rattle.mode_rules.specs.Modes.{same_mode}
 use Rattle.lock_entry.specs.Converting.{converted}
+use Rattle.lock_entry.specs.Freeing.{freed_owner}
 use Rattle.lock_entry.specs.Names.{is_of}
 use Rattle.lock_entry.specs.Table.{Table}
 use Rattle.lock_entry.specs.declared.entry.Asked.{Asked}
@@ -79,6 +81,10 @@ of_user user entries = map (with_user user) entries
 abbrev pub with_list : UnitKey → List Entry → List Handed → List Handed
 with_list unit [] l = l
 with_list unit (e ∷ es) l = after l (Hand (handed_of unit (e ∷ es)))
+
+-- the given entries stand in place of the owner's, behind those of the others
+abbrev pub put_back : List Entry → Owner → List Entry → List Entry
+put_back entries owner given = freed_owner entries owner ++ given
 
 -- the conversion leaves these entries
 abbrev pub IsConverted : List Entry → Asker → List Asked → List Entry → Type 0

@@ -1,13 +1,14 @@
-ghost use Rattle.std.specs.Prelude.{◌≡◌, ◌↔◌, ℕ, List, true, false, None, IsTrue, IfOk, IfErr, IfSome, OnOk, OnErr, MatchResult};
+ghost use Rattle.std.specs.Prelude.{◌≡◌, ◌↔◌, ◌-◌, ◌≤◌, ℕ, List, true, false, None, drop, length, IsTrue, IfOk, IfErr, IfSome, OnOk, OnErr, MatchResult};
 ghost use Rattle.std.specs.List.{All};
 ghost use Rattle.enq_base.specs.Causes.{HasCause};
 ghost use Rattle.bk_disk.specs.Disk.{Follows};
 ghost use Rattle.lock_entry.specs.Table.{IsLoadFault, IsTable};
 ghost use Rattle.backup_file.specs.Backup.{IsReady};
+ghost use Rattle.backup_file.specs.Lists.{AreUnits};
 ghost use Rattle.backup_file.specs.declared.handed.Handed.{Handed};
 ghost use Rattle.lock_entry.specs.declared.entry.UnitLocks.{UnitLocks};
 ghost use Rattle.enq_server.specs.Faults.{CountsFault, IsOpenFault, IsRecoveryFault, Leaves, OnBytes};
-ghost use Rattle.enq_server.specs.Recovery.{Agrees, AreKnown, ArePlaces, FreesOthers, IsFirstDifference, IsMissing, StandsLess, joined, lists_among};
+ghost use Rattle.enq_server.specs.Recovery.{Agrees, AreKnown, ArePlaces, FreesOthers, IsFirstDifference, IsMissing, StandsLess, joined, lists_among, locking};
 ghost use Rattle.enq_server.specs.Server.{IsRecovered, larger, recovered, replicated};
 
 use crate::fault::OpenFault;
@@ -42,6 +43,18 @@ fn first_difference(known: &[Entry], listed: &[Entry]) -> Option<usize>
         None
     } else {
         Some(before + 1)
+    }
+}
+
+/// Whether a list that isn't shorter ends with these entries.
+pub fn ends_with(list: &[Entry], entries: &[Entry]) -> bool
+    requires { length entries.now ≤ length list.now }
+    ensures { IsTrue result ↔ (drop (length list.now - length entries.now) list.now ≡ entries.now) }
+{
+    let front = list.len() - entries.len();
+    match first_difference(&list[front..], entries) {
+        None => true,
+        Some(_) => false,
     }
 }
 
@@ -160,6 +173,8 @@ fn free_others<D: Disk>(
     ensures freed { IsTrue D.tells → (units : List UnitLocks) → AreKnown known.now.keys units
         → IsReady D.reads D.may_leave backup.old lists.now
         → OnOk result (IsReady D.reads D.may_leave backup.new (lists_among units lists.now)) }
+    ensures known { (units : List UnitLocks) → AreKnown known.now.keys units → AreUnits backup.old.units lists.now
+        → OnOk result (AreUnits backup.new.units (lists_among units lists.now)) }
     ensures images { IsTrue D.tells → (units : List UnitLocks) → AreKnown known.now.keys units
         → IsReady D.reads D.may_leave backup.old lists.now
         → (c : List ℕ) → D.may_leave backup.new.disk c → StandsLess units lists.now c }
@@ -185,6 +200,7 @@ pub fn read_anew<T: LockStore, D: Disk>(
     ensures good { IfOk result (λ table. IsTable (T.table table)) }
     ensures usable { OnOk result (backup.new.failed ≡ false) }
     ensures shut { OnErr result (backup.new.failed ≡ true) }
+    ensures known { OnOk result (AreKnown backup.new.units (locking units.now)) }
     ensures file { IsTrue D.tells
         → OnOk result (IsRecovered D.reads D.may_leave (D.reads backup.old.disk) units.now backup.new) }
     ensures fault { IsTrue D.tells → IfErr result (IsOpenFault (D.reads backup.old.disk) units.now) }

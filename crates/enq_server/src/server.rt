@@ -1,4 +1,4 @@
-ghost use Rattle.std.specs.Prelude.{◌≡◌, ◌⊎◌, ◌≤◌, ◌&&◌, ℕ, [], List, false, true, length, not, if◌then◌else◌, is_some, IsTrue, IfOk, IfErr, IfSome, OnOk, OnErr, Ok, IsErrOf, MatchResult};
+ghost use Rattle.std.specs.Prelude.{◌≡◌, ◌≢◌, ◌⊎◌, ◌≤◌, ◌+◌, ◌&&◌, ℕ, [], List, false, true, length, not, if◌then◌else◌, is_some, IsTrue, IfOk, IfErr, IfSome, OnOk, OnErr, Ok, IsErrOf, MatchResult};
 ghost use Rattle.std.specs.List.{filter};
 ghost use Rattle.enq_base.specs.Causes.{HasCause, Rose};
 ghost use Rattle.enq_base.specs.declared.owner.Owner.TheVariants.{Upd};
@@ -9,7 +9,7 @@ ghost use Rattle.lock_entry.specs.Converting.{converted};
 ghost use Rattle.lock_entry.specs.Freeing.{freed, freed_owner, handed_over, has_unhanded};
 ghost use Rattle.lock_entry.specs.Granting as granting;
 ghost use Rattle.lock_entry.specs.Names.{is_of, named};
-ghost use Rattle.enq_server.specs.Following.{IsLater, IsOverFault, KeepsOn, told_list};
+ghost use Rattle.enq_server.specs.Following.{IsLater, IsLostWith, IsOverFault, KeepsOn, told_list};
 ghost use Rattle.lock_entry.specs.Pairs.{IsPair};
 ghost use Rattle.lock_entry.specs.Sound.{IsSound, ReadmitsOnly};
 ghost use Rattle.lock_entry.specs.Table.{IsTable, entry_at, with_entries};
@@ -17,22 +17,25 @@ ghost use Rattle.backup_file.specs.Backup.{HasWriteCause, IsReady, IsSame};
 ghost use Rattle.backup_file.specs.File.{Stands};
 ghost use Rattle.backup_file.specs.Handing.{IsHandable};
 ghost use Rattle.backup_file.specs.Lists as lists;
+ghost use Rattle.backup_file.specs.Lists.{is_known};
 ghost use Rattle.backup_file.specs.declared.handed.Handed.{Handed};
 ghost use Rattle.enq_server.specs.Faults.{CountsFault, HasCallCause, IsOpenFault, IsReadmission, IsRefusal, Leaves, OnBytes};
 ghost use Rattle.enq_server.specs.declared.fault.ServerFault.TheVariants as server;
-ghost use Rattle.enq_server.specs.Recovery.{FreesOthers};
-ghost use Rattle.enq_server.specs.Server.{IsConverted, IsRecovered, lasting, no_table, of_user, recovered, replicated, table_of, with_list};
+ghost use Rattle.enq_server.specs.Recovery.{AreKnown, AreWith, AreWithout, FreesOthers, locking};
+ghost use Rattle.enq_server.specs.Server.{IsConverted, IsRecovered, lasting, no_table, of_user, put_back, recovered, replicated, table_of, with_list};
 
 use crate::fault::{OpenFault, OverFault, ServerFault};
 use crate::follower::Follower;
-use crate::recovery::read_anew;
-use crate::shipping::{ship_drops, ship_freed, ship_granted, ship_owner, ship_puts, ship_turns};
+use crate::recovery::{ends_with, read_anew};
+use crate::shipping::{
+    hand, ship_drops, ship_freed, ship_granted, ship_owner, ship_readmitted, ship_turns,
+};
 use crate::wreck::Wreck;
 use backup_file::{Backup, WriteFault};
 use bk_disk::Disk;
 use enq_base::{Failed, Name, NoMemory, Owner, UnitKey};
 use lock_entry::{Asked, Asker, Entry, LockStore, Mode, Request, UnitLocks};
-use replica_link::{Link, LinkFault, TableOp};
+use replica_link::{Link, LinkFault};
 use std::alloc::Global;
 use std::marker::Model;
 
@@ -77,6 +80,8 @@ impl<T: LockStore, D: Disk, L: Link> EnqServer<T, D, L> {
         ensures table { IfOk result (λ s. s.table ≡ recovered limit units.now) }
         ensures good { IfOk result (λ s. IsTable s.table) }
         ensures usable { IfOk result (λ s. s.file.failed ≡ false) }
+        // Over every disk just the lists of those of these units that have entries stand in the file then.
+        ensures known { IfOk result (λ s. AreKnown s.file.units (locking units.now)) }
         ensures file { IsTrue D.tells
             → IfOk result (λ s. IsRecovered D.reads D.may_leave (D.reads disk) units.now s.file) }
         ensures fault { IsTrue D.tells → IfErr result (λ e. IsOpenFault (D.reads disk) units.now e.0) }
@@ -169,6 +174,7 @@ impl<T: LockStore, D: Disk, L: Link> EnqServer<T, D, L> {
         ensures good { IsTable self.new.table }
         ensures usable { OnOk result (self.new.file.failed ≡ false) }
         ensures shut { OnErr result (self.new.file.failed ≡ true) }
+        ensures known { OnOk result (AreKnown self.new.file.units (locking units.now)) }
         ensures file { IsTrue D.tells
             → OnOk result (IsRecovered D.reads D.may_leave (D.reads self.old.file.disk) units.now self.new.file) }
         ensures fault { IsTrue D.tells → IfErr result (IsOpenFault (D.reads self.old.file.disk) units.now) }
@@ -209,6 +215,7 @@ impl<T: LockStore, D: Disk, L: Link> EnqServer<T, D, L> {
         ensures good { IsTable self.new.table }
         ensures file { self.new.file ≡ self.old.file }
         ensures copy { KeepsOn L.applied L.faults L.refusals self.old.copy self.new.copy }
+        ensures lost { IsLostWith self.old.copy self.new.copy self.old.table self.new.table }
     {
         let Some(table) = &mut self.table else {
             unreachable!();
@@ -226,6 +233,7 @@ impl<T: LockStore, D: Disk, L: Link> EnqServer<T, D, L> {
         ensures good { IsTable self.new.table }
         ensures file { self.new.file ≡ self.old.file }
         ensures copy { KeepsOn L.applied L.faults L.refusals self.old.copy self.new.copy }
+        ensures lost { IsLostWith self.old.copy self.new.copy self.old.table self.new.table }
     {
         if let Some(table) = &mut self.table {
             ship_freed(&mut self.rest.follower, table, owner, asked);
@@ -240,6 +248,7 @@ impl<T: LockStore, D: Disk, L: Link> EnqServer<T, D, L> {
         ensures good { IsTable self.new.table }
         ensures file { self.new.file ≡ self.old.file }
         ensures copy { KeepsOn L.applied L.faults L.refusals self.old.copy self.new.copy }
+        ensures lost { IsLostWith self.old.copy self.new.copy self.old.table self.new.table }
     {
         if let Some(table) = &mut self.table {
             ship_owner(&mut self.rest.follower, table, owner);
@@ -267,6 +276,7 @@ impl<T: LockStore, D: Disk, L: Link> EnqServer<T, D, L> {
         ensures good { IsTable self.new.table }
         ensures file { self.new.file ≡ self.old.file }
         ensures copy { KeepsOn L.applied L.faults L.refusals self.old.copy self.new.copy }
+        ensures lost { IsLostWith self.old.copy self.new.copy self.old.table self.new.table }
     {
         let Some(table) = &mut self.table else {
             unreachable!();
@@ -292,6 +302,8 @@ impl<T: LockStore, D: Disk, L: Link> EnqServer<T, D, L> {
             → (c : List ℕ) → D.may_leave self.new.file.disk c
             → Stands c l
             ⊎ Stands c (with_list unit.now (of_user user.now (lasting unit.now self.old.table.entries)) l) }
+        ensures known { OnOk result (AreWith unit.now (lasting unit.now self.old.table.entries) self.old.file.units
+            self.new.file.units) }
         ensures usable { OnOk result (self.new.file.failed ≡ false) }
         ensures failed { IsErrOf result WriteFault.Failed → self.new.file.failed ≡ true }
         ensures no_memory { IsErrOf result WriteFault.NoMemory → IsSame self.old.file self.new.file }
@@ -365,10 +377,10 @@ impl<T: LockStore, D: Disk, L: Link> EnqServer<T, D, L> {
         ensures good { IsTable self.new.table }
         ensures file { self.new.file ≡ self.old.file }
         ensures copy { KeepsOn L.applied L.faults L.refusals self.old.copy self.new.copy }
+        ensures lost { IsLostWith self.old.copy self.new.copy self.old.table self.new.table }
     {
         if let Some(table) = &mut self.table {
-            self.rest.follower.ship(&TableOp::Handed(*unit));
-            table.hand(unit);
+            hand(&mut self.rest.follower, table, unit);
         }
     }
 
@@ -401,6 +413,7 @@ impl<T: LockStore, D: Disk, L: Link> EnqServer<T, D, L> {
         ensures images { IsTrue D.tells → (l : List Handed) → IsReady D.reads D.may_leave self.old.file l
             → (c : List ℕ) → D.may_leave self.new.file.disk c
             → Stands c l ⊎ Stands c (with_list unit.now entries.now l) }
+        ensures known { OnOk result (AreWith unit.now entries.now self.old.file.units self.new.file.units) }
         ensures usable { OnOk result (self.new.file.failed ≡ false) }
         ensures untouched { IfErr result (λ f. f ≡ server.Failed ⊎ IsSame self.old.file self.new.file) }
         ensures unshipped { IfErr result (λ f. f ≡ server.Failed ⊎ (self.new.copy ≡ self.old.copy)) }
@@ -409,6 +422,7 @@ impl<T: LockStore, D: Disk, L: Link> EnqServer<T, D, L> {
         ensures some { IsErrOf result server.Failed → 1 ≤ length entries.now }
         ensures cause { HasCallCause (D.faults self.old.file.disk) (D.faults self.new.file.disk) result }
         ensures copy { KeepsOn L.applied L.faults L.refusals self.old.copy self.new.copy }
+        ensures lost { IsLostWith self.old.copy self.new.copy self.old.table self.new.table }
     {
         let own = self.entries_of(alloc, &asker.update)?;
         if entries.is_empty() {
@@ -434,10 +448,14 @@ impl<T: LockStore, D: Disk, L: Link> EnqServer<T, D, L> {
             → OnOk result (IsReady D.reads D.may_leave self.new.file (lists.without unit.now l)) }
         ensures images { IsTrue D.tells → (l : List Handed) → IsReady D.reads D.may_leave self.old.file l
             → (c : List ℕ) → D.may_leave self.new.file.disk c → Stands c l ⊎ Stands c (lists.without unit.now l) }
+        ensures known { OnOk result (AreWithout unit.now self.old.file.units self.new.file.units) }
         ensures usable { OnOk result (self.new.file.failed ≡ false) }
         ensures failed { OnErr result (self.new.file.failed ≡ true) }
+        // The disk can fail only where the unit's list stands.
+        ensures needed { OnErr result (IsTrue (is_known unit.now self.old.file.units)) }
         ensures cause { HasCause (D.faults self.old.file.disk) (D.faults self.new.file.disk) result }
         ensures copy { KeepsOn L.applied L.faults L.refusals self.old.copy self.new.copy }
+        ensures lost { IsLostWith self.old.copy self.new.copy self.old.table self.new.table }
     {
         if self.rest.backup.stands(unit) {
             self.rest.backup.free(unit)?;
@@ -468,13 +486,14 @@ impl<T: LockStore, D: Disk, L: Link> EnqServer<T, D, L> {
         ensures good { IsTable self.new.table }
         ensures file { self.new.file ≡ self.old.file }
         ensures copy { KeepsOn L.applied L.faults L.refusals self.old.copy self.new.copy }
+        ensures lost { IsLostWith self.old.copy self.new.copy self.old.table self.new.table }
     {
         let Some(table) = &mut self.table else {
             unreachable!();
         };
+        let stays = stays_so(alloc, table, asker, own, entries)?;
         table.readmit(alloc, asker, entries)?;
-        ship_drops(&mut self.rest.follower, own);
-        ship_puts(&mut self.rest.follower, entries);
+        ship_readmitted(&mut self.rest.follower, own, entries, stays);
         Ok(())
     }
 
@@ -540,6 +559,32 @@ fn entries_of<T: LockStore>(
         Some(table) => table.entries_of(alloc, owner),
         None => Ok(Vec::new(alloc)),
     }
+}
+
+/// Whether the given entries are just those of the update owner, which are these, and stand last, so that the table
+/// stays as it is where they stand in place of them. Without any it isn't asked.
+fn stays_so<T: LockStore>(
+    alloc: Global,
+    table: &T,
+    asker: &Asker,
+    own: &[Entry],
+    entries: &[Entry],
+) -> Result<bool, NoMemory>
+    requires own { own.now ≡ filter (is_of asker.now.update) (T.table table.now).entries }
+    requires entries { ReadmitsOnly asker.now entries.now }
+    ensures same { IfOk result (λ stays. IsTrue stays
+        → put_back (T.table table.now).entries asker.now.update entries.now ≡ (T.table table.now).entries) }
+    ensures other { IfOk result (λ stays. stays ≡ false → 1 ≤ length own.now + length entries.now
+        → put_back (T.table table.now).entries asker.now.update entries.now ≢ (T.table table.now).entries) }
+{
+    if own.is_empty() {
+        return Ok(false);
+    }
+    if own.len() != entries.len() {
+        return Ok(false);
+    }
+    let list = table.list(alloc)?;
+    Ok(ends_with(list.as_slice(), entries))
 }
 
 fn put_under(entries: &mut [Entry], user: &Name)

@@ -1,14 +1,16 @@
-ghost use Rattle.std.specs.Prelude.{◌≡◌, [], ◌∷◌, List, map};
+ghost use Rattle.std.specs.Prelude.{◌≡◌, ◌||◌, [], ◌∷◌, ◌++◌, List, if◌then◌else◌, map, nat_lt};
 ghost use Rattle.std.specs.List.{flat_map};
 ghost use Rattle.lock_entry.specs.declared.entry.Entry.{Entry};
+ghost use Rattle.lock_entry.specs.Freeing.{handed_over};
 ghost use Rattle.lock_entry.specs.Names.{halves, halves_of, named};
+ghost use Rattle.lock_entry.specs.Table.{IsTable, with_entries};
 ghost use Rattle.replica_link.specs.Operations.{replica};
 ghost use Rattle.replica_link.specs.Shipping.{drop_of, freed_ops, granted_ops, lowered_op, owner_ops, put_ops, turn_ops};
 ghost use Rattle.replica_link.specs.declared.operation.TableOp.TheVariants.{Put};
-ghost use Rattle.enq_server.specs.Following.{IsAt, KeepsOn};
+ghost use Rattle.enq_server.specs.Following.{IsAt, IsLostBy, IsLostWith, KeepsOn};
 
 use crate::follower::Follower;
-use enq_base::{NoMemory, Owner};
+use enq_base::{NoMemory, Owner, UnitKey};
 use lock_entry::{Asked, Asker, Entry, LockStore, Request};
 use replica_link::{Link, TableOp};
 
@@ -26,6 +28,7 @@ fn ship_own<L: Link>(follower: &mut Follower<L>, entry: &Entry, owner: &Owner)
     ensures at { (list : List Entry) → IsAt L.applied follower.old list
         → IsAt L.applied follower.new (replica list (owner_ops (entry.now ∷ []) owner.now)) }
     ensures keeps { KeepsOn L.applied L.faults L.refusals follower.old follower.new }
+    ensures lost { IsLostBy follower.old follower.new (owner_ops (entry.now ∷ []) owner.now) }
 {
     if entry.is_of(owner) {
         follower.ship(&drop_of(entry));
@@ -37,6 +40,7 @@ fn ship_found<T: LockStore, L: Link>(follower: &mut Follower<L>, table: &T, owne
     ensures at { (list : List Entry) → IsAt L.applied follower.old list
         → IsAt L.applied follower.new (replica list (owner_ops (T.table table.now).entries owner.now)) }
     ensures keeps { KeepsOn L.applied L.faults L.refusals follower.old follower.new }
+    ensures lost { IsLostBy follower.old follower.new (owner_ops (T.table table.now).entries owner.now) }
 {
     for place in 0..table.len() {
         if let Some(entry) = table.at(place + 1) {
@@ -50,6 +54,7 @@ pub fn ship_owner<T: LockStore, L: Link>(follower: &mut Follower<L>, table: &T, 
     ensures at { (list : List Entry) → IsAt L.applied follower.old list
         → IsAt L.applied follower.new (replica list (owner_ops (T.table table.now).entries owner.now)) }
     ensures keeps { KeepsOn L.applied L.faults L.refusals follower.old follower.new }
+    ensures lost { IsLostBy follower.old follower.new (owner_ops (T.table table.now).entries owner.now) }
 {
     if follower.attached() {
         match table.entries_of(follower.alloc(), owner) {
@@ -60,10 +65,11 @@ pub fn ship_owner<T: LockStore, L: Link>(follower: &mut Follower<L>, table: &T, 
 }
 
 /// These entries stand.
-pub fn ship_puts<L: Link>(follower: &mut Follower<L>, entries: &[Entry])
+fn ship_puts<L: Link>(follower: &mut Follower<L>, entries: &[Entry])
     ensures at { (list : List Entry) → IsAt L.applied follower.old list
         → IsAt L.applied follower.new (replica list (map Put entries.now)) }
     ensures keeps { KeepsOn L.applied L.faults L.refusals follower.old follower.new }
+    ensures lost { IsLostBy follower.old follower.new (map Put entries.now) }
 {
     for entry in entries {
         follower.ship(&TableOp::Put(*entry));
@@ -75,9 +81,30 @@ pub fn ship_drops<L: Link>(follower: &mut Follower<L>, entries: &[Entry])
     ensures at { (list : List Entry) → IsAt L.applied follower.old list
         → IsAt L.applied follower.new (replica list (map drop_of entries.now)) }
     ensures keeps { KeepsOn L.applied L.faults L.refusals follower.old follower.new }
+    ensures lost { IsLostBy follower.old follower.new (map drop_of entries.now) }
 {
     for entry in entries {
         follower.ship(&drop_of(entry));
+    }
+}
+
+/// The given entries stand in place of the owner's, which are these, unless the table stays as it is.
+pub fn ship_readmitted<L: Link>(
+    follower: &mut Follower<L>,
+    own: &[Entry],
+    entries: &[Entry],
+    stays: bool,
+)
+    ensures at { (list : List Entry) → IsAt L.applied follower.old list
+        → IsAt L.applied follower.new
+        (if stays then list else replica (replica list (map drop_of own.now)) (map Put entries.now)) }
+    ensures keeps { KeepsOn L.applied L.faults L.refusals follower.old follower.new }
+    ensures lost { IsLostBy follower.old follower.new
+        (if stays then [] else map drop_of own.now ++ map Put entries.now) }
+{
+    if !stays {
+        ship_drops(follower, own);
+        ship_puts(follower, entries);
     }
 }
 
@@ -91,6 +118,8 @@ fn ship_name<T: LockStore, L: Link>(
     ensures at { (list : List Entry) → IsAt L.applied follower.old list
         → IsAt L.applied follower.new (replica list (put_ops (T.table table.now).entries (named owner.now asked.now))) }
     ensures keeps { KeepsOn L.applied L.faults L.refusals follower.old follower.new }
+    ensures lost { IsLostBy follower.old follower.new
+        (put_ops (T.table table.now).entries (named owner.now asked.now)) }
 {
     if let Some(entry) = table.find(owner, asked) {
         follower.ship(&TableOp::Put(entry));
@@ -108,6 +137,8 @@ fn ship_halves<T: LockStore, L: Link>(
         → IsAt L.applied follower.new
         (replica list (granted_ops (T.table table.now).entries (halves_of asker.now request.now))) }
     ensures keeps { KeepsOn L.applied L.faults L.refusals follower.old follower.new }
+    ensures lost { IsLostBy follower.old follower.new
+        (granted_ops (T.table table.now).entries (halves_of asker.now request.now)) }
 {
     if request.dialogue {
         ship_name(follower, table, &asker.dialogue, &request.asked);
@@ -128,6 +159,8 @@ pub fn ship_granted<T: LockStore, L: Link>(
         → IsAt L.applied follower.new
         (replica list (granted_ops (T.table table.now).entries (halves asker.now requests.now))) }
     ensures keeps { KeepsOn L.applied L.faults L.refusals follower.old follower.new }
+    ensures lost { IsLostBy follower.old follower.new
+        (granted_ops (T.table table.now).entries (halves asker.now requests.now)) }
 {
     for request in requests {
         ship_halves(follower, table, asker, request);
@@ -157,6 +190,8 @@ pub fn ship_freed<T: LockStore, L: Link>(
         → IsAt L.applied follower.new
         (replica list (freed_ops (T.table table.now).entries (named owner.now asked.now))) }
     ensures keeps { KeepsOn L.applied L.faults L.refusals follower.old follower.new }
+    ensures lost { IsLostBy follower.old follower.new
+        (freed_ops (T.table table.now).entries (named owner.now asked.now)) }
 {
     if let Some(entry) = table.find(owner, asked) {
         follower.ship(&lowered(&entry));
@@ -178,6 +213,7 @@ pub fn ship_turns<L: Link>(follower: &mut Follower<L>, asker: &Asker, asked: &[A
     ensures at { (list : List Entry) → IsAt L.applied follower.old list
         → IsAt L.applied follower.new (replica list (flat_map (turn_ops asker.now) asked.now)) }
     ensures keeps { KeepsOn L.applied L.faults L.refusals follower.old follower.new }
+    ensures lost { IsLostBy follower.old follower.new (flat_map (turn_ops asker.now) asked.now) }
 {
     for one in asked {
         ship_turn(follower, asker, one);
@@ -188,7 +224,34 @@ fn ship_turn<L: Link>(follower: &mut Follower<L>, asker: &Asker, asked: &Asked)
     ensures at { (list : List Entry) → IsAt L.applied follower.old list
         → IsAt L.applied follower.new (replica list (turn_ops asker.now asked.now)) }
     ensures keeps { KeepsOn L.applied L.faults L.refusals follower.old follower.new }
+    ensures lost { IsLostBy follower.old follower.new (turn_ops asker.now asked.now) }
 {
     follower.ship(&turn_of(asker.dialogue, asked));
     follower.ship(&turn_of(asker.update, asked));
+}
+
+/// Whether a handover changes entries, of a unit that had some that weren't handed over, or removes some.
+fn changes(unhanded: bool, before: u32, now: u32) -> bool
+    ensures { result ≡ (unhanded || nat_lt now before) }
+{
+    unhanded || now < before
+}
+
+/// Flags the unit's S, E and X entries as handed and removes its O entries. Where that changes nothing, nothing is
+/// sent.
+pub fn hand<T: LockStore, L: Link>(follower: &mut Follower<L>, table: &mut T, unit: &UnitKey)
+    ensures after { T.table table.new ≡ with_entries (T.table table.old)
+        (handed_over (T.table table.old).entries unit.now) }
+    ensures good { IsTable (T.table table.new) }
+    ensures at { IsAt L.applied follower.old (T.table table.old).entries
+        → IsAt L.applied follower.new (T.table table.new).entries }
+    ensures keeps { KeepsOn L.applied L.faults L.refusals follower.old follower.new }
+    ensures lost { IsLostWith follower.old follower.new (T.table table.old) (T.table table.new) }
+{
+    let unhanded = table.has_unhanded(&Owner::Upd(*unit));
+    let before = table.len();
+    table.hand(unit);
+    if changes(unhanded, before, table.len()) {
+        follower.ship(&TableOp::Handed(*unit));
+    }
 }

@@ -2,7 +2,7 @@ ghost use Rattle.std.specs.Prelude.{◌≡◌, IfErr, IfOk, IfSome, IsTrue, Matc
 ghost use Rattle.bk_disk.specs.Disk.{Follows};
 ghost use Rattle.enq_server.specs.Faults.{CountsFault, IsOpenFault, Leaves, OnBytes};
 ghost use Rattle.enq_server.specs.Following.{IsLater, IsOverFault};
-ghost use Rattle.enq_server.specs.Recovery.{FreesOthers};
+ghost use Rattle.enq_server.specs.Recovery.{AreKnown, FreesOthers, locking};
 ghost use Rattle.enq_server.specs.Server.{IsRecovered, recovered, replicated};
 ghost use Rattle.lock_entry.specs.Sound.{IsSound};
 ghost use Rattle.lock_entry.specs.Table.{IsTable};
@@ -83,6 +83,7 @@ impl<D: Disk, L: Link> Wreck<D, L> {
         ensures good { IfOk result (λ table. IsTable (T.table table)) }
         ensures usable { OnOk result (self.new.file.failed ≡ false) }
         ensures shut { OnErr result (self.new.file.failed ≡ true) }
+        ensures known { OnOk result (AreKnown self.new.file.units (locking units.now)) }
         ensures file { IsTrue D.tells
             → OnOk result (IsRecovered D.reads D.may_leave (D.reads self.old.file.disk) units.now self.new.file) }
         ensures fault { IsTrue D.tells → IfErr result (IsOpenFault (D.reads self.old.file.disk) units.now) }

@@ -5,10 +5,11 @@ use Rattle.std.proofs.lemmas.List.{map-append}
 use Rattle.std.proofs.lemmas.List.Sums.{fold-append}
 use Rattle.hall_model.specs.declared.command.Command.{Command}
 use Rattle.hall_model.specs.Calls.{call_of}
-use Rattle.hall_model.specs.Devices.{DeviceOutcome, IsAllowed, MayLose}
+use Rattle.hall_model.specs.Devices.{DeviceOutcome, IsAllowed, MayLose, found_by}
 use Rattle.hall_model.specs.History.{Served, after_of, is_unrecorded, past_entry, served, step, takes_flight, with_entry}
 use Rattle.hall_model.specs.Recall.{IsModelAnswer, Made, calls_of, recalled, state_after}
 use Rattle.hall_model.specs.State.{State}
+use Rattle.hall_model.specs.Step.{call_verdict}
 use Rattle.hall_laws.proofs.keeping.Unchanged.{served-past}
 use Rattle.hall_calls.proofs.verdicts.Replies.{unnoted_same}
 use Rattle.hall_laws.proofs.histories.NotedSteps.{AnswersFrom, IsTold}
@@ -42,8 +43,9 @@ told_noted first s o line c h allowed on =
       state = sym leads;
     }
 
-told_unnoted : (first s : State) (o : DeviceOutcome) (line : ℕ) (c : Command) → IsTold first s → MayLose o.lost o.event s (call_of c)
-    → is_unrecorded (served o s c).reply ≡ true → IsTold first (step o s line c).state
+told_unnoted : (first s : State) (o : DeviceOutcome) (line : ℕ) (c : Command) → IsTold first s
+    → MayLose o.lost o.event s (call_of c) (call_verdict (found_by o.reading s) s (call_of c)) → is_unrecorded (served o s c).reply ≡ true
+    → IsTold first (step o s line c).state
 told_unnoted first s o line c h lost off =
     let r : Served = served o s c in
     let stepped : step o s line c ≡ r = ap (λ b. if b then r else record r { state = with_entry line c (takes_flight o) r }) off in

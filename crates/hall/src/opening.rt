@@ -1,4 +1,5 @@
 ghost use Rattle.std.specs.Prelude.{◌≡◌, ◌≤◌, List, [], false, true, None, IsTrue, IfOk, IfErr, MatchResult, replicate, vec_capacity};
+ghost use Rattle.enq_server.specs.Recovery.{AreKnown, locking};
 ghost use Rattle.enq_server.specs.Server.{IsRecovered, recovered};
 ghost use Rattle.hall.specs.Faults.{CountsFileFault, IsFileFault, IsRangesFault, LeavesFile, file_fault, hall_fault};
 ghost use Rattle.ledger_steps.specs.Intervals.{in_row_order};
@@ -104,6 +105,7 @@ pub(crate) fn first_locks<T: LockStore, D: Disk, L: Link>(
     ensures file { IsTrue D.tells
         → IfOk result (λ locks. IsRecovered D.reads D.may_leave (D.reads disk) units.now locks.file) }
     ensures usable { IfOk result (λ locks. locks.file.failed ≡ false) }
+    ensures known { IfOk result (λ locks. AreKnown locks.file.units (locking units.now)) }
     ensures detached { IfOk result (λ locks. locks.copy.attached ≡ false) }
     ensures link { MatchResult result (λ locks. locks.copy.link ≡ link) (λ e. e.2 ≡ link) }
     ensures counts { IfOk result (λ locks. D.faults locks.file.disk ≡ D.faults disk) }

@@ -3,3 +3,4 @@ pub mod EachCall
 pub mod NotedShips
 pub mod ToldLists
 pub mod Shipping
+pub mod LostFrees

@@ -1,5 +1,6 @@
 pub mod OfOpenUnits
 pub mod BehindMarks
+pub mod WaitingLists
 pub mod StoredLocks
 pub mod AsCallsEnd
 pub mod GoodFiles

@@ -1,13 +1,15 @@
 -- What the backup file has, and what a stop may leave of it.
-use Rattle.std.specs.Prelude.{ℕ, ◌≡◌, ◌≤◌, ◌⊎◌, Bool, true, false, if◌then◌else◌, List, Option, Some, None, Result}
-use Rattle.std.specs.Prelude.{IsTrue, OnErr, OnOk}
+use Rattle.std.specs.Prelude.{ℕ, ◌≡◌, ◌≤◌, ◌⊎◌, Bool, true, false, ◌&&◌, not, if◌then◌else◌, List, Option, Some, None}
+use Rattle.std.specs.Prelude.{IsTrue, OnErr, OnOk, Result}
 use Rattle.enq_base.specs.declared.condition.Condition.{Condition}
 use Rattle.std.specs.Option.{option_map}
 use Rattle.backup_file.specs.Backup.{BackupView, IsReady, IsSame}
 use Rattle.backup_file.specs.File.{Stands}
 use Rattle.backup_file.specs.declared.handed.Handed.{Handed}
-use Rattle.backup_file.specs.Lists.{without}
+use Rattle.backup_file.specs.Lists.{is_known, without}
+use Rattle.backup_file.specs.declared.ids.UnitId.{UnitId}
 use Rattle.enq_base.specs.Causes.{HasCause, Rose}
+use Rattle.enq_base.specs.Owners.{same_unit}
 use Rattle.enq_base.specs.declared.owner.Owner.TheVariants.{Upd}
 use Rattle.enq_base.specs.declared.owner.UnitKey.{UnitKey}
 use Rattle.enq_base.specs.declared.unit.Status.{Status}
@@ -24,7 +26,7 @@ use Rattle.hall_calls.specs.Written.{OnAnswer, written_reply}
 use Rattle.ledger_steps.specs.Steps.{after_step}
 use Rattle.hall_model.specs.Kept.{OutsideDoubt}
 use Rattle.hall_calls.specs.OpenLists.{AgreeAll, AreOpenLists}
-use Rattle.hall_model.specs.OpenUnits.{OfPending}
+use Rattle.hall_model.specs.OpenUnits.{OfPending, waits_with_locks}
 use Rattle.hall_calls.specs.View.{View}
 use Rattle.hall_model.specs.Step.{ask_refusal}
 use Rattle.hall_model.specs.declared.command.Reply.{Reply}
@@ -39,10 +41,16 @@ pub record IsReadyFor {D : Type 0} (reads : D → List ℕ) (may_leave : D → L
   pub ready : IsReady reads may_leave file lists
   pub just : AreOpenLists ledger lists
 
--- it may be written, and where the disk tells its bytes it is ready with these lists
+-- these are just the units that wait for their V1 part and have locks
+abbrev pub AreWaiting : Ledger → List UnitId → Type 0
+AreWaiting ledger units = (unit : UnitKey) → is_known unit units ≡ waits_with_locks ledger unit
+
+-- it may be written, over every disk the lists of just the open units with locks stand in it, and where the disk tells
+-- its bytes it is ready with these lists
 pub record HasOpenLists {D : Type 0} (tells : Bool) (reads : D → List ℕ) (may_leave : D → List ℕ → Type 0)
     (ledger : Ledger) (file : BackupView D) : Type 0 where
   pub usable : file.failed ≡ false
+  pub standing : AreWaiting ledger file.units
   pub ready : IsTrue tells → IsReadyFor reads may_leave ledger file
 
 -- what holds unless the change in flight is known to be in the store
@@ -129,7 +137,11 @@ locks_ended ends entries unit = if ends then freed_owner entries (Upd unit) else
 abbrev pub lists_ended : Bool → List Handed → UnitKey → List Handed
 lists_ended ends lists unit = if ends then without unit lists else lists
 
--- the unit's list is freed, where it is to end, or the disk failed in that
+-- whether another's list stands then
+abbrev pub stays_known : Bool → UnitKey → List UnitId → UnitKey → Bool
+stays_known ends unit units other = is_known other units && not (ends && same_unit unit other)
+
+-- the unit's list is freed, where it is to end and stands, or the disk failed in that
 pub record FreesList {D E : Type 0} (tells : Bool) (reads : D → List ℕ) (may_leave : D → List ℕ → Type 0)
     (faults : D → ℕ) (ends : Bool) (unit : UnitKey) (old new : BackupView D) (result : Result Unit E) : Type 0 where
   pub usable : OnOk result (new.failed ≡ false)
@@ -138,7 +150,8 @@ pub record FreesList {D E : Type 0} (tells : Bool) (reads : D → List ℕ) (may
   pub images : IsTrue tells → (lists : List Handed) → IsReady reads may_leave old lists → (image : List ℕ)
       → may_leave new.disk image
       → Stands image lists ⊎ Stands image (lists_ended ends lists unit)
-  pub needed : OnErr result (ends ≡ true)
+  pub standing : OnOk result ((other : UnitKey) → is_known other new.units ≡ stays_known ends unit old.units other)
+  pub needed : OnErr result (IsTrue (ends && is_known unit old.units))
   pub untouched : ends ≡ false → new ≡ old
   pub cause : HasCause (faults old.disk) (faults new.disk) result
 
@@ -147,6 +160,7 @@ pub record FreesList {D E : Type 0} (tells : Bool) (reads : D → List ℕ) (may
 pub record IsSaved {D : Type 0} (tells : Bool) (reads : D → List ℕ) (may_leave : D → List ℕ → Type 0)
     (ledger next : Ledger) (file : BackupView D) : Type 0 where
   pub usable : file.failed ≡ false
+  pub standing : AreWaiting next file.units
   pub ready : IsTrue tells → (lists : List Handed) × IsReady reads may_leave file lists × AgreeAll ledger lists
       × AreOpenLists next lists
 

@@ -1,5 +1,5 @@
 -- A lock server that is made anew, and what that leaves of state, store and backup file.
-use Rattle.std.specs.Prelude.{ℕ, ◌≡◌, ◌+◌, Bool, true, false, List, Option, Some, None, IfSome, IsSomeAnd, IsTrue}
+use Rattle.std.specs.Prelude.{ℕ, ◌≡◌, ◌⊎◌, ◌+◌, Bool, true, false, List, Option, Some, None, IfSome, IsSomeAnd, IsTrue}
 use Rattle.std.specs.Option.{option_map}
 use Rattle.backup_file.specs.Backup.{BackupView}
 use Rattle.enq_base.specs.declared.condition.Bad.TheVariants as bad
@@ -20,10 +20,13 @@ use Rattle.posting.specs.Settling.{FoundAnew}
 use Rattle.posting.specs.BooksView.{IsUsable, BooksView}
 use Rattle.posting.specs.declared.settling.SettleFault.{SettleFault}
 use Rattle.posting.specs.declared.settling.SettleFault.TheVariants as settling
-use Rattle.update_records.specs.Ledger.{Ledger}
+use Rattle.number_ranges.specs.declared.interval.Interval.{Interval}
+use Rattle.update_records.specs.Ledger.{Ledger, Levels}
 use Rattle.hall_model.specs.Calls.{OfAdmin, Restarts}
 use Rattle.hall_model.specs.Devices.{IsAsBefore, is_doubt}
 use Rattle.hall_calls.specs.Filing.{AllRecover, HasOpenLists}
+use Rattle.ledger_steps.specs.Intervals.{in_row_order}
+use Rattle.ledger_steps.specs.Levels.{FitRows, IsFirstUnfit}
 use Rattle.ledger_steps.specs.Steps.{after_step}
 use Rattle.hall_model.specs.History.{doubted, known_behind}
 use Rattle.hall_model.specs.Kept.{IsInFlight}
@@ -51,10 +54,17 @@ books_refusal (books.BadStore table row) = refusal.Unsound (bad.Store table row)
 books_refusal books.NoStart = refusal.NoMemory
 books_refusal books.NoMemory = refusal.NoMemory
 
--- by its store, which isn't read, or which has neither what it had nor the change in flight
-abbrev pub store_refusal : SettleFault → Refusal
-store_refusal (settling.Books fault) = books_refusal fault
-store_refusal settling.Other = refusal.Unsound (bad.Store 0 0)
+-- a store that has neither what it had nor the change in flight is told by the first of its intervals that is none of
+-- the landscape's, a row of table 5, or else by no row, of table 0
+abbrev pub IsOtherRefusal : List Interval → Levels → Refusal → Type 0
+IsOtherRefusal intervals levels r =
+    ((row : ℕ) × IsFirstUnfit intervals (in_row_order levels) row × (r ≡ refusal.Unsound (bad.Store 5 row)))
+    ⊎ (FitRows intervals levels × (r ≡ refusal.Unsound (bad.Store 0 0)))
+
+-- by its store, which isn't read, or which has another ledger
+abbrev pub IsStoreRefusal : List Interval → SettleFault → Refusal → Type 0
+IsStoreRefusal intervals (settling.Books fault) r = r ≡ books_refusal fault
+IsStoreRefusal intervals (settling.Other ledger) r = IsOtherRefusal intervals ledger.levels r
 
 -- ---- what it comes to
 
@@ -74,7 +84,7 @@ remade_condition before calls (Done taken) = condition.Up
 remade_condition before calls (Refused r) = before
 remade_condition before calls (InDoubt r read) = condition.Doubt (calls + 1)
 
--- only a table that was made anew came from no replica
+-- whether the table was taken over from a replica: not where it was made anew, and else as before
 abbrev pub remade_over : Bool → Remade → Bool
 remade_over before (Done taken) = false
 remade_over before (Refused r) = before

@@ -1,6 +1,6 @@
 ghost use Rattle.std.specs.Prelude.{◌≡◌, fold, true};
 ghost use Rattle.std.specs.List.{AllByRecursion};
-ghost use Rattle.enq_server.specs.Following.{KeepsOn};
+ghost use Rattle.enq_server.specs.Following.{IsLostWith, KeepsOn};
 ghost use Rattle.hall_model.specs.declared.command.Command.TheVariants as command;
 ghost use Rattle.hall_model.specs.Acts.{Admits, IsAct};
 ghost use Rattle.hall_model.specs.Kept.{IsYoung};
@@ -37,6 +37,7 @@ pub(crate) fn ask<T: LockStore, D: Disk, L: Link>(
     ensures standing { locks.new.stands ≡ locks.old.stands }
     ensures file { locks.new.file ≡ locks.old.file }
     ensures follower { KeepsOn L.applied L.faults L.refusals locks.old.copy locks.new.copy }
+    ensures lost { IsLostWith locks.old.copy locks.new.copy locks.old.table locks.new.table }
 {
     let session = session_of(sessions, name)?;
     let pair = pair_of(start, session);
@@ -90,6 +91,7 @@ pub(crate) fn free<T: LockStore, D: Disk, L: Link>(
     ensures standing { locks.new.stands ≡ locks.old.stands }
     ensures file { locks.new.file ≡ locks.old.file }
     ensures follower { KeepsOn L.applied L.faults L.refusals locks.old.copy locks.new.copy }
+    ensures lost { IsLostWith locks.old.copy locks.new.copy locks.old.table locks.new.table }
 {
     let session = session_of(sessions, name)?;
     free_requests(locks, &pair_of(start, session), requests);
@@ -106,6 +108,7 @@ fn free_requests<T: LockStore, D: Disk, L: Link>(
     ensures standing { locks.new.stands ≡ locks.old.stands }
     ensures file { locks.new.file ≡ locks.old.file }
     ensures follower { KeepsOn L.applied L.faults L.refusals locks.old.copy locks.new.copy }
+    ensures lost { IsLostWith locks.old.copy locks.new.copy locks.old.table locks.new.table }
 {
     for request in requests {
         free_request(locks, pair, request);
@@ -122,6 +125,7 @@ fn free_request<T: LockStore, D: Disk, L: Link>(
     ensures standing { locks.new.stands ≡ locks.old.stands }
     ensures file { locks.new.file ≡ locks.old.file }
     ensures follower { KeepsOn L.applied L.faults L.refusals locks.old.copy locks.new.copy }
+    ensures lost { IsLostWith locks.old.copy locks.new.copy locks.old.table locks.new.table }
 {
     if request.dialogue {
         locks.free_one(&pair.dialogue, &request.asked);
@@ -146,6 +150,7 @@ pub(crate) fn log_off<T: LockStore, D: Disk, L: Link>(
     ensures standing { locks.new.stands ≡ locks.old.stands }
     ensures file { locks.new.file ≡ locks.old.file }
     ensures follower { KeepsOn L.applied L.faults L.refusals locks.old.copy locks.new.copy }
+    ensures lost { IsLostWith locks.old.copy locks.new.copy locks.old.table locks.new.table }
 {
     let session = session_of(sessions, name)?;
     let own_name = session.name;
@@ -169,6 +174,7 @@ pub(crate) fn free_all<T: LockStore, D: Disk, L: Link>(
     ensures standing { locks.new.stands ≡ locks.old.stands }
     ensures file { locks.new.file ≡ locks.old.file }
     ensures follower { KeepsOn L.applied L.faults L.refusals locks.old.copy locks.new.copy }
+    ensures lost { IsLostWith locks.old.copy locks.new.copy locks.old.table locks.new.table }
 {
     let session = session_of(sessions, name)?;
     free_pair(locks, &pair_of(start, session));
@@ -182,6 +188,7 @@ fn free_pair<T: LockStore, D: Disk, L: Link>(locks: &mut EnqServer<T, D, L>, ask
     ensures standing { locks.new.stands ≡ locks.old.stands }
     ensures file { locks.new.file ≡ locks.old.file }
     ensures follower { KeepsOn L.applied L.faults L.refusals locks.old.copy locks.new.copy }
+    ensures lost { IsLostWith locks.old.copy locks.new.copy locks.old.table locks.new.table }
 {
     locks.free_owner(&asker.dialogue);
     locks.free_owner(&asker.update);
@@ -205,6 +212,7 @@ pub(crate) fn convert<T: LockStore, D: Disk, L: Link>(
     ensures standing { locks.new.stands ≡ locks.old.stands }
     ensures file { locks.new.file ≡ locks.old.file }
     ensures follower { KeepsOn L.applied L.faults L.refusals locks.old.copy locks.new.copy }
+    ensures lost { IsLostWith locks.old.copy locks.new.copy locks.old.table locks.new.table }
 {
     let session = session_of(sessions, name)?;
     let pair = pair_of(start, session);
@@ -231,6 +239,7 @@ pub(crate) fn roll_back<T: LockStore, D: Disk, L: Link>(
     ensures standing { locks.new.stands ≡ locks.old.stands }
     ensures file { locks.new.file ≡ locks.old.file }
     ensures follower { KeepsOn L.applied L.faults L.refusals locks.old.copy locks.new.copy }
+    ensures lost { IsLostWith locks.old.copy locks.new.copy locks.old.table locks.new.table }
 {
     let session = session_of(sessions, name)?;
     let own_name = session.name;

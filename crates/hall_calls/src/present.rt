@@ -1,8 +1,9 @@
 ghost use Rattle.hall_calls.specs.Remaking.{over_refusal};
 ghost use Rattle.std.specs.Prelude.{◌≡◌, ◌≢◌, ◌⊎◌, ◌&&◌, ℕ, [], if◌then◌else◌, true, false, length, replicate, None, IfOk, IfSome, is_some, IsTrue};
+ghost use Rattle.std.specs.List.{All};
 ghost use Rattle.enq_server.specs.Following.{IsLater, KeepsOn, told_list};
 ghost use Rattle.enq_server.specs.Server.{recovered};
-ghost use Rattle.ledger_steps.specs.Views.{open_locks};
+ghost use Rattle.ledger_steps.specs.Views.{TellsRefusal, open_locks};
 ghost use Rattle.hall_model.specs.declared.command.Command.TheVariants as command;
 ghost use Rattle.hall_model.specs.Acts.{IsTelling};
 ghost use Rattle.hall_calls.specs.Written.{OnAnswer, post_of, take_of, written_condition, written_failure, written_reply, written_sessions};
@@ -36,6 +37,7 @@ use enq_base::{Bad, Condition, Items, Key, Name, NoMemory, Num, Parts, Refusal, 
 use enq_server::{EnqServer, OverFault};
 use hall_model::{After, Answer, Command, PastEntry, Reply};
 use keeper_api::Keeper;
+use ledger_laws::views_tell_refusals;
 use lock_entry::{Asked, Entry, LockStore, Request};
 use number_ranges::Range;
 use posting::Books;
@@ -203,10 +205,13 @@ impl<T: LockStore, K: Keeper, D: Disk, L: Link> Present<T, K, D, L> {
         self.max_locks
     }
 
-    /// What is told of each recorded unit: nothing where the server is in doubt.
+    /// What is told of each recorded unit, a refusal just of one that is `Bad` or `Bad2`: nothing where the server is
+    /// in doubt.
     pub fn units(&self, alloc: Global) -> Result<Vec<UnitView>, NoMemory>
-        ensures { IfOk result (λ units. units.items ≡ units_shown self.now.state) }
+        ensures shown { IfOk result (λ units. units.items ≡ units_shown self.now.state) }
+        ensures refused { IfOk result (λ units. All TellsRefusal units.items) }
     {
+        views_tell_refusals();
         match self.condition {
             Condition::Up | Condition::NoServer => self.books.views(alloc),
             Condition::Doubt(_) => Ok(Vec::new(alloc)),
@@ -748,6 +753,7 @@ impl<T: LockStore, K: Keeper, D: Disk, L: Link> Present<T, K, D, L> {
             &mut self.locks,
             &mut self.books,
             &self.failure,
+            &self.ranges,
             self.max_locks,
         );
         settled(

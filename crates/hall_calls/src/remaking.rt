@@ -7,7 +7,7 @@ ghost use Rattle.hall_model.specs.Devices.{IsAsBefore, is_doubt};
 ghost use Rattle.hall_calls.specs.Filing.{AllRecover, HasFileCause};
 ghost use Rattle.hall_model.specs.Kept.{IsKnownRight, IsYoung, OutsideDoubt};
 ghost use Rattle.hall_model.specs.OpenUnits.{OfPending, open_entries};
-ghost use Rattle.hall_calls.specs.Remaking.{IsFoundRight, IsReadAs, IsUnread, IsUnreadInDoubt, IsUsableAs, ledger_read, taken_in, taken_read, IsLeftReady, LeavesKnown, LeavesRemade, OnNotRemade, OnRefusedFirst, OnRemade, flight_over, remade_condition, remade_failure, remade_over, remade_reply, remade_state, remade_taken, remake_refusal, store_refusal};
+ghost use Rattle.hall_calls.specs.Remaking.{IsFoundRight, IsReadAs, IsUnread, IsUnreadInDoubt, IsUsableAs, ledger_read, taken_in, taken_read, IsLeftReady, LeavesKnown, LeavesRemade, OnNotRemade, OnRefusedFirst, OnRemade, flight_over, remade_condition, remade_failure, remade_over, remade_reply, remade_state, remade_taken, remake_refusal, books_refusal, IsOtherRefusal, IsStoreRefusal};
 ghost use Rattle.hall_calls.specs.Serving.{DoesStore};
 ghost use Rattle.hall_model.specs.History.{known_behind};
 ghost use Rattle.hall_model.specs.State.{State, is_up};
@@ -15,6 +15,7 @@ ghost use Rattle.keeper_api.specs.Keeping.{IsWithin};
 ghost use Rattle.hall_model.specs.Unsound.{is_unsound_file, is_unsound_store};
 ghost use Rattle.lock_entry.specs.Sound.{IsSound};
 ghost use Rattle.posting.specs.BooksView.{IsUsable};
+ghost use Rattle.ledger_steps.specs.Levels.{intervals_of};
 ghost use Rattle.ledger_steps.specs.Views.{open_locks};
 
 use crate::sessions::Sessions;
@@ -25,9 +26,11 @@ use enq_server::{EnqServer, OpenFault};
 use hall_model::{Answer, PastEntry, Reply};
 use keeper_api::Keeper;
 use lock_entry::{LockStore, UnitLocks};
-use posting::{Books, BooksFault, Reread, SettleFault};
+use posting::{Books, BooksFault, Reread, SettleFault, Unlike};
+use range_list::Ranges;
 use replica_link::Link;
 use std::alloc::Global;
+use update_records::tables;
 
 /// What came of making a lock server anew.
 #[derive(Drop)]
@@ -59,6 +62,7 @@ pub(crate) fn remake<T: LockStore, K: Keeper, D: Disk, L: Link>(
     locks: &mut EnqServer<T, D, L>,
     books: &mut Books<K>,
     failure: &Failure,
+    ranges: &Ranges,
     max_locks: u32,
 ) -> Remade
     requires ended { locks.old.stands ≡ is_up condition }
@@ -104,7 +108,7 @@ pub(crate) fn remake<T: LockStore, K: Keeper, D: Disk, L: Link>(
     if let Condition::Up = condition {
         return Remade::Refused(Refusal::ServerUp);
     }
-    let waiting = match read_waiting(alloc, condition, books, failure) {
+    let waiting = match read_waiting(alloc, condition, ranges, books, failure) {
         Ok(waiting) => waiting,
         Err(remade) => return remade,
     };
@@ -122,6 +126,7 @@ pub(crate) fn remake<T: LockStore, K: Keeper, D: Disk, L: Link>(
 fn read_waiting<K: Keeper>(
     alloc: Global,
     condition: Condition,
+    ranges: &Ranges,
     books: &mut Books<K>,
     failure: &Failure,
 ) -> Result<Waiting, Remade>
@@ -144,7 +149,7 @@ fn read_waiting<K: Keeper>(
     ensures within { IsWithin (K.may_leave books.new.keeper) (K.may_leave books.old.keeper) }
 {
     match condition {
-        Condition::Doubt(_) => reread(alloc, books, failure),
+        Condition::Doubt(_) => reread(alloc, ranges, books, failure),
         Condition::Up | Condition::NoServer => match books.open_units(alloc) {
             Ok(units) => Ok(Waiting {
                 units,
@@ -158,6 +163,7 @@ fn read_waiting<K: Keeper>(
 /// Reads the store anew. It has to have what it had or the change in flight, and what was read of it before.
 fn reread<K: Keeper>(
     alloc: Global,
+    ranges: &Ranges,
     books: &mut Books<K>,
     failure: &Failure,
 ) -> Result<Waiting, Remade>
@@ -181,11 +187,11 @@ fn reread<K: Keeper>(
 {
     let reread = match books.reread(alloc, failure.pending.as_ref()) {
         Ok(reread) => reread,
-        Err(fault) => return Err(Remade::InDoubt(store_refusal(fault), None)),
+        Err(fault) => return Err(Remade::InDoubt(store_refusal(&fault, ranges), None)),
     };
     let taken = reread.taken();
     if !is_as_before(failure.found, taken) {
-        return Err(Remade::InDoubt(store_refusal(SettleFault::Other), None));
+        return Err(Remade::InDoubt(Refusal::Unsound(Bad::Store { table: 0, row: 0 }), None));
     }
     match reread.open_units(alloc) {
         Ok(units) => Ok(Waiting {
@@ -244,17 +250,38 @@ fn remake_refusal(fault: OpenFault) -> Refusal
     }
 }
 
-/// And by its store. One that has neither what it had nor the change in flight is told by no row, of table 0.
-fn store_refusal(fault: SettleFault) -> Refusal
-    ensures { result ≡ store_refusal fault }
+/// And by its store.
+fn store_refusal(fault: &SettleFault, ranges: &Ranges) -> Refusal
+    ensures { IsStoreRefusal (intervals_of ranges.now) fault.now result }
 {
     match fault {
-        SettleFault::Books(BooksFault::StoreFault) => Refusal::StoreFault,
-        SettleFault::Books(BooksFault::BadStore { table, row }) => {
-            Refusal::Unsound(Bad::Store { table, row })
-        }
-        SettleFault::Books(BooksFault::NoStart | BooksFault::NoMemory) => Refusal::NoMemory,
-        SettleFault::Other => Refusal::Unsound(Bad::Store { table: 0, row: 0 }),
+        SettleFault::Books(fault) => books_refusal(*fault),
+        SettleFault::Other(found) => other_refusal(found, ranges),
+    }
+}
+
+/// Where it isn't read.
+fn books_refusal(fault: BooksFault) -> Refusal
+    ensures { result ≡ books_refusal fault }
+{
+    match fault {
+        BooksFault::StoreFault => Refusal::StoreFault,
+        BooksFault::BadStore { table, row } => Refusal::Unsound(Bad::Store { table, row }),
+        BooksFault::NoStart | BooksFault::NoMemory => Refusal::NoMemory,
+    }
+}
+
+/// Where it has neither what it had nor the change in flight: the row of the first of its intervals that isn't one of
+/// the landscape, if there is such a row.
+fn other_refusal(found: &Unlike, ranges: &Ranges) -> Refusal
+    ensures { IsOtherRefusal (intervals_of ranges.now) found.now.levels result }
+{
+    match ranges.first_unfit(found.intervals()) {
+        Some(row) => Refusal::Unsound(Bad::Store {
+            table: tables::LEVELS,
+            row,
+        }),
+        None => Refusal::Unsound(Bad::Store { table: 0, row: 0 }),
     }
 }
 

@@ -1,6 +1,6 @@
 ghost use Rattle.std.specs.Prelude.{◌≡◌, ◌⊎◌, ◌≤◌, ◌<◌, ◌+◌, ◌^◌, ◌++◌, None, Ok, Some, IfOk, IfSome, OnErr, OnOk, false, true, is_some, length, nat_eq, nat_le};
 ghost use Rattle.std.specs.List.{AllByRecursion};
-ghost use Rattle.enq_server.specs.Following.{KeepsOn};
+ghost use Rattle.enq_server.specs.Following.{IsLostWith, KeepsOn};
 ghost use Rattle.enq_server.specs.Server.{of_user};
 ghost use Rattle.hall_model.specs.declared.command.Command.TheVariants as command;
 ghost use Rattle.enq_base.specs.declared.unit.Num.{Num as Number};
@@ -119,6 +119,7 @@ pub(crate) fn post<T: LockStore, K: Keeper, D: Disk, L: Link>(
     ensures second { nat_eq part 1 ≡ false → locks.new.table.entries ≡ locks.old.table.entries }
     ensures table { OnFailure result (locks.new.table ≡ locks.old.table) }
     ensures follower { KeepsOn L.applied L.faults L.refusals locks.old.copy locks.new.copy }
+    ensures lost { IsLostWith locks.old.copy locks.new.copy locks.old.table locks.new.table }
     ensures orders { OnFailure result (orders.new.items ≡ orders.old.items) }
     ensures ledger { OnStoreFailure result (books.new.ledger ≡ books.old.ledger) }
     ensures usable { OnAnswer result (IsUsable K.held K.is_open books.new) }
@@ -170,6 +171,7 @@ fn end_locks<T: LockStore, D: Disk, L: Link>(
     ensures standing { locks.new.stands ≡ locks.old.stands }
     ensures file { FreesList D.tells D.reads D.may_leave D.faults ends unit.now locks.old.file locks.new.file result }
     ensures follower { KeepsOn L.applied L.faults L.refusals locks.old.copy locks.new.copy }
+    ensures lost { IsLostWith locks.old.copy locks.new.copy locks.old.table locks.new.table }
 {
     if ends {
         locks.end_unit(unit)?;
@@ -279,6 +281,7 @@ pub(crate) fn commit<T: LockStore, K: Keeper, D: Disk, L: Link>(
     ensures standing { locks.new.stands ≡ locks.old.stands }
     ensures file { FilesAs D.tells D.reads D.may_leave D.faults books.new.ledger locks.old.file locks.new.file result }
     ensures follower { KeepsOn L.applied L.faults L.refusals locks.old.copy locks.new.copy }
+    ensures lost { IsLostWith locks.old.copy locks.new.copy locks.old.table locks.new.table }
     ensures table { OnFailure result (locks.new.table ≡ locks.old.table) }
     ensures sessions { OnFailure result (sessions.new ≡ sessions.old) }
     ensures ranges { OnFailure result (ranges.new ≡ ranges_behind stock.now ranges.old result) }
@@ -340,6 +343,7 @@ fn record_commit<T: LockStore, K: Keeper, D: Disk, L: Link>(
     ensures standing { locks.new.stands ≡ locks.old.stands }
     ensures file { FilesAs D.tells D.reads D.may_leave D.faults books.new.ledger locks.old.file locks.new.file result }
     ensures follower { KeepsOn L.applied L.faults L.refusals locks.old.copy locks.new.copy }
+    ensures lost { IsLostWith locks.old.copy locks.new.copy locks.old.table locks.new.table }
     ensures table { OnFailure result (locks.new.table ≡ locks.old.table) }
     ensures sessions { OnFailure result (sessions.new ≡ sessions.old) }
     ensures store { EndsAs K.held K.is_open K.may_leave K.faults books.old books.new result }
@@ -409,6 +413,7 @@ fn record_unit<T: LockStore, K: Keeper, D: Disk, L: Link>(
     ensures standing { locks.new.stands ≡ locks.old.stands }
     ensures file { FilesAs D.tells D.reads D.may_leave D.faults books.new.ledger locks.old.file locks.new.file result }
     ensures follower { KeepsOn L.applied L.faults L.refusals locks.old.copy locks.new.copy }
+    ensures lost { IsLostWith locks.old.copy locks.new.copy locks.old.table locks.new.table }
     ensures table { OnFailure result (locks.new.table ≡ locks.old.table) }
     ensures sessions { OnFailure result (sessions.new ≡ sessions.old) }
     ensures store { EndsAs K.held K.is_open K.may_leave K.faults books.old books.new result }
@@ -448,6 +453,7 @@ fn record_saved<T: LockStore, K: Keeper, D: Disk, L: Link>(
     ensures file { FilesAs D.tells D.reads D.may_leave D.faults books.new.ledger locks.old.file locks.new.file result }
     ensures answered { IsUnrefused result }
     ensures follower { KeepsOn L.applied L.faults L.refusals locks.old.copy locks.new.copy }
+    ensures lost { IsLostWith locks.old.copy locks.new.copy locks.old.table locks.new.table }
     ensures table { OnFailure result (locks.new.table ≡ locks.old.table) }
     ensures sessions { OnFailure result (sessions.new ≡ sessions.old) }
     ensures store { EndsAs K.held K.is_open K.may_leave K.faults books.old books.new result }
@@ -552,6 +558,7 @@ pub(crate) fn cancel<T: LockStore, K: Keeper, D: Disk, L: Link>(
     ensures standing { locks.new.stands ≡ locks.old.stands }
     ensures file { FilesAs D.tells D.reads D.may_leave D.faults books.new.ledger locks.old.file locks.new.file result }
     ensures follower { KeepsOn L.applied L.faults L.refusals locks.old.copy locks.new.copy }
+    ensures lost { IsLostWith locks.old.copy locks.new.copy locks.old.table locks.new.table }
     ensures table { OnFailure result (locks.new.table ≡ locks.old.table) }
     ensures ledger { OnStoreFailure result (books.new.ledger ≡ books.old.ledger) }
     ensures usable { OnAnswer result (IsUsable K.held K.is_open books.new) }
@@ -642,6 +649,7 @@ pub(crate) fn resubmit<T: LockStore, K: Keeper, D: Disk, L: Link>(
     ensures standing { locks.new.stands ≡ locks.old.stands }
     ensures file { FilesAs D.tells D.reads D.may_leave D.faults books.new.ledger locks.old.file locks.new.file result }
     ensures follower { KeepsOn L.applied L.faults L.refusals locks.old.copy locks.new.copy }
+    ensures lost { IsLostWith locks.old.copy locks.new.copy locks.old.table locks.new.table }
     ensures table { OnFailure result
         ((locks.new.table ≡ locks.old.table) ⊎ IsRegained books.old.ledger unit locks.old.table
         locks.new.table.entries) }
@@ -682,6 +690,7 @@ fn reopen<T: LockStore, K: Keeper, D: Disk, L: Link>(
     ensures standing { locks.new.stands ≡ locks.old.stands }
     ensures file { FilesAs D.tells D.reads D.may_leave D.faults books.new.ledger locks.old.file locks.new.file result }
     ensures follower { KeepsOn L.applied L.faults L.refusals locks.old.copy locks.new.copy }
+    ensures lost { IsLostWith locks.old.copy locks.new.copy locks.old.table locks.new.table }
     ensures table { OnFailure result
         ((locks.new.table ≡ locks.old.table) ⊎ IsRegained books.old.ledger unit locks.old.table
         locks.new.table.entries) }

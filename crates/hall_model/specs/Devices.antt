@@ -1,5 +1,5 @@
 -- What the devices do in a call, and which of it may be.
-use Rattle.std.specs.Prelude.{◌≡◌, ℕ, Bool, true, false, ◌&&◌, ◌||◌, ◌++◌, nat_eq, nat_lt, length, List, []}
+use Rattle.std.specs.Prelude.{◌≡◌, ◌≢◌, ℕ, Bool, true, false, ◌&&◌, ◌||◌, ◌++◌, nat_eq, nat_lt, length, List, []}
 use Rattle.std.specs.Prelude.{if◌then◌else◌, Option, Some, None, IfSome, IsTrue, is_ok, is_some}
 use Rattle.enq_base.specs.declared.condition.BackupBad.{BackupBad}
 use Rattle.enq_base.specs.declared.condition.Condition.{Condition}
@@ -30,6 +30,7 @@ use Rattle.ledger_steps.specs.declared.range.NumberRange.{NumberRange}
 use Rattle.std.specs.Option.{option_map_or}
 use Rattle.hall_model.specs.Coming.{MayComeTo}
 use Rattle.hall_model.specs.Kept.{IsInFlight}
+use Rattle.hall_model.specs.OpenUnits.{waits_with_locks}
 use Rattle.hall_model.specs.Orders.{order_for}
 use Rattle.hall_model.specs.State.{State}
 use Rattle.hall_model.specs.Stocks.{MayCall}
@@ -211,9 +212,11 @@ abbrev pub session_uses_file : State → List ℕ → SessionCall → Bool
 session_uses_file s session (Commits parts stock) = hands_over s session parts
 session_uses_file s session call = false
 
-abbrev pub worker_uses_file : WorkerCall → Bool
-worker_uses_file (Posts part) = nat_eq part 1
-worker_uses_file call = false
+-- the unit that the worker has an order for waits for its V1 part, and has locks
+abbrev pub worker_uses_file : State → ℕ → WorkerCall → Bool
+worker_uses_file s worker (Posts part) =
+    nat_eq part 1 && option_map_or (waits_with_locks s.stored) (order_for part s.stored s.orders worker) false
+worker_uses_file s worker call = false
 
 -- the locks that were stored with a unit whose V1 part was refused
 abbrev pub refused_locks : State → UnitKey → List Entry
@@ -225,15 +228,15 @@ admin_uses_file s Kills = false
 admin_uses_file s FailsOver = false
 admin_uses_file s Attaches = false
 admin_uses_file s Restarts = true
-admin_uses_file s (Cancels unit) = has_status status.Open (status_of s.stored.units s.stored.marks unit)
+admin_uses_file s (Cancels unit) = waits_with_locks s.stored unit
 admin_uses_file s (Resubmits unit) = nat_lt 0 (length (refused_locks s unit))
 
--- the calls that write the backup file: those that record a unit with locks, that end a V1 part, or that cancel a unit
--- which waits for it, and those by which a refused V1 part is tried again whose unit has locks; and a restart
+-- the calls that write the backup file: those that record a unit with locks, that end the V1 part of one, that cancel
+-- one which waits for it, or by which a refused V1 part of one is tried again; and a restart
 abbrev pub uses_file : State → Call → Bool
 uses_file s (LogsOn session user) = false
 uses_file s (OfSession session call) = session_uses_file s session call
-uses_file s (OfWorker worker call) = worker_uses_file call
+uses_file s (OfWorker worker call) = worker_uses_file s worker call
 uses_file s (OfAdmin call) = admin_uses_file s call
 
 abbrev pub session_may_want : SessionCall → Bool
@@ -282,31 +285,33 @@ MayHappen BackupFails s call v = IsTrue (leaves v) × IsTrue (uses_file s call)
 MayHappen LinkFails s call v = IsTrue (leaves v) × IsTrue (talks call)
 MayHappen (NotRemade fault) s call v = IsTrue (leaves v) × IsTrue (restarts call)
 
-abbrev pub is_want : Event → Bool
-is_want Wanting = true
-is_want event = false
+-- the call is done, and leaves other locks
+abbrev pub ChangesLocks : State → Verdict → Type 0
+ChangesLocks s (Refuses r) = ⊥
+ChangesLocks s (Leaves after r) = after.locks ≢ s.locks
 
--- the calls in which a replica may be lost: those that ship what they change, and one that brings another for which
--- memory was wanting
-abbrev pub may_lose : Event → Call → Bool
-may_lose event (OfAdmin Attaches) = is_want event
-may_lose event call = ships call
+-- the calls in which a replica may be lost: those that ship what they change, where they are done and change it, and one
+-- that brings another for which memory was wanting
+abbrev pub MayLoseIn : Event → State → Call → Verdict → Type 0
+MayLoseIn Wanting s (OfAdmin Attaches) v = Unit {0}
+MayLoseIn AllWell s call v = (ships call ≡ true) × ChangesLocks s v
+MayLoseIn event s call v = ⊥
 
 -- a replica follows, and a call is served in which it may be lost
-pub record LosesReplica (event : Event) (s : State) (call : Call) : Type 0 where
+pub record LosesReplica (event : Event) (s : State) (call : Call) (v : Verdict) : Type 0 where
   pub served : unavailable s call ≡ None
   pub attached : s.attached ≡ true
-  pub may : may_lose event call ≡ true
+  pub may : MayLoseIn event s call v
 
-abbrev pub MayLose : Bool → Event → State → Call → Type 0
-MayLose false event s call = Unit {0}
-MayLose true event s call = LosesReplica event s call
+abbrev pub MayLose : Bool → Event → State → Call → Verdict → Type 0
+MayLose false event s call v = Unit {0}
+MayLose true event s call v = LosesReplica event s call v
 
 -- the devices may have done this in a call
 pub record IsPossible (o : DeviceOutcome) (s : State) (c : Command) : Type 0 where
   pub reading : MayRead o.reading s (call_of c)
   pub event : MayHappen o.event s (call_of c) (call_verdict (found_by o.reading s) s (call_of c))
-  pub lost : MayLose o.lost o.event s (call_of c)
+  pub lost : MayLose o.lost o.event s (call_of c) (call_verdict (found_by o.reading s) s (call_of c))
 
 -- a call may be made, and may have this outcome
 pub record IsAllowed (o : DeviceOutcome) (s : State) (c : Command) : Type 0 where

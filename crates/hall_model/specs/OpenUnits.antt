@@ -1,9 +1,10 @@
 -- The locks of the units that wait for their V1 part, in the table and in the store.
-use Rattle.std.specs.Prelude.{◌≡◌, true, List, Option, Some, None}
+use Rattle.std.specs.Prelude.{◌≡◌, Bool, true, ◌&&◌, nat_lt, List, length, Option, Some, None}
 use Rattle.std.specs.List.{AllByRecursion, filter}
 use Rattle.enq_base.specs.declared.owner.Owner.{Owner}
 use Rattle.enq_base.specs.declared.owner.Owner.TheVariants.{Dlg, Upd}
 use Rattle.enq_base.specs.declared.owner.UnitKey.{UnitKey}
+use Rattle.enq_base.specs.declared.unit.Status.TheVariants.{Open}
 use Rattle.enq_server.specs.Recovery.{joined}
 use Rattle.lock_entry.specs.Names.{is_of}
 use Rattle.lock_entry.specs.declared.entry.Entry.{Entry}
@@ -11,6 +12,12 @@ use Rattle.ledger_steps.specs.Posts.{entries_of}
 use Rattle.ledger_steps.specs.Steps.{IsOpenUnit}
 use Rattle.ledger_steps.specs.Views.{open_locks}
 use Rattle.update_records.specs.Ledger.{Ledger}
+use Rattle.update_records.specs.Marks.{has_status, status_of}
+
+-- the unit waits for its V1 part, and locks were stored with it
+abbrev pub waits_with_locks : Ledger → UnitKey → Bool
+waits_with_locks ledger unit =
+    has_status Open (status_of ledger.units ledger.marks unit) && nat_lt 0 (length (entries_of ledger.units unit))
 
 -- ---- in the table
 

@@ -5,3 +5,4 @@ pub mod Books
 pub mod Lists
 pub mod UnitsAlike
 pub mod OneLedger
+pub mod Refusals

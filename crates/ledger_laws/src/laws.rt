@@ -1,6 +1,8 @@
 ghost use Rattle.std.specs.Prelude.{◌≡◌, List};
+ghost use Rattle.std.specs.List.{All};
 ghost use Rattle.keeper_api.specs.Rows.{Rows};
 ghost use Rattle.ledger_laws.specs.Books.{AreBooksRight, AreInTurn, HoldBooks, IsEachOnce};
+ghost use Rattle.ledger_steps.specs.Views.{TellsRefusal, views_of};
 ghost use Rattle.update_records.specs.Ledger.{Ledger, StandFor};
 ghost use Rattle.update_records.specs.Marks.{IsLegal};
 ghost use Rattle.update_records.specs.declared.records.Mark.{Mark};
@@ -19,4 +21,9 @@ pub fn lawful_books_are_right()
 /// Rows stand for one ledger at most.
 pub fn rows_stand_for_one_ledger()
     ensures one { (rows : Rows) (a b : Ledger) → StandFor rows a → StandFor rows b → a ≡ b }
+{}
+
+/// Whatever marks a ledger has, a refusal is told of a unit just where its status is `Bad` or `Bad2`.
+pub fn views_tell_refusals()
+    ensures refused { (ledger : Ledger) → All TellsRefusal (views_of ledger) }
 {}

@@ -4,4 +4,4 @@
 
 mod laws;
 
-pub use laws::{lawful_books_are_right, rows_stand_for_one_ledger};
+pub use laws::{lawful_books_are_right, rows_stand_for_one_ledger, views_tell_refusals};

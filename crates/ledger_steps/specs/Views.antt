@@ -1,8 +1,9 @@
 -- What is told of the units of a ledger.
-use Rattle.std.specs.Prelude.{List, length, map}
+use Rattle.std.specs.Prelude.{◌≡◌, Bool, true, false, List, length, map, is_some}
 use Rattle.std.specs.Option.{unwrap_or}
 use Rattle.enq_base.specs.declared.owner.UnitKey.{UnitKey}
-use Rattle.enq_base.specs.declared.unit.Status.TheVariants.{Open}
+use Rattle.enq_base.specs.declared.unit.Status.{Status}
+use Rattle.enq_base.specs.declared.unit.Status.TheVariants.{Open, Bad, Bad2}
 use Rattle.lock_entry.specs.declared.entry.UnitLocks.{UnitLocks}
 use Rattle.update_records.specs.Ledger.{Ledger}
 use Rattle.update_records.specs.Marks.{status_of}
@@ -28,6 +29,16 @@ view_of ledger unit = record {
 -- the recorded units, in the order of recording
 abbrev pub views_of : Ledger → List UnitView
 views_of ledger = map (view_of ledger) ledger.units
+
+-- whether a part of a unit with this status was refused
+abbrev pub was_refused : Status → Bool
+was_refused Bad = true
+was_refused Bad2 = true
+was_refused status = false
+
+-- a refusal is told of the unit just where its status is that of one
+abbrev pub TellsRefusal : UnitView → Type 0
+TellsRefusal unit = is_some unit.error ≡ was_refused unit.status
 
 abbrev pub locks_of : Ledger → UnitKey → UnitLocks
 locks_of ledger key = record { unit = key; entries = entries_of ledger.units key }

@@ -9,7 +9,7 @@ use Rattle.enq_base.specs.declared.refusal.Refusal.TheVariants as refusal
 use Rattle.hall_model.proofs.ByCall.{by_room}
 use Rattle.hall_model.proofs.NotedCalls.{by_noting, of_server}
 use Rattle.hall_model.specs.Calls.{Call, OfWorker, WorkerCall, Takes, Posts, call_of}
-use Rattle.hall_model.specs.Devices.{DeviceOutcome, Event, AllWell, Wanting, StoreFails, BackupFails, LinkFails, NotRemade, IsPossible, MayHappen, MayLose, found_by}
+use Rattle.hall_model.specs.Devices.{DeviceOutcome, Event, AllWell, Wanting, StoreFails, BackupFails, LinkFails, NotRemade, IsPossible, MayHappen, MayLose, MayLoseIn, found_by}
 use Rattle.hall_model.specs.History.{IsStep, Served, ends_in, judged, losing, noted, served, step, takes_flight}
 use Rattle.hall_model.specs.Orders.{first_unclaimed, order_for, order_of}
 use Rattle.hall_model.specs.Recall.{IsModelAnswer, Made}
@@ -76,23 +76,32 @@ take_well LinkFails s worker part v may = absurd (never may.1)
 take_well (NotRemade fault) s worker part v may = absurd (never may.1)
 
 -- and no replica is lost
-take_follows : (lost : Bool) (e : Event) (s : State) (worker part : ℕ) → MayLose lost e s (OfWorker worker (Takes part)) → lost ≡ false
-take_follows false e s worker part may = refl
-take_follows true e s worker part may = absurd (never may.may)
+never_lost : (e : Event) (s : State) (worker part : ℕ) (v : Verdict) → MayLoseIn e s (OfWorker worker (Takes part)) v → ⊥
+never_lost AllWell s worker part v may = never may.0
+never_lost Wanting s worker part v may = may
+never_lost StoreFails s worker part v may = may
+never_lost BackupFails s worker part v may = may
+never_lost LinkFails s worker part v may = may
+never_lost (NotRemade fault) s worker part v may = may
+
+take_follows : (lost : Bool) (e : Event) (s : State) (worker part : ℕ) (v : Verdict) → MayLose lost e s (OfWorker worker (Takes part)) v → lost ≡ false
+take_follows false e s worker part v may = refl
+take_follows true e s worker part v may = absurd (never_lost e s worker part v may.may)
 
 -- what the devices did, and what a call came to
 abbrev ended : DeviceOutcome → State → Call → Served
 ended o s call = losing o.lost (ends_in o.event o.reading s call (call_verdict (found_by o.reading s) s call))
 
 abbrev Happens : DeviceOutcome → State → Call → Type 0
-Happens o s call = MayHappen o.event s call (call_verdict (found_by o.reading s) s call) × MayLose o.lost o.event s call
+Happens o s call =
+    MayHappen o.event s call (call_verdict (found_by o.reading s) s call) × MayLose o.lost o.event s call (call_verdict (found_by o.reading s) s call)
 
 take_ended : (Q : Served → Type 0) (o : DeviceOutcome) (s : State) (worker part : ℕ) → s.condition ≡ condition.Up → Happens o s (OfWorker worker (Takes part))
     → OfTake (λ v. Q (judged s v)) s worker part → Q (ended o s (OfWorker worker (Takes part)))
 take_ended Q o s worker part up may each =
     let call = OfWorker worker (Takes part) in
     let v = call_verdict (found_by o.reading s) s call in
-    subst (λ lost. Q (losing lost (ends_in o.event o.reading s call v))) (sym (take_follows o.lost o.event s worker part may.1))
+    subst (λ lost. Q (losing lost (ends_in o.event o.reading s call v))) (sym (take_follows o.lost o.event s worker part v may.1))
     (subst (λ e. Q (losing false (ends_in e o.reading s call v))) (sym (take_well o.event s worker part v may.0))
     (by_take (λ w. Q (losing false (judged s w))) (found_by o.reading s) s worker part up (record {
       full = each.full;

@@ -21,14 +21,13 @@ module _ (held : Option Rows) (before : Rows → Type 0) (ledger read : Ledger) 
       by_case (Some rows) h = subst (HasStood before) (sym is) (rows, h.0, h.1)
 
   stands_for_other : (told : Option Rows) (old : Ledger) (change : Option Step) → IfSome told (λ rows. before rows × StandFor rows ledger)
-      → IsOther old change read → IfSome told (λ rows. StandForOther rows old change)
+      → IsOther old change read → IfSome told (λ rows. StandForOther rows old change read)
   stands_for_other None old change h other = tt
-  stands_for_other (Some rows) old change h other = (ledger, h.1, subst (IsOther old change) is other)
+  stands_for_other (Some rows) old change h other = (subst (StandFor rows) (sym is) h.1, other)
 
-  pub other_found : (old : Ledger) (change : Option Step) (fault : SettleFault) → IfSome held (λ rows. before rows × StandFor rows ledger)
-      → OnOther fault (IsOther old change read) → OnOther fault (IfSome held (λ rows. StandForOther rows old change))
-  other_found old change (Books f) h other = tt
-  other_found old change Other h other = stands_for_other held old change h other
+  pub other_found : (old : Ledger) (change : Option Step) → IfSome held (λ rows. before rows × StandFor rows ledger)
+      → IsOther old change read → IfSome held (λ rows. StandForOther rows old change read)
+  other_found old change h other = stands_for_other held old change h other
 
 -- ---- rows that stand for the ledger as it was, or for the one with the change
 
@@ -37,10 +36,10 @@ StandForOneOf rows old change = StandFor rows old ⊎ IsSomeAnd change (λ step.
 
 -- They stand for no other, by the law that rows stand for one ledger at most. It is proved above this crate, and handed in.
 pub not_other : (rows : Rows) → ((a b : Ledger) → StandFor rows a → StandFor rows b → a ≡ b) → (old : Ledger) (change : Option Step)
-    → StandForOneOf rows old change → StandForOther rows old change → ⊥
-not_other rows one old None stand other = ⊎_elim (λ was. other.2.before (one other.0 old other.1 was)) (λ h. h) stand
-not_other rows one old (Some step) stand other =
-    ⊎_elim (λ was. other.2.before (one other.0 old other.1 was)) (λ has. other.2.after (one other.0 (after_step old step) other.1 has)) stand
+    (ledger : Ledger) → StandForOneOf rows old change → StandForOther rows old change ledger → ⊥
+not_other rows one old None ledger stand other = ⊎_elim (λ was. other.1.before (one ledger old other.0 was)) (λ h. h) stand
+not_other rows one old (Some step) ledger stand other =
+    ⊎_elim (λ was. other.1.before (one ledger old other.0 was)) (λ has. other.1.after (one ledger (after_step old step) other.0 has)) stand
 
 good_one : (rows : Rows) (old : Ledger) (change : Option Step) → StandForOneOf rows old change → IsGood rows
 good_one rows old None stand = ⊎_elim (λ was. (old, was)) (λ h. absurd h) stand
@@ -53,7 +52,7 @@ pub not_unsound : (held : Option Rows) (before : Rows → Type 0) (old : Ledger)
     → ((rows : Rows) (table row : ℕ) → IsBadPlace rows table row → IsGood rows → ⊥)
     → IsTrue (is_some held) → ((rows : Rows) → before rows → StandForOneOf rows old change)
     → OnFound fault (IfSome held before) → OnBooks fault (λ f. IfSome held (λ rows. IsOpeningFault false rows f))
-    → OnOther fault (IfSome held (λ rows. StandForOther rows old change))
+    → OnOther fault (λ ledger. IfSome held (λ rows. StandForOther rows old change ledger))
     → (fault ≡ Books why.StoreFault) ⊎ (fault ≡ Books why.NoMemory)
 not_unsound None before old change fault one good told stand found books other = absurd (cc)
 not_unsound (Some rows) before old change (Books why.StoreFault) one good told stand found books other = inl refl
@@ -61,5 +60,5 @@ not_unsound (Some rows) before old change (Books (why.BadStore table row)) one g
     absurd (good rows table row books (good_one rows old change (stand rows found)))
 not_unsound (Some rows) before old change (Books why.NoStart) one good told stand found books other = let odd : false ≡ true = books.0 in absurd (cc)
 not_unsound (Some rows) before old change (Books why.NoMemory) one good told stand found books other = inr refl
-not_unsound (Some rows) before old change Other one good told stand found books other =
-    absurd (not_other rows (one rows) old change (stand rows found) other)
+not_unsound (Some rows) before old change (Other ledger) one good told stand found books other =
+    absurd (not_other rows (one rows) old change ledger (stand rows found) other)

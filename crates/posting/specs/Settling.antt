@@ -32,29 +32,29 @@ pub record IsOther (old : Ledger) (change : Option Step) (ledger : Ledger) : Typ
   pub before : ledger ≢ old
   pub after : IfSome change (λ step. ledger ≢ after_step old step)
 
--- the rows stand for another ledger than these two
-abbrev pub StandForOther : Rows → Ledger → Option Step → Type 0
-StandForOther rows old change = (ledger : Ledger) × StandFor rows ledger × IsOther old change ledger
+-- the rows stand for this ledger, which is another than these two
+abbrev pub StandForOther : Rows → Ledger → Option Step → Ledger → Type 0
+StandForOther rows old change ledger = StandFor rows ledger × IsOther old change ledger
 
 -- ---- faults
 
 abbrev pub OnBooks : SettleFault → (BooksFault → Type 0) → Type 0
 OnBooks (Books fault) P = P fault
-OnBooks Other P = Unit {0}
+OnBooks (Other ledger) P = Unit {0}
 
-abbrev pub OnOther : SettleFault → Type 0 → Type 0
+abbrev pub OnOther : SettleFault → (Ledger → Type 0) → Type 0
 OnOther (Books fault) P = Unit {0}
-OnOther Other P = P
+OnOther (Other ledger) P = P ledger
 
 -- what is said of a store that is bad, or that stands for neither ledger
 abbrev pub OnFound : SettleFault → Type 0 → Type 0
 OnFound (Books fault) P = OnBad fault P
-OnFound Other P = P
+OnFound (Other ledger) P = P
 
 -- the count of faults has risen just where the fault is the store's
 abbrev pub CountsSettling : SettleFault → ℕ → ℕ → Type 0
 CountsSettling (Books fault) before now = CountsFault fault before now
-CountsSettling Other before now = now ≡ before
+CountsSettling (Other ledger) before now = now ≡ before
 
 -- ---- what a step leaves of each part of the ledger
 

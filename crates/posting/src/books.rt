@@ -30,7 +30,7 @@ use crate::batch::{draw_batch, level_batch, mark_behind, note_batch, start_batch
 use crate::opening::{BooksFault, open_ledger, restored};
 use crate::prepared::Prepared;
 use crate::register::Register;
-use crate::settling::{Reread, SettleFault, settled};
+use crate::settling::{Reread, SettleFault, Unlike, settled};
 use crate::spots::{apply_to_store, read_text};
 use crate::viewing;
 use enq_base::{
@@ -142,8 +142,8 @@ impl<K: Keeper> Books<K> {
 
     /// Reads the store anew after a commit that failed, and tells what it has: the ledger as it was, or the one with
     /// the change that was to be made. A change that makes no difference it hasn't. A store that has neither is
-    /// `Other`. The ledger of the books stays what it was; behind this call only `reread`, `reopen`, `adopt` and
-    /// `into_keeper` are allowed.
+    /// `Other`, with what it has. The ledger of the books stays what it was; behind this call only `reread`, `reopen`,
+    /// `adopt` and `into_keeper` are allowed.
     ///
     /// The time is linear in the rows, but for sorting.
     pub fn reread(&mut self, alloc: Global, change: Option<&Step>) -> Result<Reread, SettleFault>
@@ -163,8 +163,8 @@ impl<K: Keeper> Books<K> {
         ensures fault { IfErr result
             (λ fault. OnBooks fault (λ why. IfSome (K.held self.new.keeper) (λ rows. IsOpeningFault false rows why))) }
         ensures untold_fault { IfErr result (λ fault. OnBooks fault (MayBeOpeningFault false)) }
-        ensures other { IfErr result (λ fault. OnOther fault (IfSome (K.held self.new.keeper)
-            (λ rows. StandForOther rows self.old.ledger (option_copied change.entry)))) }
+        ensures other { IfErr result (λ fault. OnOther fault (λ ledger. IfSome (K.held self.new.keeper)
+            (λ rows. StandForOther rows self.old.ledger (option_copied change.entry) ledger))) }
         // The rows of a store that isn't good, or that has neither ledger, are some that a crash might have left.
         ensures found_rows { IfErr result
             (λ fault. OnFound fault (IfSome (K.held self.new.keeper) (K.may_leave self.old.keeper))) }
@@ -178,7 +178,12 @@ impl<K: Keeper> Books<K> {
         let Ok(register) = restored(alloc, stored) else {
             return Err(SettleFault::Books(BooksFault::NoMemory));
         };
-        let taken = settled(alloc, &self.register, change, &register)?;
+        let Ok(found) = settled(alloc, &self.register, change, &register) else {
+            return Err(SettleFault::Books(BooksFault::NoMemory));
+        };
+        let Some(taken) = found else {
+            return Err(SettleFault::Other(Unlike { register }));
+        };
         Ok(Reread { register, taken })
     }
 

@@ -16,5 +16,5 @@ mod viewing;
 pub use books::Books;
 pub use opening::BooksFault;
 pub use prepared::Prepared;
-pub use settling::{Reread, SettleFault};
+pub use settling::{Reread, SettleFault, Unlike};
 pub use update_records::StoredInterval;

@@ -1,7 +1,7 @@
-ghost use Rattle.std.specs.Prelude.{◌≡◌, ◌≢◌, ◌↔◌, ◌+◌, ◌++◌, ◌∷◌, [], length, IsTrue, IfOk, IfErr, Some};
+ghost use Rattle.std.specs.Prelude.{◌≡◌, ◌≢◌, ◌↔◌, ◌+◌, ◌++◌, ◌∷◌, [], length, IsTrue, IfNone, IfOk, IfSome, Some};
 ghost use Rattle.std.specs.Option.{option_copied};
-ghost use Rattle.ledger_steps.specs.Intervals.{with_levels};
-ghost use Rattle.posting.specs.Settling.{IsOther, IsSettled, OnBooks, OnOther, mark_in, marks_after, start_after, units_after};
+ghost use Rattle.ledger_steps.specs.Intervals.{in_row_order, with_levels};
+ghost use Rattle.posting.specs.Settling.{IsOther, IsSettled, mark_in, marks_after, start_after, units_after};
 ghost use Rattle.ledger_steps.specs.Steps.{after_step, intervals_in};
 ghost use Rattle.ledger_steps.specs.Views.{open_locks};
 
@@ -18,12 +18,40 @@ use std::marker::Model;
 use update_records::{Mark, MarkKind, StoredInterval, Unit};
 
 /// Why a change in doubt isn't settled.
-#[derive(Clone, Copy, Debug, PartialEq, Eq)]
+#[derive(Drop)]
 pub enum SettleFault {
     /// The store isn't read.
     Books(BooksFault),
     /// The store has neither the ledger as it was nor the one with the change.
-    Other,
+    Other(Unlike),
+}
+
+/// A store that was read anew and has another ledger than was looked for.
+#[derive(Drop)]
+pub struct Unlike {
+    pub(crate) register: Register,
+}
+
+impl Model for Unlike {
+    ghost use Rattle.update_records.specs.Ledger.{Ledger};
+
+    ghost Value = { Ledger };
+
+    ghost use Rattle.std.specs.Coded.{codes};
+    ghost use Rattle.update_records.specs.Codes.{levels_code};
+
+    ghost coded = { Prim.hlevel (codes, levels_code) };
+
+    ghost view = { λ u. u.register.ledger };
+}
+
+impl Unlike {
+    /// The stored intervals that were found, in the order of the keys of their rows.
+    pub fn intervals(&self) -> &[StoredInterval]
+        ensures { result.now ≡ in_row_order self.now.levels }
+    {
+        self.register.intervals()
+    }
 }
 
 /// What a store that was read anew has.
@@ -69,30 +97,30 @@ impl Reread {
     }
 }
 
-/// Whether a change was made, by the register as it was and the one that was read. Each record is looked at twice at
-/// most.
+/// Whether a change was made, by the register as it was and the one that was read, or nothing where that is neither as
+/// it was nor with the change. Each record is looked at twice at most.
 pub fn settled(
     alloc: Global,
     old: &Register,
     change: Option<&Step>,
     new: &Register,
-) -> Result<bool, SettleFault>
+) -> Result<Option<bool>, NoMemory>
     ensures settled { IfOk result
-        (λ taken. IsSettled old.now.ledger (option_copied change.entry) taken new.now.ledger) }
-    ensures other { IfErr result
-        (λ fault. OnOther fault (IsOther old.now.ledger (option_copied change.entry) new.now.ledger)) }
-    ensures fault { IfErr result (λ fault. OnBooks fault (λ why. why ≡ BooksFault.NoMemory)) }
+        (λ found. IfSome found
+        (λ taken. IsSettled old.now.ledger (option_copied change.entry) taken new.now.ledger)) }
+    ensures other { IfOk result
+        (λ found. IfNone found (IsOther old.now.ledger (option_copied change.entry) new.now.ledger)) }
 {
     if is_ledger(old, new) {
-        return Ok(false);
+        return Ok(Some(false));
     }
     let Some(step) = change else {
-        return Err(SettleFault::Other);
+        return Ok(None);
     };
-    match is_ledger_after(alloc, old, step, new) {
-        Ok(true) => Ok(true),
-        Ok(false) => Err(SettleFault::Other),
-        Err(_) => Err(SettleFault::Books(BooksFault::NoMemory)),
+    if is_ledger_after(alloc, old, step, new)? {
+        Ok(Some(true))
+    } else {
+        Ok(None)
     }
 }
 

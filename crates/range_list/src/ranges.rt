@@ -1,10 +1,10 @@
-ghost use Rattle.std.specs.Prelude.{◌≡◌, ◌<◌, ◌≤◌, ◌+◌, ◌^◌, ℕ, IfErr, IfOk, IfSome, OnOk, Some, length, map, not, slice_get, true};
+ghost use Rattle.std.specs.Prelude.{◌≡◌, ◌<◌, ◌≤◌, ◌+◌, ◌^◌, ℕ, IfErr, IfNone, IfOk, IfSome, OnOk, Some, length, map, not, slice_get, true};
 ghost use Rattle.std.specs.List.{AllByRecursion, list_all, position};
 ghost use Rattle.std.specs.Option.{option_copied};
 ghost use Rattle.enq_base.specs.declared.unit.Num.{Num};
 ghost use Rattle.ledger_steps.specs.Intervals.{in_row_order};
 ghost use Rattle.ledger_steps.specs.Drawn.{drawn_of, handed_out_of, passed};
-ghost use Rattle.ledger_steps.specs.Levels.{AreIntervals, FitRows, IsLevelFault, first_ranges, fits, intervals_of, range_at};
+ghost use Rattle.ledger_steps.specs.Levels.{AreIntervals, FitRows, IsFirstUnfit, IsLevelFault, first_ranges, fits, intervals_of, range_at};
 ghost use Rattle.ledger_steps.specs.declared.range.NumberRange.{NumberRange};
 ghost use Rattle.update_records.specs.declared.stored.StoredInterval.{StoredInterval};
 
@@ -65,6 +65,15 @@ impl Ranges {
         Ok(())
     }
 
+    /// The first of these rows that isn't that of an interval, counted from 1.
+    pub fn first_unfit(&self, rows: &[StoredInterval]) -> Option<u64>
+        ensures row { IfSome result (IsFirstUnfit (intervals_of self.now) rows.now) }
+        ensures none { IfNone result (list_all (fits (intervals_of self.now)) rows.now ≡ true) }
+    {
+        let before = self.unfit_place(rows)?;
+        Some(before as u64 + 1)
+    }
+
     /// The intervals in the order of the landscape.
     pub fn as_slice(&self) -> &[NumberRange]
         ensures { result.now ≡ self.now }
@@ -115,13 +124,11 @@ impl Ranges {
     {
         match self.first_unfit(rows) {
             None => Ok(()),
-            Some(before) => Err(LevelFault::Unfit {
-                row: before as u64 + 1,
-            }),
+            Some(row) => Err(LevelFault::Unfit { row }),
         }
     }
 
-    fn first_unfit(&self, rows: &[StoredInterval]) -> Option<usize>
+    fn unfit_place(&self, rows: &[StoredInterval]) -> Option<usize>
         ensures place { result ≡ position (λ (row : StoredInterval). not (fits (intervals_of self.now) row)) rows.now }
         ensures within { IfSome result (λ before. before < length rows.now) }
     {

@@ -80,6 +80,8 @@ pub(crate) struct StoreFaults {
     pub(crate) kept: Vec<u64>,
     /// The call from which on all fail; the lists then don't count.
     pub(crate) stop: Option<Stop>,
+    /// What somebody else puts into the store once a commit has failed.
+    pub(crate) foreign: Option<StoreRow>,
 }
 
 impl Start {
@@ -105,6 +107,7 @@ impl PlannedFaults {
                 fails: Vec::new(alloc),
                 kept: Vec::new(alloc),
                 stop: None,
+                foreign: None,
             },
             backup: Vec::new(alloc),
             link: Vec::new(alloc),

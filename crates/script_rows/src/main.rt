@@ -23,6 +23,7 @@
 //! | `store fails at N kept` | the same, and what it was to write is there all the same |
 //! | `store stops at N`, `store stops at N kept` | so do all calls behind it |
 //! | `backup stops at N` | the same, of a thousand calls |
+//! | `foreign TABLE KEY VALUE` | somebody else puts this row into the store once a commit of the next start fails |
 //! | `link hands over all but the last` | in the next start the link leaves the last lock out |
 //! | `link hands over the first twice`, `.. backwards` | it hands over the first lock once more, or begins with the last |
 //! | `last N` | just the last N lines that the next start is answered are shown, and how many stand before |
@@ -40,6 +41,7 @@
 mod cases;
 mod escapes;
 mod faults;
+mod keepers;
 mod links;
 mod orders;
 mod playing;

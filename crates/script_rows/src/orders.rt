@@ -175,11 +175,13 @@ pub(crate) fn read_row(
     let Some((key, value)) = rest.split_once(' ') else {
         return Err(CaseFault::NoForm);
     };
-    Ok(StoreRow {
-        table: table_of(table)?,
-        key: decoded(alloc, key, number)?,
-        value: decoded(alloc, value, number)?,
-    })
+    let table = table_of(table)?;
+    let key = decoded(alloc, key, number)?;
+    if key.as_slice().is_empty() {
+        return Err(CaseFault::NoForm);
+    }
+    let value = decoded(alloc, value, number)?;
+    Ok(StoreRow { table, key, value })
 }
 
 /// Reads the number of a table, or nothing.

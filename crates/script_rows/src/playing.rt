@@ -1,12 +1,12 @@
 use crate::cases::{Case, Image, Start, Step, StoreFaults, StoreRow};
 use crate::faults::CaseFault;
+use crate::keepers::{TestKeeper, put_row};
 use crate::links::{Hands, TestLink};
 use crate::showing::{show_backup, show_end, show_replies, show_row};
 use bk_disk::MemDisk;
-use enq_base::Items;
 use enq_cmd::{Site, enqueue_main};
 use io_edge::{MemSink, MemSource};
-use keeper_api::{Change, Keeper, Row};
+use keeper_api::{Keeper, Row};
 use keeper_mem::{MemKeeper, Stop};
 use std::alloc::Global;
 use std::sync::Wait;
@@ -16,7 +16,7 @@ use std::thread::Threads;
 const PAGE: u32 = 1000;
 
 /// What outlives a start, and the link that it was made with.
-type Place = Site<MemKeeper, MemDisk, TestLink>;
+type Place = Site<TestKeeper, MemDisk, TestLink>;
 
 /// Plays a case, and tells what it shows.
 pub(crate) fn play<R: Threads + Wait + Sync>(
@@ -27,7 +27,7 @@ pub(crate) fn play<R: Threads + Wait + Sync>(
     let Case { headline, steps } = case;
     let mut shown = headline;
     let mut site = Site {
-        keeper: MemKeeper::new(alloc, Vec::new(alloc), Vec::new(alloc))?,
+        keeper: no_rows(alloc)?,
         disk: MemDisk::new(alloc, Vec::new(alloc), Vec::new(alloc))?,
         link: TestLink::new(alloc, Vec::new(alloc), Hands::All)?,
     };
@@ -35,6 +35,12 @@ pub(crate) fn play<R: Threads + Wait + Sync>(
         site = do_step(rt, alloc, step, site, &mut shown)?;
     }
     Ok(shown)
+}
+
+/// An empty store.
+fn no_rows(alloc: Global) -> Result<TestKeeper, CaseFault> {
+    let rows = MemKeeper::new(alloc, Vec::new(alloc), Vec::new(alloc))?;
+    Ok(TestKeeper::new(rows, None))
 }
 
 fn do_step<R: Threads + Wait + Sync>(
@@ -52,7 +58,7 @@ fn do_step<R: Threads + Wait + Sync>(
     let mut disk = disk;
     match step {
         Step::Show(line) => shown.extend_from_slice(line.as_slice())?,
-        Step::Put(row) => put_row(alloc, &mut keeper, row)?,
+        Step::Put(row) => put_at_rest(alloc, &mut keeper, row)?,
         Step::Rows(table) => show_rows(alloc, &mut keeper, table, shown)?,
         Step::Fill(bytes) => disk = MemDisk::new(alloc, bytes, Vec::new(alloc))?,
         Step::Cut(length) => disk = cut_disk(alloc, &disk, length)?,
@@ -61,7 +67,11 @@ fn do_step<R: Threads + Wait + Sync>(
         Step::Backup => show_backup(alloc, image_of(alloc, &disk, Image::Read)?, shown)?,
         Step::Start(_) => {}
     }
-    Ok(Site { keeper, disk, link })
+    Ok(Site {
+        keeper: TestKeeper::new(keeper, None),
+        disk,
+        link,
+    })
 }
 
 /// Starts the program, and shows what it was answered and how it ended.
@@ -138,36 +148,32 @@ fn image_of(alloc: Global, disk: &MemDisk, image: Image) -> Result<Vec<u8>, Case
     Ok(bytes?)
 }
 
-/// The same rows, with calls that fail as was planned.
-fn planned(keeper: MemKeeper, faults: StoreFaults) -> MemKeeper {
-    match faults.stop {
-        Some(Stop { at, after }) => keeper.stop(at, after),
-        None => keeper.again(faults.fails, faults.kept),
-    }
+/// The same rows, with what was planned: calls that fail, and a row of somebody else.
+fn planned(keeper: TestKeeper, faults: StoreFaults) -> TestKeeper {
+    let rows = keeper.into_rows();
+    let StoreFaults {
+        fails,
+        kept,
+        stop,
+        foreign,
+    } = faults;
+    let rows = match stop {
+        Some(Stop { at, after }) => rows.stop(at, after),
+        None => rows.again(fails, kept),
+    };
+    TestKeeper::new(rows, foreign)
 }
 
 /// The same rows, with no call that fails.
-fn rested(alloc: Global, keeper: MemKeeper) -> MemKeeper {
-    keeper.again(Vec::new(alloc), Vec::new(alloc))
+fn rested(alloc: Global, keeper: TestKeeper) -> MemKeeper {
+    keeper.into_rows().again(Vec::new(alloc), Vec::new(alloc))
 }
 
-fn put_row(alloc: Global, keeper: &mut MemKeeper, row: StoreRow) -> Result<(), CaseFault> {
-    let StoreRow { table, key, value } = row;
-    if key.as_slice().is_empty() {
-        return Err(CaseFault::NoForm);
-    }
-    let change = Change::Put {
-        table,
-        key: Items::from_vec(key),
-        value: Items::from_vec(value),
-    };
-    let batch = vec![in alloc; change]?;
+/// Puts a row between two starts.
+fn put_at_rest(alloc: Global, keeper: &mut MemKeeper, row: StoreRow) -> Result<(), CaseFault> {
     keeper.reopen(alloc)?;
-    keeper.room(alloc, batch.as_slice())?;
-    match keeper.commit(batch.as_slice()) {
-        Ok(()) => Ok(()),
-        Err(_) => Err(CaseFault::Store),
-    }
+    put_row(alloc, keeper, row)?;
+    Ok(())
 }
 
 /// Shows the rows of a table or of all, or that there are none.

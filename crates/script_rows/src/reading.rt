@@ -263,6 +263,7 @@ fn take_order(
         "words" => draft.start.words = read_words(alloc, rest, number)?,
         "last" => draft.start.last = Some(read_length(rest)?),
         "row" => draft.steps.push(Step::Put(read_row(alloc, rest, number)?))?,
+        "foreign" => draft.start.faults.store.foreign = Some(read_row(alloc, rest, number)?),
         "rows" => draft.steps.push(Step::Rows(read_table(rest)?))?,
         "backup" => draft.steps.push(read_backup(alloc, rest, number)?)?,
         "cut" => draft.steps.push(Step::Cut(read_number(rest, number)?))?,

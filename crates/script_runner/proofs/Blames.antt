@@ -14,8 +14,9 @@ use Rattle.script_runner.specs.Replay.{Replays, Seen, IsEnd}
 use Rattle.script_runner.specs.Run.{LineOutcome, NoRoom, Called, Turn, Progress, begun, next, moved, after_turn, said, line_does}
 use Rattle.script_runner.specs.World.{World}
 use Rattle.script_runner.proofs.Doubts.{run_stops}
+use Rattle.script_runner.proofs.MadeCalls.{run_counts}
 use Rattle.script_runner.proofs.Outcomes.{IsFine, line_fine}
-use Rattle.script_runner.proofs.Wholes.{lines_in, run_on, first_line, told, known_whole, begins, count_lines, some_tail, run_counts}
+use Rattle.script_runner.proofs.Wholes.{lines_in, run_on, first_line, told, known_whole, begins, count_lines, some_tail}
 
 bad_fine : (m : ℕ) → IsFine (Some (BadLine m)) → ⊥
 bad_fine m (inl e) = cc
@@ -153,9 +154,9 @@ blames before bytes left rest turns old new NoMemory all end = tt
 blames before bytes left rest turns old new LogFull all end = tt
 
 -- a run over bytes that the source told
-pub blamed_line : (before after : World) (old new : Seen) (why : Why) (bytes : List ℕ) → Replays before after old new why → old.left ≡ Some bytes
-    → IsToBlame why bytes
-blamed_line before after old new why bytes h is =
+pub blamed_line : (before after : World) (turns : List Turn) (old new : Seen) (why : Why) (bytes : List ℕ) → Replays before after turns old new why
+    → old.left ≡ Some bytes → IsToBlame why bytes
+blamed_line before after turns old new why bytes h is =
     let rest = told bytes (h.lines ++ h.rest) new.left (subst (λ o. Consumes o new.left (h.lines ++ h.rest)) is h.read) in
-    let all = begins bytes h.lines h.rest rest.0 h.turns rest.2 (known_whole h.lines h.rest rest.0 new.left rest.1 h.whole) h.each in
-    blames before bytes rest.0 h.rest h.turns old new why all h.end
+    let all = begins bytes h.lines h.rest rest.0 turns rest.2 (known_whole h.lines h.rest rest.0 new.left rest.1 h.whole) h.each in
+    blames before bytes rest.0 h.rest turns old new why all h.end

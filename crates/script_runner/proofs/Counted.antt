@@ -8,8 +8,20 @@ use Rattle.hall_calls.specs.Leaving.{HasCounted}
 use Rattle.hall_model.specs.declared.command.PastEntry.{PastEntry}
 use Rattle.lock_entry.specs.declared.entry.Entry.{Entry}
 use Rattle.script_runner.specs.Faults.{TellsNoFault}
-use Rattle.script_runner.specs.Run.{Turn}
-use Rattle.script_runner.specs.Turns.{CountsEach}
+use Rattle.hall_model.specs.Recall.{Made}
+use Rattle.script_runner.specs.Counts.{CountsCalls}
+use Rattle.script_runner.specs.Run.{Turn, file_fails, store_fails}
+
+abbrev pub store_fails_in : Turn → Bool
+store_fails_in t = store_fails t.outcome
+
+abbrev pub file_fails_in : Turn → Bool
+file_fails_in t = file_fails t.outcome
+
+-- over these turns a device's count of faults has risen in each in which the device failed, and stood still in each other
+abbrev pub CountsEach : (Turn → Bool) → List Turn → ℕ → ℕ → Type 0
+CountsEach fails [] before now = now ≡ before
+CountsEach fails (t ∷ turns) before now = (between : ℕ) × (HasCounted (fails t) before between × CountsEach fails turns between now)
 
 pub rose_from : (a b c : ℕ) → a ≤ b → Rose b c → Rose a c
 rose_from a b c h r = omega arith
@@ -37,6 +49,18 @@ pub counted_more : (fails : Turn → Bool) (turns : List Turn) (turn : Turn) (f 
     → CountsEach fails (turns ++ turn ∷ []) f h
 counted_more fails [] turn f g h none k = (h, (subst (λ n. HasCounted (fails turn) n h) none k, refl))
 counted_more fails (t ∷ ts) turn f g h each k = (each.0, (each.1.0, counted_more fails ts turn each.0 g h each.1.1 k))
+
+-- a device's count never falls
+counted_later : (fails : Bool) (f g : ℕ) → HasCounted fails f g → f ≤ g
+counted_later true f g h = h.0
+counted_later false f g h = omega (arith, h)
+
+later_from : (f g h : ℕ) → f ≤ g → g ≤ h → f ≤ h
+later_from f g h first last = omega (arith, first, last)
+
+pub calls_later : (fails : Made → Bool) (made : List Made) (f g : ℕ) → CountsCalls fails made f g → f ≤ g
+calls_later fails [] f g h = counted_later false f g h
+calls_later fails (m ∷ ms) f g h = later_from f h.0 g (counted_later (fails m) f h.0 h.1.0) (calls_later fails ms h.0 g h.1.1)
 
 -- ---- the link
 

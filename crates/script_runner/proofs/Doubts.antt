@@ -33,10 +33,10 @@ use Rattle.script_runner.specs.declared.runner.Why.TheVariants.{BackupFault, Bad
 use Rattle.script_runner.specs.Faults.{answer_at, is_unsound, tells_other}
 use Rattle.script_runner.specs.Lines.{Meaning, Silent, Shows, Calls, Declines, Changes, line_in, meaning, settled}
 use Rattle.script_runner.specs.Replay.{HasBadCause, HasDoubtCause, IsDoubted, IsDoubtedBy, IsFoundBad, MeetsBad, Replays, Seen, doubt_of}
-use Rattle.script_runner.specs.Run.{AreAllowed, CallMayHave, LineMayHave, LineOutcome, MayHave, NoRoom, Called, Turn, Turned, Progress, after_turn, answered, begun, does, file_fails, file_fails_in, next, run, said, store_fails, store_fails_in}
-use Rattle.script_runner.specs.Turns.{CountsEach}
+use Rattle.script_runner.specs.Run.{AreAllowed, CallMayHave, LineMayHave, LineOutcome, MayHave, NoRoom, Called, Turn, Turned, Progress, after_turn, answered, begun, does, file_fails, next, run, said, store_fails}
 use Rattle.script_runner.specs.World.{World, world}
-use Rattle.script_runner.proofs.Counted.{all_counted}
+use Rattle.script_runner.proofs.Counted.{all_counted, file_fails_in, store_fails_in}
+use Rattle.script_runner.proofs.MadeCalls.{file_lines, store_lines}
 use Rattle.script_runner.proofs.TurnLemmas.{answered-world}
 
 or_with : (a b : Bool) → b ≡ true → (a || b) ≡ true
@@ -509,40 +509,33 @@ file_case store file before now k f g (inr failed) doubt counted =
     let call = call_in store file (length before.past) now k failed doubt.0 in
     inr (some_call (length before.past) k call.later, rose_where file f g (of_file store file _ call.answer doubt.1) counted)
 
--- a device's count never falls
-counted_later : (fails : Bool) (f g : ℕ) → HasCounted fails f g → f ≤ g
-counted_later true f g h = h.0
-counted_later false f g h = omega (arith, h)
+pub store_cause : (before after : World) (turns : List Turn) (old new : Seen) (why : Why) (k : ℕ) → Replays before after turns old new why
+    → why ≡ StoreFault k → HasDoubtCause before.hall k old.store_faults new.store_faults
+store_cause before after turns old new why k h is =
+    let ended = subst (λ w. Replays before after turns old new w) is h in
+    store_case _ _ before.hall (run before turns).world.hall k _ _
+    (run_stays_or_fails before turns ended.end.0.2 ended.allowed) ended.end.1 ended.end.2
+    (all_counted store_fails_in turns _ _ (store_lines before turns _ _ ended.allowed ended.done ended.store))
 
-pub device_later : (fails : Turn → Bool) (turns : List Turn) (f g : ℕ) → CountsEach fails turns f g → f ≤ g
-device_later fails turns f g h = counted_later _ f g (all_counted fails turns f g h)
+pub file_cause : (before after : World) (turns : List Turn) (old new : Seen) (why : Why) (k : ℕ) → Replays before after turns old new why
+    → why ≡ BackupFault k → HasDoubtCause before.hall k old.file_faults new.file_faults
+file_cause before after turns old new why k h is =
+    let ended = subst (λ w. Replays before after turns old new w) is h in
+    file_case _ _ before.hall (run before turns).world.hall k _ _ (run_stays_or_fails before turns ended.end.0.2 ended.allowed) ended.end.1
+    (all_counted file_fails_in turns _ _ (file_lines before turns _ _ ended.allowed ended.done ended.file))
 
-pub store_cause : (before after : World) (old new : Seen) (why : Why) (k : ℕ) → Replays before after old new why → why ≡ StoreFault k
-    → HasDoubtCause before.hall k old.store_faults new.store_faults
-store_cause before after old new why k h is =
-    let ended = subst (λ w. Replays before after old new w) is h in
-    store_case _ _ before.hall (run before ended.turns).world.hall k _ _
-    (run_stays_or_fails before ended.turns ended.end.0.2 ended.allowed) ended.end.1 ended.end.2 (all_counted store_fails_in ended.turns _ _ ended.store)
-
-pub file_cause : (before after : World) (old new : Seen) (why : Why) (k : ℕ) → Replays before after old new why → why ≡ BackupFault k
-    → HasDoubtCause before.hall k old.file_faults new.file_faults
-file_cause before after old new why k h is =
-    let ended = subst (λ w. Replays before after old new w) is h in
-    file_case _ _ before.hall (run before ended.turns).world.hall k _ _ (run_stays_or_fails before ended.turns ended.end.0.2 ended.allowed) ended.end.1
-    (all_counted file_fails_in ended.turns _ _ ended.file)
-
-pub bad_store_cause : (before after : World) (old new : Seen) (why : Why) (table row : ℕ) → Replays before after old new why → why ≡ BadStore table row
-    → HasBadCause before.hall after.hall (bad.Store table row)
-bad_store_cause before after old new why table row h is =
-    let ended = subst (λ w. Replays before after old new w) is h in
+pub bad_store_cause : (before after : World) (turns : List Turn) (old new : Seen) (why : Why) (table row : ℕ) → Replays before after turns old new why
+    → why ≡ BadStore table row → HasBadCause before.hall after.hall (bad.Store table row)
+bad_store_cause before after turns old new why table row h is =
+    let ended = subst (λ w. Replays before after turns old new w) is h in
     subst (λ (w : World). HasBadCause before.hall w.hall (bad.Store table row)) (sym ended.world)
-    (stays_or_found _ _ before.hall (run before ended.turns).world.hall (bad.Store table row)
-    (run_stays_or_fails before ended.turns ended.end.0.2 ended.allowed) ended.end.1)
+    (stays_or_found _ _ before.hall (run before turns).world.hall (bad.Store table row)
+    (run_stays_or_fails before turns ended.end.0.2 ended.allowed) ended.end.1)
 
-pub bad_backup_cause : (before after : World) (old new : Seen) (why : Why) (place : BackupBad) → Replays before after old new why → why ≡ BadBackup place
-    → HasBadCause before.hall after.hall (bad.Backup place)
-bad_backup_cause before after old new why place h is =
-    let ended = subst (λ w. Replays before after old new w) is h in
+pub bad_backup_cause : (before after : World) (turns : List Turn) (old new : Seen) (why : Why) (place : BackupBad) → Replays before after turns old new why
+    → why ≡ BadBackup place → HasBadCause before.hall after.hall (bad.Backup place)
+bad_backup_cause before after turns old new why place h is =
+    let ended = subst (λ w. Replays before after turns old new w) is h in
     subst (λ (w : World). HasBadCause before.hall w.hall (bad.Backup place)) (sym ended.world)
-    (stays_or_found _ _ before.hall (run before ended.turns).world.hall (bad.Backup place)
-    (run_stays_or_fails before ended.turns ended.end.0.2 ended.allowed) ended.end.1)
+    (stays_or_found _ _ before.hall (run before turns).world.hall (bad.Backup place)
+    (run_stays_or_fails before turns ended.end.0.2 ended.allowed) ended.end.1)

@@ -9,11 +9,12 @@ use Rattle.io_edge.specs.Lines.{lines_of, onto_first, is_ended, IsUnbroken}
 use Rattle.script_lang.specs.Memory.{holds_lists}
 use Rattle.script_runner.specs.declared.runner.Why.{Why}
 use Rattle.script_runner.specs.declared.runner.Why.TheVariants.{Done, BadWords, BadLandscape, BadLine, SourceFault, SinkFault, LongLine, ManyLines, StoreFault, BackupFault, BadStore, BadBackup, NoStart, NoMemory, LogFull}
-use Rattle.script_runner.specs.Run.{AreAllowed, Turn, Progress, begun, next, run, moved, after_turn, file_fails_in, line_does, store_fails_in}
+use Rattle.script_runner.specs.Run.{AreAllowed, Turn, Progress, begun, next, run, moved, after_turn, line_does}
 use Rattle.script_runner.specs.World.{World}
 use Rattle.script_runner.specs.Replay.{Replays, Seen, HasBadCause, IsEnd, IsReadToEnd, MeetsBad}
 use Rattle.hall_calls.specs.Leaving.{HasCounted}
-use Rattle.script_runner.proofs.Counted.{all_counted}
+use Rattle.script_runner.proofs.Counted.{all_counted, file_fails_in, store_fails_in}
+use Rattle.script_runner.proofs.MadeCalls.{file_lines, run_counts, store_lines}
 use Rattle.script_runner.proofs.Doubts.{MadeOrBad, found_met, or_left, or_right, run_made, run_stays_or_fails, run_stops, stays_filed, stays_or_found, stays_stored, stopped, unmade_in}
 use Rattle.enq_base.specs.Causes.{Rose}
 use Rattle.enq_base.specs.declared.condition.Bad.{Bad}
@@ -91,15 +92,6 @@ lines_in = map (λ t. t.line)
 
 abbrev pub run_on : Progress → List Turn → Progress
 run_on p turns = fold next p turns
-
-next_counts : (p : Progress) (t : Turn) → (next p t).number ≤ p.number + 1
-next_counts p t =
-    elim (p.stop) as (λ o. (after_turn o p t).number ≤ p.number + 1) [ None ↦ omega arith | Some why ↦ omega arith ]
-
--- a run counts no more lines than it has turns
-pub run_counts : (p : Progress) (turns : List Turn) → (run_on p turns).number ≤ p.number + length turns
-run_counts p [] = omega arith
-run_counts p (t ∷ ts) = omega (arith, run_counts (next p t) ts, next_counts p t)
 
 next_fine : (p : Progress) (t : Turn) → IsTrue (is_some (line_in t.line)) → IsFine p.stop → IsFine (next p t).stop
 next_fine p t known (inl e) =
@@ -295,12 +287,13 @@ known_whole lines rest left told is (inl ended) = inl ended
 known_whole lines rest left told is (inr h) = inr (h.0, at_end_of told left is h.1)
 
 -- a run over a script that is in order from the first line to the last
-pub completes : (before after : World) (old new : Seen) (why : Why) (bytes : List ℕ) → Replays before after old new why → old.left ≡ Some bytes → IsScript bytes
+pub completes : (before after : World) (turns : List Turn) (old new : Seen) (why : Why) (bytes : List ℕ) → Replays before after turns old new why
+    → old.left ≡ Some bytes → IsScript bytes
     → (Rose old.source_faults new.source_faults → ⊥) → (Rose old.sink_faults new.sink_faults → ⊥) → (Rose old.store_faults new.store_faults → ⊥)
     → (Rose old.file_faults new.file_faults → ⊥) → IsComplete before after.hall bytes old.written new.written why
-completes before after old new why bytes h is script quiet_source quiet_sink quiet_store quiet_file =
+completes before after turns old new why bytes h is script quiet_source quiet_sink quiet_store quiet_file =
     let rest = told bytes (h.lines ++ h.rest) new.left (subst (λ o. Consumes o new.left (h.lines ++ h.rest)) is h.read) in
-    let all = begins bytes h.lines h.rest rest.0 h.turns rest.2 (known_whole h.lines h.rest rest.0 new.left rest.1 h.whole) h.each in
-    ends before after bytes rest.0 h.lines h.rest h.turns old new why h.allowed rest.1 all script quiet_source quiet_sink
-    (none_failed _ _ _ (all_counted store_fails_in h.turns _ _ h.store) quiet_store)
-    (none_failed _ _ _ (all_counted file_fails_in h.turns _ _ h.file) quiet_file) h.world h.end
+    let all = begins bytes h.lines h.rest rest.0 turns rest.2 (known_whole h.lines h.rest rest.0 new.left rest.1 h.whole) h.each in
+    ends before after bytes rest.0 h.lines h.rest turns old new why h.allowed rest.1 all script quiet_source quiet_sink
+    (none_failed _ _ _ (all_counted store_fails_in turns _ _ (store_lines before turns _ _ h.allowed h.done h.store)) quiet_store)
+    (none_failed _ _ _ (all_counted file_fails_in turns _ _ (file_lines before turns _ _ h.allowed h.done h.file)) quiet_file) h.world h.end

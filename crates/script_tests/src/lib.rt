@@ -1,5 +1,5 @@
 //! Tests of scripts that look at more than their replies and what they leave: at the history, at what is read of a
-//! device, at a hall that is handed in, at the images that a crash may leave, and at the texts around a script. All
+//! device, at a hall that is handed in, at the images that a crash may leave, and at the texts of replies and around a script. All
 //! others are text, in `script_rows`.
 #![tactic(auto)]
 
@@ -11,6 +11,8 @@ mod handover;
 mod limits;
 #[cfg(test)]
 mod loads;
+#[cfg(test)]
+mod replies;
 #[cfg(test)]
 mod runs;
 #[cfg(test)]

@@ -22,7 +22,8 @@ use Rattle.hall_laws.proofs.histories.NotedSteps.{AnswersFrom, IsTold, answers_b
 use Rattle.hall_calls.proofs.verdicts.Replies.{step_counts, step_file_counts, unnoted_same}
 use Rattle.script_actors.specs.Actors.{DeskCall, HasNoStock, HasNoStockIn, desk_call, with_call}
 use Rattle.script_runner.specs.Faults.{NoneUnsound, NoneUnsoundReplica, NoneUnsoundStore}
-use Rattle.turn_desks.specs.Led.{Counts, CountsCalls, IsLed, file_fails_in_call, store_fails_in_call}
+use Rattle.script_runner.specs.Counts.{CountsCalls, file_fails_in_call, store_fails_in_call}
+use Rattle.turn_desks.specs.Led.{Counts, IsLed}
 use Rattle.script_runner.specs.Replicas.{CountsLinkEach, GoesOnLinked, HasLinked, LinkCounts, follows_behind}
 use Rattle.script_runner.proofs.Kept.{same_counts}
 

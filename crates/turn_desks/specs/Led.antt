@@ -1,9 +1,8 @@
 -- What calls have led a server to, and what the counts of its devices did on the way.
-use Rattle.std.specs.Prelude.{◌≡◌, ℕ, Bool, true, List, [], ◌∷◌, IsTrue}
-use Rattle.hall_model.specs.Devices.{is_file_failure, is_store_failure}
-use Rattle.hall_calls.specs.Leaving.{HasCounted}
+use Rattle.std.specs.Prelude.{◌≡◌, ℕ, Bool, true, List, IsTrue}
 use Rattle.hall_model.specs.Recall.{AreModelAnswers, Made, calls_of, state_after}
 use Rattle.hall_model.specs.State.{State}
+use Rattle.script_runner.specs.Counts.{CountsCalls, file_fails_in_call, store_fails_in_call}
 use Rattle.script_runner.specs.Faults.{NoneUnsound, NoneUnsoundReplica, NoneUnsoundStore}
 use Rattle.script_runner.specs.Replicas.{HasLinked, LinkCounts}
 
@@ -22,19 +21,6 @@ counts_of faults file_faults link_faults refusals keeper disk link =
       link =
           record { faults = link_faults link; refusals = refusals link };
     }
-
-abbrev pub store_fails_in_call : Made → Bool
-store_fails_in_call m = is_store_failure m.outcome.event
-
-abbrev pub file_fails_in_call : Made → Bool
-file_fails_in_call m = is_file_failure m.outcome.event
-
--- over these calls a device's count of faults has risen in each in which the device failed, and stood still in each
--- other
-abbrev pub CountsCalls : (Made → Bool) → List Made → ℕ → ℕ → Type 0
-CountsCalls fails [] before now = now ≡ before
-CountsCalls fails (m ∷ ms) before now = (between : ℕ) ×
-    (HasCounted (fails m) before between × CountsCalls fails ms between now)
 
 -- The calls of the history led from the first state to this one, each answered as the model answers it. A device's
 -- count rose in each of them in which the device failed. None found a device bad that tells what it holds: the store,

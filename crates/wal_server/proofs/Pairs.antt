@@ -14,8 +14,8 @@ use Rattle.keeper_wal.proofs.Meaning.{meaning}
 use Rattle.landscape.specs.declared.landscape.Landscape.{Landscape}
 use Rattle.posting.specs.Reopening.{HasStood}
 use Rattle.script_runner.specs.Replay.{Seen}
+use Rattle.script_runner.specs.Replicas.{LinkCounts}
 use Rattle.script_runner.specs.declared.runner.Why.{Why}
-use Rattle.turn_desks.specs.Led.{Counts}
 use Rattle.update_records.specs.Ledger.{Ledger}
 use Rattle.wal_server.specs.Pairs.{HasLoadedPairs, HasPairs, HasThreadPairs, RemainsUnopened, SurviveAll}
 use Rattle.wal_server.proofs.Broken.{not_all}
@@ -39,7 +39,7 @@ stood journal stands ledger h = (h.0, stands h.0 h.1, h.2)
 module _ {site : SiteFound} {site_now : SiteLeft} {past : List PastEntry} (is_told : IsTrue site.told) (is_tells : IsTrue site.tells)
     (journals : List ℕ → Type 0) (stands : (journal : List ℕ) → journals journal → (rows : Rows) → Stands journal rows → site_now.rows rows)
     (breaks : (journal : List ℕ) → journals journal → (at : ℕ) → IsBad journal at → (rows : Rows) → site_now.rows rows) where
-  of_served : {land : Landscape} {stored : Ledger} {made : List Made} → AreServed land site site_now stored made past
+  of_served : {land : Landscape} {old new : Seen} {stored : Ledger} {made : List Made} → AreServed land site site_now old new stored made past
       → SurviveAll journals site_now.images (state_after (first_state land site.told site.linked stored) made)
   of_served s journal backup left filed =
       let unbroken : (at : ℕ) → IsBad journal at → ⊥ = λ at bad. not_all _ (λ rows. s.left is_told rows (breaks journal left at bad rows)) in
@@ -81,7 +81,8 @@ module _ {site : SiteFound} {site_now : SiteLeft} {past : List PastEntry} (is_to
     ];
   }
 
-  pub of_threads : {D L : Type 0} {workers : ℕ} {left : Option (List ℕ)} {disk disk_now : D} {link link_now : L} {old new : Seen} {counts counts_now : Counts}
+  pub of_threads : {D L : Type 0} {workers : ℕ} {left : Option (List ℕ)} {disk disk_now : D} {link link_now : L} {old new : Seen}
+      {counts counts_now : LinkCounts}
       {why : Why} → HasThreads workers left site site_now disk disk_now link link_now old new counts counts_now past why
       → HasThreadPairs workers left site site_now disk disk_now link link_now old new counts counts_now past why journals
   of_threads h = record {

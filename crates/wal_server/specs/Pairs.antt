@@ -3,7 +3,7 @@ use Rattle.std.specs.Prelude.{◌⊎◌, ℕ, Bool, true, List, Option, IsTrue}
 use Rattle.enq_cmd.specs.Loading.{IsLoaded}
 use Rattle.enq_cmd.specs.Running.{IsServedByThreads}
 use Rattle.enq_cmd.specs.Main.{HasHanded, IsGoodFile, IsNextOf, IsRead, IsServed, IsUnopened, MayRemain, SurvivesStop}
-use Rattle.enq_cmd.specs.Main.{SiteFound, SiteLeft, first_state, found_in, left_in}
+use Rattle.enq_cmd.specs.Main.{SiteFound, SiteLeft, first_state, found_in, left_in, made_from}
 use Rattle.gate_log.specs.Grammars.{IsBytes}
 use Rattle.hall_model.specs.Recall.{state_after}
 use Rattle.hall_model.specs.State.{State, is_honest}
@@ -16,8 +16,8 @@ use Rattle.ledger_steps.specs.Starts.{IsRaised}
 use Rattle.lock_entry.specs.declared.entry.Entry.{Entry}
 use Rattle.posting.specs.Reopening.{HasStood}
 use Rattle.script_runner.specs.Replay.{Seen}
+use Rattle.script_runner.specs.Replicas.{LinkCounts}
 use Rattle.script_runner.specs.declared.runner.Why.{Why}
-use Rattle.turn_desks.specs.Led.{Counts}
 use Rattle.update_records.specs.Ledger.{Ledger}
 
 -- what is found in a site with a journal, and what is left of it
@@ -59,18 +59,20 @@ pub record ServesPairs (land : Landscape) (site : SiteFound) (site_now : SiteLef
     (why : Why) (journals : List ℕ → Type 0) : Type 0 where
   pub served : IsServed land site site_now old new past why
   pub pairs : SurviveAll journals site_now.images
-      (state_after (first_state land site.told site.linked served.stored) served.made)
+      (state_after (first_state land site.told site.linked served.stored)
+      (made_from land site.told site.linked served.stored served.turns))
 
 -- the same where the script is made from a number
 pub record LoadsPairs (n : ℕ) (land : Landscape) (site : SiteFound) (site_now : SiteLeft) (old new : Seen)
     (past : List PastEntry) (why : Why) (journals : List ℕ → Type 0) : Type 0 where
   pub loaded : IsLoaded n land site site_now old new past why
   pub pairs : SurviveAll journals site_now.images
-      (state_after (first_state land site.told site.linked loaded.served.stored) loaded.served.made)
+      (state_after (first_state land site.told site.linked loaded.served.stored)
+      (made_from land site.told site.linked loaded.served.stored loaded.served.turns))
 
 -- the same where the script is done by threads
 pub record ThreadsPairs (land : Landscape) (workers : ℕ) (site : SiteFound) (site_now : SiteLeft) (old new : Seen)
-    (counts counts_now : Counts) (past : List PastEntry) (why : Why) (journals : List ℕ → Type 0) : Type 0 where
+    (counts counts_now : LinkCounts) (past : List PastEntry) (why : Why) (journals : List ℕ → Type 0) : Type 0 where
   pub served : IsServedByThreads land workers site site_now old new counts counts_now past why
   pub pairs : SurviveAll journals site_now.images
       (state_after (first_state land site.told site.linked served.stored) served.made)
@@ -103,7 +105,7 @@ pub record HasLoadedPairs {D L : Type 0} (n : ℕ) (left : Option (List ℕ)) (s
 
 -- and has the script done by threads
 pub record HasThreadPairs {D L : Type 0} (workers : ℕ) (left : Option (List ℕ)) (site : SiteFound) (site_now : SiteLeft)
-    (disk disk_now : D) (link link_now : L) (old new : Seen) (counts counts_now : Counts) (past : List PastEntry)
+    (disk disk_now : D) (link link_now : L) (old new : Seen) (counts counts_now : LinkCounts) (past : List PastEntry)
     (why : Why) (journals : List ℕ → Type 0) : Type 0 where
   pub land : Landscape
   pub read : IsRead left land

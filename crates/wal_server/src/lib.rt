@@ -7,7 +7,7 @@ ghost use Rattle.enq_cmd.specs.Words.{NamesWork, replay_words};
 ghost use Rattle.enq_cmd.specs.declared.words.Work.TheVariants.{Loads, Runs};
 ghost use Rattle.keeper_wal.specs.Wal.{all_faults};
 ghost use Rattle.script_runner.specs.Replay.{seen};
-ghost use Rattle.turn_desks.specs.Led.{counts_of};
+ghost use Rattle.script_runner.specs.Replicas.{link_counts};
 ghost use Rattle.wal_server.specs.Pairs.{HasLoadedPairs, HasPairs, HasThreadPairs, journal_found, journal_left};
 
 use bk_disk::Disk;
@@ -74,9 +74,7 @@ pub fn journal_main<
         (all_faults E.faults site.keeper) (D.faults site.disk))
         (seen (S.left script.new) (T.written sink.new) (S.faults script.new) (T.faults sink.new)
         (all_faults E.faults result.site.keeper) (D.faults result.site.disk))
-        (counts_of (all_faults E.faults) D.faults L.faults L.refusals site.keeper site.disk site.link)
-        (counts_of (all_faults E.faults) D.faults L.faults L.refusals result.site.keeper result.site.disk
-        result.site.link)
+        (link_counts L.faults L.refusals site.link) (link_counts L.faults L.refusals result.site.link)
         result.past result.why (E.may_leave result.site.keeper.disk) ∥₁
         ⊎ (IsLandEnd (A.faults landscape.old) (A.faults landscape.new) result.why
         × IsUntouched script.old script.new sink.old sink.new site.keeper result.site.keeper site.disk result.site.disk

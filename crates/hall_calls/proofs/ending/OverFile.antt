@@ -1,14 +1,16 @@
 -- How calls end that may write the backup file, and what a stop may leave of it.
-use Rattle.std.proofs.Common.{◌≡◌, ◌⊎◌, inl, inr, ℕ, ◌+◌, ◌≤◌, Bool, true, false, List, refl, sym, ap, ◌∙◌, subst, arith}
+use Rattle.std.proofs.Common.{◌≡◌, ◌⊎◌, inl, inr, ℕ, ◌+◌, ◌≤◌, Bool, true, false, not, ◌&&◌, List, refl, sym, ap, ◌∙◌, subst, arith}
 use Rattle.std.specs.Prelude.{if◌then◌else◌, nat_eq, Option, Some, None, IsTrue, Ok, Err}
 use Rattle.std.specs.Option.{option_map}
 use Rattle.backup_file.proofs.Adding.{ready_same}
 use Rattle.backup_file.specs.Backup.{BackupView, IsReady, IsSame}
 use Rattle.backup_file.specs.File.{Stands}
-use Rattle.backup_file.specs.Lists.{without}
+use Rattle.backup_file.specs.Lists.{is_known, without}
 use Rattle.backup_file.specs.declared.handed.Handed.{Handed}
+use Rattle.backup_file.specs.declared.ids.UnitId.{UnitId}
+use Rattle.enq_base.specs.Owners.{same_unit}
+use Rattle.enq_server.specs.Recovery.{AreWithout, lists_among}
 use Rattle.enq_base.specs.Causes.{Rose}
-use Rattle.enq_server.specs.Recovery.{lists_among}
 use Rattle.enq_base.specs.declared.condition.Condition.{Condition}
 use Rattle.enq_base.specs.declared.condition.Condition.TheVariants as condition
 use Rattle.enq_base.specs.declared.owner.UnitKey.{UnitKey}
@@ -18,7 +20,7 @@ use Rattle.ledger_steps.specs.declared.step.Outcome.{Outcome}
 use Rattle.ledger_steps.specs.declared.step.Outcome.TheVariants as outcome
 use Rattle.update_records.specs.Ledger.{Ledger}
 use Rattle.hall_calls.specs.Written.{OnAnswer, written_condition, written_failure, written_reply}
-use Rattle.hall_calls.specs.Filing.{AllRecover, ChangesLevels, FilesAs, FreesList, HasFileCause, HasOpenLists, IsUnrefused, KeepsFile, KeepsUnits, MayFile, RecoversFrom, StandsWritten, lists_ended}
+use Rattle.hall_calls.specs.Filing.{AllRecover, AreWaiting, ChangesLevels, FilesAs, FreesList, HasFileCause, HasOpenLists, IsUnrefused, KeepsFile, KeepsUnits, MayFile, RecoversFrom, StandsWritten, lists_ended}
 use Rattle.ledger_steps.specs.Steps.{after_step}
 use Rattle.ledger_steps.specs.Views.{open_locks}
 use Rattle.ledger_steps.specs.declared.step.Step.{Step}
@@ -89,6 +91,7 @@ module _ {D : Type 0} (tells : Bool) (reads : D → List ℕ) (may_leave : D →
   pub has_same : (ledger : Ledger) (old new : BackupView D) → Has ledger old → IsSame old new → Has ledger new
   has_same ledger old new h same = record {
     usable = same.failed ∙ h.usable;
+    standing = λ u. same.units u ∙ h.standing u;
     ready = λ t. let k = h.ready t in record { lists = k.lists; ready = ready_same reads may_leave k.lists old new same k.ready; just = k.just };
   }
 
@@ -149,12 +152,14 @@ module _ {D : Type 0} (tells : Bool) (reads : D → List ℕ) (may_leave : D →
 
   -- the file was written, and of the lists that it had it has these now
   pub written_files : (ledger now : Ledger) (become : List Handed → List Handed) (old new : BackupView D) (r : Reply) → Has ledger old → new.failed ≡ false
+      → AreWaiting now new.units
       → (IsTrue tells → (lists : List Handed) → IsReady reads may_leave old lists → IsReady reads may_leave new (become lists))
       → ((lists : List Handed) → AreOpenLists ledger lists → AreOpenLists now (become lists))
       → faults new.disk ≡ faults old.disk → ((n m : ℕ) → m ≡ n → HasFileCause n m r) → KeepsFile old new r → Ends now old new (Answered r)
-  written_files ledger now become old new r has usable ready just same quiet keeps =
+  written_files ledger now become old new r has usable known ready just same quiet keeps =
       answered_files now old new r (record {
         usable = usable;
+        standing = known;
         ready = λ t. let h = has.ready t in record { lists = become h.lists; ready = ready t h.lists h.ready; just = just h.lists h.just };
       }) (record { cause = quiet (faults old.disk) (faults new.disk) same; kept = keeps })
 
@@ -196,29 +201,33 @@ module _ {D : Type 0} (tells : Bool) (reads : D → List ℕ) (may_leave : D →
   ends_so ends unit lists is = ap (λ b. if b then without unit lists else lists) (sym is)
 
   pub freed_all : {E : Type 0} (ends : Bool) (unit : UnitKey) (old new : BackupView D) → ends ≡ true → new.failed ≡ false
+      → AreWithout unit old.units new.units
       → (IsTrue tells → (lists : List Handed) → IsReady reads may_leave old lists → IsReady reads may_leave new (without unit lists))
       → (IsTrue tells → (lists : List Handed) → IsReady reads may_leave old lists → (image : List ℕ) → may_leave new.disk image → Stands image lists
       ⊎ Stands image (without unit lists))
       → faults new.disk ≡ faults old.disk → FreesList {E = E} tells reads may_leave faults ends unit old new (Ok tt)
-  freed_all ends unit old new is usable freed images same = record {
+  freed_all ends unit old new is usable known freed images same = record {
     usable = usable;
     freed = λ t lists ready. subst (IsReady reads may_leave new) (ends_so ends unit lists is) (freed t lists ready);
     images = λ t lists ready image may. subst (λ l. Stands image lists ⊎ Stands image l) (ends_so ends unit lists is) (images t lists ready image may);
+    standing = λ other. known other ∙ ap (λ b. is_known other old.units && not (b && same_unit unit other)) (sym is);
     needed = tt;
     untouched = λ off. absurd (cc);
     cause = record { later = omega (arith, same); failed = tt; quiet = same };
   }
 
   pub not_freed : {E : Type 0} (ends : Bool) (unit : UnitKey) (old new : BackupView D) (fault : E) → ends ≡ true
+      → IsTrue (is_known unit old.units)
       → (IsTrue tells → (lists : List Handed) → IsReady reads may_leave old lists → (image : List ℕ) → may_leave new.disk image → Stands image lists
       ⊎ Stands image (without unit lists))
       → faults old.disk ≤ faults new.disk → Rose (faults old.disk) (faults new.disk)
       → FreesList {E = E} tells reads may_leave faults ends unit old new (Err fault)
-  not_freed ends unit old new fault is images later failed = record {
+  not_freed ends unit old new fault is known images later failed = record {
     usable = tt;
     freed = λ t lists ready. tt;
     images = λ t lists ready image may. subst (λ l. Stands image lists ⊎ Stands image l) (ends_so ends unit lists is) (images t lists ready image may);
-    needed = is;
+    standing = tt;
+    needed = ap (λ b. b && is_known unit old.units) is ∙ known;
     untouched = λ off. absurd (cc);
     cause = record { later = later; failed = failed; quiet = tt };
   }
@@ -236,6 +245,11 @@ module _ {D : Type 0} (tells : Bool) (reads : D → List ℕ) (may_leave : D →
       subst (λ us. AreOpenLists (record now { units = us }) lists) (sym same.units)
       (subst (λ ms. AreOpenLists (record now { units = ledger.units; marks = ms }) lists) (sym same.marks) (record { agree = h.agree; only = h.only }))
 
+  known_beside : (ledger now : Ledger) (units : List UnitId) → KeepsUnits ledger now → AreWaiting ledger units → AreWaiting now units
+  known_beside ledger now units same are =
+      subst (λ us. AreWaiting (record now { units = us }) units) (sym same.units)
+      (subst (λ ms. AreWaiting (record now { units = ledger.units; marks = ms }) units) (sym same.marks) are)
+
   flight_beside : (ledger : Ledger) (o : Option Ledger) (lists : List Handed) → OfPending o (KeepsUnits ledger) → AgreeAll ledger lists
       → OfPending o (λ l. AgreeAll l lists)
   flight_beside ledger None lists same h = tt
@@ -245,6 +259,7 @@ module _ {D : Type 0} (tells : Bool) (reads : D → List ℕ) (may_leave : D →
   pub beside_lists : (ledger now : Ledger) (file : BackupView D) (w : Written) → ChangesLevels ledger now w → Has ledger file → OnAnswer w (Has now file)
   beside_lists ledger now file (Answered r) same has = record {
     usable = has.usable;
+    standing = known_beside ledger now file.units same has.standing;
     ready = λ t. let h = has.ready t in record { lists = h.lists; ready = h.ready; just = just_beside ledger now h.lists same h.just };
   }
   beside_lists ledger now file (Failed change) same has = tt

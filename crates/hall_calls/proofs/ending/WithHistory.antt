@@ -2,6 +2,7 @@
 use Rattle.std.proofs.Common.{◌≡◌, inl, inr, ℕ, Bool, true, false, List, [], ◌∷◌, length, refl, sym, ap, ◌∙◌, subst}
 use Rattle.std.specs.Prelude.{if◌then◌else◌, nat_eq, IsTrue, Option, Some, None, is_some}
 use Rattle.std.specs.Option.{option_map}
+use Rattle.std.proofs.lemmas.Bool.{and_parts}
 use Rattle.enq_base.specs.declared.condition.Condition.{Condition}
 use Rattle.enq_base.specs.declared.condition.Condition.TheVariants.{Up}
 use Rattle.enq_base.specs.declared.owner.UnitKey.{UnitKey}
@@ -12,14 +13,14 @@ use Rattle.update_records.specs.Ledger.{Ledger}
 use Rattle.enq_base.specs.declared.condition.Condition.TheVariants as condition
 use Rattle.enq_base.specs.declared.refusal.Refusal.{Refusal}
 use Rattle.enq_base.specs.declared.refusal.Refusal.TheVariants as refusal
-use Rattle.enq_server.specs.Following.{Following, KeepsOn, told_list}
+use Rattle.enq_server.specs.Following.{Following, IsLostWith, KeepsOn, told_list}
 use Rattle.enq_server.specs.Server.{Server, replicated}
 use Rattle.keeper_api.specs.Keeping.{IsWithin}
 use Rattle.keeper_api.specs.Rows.{Rows}
 use Rattle.ledger_steps.specs.Steps.{after_step}
 use Rattle.hall_model.specs.Acts.{Admits, IsAct, IsTelling}
 use Rattle.hall_calls.specs.Written.{IsWritten, OnAnswer, OnFailure, OnStoreFailure, locks_posted, post_of, written_condition, written_failure, written_reply, written_sessions}
-use Rattle.hall_model.specs.Calls.{Call, LogsOn, OfSession, OfWorker, OfAdmin, Kills, FailsOver, Restarts, Attaches, Cancels, Resubmits, SessionCall, LogsOff, Asks, Frees, FreesAll, Converts, Draws, Reserves, Reads, Commits, RollsBack, Takes, Posts, Drops, call_of, renews_replica, restarts, session_touches_file, touches_file, wants_server}
+use Rattle.hall_model.specs.Calls.{Call, LogsOn, OfSession, OfWorker, OfAdmin, Kills, FailsOver, Restarts, Attaches, Cancels, Resubmits, SessionCall, LogsOff, Asks, Frees, FreesAll, Converts, Draws, Reserves, Reads, Commits, RollsBack, Takes, Posts, Drops, call_of, renews_replica, restarts, session_touches_file, ships, touches_file, wants_server}
 use Rattle.hall_model.specs.Devices.{MayBeDone, all_well, reaches_store, session_reaches_store, session_uses_file, session_uses_store, uses_file, uses_store}
 use Rattle.hall_calls.specs.Filing.{DoesFile, HasFileCause, KeepsFile, MayFile}
 use Rattle.hall_model.specs.History.{IsGiven, Served, doubted, is_unrecorded, judged}
@@ -49,7 +50,7 @@ use Rattle.hall_calls.proofs.verdicts.FoundChange.{shut_by_history}
 use Rattle.hall_calls.proofs.ending.AfterStop.{also_answered, plain_quiet, same_keeps, untouched_keeps}
 use Rattle.hall_calls.proofs.ending.OverFile.{any_file, plain_file}
 use Rattle.hall_calls.proofs.following.EachCall.{never_remakes, serves_as}
-use Rattle.hall_calls.proofs.following.Shipping.{Stays, shipped_written, stays_in}
+use Rattle.hall_calls.proofs.following.Shipping.{Stays, shipped_written, stays_in, stays_same, stays_shipped}
 use Rattle.hall_calls.proofs.verdicts.Replies.{fault_uses_file, fault_uses_store, unnoted_same}
 use Rattle.backup_file.specs.Backup.{BackupView}
 
@@ -145,7 +146,8 @@ module _ {D L : Type 0} (applied : L → Option (List Entry)) where
       (t t' t'' : Server D L) (x m : ℕ) (rs rs' : List NumberRange) (l l' : Ledger) (f f' : Failure) (past : List PastEntry) (w : Written) (c : Command)
       (said : Reply) (start : ℕ)
       → restarts (call_of c) ≡ false → IsDue (state_with applied told over k ss n os t x m rs l f []) past c
-      → told' ≡ told → is_some (applied t'.copy.link) ≡ is_some (applied t.copy.link) → Stays (call_of c) t.copy.attached t'.copy.attached
+      → told' ≡ told → is_some (applied t'.copy.link) ≡ is_some (applied t.copy.link)
+      → Stays (call_of c) t.copy.attached t'.copy.attached (locks_of applied k x t).entries (locks_of applied k x t').entries
       → k' ≡ written_condition k (length past) w → f' ≡ written_failure f (caller_of (call_of c)) w → said ≡ written_reply w
       → OnAnswer w ((locks_of applied k x t').limit ≡ (locks_of applied k x t).limit)
       → OnFailure w (LoseAlike l.start t.table.entries t'.table.entries ss)
@@ -166,7 +168,8 @@ module _ {D L : Type 0} (applied : L → Option (List Entry)) where
       let after : State = written_state s (call_of c) now w in
       let act : IsAct s c after (written_reply w) =
       written_act s c now w
-      (shipped_written s c put (attached_in k t'.copy.attached) w (stays_in k (call_of c) t.copy.attached t'.copy.attached stays) due.admits refl
+      (shipped_written s c put (attached_in k t'.copy.attached) w
+      (stays_in k (call_of c) t.copy.attached t'.copy.attached (locks_of applied k x t).entries (locks_of applied k x t').entries stays) due.admits refl
       (written none due.admits)) in
       let as_made : state_with applied told' over k' ss'' n os' t'' x m rs' l' f' past ≡ after =
       (λ i. state_with applied told' over (condition i) ss'' n os' t'' x m rs' l' (failure i) past)
@@ -180,7 +183,8 @@ module _ {D L : Type 0} (applied : L → Option (List Entry)) where
       (t t' t'' : Server D L) (x m : ℕ) (rs rs' : List NumberRange) (l l' : Ledger) (f f' : Failure) (past : List PastEntry) (w : Written) (c : Command)
       (said : Reply) (start : ℕ)
       → wants_server (call_of c) ≡ true → IsDue (state_with applied told over k ss n os t x m rs l f []) past c
-      → told' ≡ told → is_some (applied t'.copy.link) ≡ is_some (applied t.copy.link) → Stays (call_of c) t.copy.attached t'.copy.attached
+      → told' ≡ told → is_some (applied t'.copy.link) ≡ is_some (applied t.copy.link)
+      → Stays (call_of c) t.copy.attached t'.copy.attached t.table.entries t'.table.entries
       → k' ≡ written_condition k (length past) w → f' ≡ written_failure f (caller_of (call_of c)) w → said ≡ written_reply w
       → t'.table.limit ≡ t.table.limit → OnFailure w (LoseAlike l.start t.table.entries t'.table.entries ss)
       → OnFailure w (ss' ≡ ss) → OnFailure w (os' ≡ os) → OnStoreFailure w (l' ≡ l) → HasRanges (call_of c) w rs rs' → start ≡ l.start
@@ -196,7 +200,9 @@ module _ {D L : Type 0} (applied : L → Option (List Entry)) where
       let limits : (locks_of applied k x t').limit ≡ (locks_of applied k x t).limit =
       subst (λ q. (locks_of applied q x t').limit ≡ (locks_of applied q x t).limit) (sym up) limit in
       written_call told told' over k k' ss ss' ss'' n os os' t t' t'' x m rs rs' l l' f f' past w c said start
-      (wants_none (call_of c) wants) due tells links stays condition failure reply (also_answered _ w limits) lost a b d e is marked same copies
+      (wants_none (call_of c) wants) due tells links
+      (subst (λ q. Stays (call_of c) t.copy.attached t'.copy.attached (locks_of applied q x t).entries (locks_of applied q x t').entries) (sym up) stays)
+      condition failure reply (also_answered _ w limits) lost a b d e is marked same copies
       (λ none room. subst (λ q. IsWritten (before q) c (rewritten (before q) ss' os' (locks_of applied q x t').entries rs' l') w) (sym up)
       (written none (subst (λ q. Admits (before q) c) up room)))
 
@@ -229,6 +235,22 @@ module _ {D L : Type 0} (applied : L → Option (List Entry)) where
       by_part : (b : Bool) → (b ≡ true → k ≡ Up) → (b ≡ false → t'.copy ≡ t.copy) → (locks_of applied k x t').limit ≡ (locks_of applied k x t).limit
       by_part true up copies = subst (λ q. (locks_of applied q x t').limit ≡ (locks_of applied q x t).limit) (sym (up refl)) limit
       by_part false up copies = same_as k (copies refl)
+
+  -- what follows is lost in one only with other locks
+  pub posted_stays : (k : Condition) (x part : ℕ) (call : Call) (t t' : Server D L) → ships call ≡ nat_eq part 1 → (nat_eq part 1 ≡ true → k ≡ Up)
+      → t'.table.limit ≡ t.table.limit → (nat_eq part 1 ≡ false → t'.copy ≡ t.copy) → (t'.copy.attached ≡ true → t.copy.attached ≡ true)
+      → IsLostWith t.copy t'.copy t.table t'.table
+      → Stays call t.copy.attached t'.copy.attached (locks_of applied k x t).entries (locks_of applied k x t').entries
+  posted_stays k x part call t t' is up limit copies kept lost = by_part (nat_eq part 1) is up copies
+    where
+      by_part : (b : Bool) → ships call ≡ b → (b ≡ true → k ≡ Up) → (b ≡ false → t'.copy ≡ t.copy)
+          → Stays call t.copy.attached t'.copy.attached (locks_of applied k x t).entries (locks_of applied k x t').entries
+      by_part true is up copies =
+          subst (λ q. Stays call t.copy.attached t'.copy.attached (locks_of applied q x t).entries (locks_of applied q x t').entries) (sym (up refl))
+          (stays_shipped call t.copy.attached t'.copy.attached t.table t'.table is kept limit lost)
+      by_part false is up copies =
+          subst (λ (f : Following L). Stays call t.copy.attached f.attached (locks_of applied k x t).entries (locks_of applied k x t').entries)
+          (sym (copies refl)) (stays_same call t.copy.attached _ _)
 
 all_alike : (start : ℕ) (es : List Entry) (sessions : List Session) → LoseAlike start es es sessions
 all_alike start es [] = tt
@@ -404,7 +426,7 @@ uses_touches_file : (s : State) (call : Call) → IsTrue (uses_file s call) → 
 uses_touches_file s (LogsOn name user) uses = cc
 uses_touches_file s (OfSession name call) uses = file_session_touches s name call uses
 uses_touches_file s (OfWorker worker (Takes part)) uses = cc
-uses_touches_file s (OfWorker worker (Posts part)) uses = uses
+uses_touches_file s (OfWorker worker (Posts part)) uses = (and_parts _ _ uses).0
 uses_touches_file s (OfWorker worker Drops) uses = cc
 uses_touches_file s (OfAdmin Kills) uses = cc
 uses_touches_file s (OfAdmin FailsOver) uses = cc

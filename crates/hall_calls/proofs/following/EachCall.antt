@@ -18,7 +18,6 @@ use Rattle.hall_model.specs.declared.command.Command.{Command}
 use Rattle.hall_model.specs.declared.command.PastEntry.{PastEntry}
 use Rattle.hall_model.specs.declared.command.Reply.{Reply}
 use Rattle.hall_model.specs.declared.command.Reply.TheVariants as reply
-use Rattle.hall_calls.specs.declared.remaking.Remade.TheVariants.{Refused}
 use Rattle.hall_model.proofs.PlainRefusals.{IsPlain}
 use Rattle.hall_calls.proofs.verdicts.Replies.{is_fault_reply, verdict_answered}
 

@@ -214,7 +214,7 @@ module _ (s : State) (room : Admits s command.Attach) where
   lost_wanting : s.attached ≡ true → IsAct s command.Attach (record s { attached = false }) (reply.Refused refusal.NoMemory)
   lost_wanting on = record {
     outcome = record { event = Wanting; reading = AsKnown; lost = true };
-    possible = record { reading = tt; event = wants; lost = record { served = room.served; attached = on; may = refl } };
+    possible = record { reading = tt; event = wants; lost = record { served = room.served; attached = on; may = tt } };
     same = refl;
   }
 

@@ -1,8 +1,11 @@
 -- The lists of the backup file as calls end: with a part that is posted, a unit that is cancelled or tried again, and numbers.
-use Rattle.std.proofs.Common.{◌≡◌, inl, inr, ℕ, Bool, true, false, List, refl, sym, ap, ◌∙◌, subst}
+use Rattle.std.proofs.Common.{◌≡◌, inl, inr, ℕ, Bool, true, false, not, ◌&&◌, List, refl, sym, ap, ◌∙◌, subst}
 use Rattle.std.specs.Prelude.{nat_eq, Option, Some, None, IsTrue}
 use Rattle.backup_file.specs.Backup.{BackupView, IsReady}
+use Rattle.backup_file.specs.Lists.{is_known}
 use Rattle.backup_file.specs.declared.handed.Handed.{Handed}
+use Rattle.backup_file.specs.declared.ids.UnitId.{UnitId}
+use Rattle.enq_base.specs.Owners.{same_unit}
 use Rattle.enq_base.specs.declared.owner.UnitKey.{UnitKey}
 use Rattle.enq_base.specs.declared.refusal.Refusal.TheVariants as refusal
 use Rattle.enq_base.specs.declared.unit.Num.{Num as Number}
@@ -17,12 +20,14 @@ use Rattle.update_records.specs.Marks.{may_follow, status_of}
 use Rattle.update_records.specs.declared.records.MarkKind.TheVariants.{Again1, Again2, Gone, Num}
 use Rattle.update_records.specs.declared.stored.StoredInterval.{StoredInterval}
 use Rattle.hall_calls.specs.Written.{OnStoreFailure}
-use Rattle.enq_server.specs.Server.{with_list}
+use Rattle.enq_server.specs.Recovery.{AreWith}
+use Rattle.enq_server.specs.Server.{lasting, with_list}
 use Rattle.update_records.specs.declared.records.Unit.{Unit as UnitOfWork}
 use Rattle.hall_calls.specs.Commits.{IsOfCommit, RecordsNumbers}
-use Rattle.hall_calls.specs.Filing.{FilesAs, HasOpenLists, IsSaved, is_open, lists_ended, locks_ended}
+use Rattle.hall_calls.specs.Filing.{AreWaiting, FilesAs, HasOpenLists, IsSaved, is_open, lists_ended, locks_ended, stays_known}
 use Rattle.lock_entry.specs.declared.entry.Entry.{Entry}
 use Rattle.hall_calls.specs.OpenLists.{AgreeAll, AreOpenLists}
+use Rattle.hall_model.specs.OpenUnits.{waits_with_locks}
 use Rattle.hall_model.specs.Step.{locks_without, may_cancel}
 use Rattle.hall_model.specs.declared.command.Reply.TheVariants as reply
 use Rattle.hall_model.specs.declared.command.Session.{Session}
@@ -31,6 +36,7 @@ use Rattle.hall_calls.specs.declared.units.Written.{Written}
 use Rattle.hall_calls.specs.declared.units.Written.TheVariants.{Answered, Failed}
 use Rattle.hall_calls.proofs.ending.StateBehind.{IsPart}
 use Rattle.hall_calls.proofs.ending.OverFile.{AgreesBoth, answered_files, failed_before, same_file}
+use Rattle.hall_calls.proofs.lists.WaitingLists.{committed_known, ended_known, ended_waiting, kept_waiting, same_known}
 use Rattle.hall_calls.proofs.lists.BehindMarks.{again_same, committed_lists, ended_agree, ended_lists, ended_without, ends_first, ends_gone, ends_second, gone_same, gone_second_same, numbers_same, same_agree, same_lists, saved_locks, second_same, uncommitted_agree}
 
 -- ---- a part that is posted
@@ -60,6 +66,23 @@ posted_half part (inr e) ledger unit o lists h =
     subst (λ p. AgreeAll (with_mark ledger unit (kind_for p o)) (lists_ended (nat_eq p 1) lists unit)) (sym e)
     (ended_agree ledger unit (kind_for 2 o) lists (ends_second o) h)
 
+posted_waiting : (part : ℕ) → IsPart part → (ledger : Ledger) (unit : UnitKey) (o : Outcome) → WaitsFor part ledger unit → (other : UnitKey)
+    → waits_with_locks (with_mark ledger unit (kind_for part o)) other ≡ (waits_with_locks ledger other && not (nat_eq part 1 && same_unit unit other))
+posted_waiting part (inl e) ledger unit o waits other =
+    subst (λ p. waits_with_locks (with_mark ledger unit (kind_for p o)) other ≡ (waits_with_locks ledger other && not (nat_eq p 1 && same_unit unit other)))
+    (sym e) (ended_waiting ledger unit other (kind_for 1 o) (ends_first o))
+posted_waiting part (inr e) ledger unit o waits other =
+    subst (λ p. waits_with_locks (with_mark ledger unit (kind_for p o)) other ≡ (waits_with_locks ledger other && not (nat_eq p 1 && same_unit unit other)))
+    (sym e)
+    (kept_waiting ledger (with_mark ledger unit (kind_for 2 o)) unit other (second_same ledger unit o (subst (λ p. WaitsFor p ledger unit) e waits)))
+
+-- the units whose lists stand then
+pub posted_known : (part : ℕ) → IsPart part → (ledger : Ledger) (unit : UnitKey) (o : Outcome) (old new : List UnitId) → WaitsFor part ledger unit
+    → AreWaiting ledger old → ((other : UnitKey) → is_known other new ≡ stays_known (nat_eq part 1) unit old other)
+    → AreWaiting (with_mark ledger unit (kind_for part o)) new
+posted_known part is ledger unit o old new waits are stays =
+    ended_known ledger (with_mark ledger unit (kind_for part o)) (nat_eq part 1) unit old new are stays (posted_waiting part is ledger unit o waits)
+
 -- ---- a unit that is cancelled
 
 pub gone_lists : (ledger : Ledger) (unit : UnitKey) (status : Status) → status_of ledger.units ledger.marks unit ≡ Some status → may_cancel status ≡ true
@@ -78,6 +101,22 @@ pub gone_half : (ledger : Ledger) (unit : UnitKey) (ends : Bool) (lists : List H
     → AgreeAll (with_mark ledger unit Gone) (lists_ended ends lists unit)
 gone_half ledger unit true lists h = ended_without ledger unit Gone lists ends_gone h
 gone_half ledger unit false lists h = gone_agree ledger unit lists h
+
+gone_waiting : (ledger : Ledger) (unit : UnitKey) (status : Status) → status_of ledger.units ledger.marks unit ≡ Some status → may_cancel status ≡ true
+    → (other : UnitKey)
+    → waits_with_locks (with_mark ledger unit Gone) other ≡ (waits_with_locks ledger other && not (is_open status && same_unit unit other))
+gone_waiting ledger unit Open here may other = ended_waiting ledger unit other Gone ends_gone
+gone_waiting ledger unit Bad here may other = kept_waiting ledger (with_mark ledger unit Gone) unit other (gone_same ledger unit here)
+gone_waiting ledger unit Bad2 here may other = kept_waiting ledger (with_mark ledger unit Gone) unit other (gone_second_same ledger unit here)
+gone_waiting ledger unit Posted here may other = absurd (cc)
+gone_waiting ledger unit Closed here may other = absurd (cc)
+gone_waiting ledger unit Cancelled here may other = absurd (cc)
+
+pub gone_known : (ledger : Ledger) (unit : UnitKey) (status : Status) (old new : List UnitId) → status_of ledger.units ledger.marks unit ≡ Some status
+    → may_cancel status ≡ true → AreWaiting ledger old → ((other : UnitKey) → is_known other new ≡ stays_known (is_open status) unit old other)
+    → AreWaiting (with_mark ledger unit Gone) new
+gone_known ledger unit status old new here may are stays =
+    ended_known ledger (with_mark ledger unit Gone) (is_open status) unit old new are stays (gone_waiting ledger unit status here may)
 
 -- the locks that end are those of a unit that waited
 pub ended_so : (status : Status) (ends : Bool) (entries : List Entry) (unit : UnitKey) → ends ≡ is_open status
@@ -122,6 +161,11 @@ pub again2_agree : (ledger : Ledger) (unit : UnitKey) → may_follow (status_of 
 again2_agree ledger unit may lists h = same_agree ledger (with_mark ledger unit Again2) lists
     (again_same ledger unit (was_bad2 (status_of ledger.units ledger.marks unit) may)) h
 
+pub again2_known : (ledger : Ledger) (unit : UnitKey) (units : List UnitId) → may_follow (status_of ledger.units ledger.marks unit) Again2 ≡ true
+    → AreWaiting ledger units → AreWaiting (with_mark ledger unit Again2) units
+again2_known ledger unit units may are = same_known ledger (with_mark ledger unit Again2) units
+    (again_same ledger unit (was_bad2 (status_of ledger.units ledger.marks unit) may)) are
+
 -- ---- numbers alone
 
 module _ {D : Type 0} (tells : Bool) (reads : D → List ℕ) (may_leave : D → List ℕ → Type 0) (faults : D → ℕ) where
@@ -132,6 +176,8 @@ module _ {D : Type 0} (tells : Bool) (reads : D → List ℕ) (may_leave : D →
   numbers_files old new ledger now name unit numbers levels file (Answered reply.Done) has kept h =
       answered_files tells reads may_leave faults now file file reply.Done (record {
         usable = has.usable;
+        standing = subst (λ l. AreWaiting l file.units) (sym h.1)
+            (same_known ledger (with_intervals levels (with_mark ledger unit (Num numbers))) file.units (numbers_same ledger unit numbers levels) has.standing);
         ready = λ t. let k = has.ready t in record {
           lists = k.lists;
           ready = k.ready;
@@ -164,6 +210,7 @@ module _ {D : Type 0} (tells : Bool) (reads : D → List ℕ) (may_leave : D →
   saved_lists ledger next now old new saved same is =
       subst (λ f. HasOpenLists tells reads may_leave now f) (sym same) (subst (λ l. HasOpenLists tells reads may_leave l old) (sym is) (record {
         usable = saved.usable;
+        standing = saved.standing;
         ready = λ t. let h = saved.ready t in record { lists = h.0; ready = h.1; just = h.3 };
       }))
 
@@ -180,9 +227,11 @@ module _ {D : Type 0} (tells : Bool) (reads : D → List ℕ) (may_leave : D →
       → HasOpenLists tells reads may_leave ledger old → new.failed ≡ false → IsOfCommit ledger unit locks
       → (IsTrue tells → (lists : List Handed) → IsReady reads may_leave old lists
       → IsReady reads may_leave new (with_list unit.key (saved_locks unit locks) lists))
+      → AreWith unit.key (lasting unit.key locks) old.units new.units
       → IsSaved tells reads may_leave ledger (with_intervals levels (with_unit ledger unit)) new
-  written_saved ledger unit levels locks old new has usable commit written = record {
+  written_saved ledger unit levels locks old new has usable commit written known = record {
     usable = usable;
+    standing = committed_known ledger unit levels locks old.units new.units commit has.standing known;
     ready = λ t. let h = has.ready t in (
       with_list unit.key (saved_locks unit locks) h.lists,
       written t h.lists h.ready,

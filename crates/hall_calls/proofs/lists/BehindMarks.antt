@@ -115,7 +115,8 @@ beside_agree ledger key es lists shut h =
 
 -- ---- a unit that is recorded
 
-entries_recorded : (ledger : Ledger) (unit : UnitOfWork) → unit_at ledger.units unit.key ≡ None → entries_of (ledger.units ++ unit ∷ []) unit.key ≡ unit.entries
+pub entries_recorded : (ledger : Ledger) (unit : UnitOfWork) → unit_at ledger.units unit.key ≡ None
+    → entries_of (ledger.units ++ unit ∷ []) unit.key ≡ unit.entries
 entries_recorded ledger unit none = ap (λ o. option_map_or (λ (u : UnitOfWork). u.entries) o []) (unit_new ledger.units unit none)
 
 -- of a session that is logged on
@@ -136,7 +137,7 @@ by_first : (user : List ℕ) (es : List Entry) → map (as_handed (user_of (of_u
 by_first user [] = refl
 by_first user (e ∷ es) = put_once user (e ∷ es)
 
-handed_alike : (unit : UnitKey) (user : List ℕ) (table : List Entry)
+pub handed_alike : (unit : UnitKey) (user : List ℕ) (table : List Entry)
     → map (as_handed user) (lasting unit table) ≡ of_user user (filter (is_of (Upd unit)) (handed_over table unit))
 handed_alike unit user [] = refl
 handed_alike unit user (e ∷ table) =

@@ -14,7 +14,7 @@ use Rattle.enq_base.specs.declared.owner.UnitKey.{UnitKey}
 use Rattle.enq_base.specs.declared.refusal.Refusal.{Refusal}
 use Rattle.enq_base.specs.declared.refusal.Refusal.TheVariants as refusal
 use Rattle.enq_server.specs.Faults.{CountsFault, Leaves as LeavesLists}
-use Rattle.enq_server.specs.Recovery.{entries_of, is_one_of, left, stays}
+use Rattle.enq_server.specs.Recovery.{AreKnown, entries_of, is_one_of, left, locking, stays}
 use Rattle.enq_server.specs.Server.{IsRecovered, recovered}
 use Rattle.enq_server.specs.declared.fault.OpenFault.{OpenFault}
 use Rattle.enq_server.specs.declared.fault.OpenFault.TheVariants as opening
@@ -44,6 +44,7 @@ use Rattle.hall_calls.specs.declared.remaking.Remade.TheVariants.{Done}
 use Rattle.hall_calls.proofs.ending.StateBehind.{marks_kept}
 use Rattle.hall_calls.proofs.verdicts.EachCall.{admitted}
 use Rattle.hall_calls.proofs.lists.OfOpenUnits.{all_agree, each_agree, one_of_open, recovered_lists}
+use Rattle.hall_calls.proofs.lists.WaitingLists.{known_waiting}
 
 -- ---- what the call comes to
 
@@ -355,9 +356,10 @@ module _ {D : Type 0} (tells : Bool) (reads : D → List ℕ) (may_leave : D →
 
   -- where one was made it is ready
   pub remade_lists : (ledger : Ledger) (units : List UnitLocks) (bytes : List ℕ) (new : BackupView D) → units ≡ open_locks ledger → new.failed ≡ false
-      → (IsTrue tells → IsRecovered reads may_leave bytes units new) → HasOpenLists tells reads may_leave ledger new
-  remade_lists ledger units bytes new are usable read = record {
+      → AreKnown new.units (locking units) → (IsTrue tells → IsRecovered reads may_leave bytes units new) → HasOpenLists tells reads may_leave ledger new
+  remade_lists ledger units bytes new are usable known read = record {
     usable = usable;
+    standing = known_waiting ledger new.units (subst (λ us. AreKnown new.units (locking us)) are known);
     ready = λ t.
         let h = recovered_lists reads may_leave bytes ledger new (subst (λ us. IsRecovered reads may_leave bytes us new) are (read t)) in
         record { lists = h.0; ready = h.1; just = h.2 };

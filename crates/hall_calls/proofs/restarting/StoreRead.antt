@@ -1,20 +1,22 @@
 -- A store that is read anew in doubt: what it has, and why it isn't read.
-use Rattle.std.proofs.Common.{◌≡◌, ◌⊎◌, inl, inr, ℕ, Bool, true, false, refl, ap, ◌∙◌, subst}
-use Rattle.std.specs.Prelude.{◌≢◌, Option, Some, None, IfSome, IsSomeAnd, IsTrue, is_some}
+use Rattle.std.proofs.Common.{◌≡◌, ◌⊎◌, inl, inr, ℕ, Bool, true, false, refl, sym, ap, ◌∙◌, subst}
+use Rattle.std.specs.Prelude.{◌≢◌, List, Option, Some, None, IfSome, IsSomeAnd, IsTrue, is_some}
 use Rattle.std.specs.Option.{option_map}
 use Rattle.keeper_api.specs.Rows.{Rows}
 use Rattle.keeper_api.specs.Keeping.{IsOnly, IsWithin}
 use Rattle.ledger_laws.proofs.OneLedger.{one_ledger}
 use Rattle.posting.proofs.SettledDoubt.{StandForOneOf, not_unsound}
 use Rattle.posting.specs.Reopening.{HasStood, IsOpeningFault}
-use Rattle.posting.specs.Settling.{IsSettled, OnBooks, OnFound, OnOther, StandForOther}
+use Rattle.posting.specs.Settling.{CountsSettling, IsSettled, OnBooks, OnFound, OnOther, StandForOther}
 use Rattle.posting.specs.BooksView.{IsUsable, BooksView}
 use Rattle.ledger_steps.specs.Steps.{after_step}
 use Rattle.ledger_steps.specs.declared.step.Step.{Step}
 use Rattle.posting.specs.declared.settling.SettleFault.{SettleFault}
-use Rattle.posting.specs.declared.settling.SettleFault.TheVariants.{Books}
+use Rattle.posting.specs.declared.settling.SettleFault.TheVariants.{Books, Other}
+use Rattle.posting.specs.declared.opening.BooksFault.{BooksFault}
 use Rattle.posting.specs.declared.opening.BooksFault.TheVariants as books
 use Rattle.enq_base.specs.declared.refusal.Refusal.{Refusal}
+use Rattle.number_ranges.specs.declared.interval.Interval.{Interval}
 use Rattle.store_laws.proofs.Faultfree.{good_rules_kept, not_both}
 use Rattle.store_laws.proofs.LedgerRows.{good_rows_spelled}
 use Rattle.store_reading.specs.Stores.{store_fault}
@@ -22,8 +24,8 @@ use Rattle.store_reading.specs.Good.{IsBadPlace}
 use Rattle.update_records.specs.Ledger.{IsGood, Ledger, StandFor}
 use Rattle.hall_model.specs.Devices.{IsAsBefore}
 use Rattle.hall_model.specs.Kept.{IsInFlight, IsKnownRight}
-use Rattle.hall_calls.specs.Leaving.{StandForKnown, StandForPending}
-use Rattle.hall_calls.specs.Remaking.{LeavesKnown, flight_over, store_refusal}
+use Rattle.hall_calls.specs.Leaving.{HasStoreCause, StandForKnown, StandForPending}
+use Rattle.hall_calls.specs.Remaking.{IsReadFault, IsStoreRefusal, LeavesKnown, books_refusal, flight_over}
 use Rattle.hall_model.specs.Unsound.{is_unsound_store}
 use Rattle.hall_model.specs.declared.command.Reply.TheVariants as reply
 use Rattle.hall_calls.specs.declared.units.Failure.{Failure}
@@ -56,19 +58,36 @@ told_rows (Some rows) P told h = h
 
 -- ---- why it isn't read
 
-refused_so : (fault : SettleFault) (r : Refusal) → r ≡ store_refusal fault → (fault ≡ Books books.StoreFault) ⊎ (fault ≡ Books books.NoMemory)
-    → is_unsound_store (reply.Refused r) ≡ false
-refused_so fault r is (inl why) = ap (λ x. is_unsound_store (reply.Refused x)) (is ∙ ap store_refusal why)
-refused_so fault r is (inr why) = ap (λ x. is_unsound_store (reply.Refused x)) (is ∙ ap store_refusal why)
+-- what is told: why, and the store's fault only where its count of faults has risen
+abbrev pub IsTold : (before now : ℕ) → Refusal → Type 0
+IsTold before now r = IsReadFault r None × HasStoreCause before now (reply.Refused r)
+
+pub unread_told : (intervals : List Interval) (fault : SettleFault) (r : Refusal) (before now : ℕ) → IsStoreRefusal intervals fault r
+    → CountsSettling fault before now → IsTold before now r
+unread_told intervals (Books books.StoreFault) r before now is counts = subst (IsTold before now) (sym is) (refl, counts)
+unread_told intervals (Books (books.BadStore table row)) r before now is counts = subst (IsTold before now) (sym is) (tt, counts)
+unread_told intervals (Books books.NoStart) r before now is counts = subst (IsTold before now) (sym is) (tt, counts)
+unread_told intervals (Books books.NoMemory) r before now is counts = subst (IsTold before now) (sym is) (tt, counts)
+unread_told intervals (Other ledger) r before now (inl unfit) counts = subst (IsTold before now) (sym unfit.2) (tt, counts)
+unread_told intervals (Other ledger) r before now (inr fit) counts = subst (IsTold before now) (sym fit.1) (tt, counts)
+
+not_found : (intervals : List Interval) (fault : SettleFault) (why : BooksFault) (r : Refusal) → IsStoreRefusal intervals fault r → fault ≡ Books why
+    → r ≡ books_refusal why
+not_found intervals fault why r is same = subst (λ f. IsStoreRefusal intervals f r) same is
+
+refused_so : (intervals : List Interval) (fault : SettleFault) (r : Refusal) → IsStoreRefusal intervals fault r
+    → (fault ≡ Books books.StoreFault) ⊎ (fault ≡ Books books.NoMemory) → is_unsound_store (reply.Refused r) ≡ false
+refused_so intervals fault r is (inl why) = ap (λ x. is_unsound_store (reply.Refused x)) (not_found intervals fault books.StoreFault r is why)
+refused_so intervals fault r is (inr why) = ap (λ x. is_unsound_store (reply.Refused x)) (not_found intervals fault books.NoMemory r is why)
 
 -- a store that tells its rows is refused for none of them
-pub read_sound : (held was : Option Rows) (before : Rows → Type 0) (old : Ledger) (failure : Failure) (fault : SettleFault) (r : Refusal)
-    → r ≡ store_refusal fault → is_some held ≡ is_some was → is_some was ≡ true
+pub read_sound : (held was : Option Rows) (before : Rows → Type 0) (old : Ledger) (failure : Failure) (intervals : List Interval) (fault : SettleFault)
+    (r : Refusal) → IsStoreRefusal intervals fault r → is_some held ≡ is_some was → is_some was ≡ true
     → IfSome was (λ _. (rows : Rows) → before rows → StandForKnown failure.found rows old (flight_over old failure))
     → OnFound fault (IfSome held before) → OnBooks fault (λ f. IfSome held (λ rows. IsOpeningFault false rows f))
-    → OnOther fault (IfSome held (λ rows. StandForOther rows old failure.pending)) → is_unsound_store (reply.Refused r) ≡ false
-read_sound held was before old failure fault r is same told stand found bad other =
-    refused_so fault r is (not_unsound held before old failure.pending fault one_ledger bad_is_not_good (same ∙ told)
+    → OnOther fault (λ ledger. IfSome held (λ rows. StandForOther rows old failure.pending ledger)) → is_unsound_store (reply.Refused r) ≡ false
+read_sound held was before old failure intervals fault r is same told stand found bad other =
+    refused_so intervals fault r is (not_unsound held before old failure.pending fault one_ledger bad_is_not_good (same ∙ told)
     (λ rows may. one_of_known failure.found rows old failure.pending
     (told_rows was ((left : Rows) → before left → StandForKnown failure.found left old (flight_over old failure)) told stand rows may))
     found bad other)

@@ -22,7 +22,7 @@ use Rattle.hall_model.proofs.ByCall.{OfEach, by_call}
 use Rattle.hall_model.proofs.NotedCalls.{by_noting, finds_none}
 use Rattle.hall_calls.proofs.following.NotedShips.{ships_noted}
 use Rattle.hall_model.proofs.PlainRefusals.{IsPlain, is_fault}
-use Rattle.hall_calls.proofs.following.Shipping.{lost_wanting, well_ships}
+use Rattle.hall_calls.proofs.following.Shipping.{lost_wanting}
 
 -- a failure of store or disk is told, or what they have, or want of memory
 abbrev pub is_fault_reply : Reply → Bool
@@ -129,12 +129,16 @@ unlost_same o s c =
       | NotRemade fault ↦ λ e. absurd (never _ (told_noted fault) e)
     ]
 
+-- what a call comes to with what the devices gave
+abbrev came_to : DeviceOutcome → State → Command → Verdict
+came_to o s c = call_verdict (found_by o.reading s) s (call_of c)
+
 -- and one that may lose the replica is noted
-loses_on : (o : DeviceOutcome) (s : State) (c : Command) → LosesReplica o.event s (call_of c) → is_unrecorded (ending o s c).reply ≡ false
+loses_on : (o : DeviceOutcome) (s : State) (c : Command) → LosesReplica o.event s (call_of c) (came_to o s c) → is_unrecorded (ending o s c).reply ≡ false
 loses_on o s c =
-    elim o.event as (λ e. LosesReplica e s (call_of c)
+    elim o.event as (λ e. LosesReplica e s (call_of c) (call_verdict (found_by o.reading s) s (call_of c))
     → is_unrecorded (ends_in e o.reading s (call_of c) (call_verdict (found_by o.reading s) s (call_of c))).reply ≡ false) [
-      | AllWell ↦ λ may. ships_noted (found_by o.reading s) s (call_of c) may.served (well_ships (call_of c) may.may)
+      | AllWell ↦ λ may. ships_noted (found_by o.reading s) s (call_of c) may.served may.may.0
       | Wanting ↦ λ may. refl
       | StoreFails ↦ λ may. refl
       | BackupFails ↦ λ may. refl
@@ -142,12 +146,13 @@ loses_on o s c =
       | NotRemade fault ↦ λ may. told_noted fault
     ]
 
-lost_same : (lost : Bool) (o : DeviceOutcome) (s : State) (c : Command) → MayLose lost o.event s (call_of c) → is_unrecorded (ending o s c).reply ≡ true
-    → (losing lost (ending o s c)).state ≡ s
+lost_same : (lost : Bool) (o : DeviceOutcome) (s : State) (c : Command) → MayLose lost o.event s (call_of c) (came_to o s c)
+    → is_unrecorded (ending o s c).reply ≡ true → (losing lost (ending o s c)).state ≡ s
 lost_same true o s c may e = absurd (never _ (loses_on o s c may) e)
 lost_same false o s c may e = unlost_same o s c e
 
-pub unnoted_same : (o : DeviceOutcome) (s : State) (c : Command) → MayLose o.lost o.event s (call_of c) → is_unrecorded (served o s c).reply ≡ true
+pub unnoted_same : (o : DeviceOutcome) (s : State) (c : Command)
+    → MayLose o.lost o.event s (call_of c) (call_verdict (found_by o.reading s) s (call_of c)) → is_unrecorded (served o s c).reply ≡ true
     → (served o s c).state ≡ s
 unnoted_same o s c may e = lost_same o.lost o s c may e
 
@@ -198,7 +203,8 @@ told_counts (FindsBadStore table row) f g h = h
 
 served_counts : (o : DeviceOutcome) (s : State) (c : Command) (f g : ℕ) → HasStoreCause f g (served o s c).reply → HasCounted (is_store_failure o.event) f g
 served_counts o s c f g =
-    elim o.event as (λ e. HasStoreCause f g (served (record { event = e; reading = o.reading; lost = o.lost }) s c).reply → HasCounted (is_store_failure e) f g) [
+    elim o.event as (λ e. HasStoreCause f g (served (record { event = e; reading = o.reading; lost = o.lost }) s c).reply
+    → HasCounted (is_store_failure e) f g) [
       | AllWell ↦ λ h. plain_counts _ f g (verdict_answered _ s _).own h
       | Wanting ↦ λ h. h
       | StoreFails ↦ λ h. h
@@ -299,7 +305,7 @@ row_wanting s c taken after r row h =
     let o = act.outcome in
     let wanting = reply.Refused refusal.NoMemory in
     let by : Event → DeviceOutcome = λ e. record { event = e; reading = o.reading; lost = o.lost } in
-    elim o.event as (λ e. MayLose o.lost e s (call_of c) → takes_flight (by e) ≡ taken → served (by e) s c ≡ record { state = after; reply = r }
+    elim o.event as (λ e. MayLose o.lost e s (call_of c) (call_verdict (found_by o.reading s) s (call_of c)) → takes_flight (by e) ≡ taken → served (by e) s c ≡ record { state = after; reply = r }
     → IsTelling s c taken after wanting) [
       | AllWell ↦ λ may takes same.
           let found = found_by o.reading s in
@@ -311,7 +317,7 @@ row_wanting s c taken after r row h =
           subst (λ t. IsTelling s c taken t wanting) stays (record {
             act = record {
               outcome = record { event = Wanting; reading = o.reading; lost = o.lost };
-              possible = record { reading = act.possible.reading; event = (served_so, told.1); lost = lost_wanting o.lost s (call_of c) may };
+              possible = record { reading = act.possible.reading; event = (served_so, told.1); lost = lost_wanting o.lost s (call_of c) (verdict found s c) told.0 may };
               same = refl;
             };
             taken = sym (finds_none o.reading s (call_of c) told.2 act.possible.reading) ∙ takes;

@@ -48,11 +48,10 @@ use Rattle.hall_model.specs.Acts.{Admits, IsAct}
 use Rattle.hall_calls.specs.Written.{locks_posted, post_of}
 use Rattle.hall_model.specs.Calls.{OfAdmin, OfSession, OfWorker, Cancels, Commits, Posts, Reads, Resubmits, call_of, only_reads, writes_store_first}
 use Rattle.hall_model.specs.Devices.{AllWell, AsKnown, BackupFails, Comes, IsTold, MayBeDone, MayRead, Shows, StoreFails, found_by, may_want, only, uses_file, uses_store}
-use Rattle.hall_calls.specs.Filing.{is_open}
+use Rattle.hall_model.specs.OpenUnits.{waits_with_locks}
 use Rattle.enq_server.specs.Server.{lasting, with_user}
 use Rattle.enq_base.specs.declared.unit.Status.TheVariants as status
 use Rattle.update_records.specs.Marks.{has_status, status_of}
-use Rattle.hall_model.proofs.Cancels.{can_be}
 use Rattle.hall_model.proofs.Resubmissions.{can_be_tried}
 use Rattle.std.proofs.lemmas.Bool.{and_from}
 use Rattle.hall_model.specs.Coming.{MayComeTo, outcome_in, outcome_of}
@@ -307,18 +306,19 @@ posts_unread part s orders ledger limit worker unit is e g m none room found spa
           ∙ ap (λ q. refused (doubted (without_stock call s) call None q) refusal.StoreFault) none;
     }
 
--- the disk fails behind the mark of a V1 part that comes to this
+-- the disk fails behind the mark of a V1 part that comes to this, of a unit whose list stood in the file
 unfiled_post : (part : ℕ) (c : Command) (s : State) (worker : ℕ) (unit : UnitKey) (o : Outcome) → call_of c ≡ OfWorker worker (Posts part)
-    → nat_eq part 1 ≡ true → Admits s c → order_for part s.stored s.orders worker ≡ Some unit → is_store_full s ≡ false → MayComeTo s.told s.stored part unit o
+    → (nat_eq part 1 && waits_with_locks s.stored unit) ≡ true → Admits s c → order_for part s.stored s.orders worker ≡ Some unit → is_store_full s ≡ false
+    → MayComeTo s.told s.stored part unit o
     → IsAct s c (unfiled s (call_of c) None (with_mark s.stored unit (kind_for part o))) (reply.Refused refusal.BackupFault)
-unfiled_post part c s worker unit o posts first room at space may =
+unfiled_post part c s worker unit o posts listed room at space may =
     let found = found_by (Comes o) s in
     let v = admitted found s c room ∙ own_post part c found s worker (Some unit) posts at ∙ fits s _ space in
     record {
       outcome = record { event = BackupFails; reading = Comes o; lost = false };
       possible = record {
         reading = subst (MayRead (Comes o) s) (sym posts) (subst (λ x. IfSome x (λ u. MayComeTo s.told s.stored part u o)) (sym at) may);
-        event = (ap leaves v, ap (uses_file s) posts ∙ first);
+        event = (ap leaves v, ap (uses_file s) posts ∙ ap (λ x. nat_eq part 1 && option_map_or (waits_with_locks s.stored) x false) at ∙ listed);
         lost = tt;
       };
       same = ap (λ w. refused (unfiled s (call_of c) None (stored_before_file s (call_of c) w)) refusal.BackupFault) v
@@ -327,17 +327,17 @@ unfiled_post part c s worker unit o posts first room at space may =
     }
 
 pub posts_unfiled : (part : ℕ) (s : State) (told : Bool) (orders : List (Option UnitKey)) (ledger new : Ledger) (limit worker : ℕ) (unit : UnitKey)
-    (o : Outcome) → IsPart part → nat_eq part 1 ≡ true → s.told ≡ told → s.orders ≡ orders → s.stored ≡ ledger → s.mark_limit ≡ limit
-    → Admits s (post_of part worker) → order_for part ledger orders worker ≡ Some unit → nat_le limit (length ledger.marks) ≡ false
+    (o : Outcome) → IsPart part → (nat_eq part 1 && waits_with_locks ledger unit) ≡ true → s.told ≡ told → s.orders ≡ orders → s.stored ≡ ledger
+    → s.mark_limit ≡ limit → Admits s (post_of part worker) → order_for part ledger orders worker ≡ Some unit → nat_le limit (length ledger.marks) ≡ false
     → MayComeTo told ledger part unit o → new ≡ with_mark ledger unit (kind_for part o)
     → IsAct s (post_of part worker) (unfiled s (call_of (post_of part worker)) None new) (reply.Refused refusal.BackupFault)
-posts_unfiled part s told orders ledger new limit worker unit o is first t e g m room found space may c =
+posts_unfiled part s told orders ledger new limit worker unit o is listed t e g m room found space may c =
     let g' : with_mark s.stored unit (kind_for part o) ≡ new = ap (λ l. with_mark l unit (kind_for part o)) g ∙ sym c in
     let may' : MayComeTo s.told s.stored part unit o = subst (λ x. MayComeTo x s.stored part unit o) (sym t)
     (subst (λ l. MayComeTo told l part unit o) (sym g) may) in
     subst (λ l. IsAct s (post_of part worker) (unfiled s (call_of (post_of part worker)) None l) (reply.Refused refusal.BackupFault)) g'
-    (unfiled_post part (post_of part worker) s worker unit o (posts_part part worker is) first room (held part s ledger orders worker (Some unit) g e found)
-    (full_as s limit ledger false m g space) may')
+    (unfiled_post part (post_of part worker) s worker unit o (posts_part part worker is) (ap (λ l. nat_eq part 1 && waits_with_locks l unit) g ∙ listed) room
+    (held part s ledger orders worker (Some unit) g e found) (full_as s limit ledger false m g space) may')
 
 pub posts_wanting : (part : ℕ) (s : State) (orders : List (Option UnitKey)) (entries : List Entry) (ledger new : Ledger) (worker : ℕ) (unit : UnitKey)
     → IsPart part → s.orders ≡ orders → (nat_eq part 1 ≡ true → s.locks ≡ entries) → s.stored ≡ ledger → new ≡ ledger → Admits s (post_of part worker)
@@ -389,23 +389,15 @@ pub cancels_in_doubt : (s : State) (orders : List (Option UnitKey)) (ledger : Le
 cancels_in_doubt s orders ledger limit unit status e g m room h =
     fails s (command.Cancel unit) (cancelled s unit status) (reply.Unit unit) room (own_cancel s orders ledger limit unit (Ok status) e g m h) refl refl
 
-open_status : (x : Status) → is_open x ≡ true → has_status status.Open (Some x) ≡ true
-open_status status.Open h = refl
-open_status status.Posted h = cc
-open_status status.Bad h = cc
-open_status status.Closed h = cc
-open_status status.Bad2 h = cc
-open_status status.Cancelled h = cc
-
 pub cancels_unfiled : (s : State) (orders : List (Option UnitKey)) (ledger new : Ledger) (limit : ℕ) (unit : UnitKey) (found : Status) → s.orders ≡ orders
-    → s.stored ≡ ledger → s.mark_limit ≡ limit → Admits s (command.Cancel unit) → to_cancel ledger orders limit unit ≡ Ok found → is_open found ≡ true
-    → new ≡ with_mark ledger unit Gone → IsAct s (command.Cancel unit) (unfiled s (call_of (command.Cancel unit)) None new) (reply.Refused refusal.BackupFault)
+    → s.stored ≡ ledger → s.mark_limit ≡ limit → Admits s (command.Cancel unit) → to_cancel ledger orders limit unit ≡ Ok found
+    → waits_with_locks ledger unit ≡ true → new ≡ with_mark ledger unit Gone
+    → IsAct s (command.Cancel unit) (unfiled s (call_of (command.Cancel unit)) None new) (reply.Refused refusal.BackupFault)
 cancels_unfiled s orders ledger new limit unit found e g m room h waits b =
     subst (λ l. IsAct s (command.Cancel unit) (unfiled s (call_of (command.Cancel unit)) None l) (reply.Refused refusal.BackupFault))
     (ap (λ l. with_mark l unit Gone) g ∙ sym b)
     (fails_filing s (command.Cancel unit) (cancelled s unit found) (reply.Unit unit) room (own_cancel s orders ledger limit unit (Ok found) e g m h)
-    (ap (λ (l : Ledger). has_status status.Open (status_of l.units l.marks unit)) g
-    ∙ ap (has_status status.Open) (can_be ledger orders limit unit found h).recorded ∙ open_status found waits))
+    (ap (λ l. waits_with_locks l unit) g ∙ waits))
 
 -- ---- trying again
 

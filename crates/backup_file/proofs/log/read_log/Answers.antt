@@ -10,9 +10,10 @@ use Rattle.backup_file.specs.declared.handed.Record.{Record}
 use Rattle.backup_file.specs.declared.reading.ReadFault.{ReadFault}
 use Rattle.backup_file.specs.Opening.{IsRead}
 use Rattle.backup_file.specs.Reading.{Fails, record_at}
-use Rattle.backup_file.specs.Lists.{AreUnits, after, has_unit, is_known}
+use Rattle.backup_file.specs.Lists.{AreUnits, HaveEntries, after, has_unit, is_known}
 use Rattle.backup_file.specs.File.{grammar}
 use Rattle.backup_file.proofs.Records.{record_reader}
+use Rattle.backup_file.proofs.WithEntries.{front_entries}
 use Rattle.backup_file.proofs.log.read_log.Goals as goal
 
 after_push : (rs : List Record) (step : Record) (all : List Record) → all ≡ rs ++ step ∷ [] → fold after [] all ≡ after (fold after [] rs) step
@@ -82,3 +83,8 @@ returns-clause-shut c =
       shut = closed_gate grammar bytes rest l upto some c.in_default.ensures.closed;
       place = place grammar bytes rest l upto;
     })
+
+pub returns-clause-some : goal.returns-clause-some
+returns-clause-some c =
+    let upto = c.loop-behind.invariant.upto in
+    subst HaveEntries (sym c.in_ok-lists_of.ensures) (front_entries upto.front (fold after [] c.loop-behind.records.items) upto.is_front)

@@ -1,4 +1,4 @@
-use Rattle.std.proofs.Common.{◌≡◌, sym, ◌∙◌, subst}
+use Rattle.std.proofs.Common.{sym, ◌∙◌, subst}
 use Rattle.cover_cmd.specs.Covering.{Covers}
 use Rattle.enq_cmd.proofs.SafeScripts.{safe_told}
 use Rattle.enq_cmd.proofs.covering.cover_site.Goals as goal

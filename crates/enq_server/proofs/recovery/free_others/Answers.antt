@@ -2,6 +2,8 @@ use Rattle.std.proofs.Common.{◌≡◌, ◌+◌, ◌∷◌, ◌++◌, [], take,
 use Rattle.std.proofs.lemmas.List.{take_all}
 use Rattle.backup_file.specs.Backup.{IsReady}
 use Rattle.backup_file.specs.File.{Stands}
+use Rattle.backup_file.specs.Lists.{AreUnits}
+use Rattle.backup_file.proofs.Units.{units-free}
 use Rattle.enq_base.specs.declared.owner.UnitKey.{UnitKey}
 use Rattle.enq_server.specs.Recovery.{left}
 use Rattle.enq_server.proofs.Others.{units_of, left_absent, left_all, left_freed, left_none, left_stays, still, taken_units}
@@ -12,6 +14,7 @@ pub loop-handed-init : goal.loop-handed-init
 loop-handed-init g c = record {
   usable = c.requires.usable;
   ready = λ t units are ready. subst (IsReady g.D.Disk.reads g.D.Disk.may_leave c.args.backup.now) (sym (left_none units c.args.lists.now)) ready;
+  known = λ units are first. subst (AreUnits c.args.backup.now.units) (sym (left_none units c.args.lists.now)) first;
   quiet = refl;
 }
 
@@ -35,6 +38,12 @@ loop-handed-preserved g c =
             (left_freed units gone lists unit (sym (are c.handed-item.result.unit) ∙ sym c.is_known.ensures ∙ w.if-not-is_known.true)
             ∙ ap (λ us. left units us lists) (sym more))
             (w.in_ok-free.ensures.freed t (left units gone lists) (c.loop-handed.invariant.ready t units are ready));
+        known = λ units are first.
+            let gone_now = left units gone lists in
+            subst (AreUnits w.free.new.self.units)
+            (left_freed units gone lists unit (sym (are unit) ∙ sym c.is_known.ensures ∙ w.if-not-is_known.true) ∙ ap (λ us. left units us lists) (sym more))
+            (units-free c.loop-handed.backup.units w.free.new.self.units gone_now unit (c.loop-handed.invariant.known units are first)
+            w.in_ok-free.ensures.units);
         quiet = w.in_ok-free.ensures.cause.quiet ∙ c.loop-handed.invariant.quiet;
       })
       | else-not-is_known w ↦ rw w.backup-is (record {
@@ -48,6 +57,15 @@ loop-handed-preserved g c =
                   (sym (are c.handed-item.result.unit) ∙ sym c.is_known.ensures ∙ w'.if-not-is_known.false)
             ] ∙ ap (λ us. left units us lists) (sym more))
             (c.loop-handed.invariant.ready t units are ready);
+        known = λ units are first. subst (AreUnits c.loop-handed.backup.units)
+            (elim w.else-not-is_known.branch [
+              | else-not-is_known-via-then-not-is_known+else-stands w' ↦ left_absent units gone lists unit
+                  (sym (are unit) ∙ sym c.is_known.ensures ∙ w'.if-not-is_known.true)
+                  (sym (c.loop-handed.invariant.known units are first unit) ∙ sym w'.if-stands.ensures.units)
+              | else-not-is_known-via-else-not-is_known w' ↦ left_stays units gone lists unit
+                  (sym (are unit) ∙ sym c.is_known.ensures ∙ w'.if-not-is_known.false)
+            ] ∙ ap (λ us. left units us lists) (sym more))
+            (c.loop-handed.invariant.known units are first);
         quiet = c.loop-handed.invariant.quiet;
       })
     ]
@@ -64,3 +82,10 @@ returns-clause-images g c = λ t units are ready bytes may.
     let gone = units_of (take c.loop-handed.handed-index c.args.lists.now) in
     let now = c.loop-handed.invariant.ready t units are ready in
     record { gone = gone; stands = subst (λ b. Stands b (left units gone c.args.lists.now)) (sym (now.at_rest.durable bytes may)) now.stands }
+
+pub returns-clause-known : goal.returns-clause-known
+returns-clause-known g c = λ units are first.
+    subst (AreUnits c.loop-handed.backup.units)
+    (ap (λ l. left units (units_of l) c.args.lists.now) (take_all c.loop-handed.handed-index c.args.lists.now (omega (arith, c.loop-handed-test.false)))
+    ∙ left_all units c.args.lists.now)
+    (c.loop-handed.invariant.known units are first)

@@ -3,9 +3,11 @@ use Rattle.std.specs.List.{All}
 use Rattle.bk_disk.specs.Disk.{Follows}
 use Rattle.backup_file.specs.Backup.{IsReady}
 use Rattle.backup_file.specs.File.{Stands}
+use Rattle.backup_file.specs.Lists.{AreUnits, HaveEntries}
 use Rattle.enq_server.specs.Faults.{Leaves}
 use Rattle.enq_server.specs.Recovery.{Agrees}
 use Rattle.enq_server.proofs.Images.{opening_leaves, some_left}
+use Rattle.enq_server.proofs.Known.{known_locking}
 use Rattle.enq_server.proofs.recovery.read_anew.Goals as goal
 
 pub returns-in-Err-clause-images : goal.returns-in-Err-clause-images
@@ -39,3 +41,13 @@ returns-clause-images g c = λ t.
     (g.met.D.Disk.reads_left c.args.backup.now.disk t)
     (c.in-Err-free_others.ensures.images t c.args.units.now c.in-Ok-recover.ensures.known
     (subst (IsReady g.D.Disk.reads g.D.Disk.may_leave c.reopen.new.self) (sym c.as_slice-2.ensures.value) (c.in-Ok.ensures.ready t)))
+
+pub returns-in-Ok-free_others-clause-known : goal.returns-in-Ok-free_others-clause-known
+returns-in-Ok-free_others-clause-known g c =
+    let lists = c.as_slice-2.result.now in
+    let read = sym c.as_slice-2.ensures.value in
+    known_locking c.free_others.new.backup.units lists c.args.units.now
+    (c.in-Ok-free_others.ensures.known c.args.units.now c.in-Ok-recover.ensures.known
+    (subst (AreUnits c.reopen.new.self.units) read c.in-Ok.ensures.units))
+    (subst HaveEntries read c.in-Ok.ensures.some)
+    (subst (λ l. All (Agrees l) c.args.units.now) (c.as_slice.ensures.value ∙ sym c.as_slice-2.ensures.value) c.in-Ok-recover.ensures.agree)

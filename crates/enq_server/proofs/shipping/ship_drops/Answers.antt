@@ -1,8 +1,8 @@
-use Rattle.std.proofs.Common.{[], ◌∷◌, ◌+◌, map, take, subst}
+use Rattle.std.proofs.Common.{[], ◌∷◌, ◌+◌, map, take, subst, arith}
 use Rattle.replica_link.specs.Operations.{after_op, replica}
 use Rattle.replica_link.specs.Shipping.{drop_of}
 use Rattle.enq_server.specs.Following.{IsAt}
-use Rattle.enq_server.proofs.Following.{at_more, keeps_both, mapped_more}
+use Rattle.enq_server.proofs.Following.{at_more, keeps_both, lost_more, mapped_more}
 use Rattle.enq_server.proofs.shipping.ship_drops.Goals as goal
 
 pub loop-entry-preserved : goal.loop-entry-preserved
@@ -18,4 +18,6 @@ loop-entry-preserved g c =
           (c.ship.ensures.at (replica list (map drop_of (take i es))) (c.loop-entry.invariant.at list before)));
       keeps = keeps_both g.L.Link.applied g.L.Link.faults g.L.Link.refusals c.args.follower.now c.loop-entry.follower c.ship.new.self
           c.loop-entry.invariant.keeps c.ship.ensures.keeps;
+      lost = lost_more c.args.follower.now c.loop-entry.follower c.ship.new.self (map drop_of (take i es)) (drop_of e ∷ []) (map drop_of (take (i + 1) es))
+          (mapped_more drop_of es i e c.loop-entry-test.true c.entry-item.is) c.loop-entry.invariant.lost (λ on off. omega arith);
     }

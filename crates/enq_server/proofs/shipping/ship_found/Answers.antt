@@ -1,8 +1,8 @@
 use Rattle.std.proofs.Common.{[], ◌∷◌, ◌+◌, take, sym, subst, ◌∙◌}
 use Rattle.replica_link.specs.Operations.{replica}
 use Rattle.replica_link.specs.Shipping.{owner_ops}
-use Rattle.enq_server.specs.Following.{IsAt}
-use Rattle.enq_server.proofs.Following.{at_more, keeps_both, owner_end, owner_more}
+use Rattle.enq_server.specs.Following.{IsAt, IsLostBy}
+use Rattle.enq_server.proofs.Following.{at_more, keeps_both, lost_more, owner_end, owner_more}
 use Rattle.enq_server.proofs.shipping.ship_found.Goals as goal
 use Rattle.enq_server.proofs.shipping.ship_found.Goals.{in-Some, in_default}
 
@@ -20,11 +20,16 @@ loop-place-preserved g c =
             (w.ship_own.ensures.at (replica list (owner_ops (take i es) owner)) (c.loop-place.invariant.at list before));
         keeps = keeps_both g.L.Link.applied g.L.Link.faults g.L.Link.refusals c.args.follower.now c.loop-place.follower w.ship_own.new.follower
             c.loop-place.invariant.keeps w.ship_own.ensures.keeps;
+        lost = lost_more c.args.follower.now c.loop-place.follower w.ship_own.new.follower (owner_ops (take i es) owner)
+            (owner_ops (w.in-Some.entry ∷ []) owner) (owner_ops (take (i + 1) es) owner)
+            (owner_more es i w.in-Some.entry owner (sym c.at.ensures.entry ∙ w.in-Some.is)) c.loop-place.invariant.lost w.ship_own.ensures.lost;
       })
       | in_default w ↦ rw w.follower-is (record {
         at = λ list before.
             subst (λ ops. IsAt g.L.Link.applied c.loop-place.follower (replica list ops))
             (sym (owner_end es i owner (sym c.at.ensures.entry ∙ w.in_default.is))) (c.loop-place.invariant.at list before);
         keeps = c.loop-place.invariant.keeps;
+        lost = subst (IsLostBy c.args.follower.now c.loop-place.follower) (sym (owner_end es i owner (sym c.at.ensures.entry ∙ w.in_default.is)))
+            c.loop-place.invariant.lost;
       })
     ]

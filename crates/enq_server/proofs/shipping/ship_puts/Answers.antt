@@ -1,7 +1,7 @@
-use Rattle.std.proofs.Common.{[], ◌∷◌, ◌+◌, map, take}
+use Rattle.std.proofs.Common.{[], ◌∷◌, ◌+◌, map, take, arith}
 use Rattle.replica_link.specs.Operations.{replica}
 use Rattle.replica_link.specs.declared.operation.TableOp.TheVariants.{Put}
-use Rattle.enq_server.proofs.Following.{at_more, keeps_both, mapped_more}
+use Rattle.enq_server.proofs.Following.{at_more, keeps_both, lost_more, mapped_more}
 use Rattle.enq_server.proofs.shipping.ship_puts.Goals as goal
 
 pub loop-entry-preserved : goal.loop-entry-preserved
@@ -16,4 +16,6 @@ loop-entry-preserved g c =
           (c.ship.ensures.at (replica list (map Put (take i es))) (c.loop-entry.invariant.at list before));
       keeps = keeps_both g.L.Link.applied g.L.Link.faults g.L.Link.refusals c.args.follower.now c.loop-entry.follower c.ship.new.self
           c.loop-entry.invariant.keeps c.ship.ensures.keeps;
+      lost = lost_more c.args.follower.now c.loop-entry.follower c.ship.new.self (map Put (take i es)) (Put e ∷ []) (map Put (take (i + 1) es))
+          (mapped_more Put es i e c.loop-entry-test.true c.entry-item.is) c.loop-entry.invariant.lost (λ on off. omega arith);
     }

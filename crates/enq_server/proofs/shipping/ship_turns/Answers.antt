@@ -2,7 +2,7 @@ use Rattle.std.proofs.Common.{◌+◌, take}
 use Rattle.std.specs.List.{flat_map}
 use Rattle.replica_link.specs.Operations.{replica}
 use Rattle.replica_link.specs.Shipping.{turn_ops}
-use Rattle.enq_server.proofs.Following.{at_more, joined_more, keeps_both}
+use Rattle.enq_server.proofs.Following.{at_more, joined_more, keeps_both, lost_more}
 use Rattle.enq_server.proofs.shipping.ship_turns.Goals as goal
 
 pub loop-one-preserved : goal.loop-one-preserved
@@ -18,4 +18,6 @@ loop-one-preserved g c =
           (c.ship_turn.ensures.at (replica list (flat_map f (take i xs))) (c.loop-one.invariant.at list before));
       keeps = keeps_both g.L.Link.applied g.L.Link.faults g.L.Link.refusals c.args.follower.now c.loop-one.follower c.ship_turn.new.follower
           c.loop-one.invariant.keeps c.ship_turn.ensures.keeps;
+      lost = lost_more c.args.follower.now c.loop-one.follower c.ship_turn.new.follower (flat_map f (take i xs)) (f x) (flat_map f (take (i + 1) xs))
+          (joined_more f xs i x c.loop-one-test.true c.one-item.is) c.loop-one.invariant.lost c.ship_turn.ensures.lost;
     }

@@ -149,7 +149,7 @@ returns-in-Ok-restart-clause-file g c =
     (g.D.Disk.reads c.args.locks.now.file.disk) c.restart.new.self.file
     (c.as_slice.ensures.value ∙ c.in-Ok.ensures.units ∙ ap (λ l. open_locks (ledger_read l reread)) (sym c.read_waiting.ensures.ledger)
     ∙ ap open_locks (sym c.adopt.ensures.ledger))
-    c.in-Ok-restart.ensures.usable c.in-Ok-restart.ensures.file
+    c.in-Ok-restart.ensures.usable c.in-Ok-restart.ensures.known c.in-Ok-restart.ensures.file
 
 -- ---- where its backup file isn't read
 

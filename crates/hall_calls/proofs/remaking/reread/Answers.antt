@@ -3,18 +3,36 @@ use Rattle.posting.specs.Settling.{IsSettled, OnOther, StandForOther}
 use Rattle.hall_model.specs.Devices.{IsAsBefore}
 use Rattle.hall_model.specs.Kept.{IsInFlight}
 use Rattle.hall_calls.specs.Remaking.{LeavesKnown, flight_over}
-use Rattle.hall_calls.proofs.restarting.StoreRead.{differs, known_before, read_leaves, read_sound}
+use Rattle.ledger_steps.specs.Levels.{intervals_of}
+use Rattle.hall_calls.proofs.restarting.StoreRead.{differs, known_before, read_leaves, read_sound, unread_known, unread_told}
 use Rattle.hall_calls.proofs.remaking.reread.Goals as goal
+
+pub returns-in-Err-clause-unread : goal.returns-in-Err-clause-unread
+returns-in-Err-clause-unread g c =
+    let old = c.args.books.now in
+    let new = c.reread.new.self in
+    let failure = c.args.failure.now in
+    let told = unread_told (intervals_of c.args.ranges.now) c.in-Err.fault c.store_refusal.result (g.K.Keeper.faults old.keeper) (g.K.Keeper.faults new.keeper)
+    c.store_refusal.ensures c.in-Err.ensures.cause in
+    record {
+      why = told.0;
+      flight = tt;
+      known = tt;
+      cause = told.1;
+      left = unread_known g.K.Keeper.held g.K.Keeper.may_leave old.keeper new.keeper failure.found old.ledger (flight_over old.ledger failure)
+          c.reread.ensures.told c.reread.ensures.left c.requires.left;
+    }
 
 pub returns-in-Err-clause-good_store : goal.returns-in-Err-clause-good_store
 returns-in-Err-clause-good_store g c = λ told.
     let held = g.K.Keeper.held in
     let old = c.args.books.now in
     let new = c.reread.new.self in
-    read_sound (held new.keeper) (held old.keeper) (g.K.Keeper.may_leave old.keeper) old.ledger c.args.failure.now c.in-Err.fault c.store_refusal.result
+    read_sound (held new.keeper) (held old.keeper) (g.K.Keeper.may_leave old.keeper) old.ledger c.args.failure.now (intervals_of c.args.ranges.now)
+    c.in-Err.fault c.store_refusal.result
     c.store_refusal.ensures c.reread.ensures.told told c.requires.left c.in-Err.ensures.found_rows c.in-Err.ensures.fault
-    (subst (λ change. OnOther c.in-Err.fault (IfSome (held new.keeper) (λ rows. StandForOther rows old.ledger change))) c.as_ref.ensures.value
-    c.in-Err.ensures.other)
+    (subst (λ change. OnOther c.in-Err.fault (λ ledger. IfSome (held new.keeper) (λ rows. StandForOther rows old.ledger change ledger)))
+    c.as_ref.ensures.value c.in-Err.ensures.other)
 
 not_both : (result : _) (P : Type 0) → result ≡ false → P → (P → IsTrue result) → ⊥
 not_both true P off h back = absurd (cc)

@@ -2,6 +2,9 @@ use Rattle.std.proofs.Common.{◌≡◌, ◌≤◌, inl, inr, true, sym, refl, a
 use Rattle.enq_base.specs.declared.refusal.Refusal.TheVariants as refusal
 use Rattle.hall_model.specs.declared.command.Reply.TheVariants as reply
 use Rattle.std.specs.Prelude.{Some, is_some}
+use Rattle.std.proofs.lemmas.Bool.{and_parts}
+use Rattle.backup_file.specs.Lists.{is_known}
+use Rattle.enq_base.specs.declared.owner.UnitKey.{UnitKey}
 use Rattle.enq_base.specs.Causes.{Rose}
 use Rattle.ledger_steps.specs.Steps.{after_step}
 use Rattle.update_records.specs.Growing.{with_mark}
@@ -11,10 +14,10 @@ use Rattle.hall_model.proofs.Cancels.{can_be, may_follow_gone, refused_plainly}
 use Rattle.hall_calls.proofs.ending.AfterStop.{answered_leaves, failed_leaves, plain_quiet, untouched_keeps, where_told}
 use Rattle.hall_calls.proofs.verdicts.UnitCalls.{below_limit, cancels, cancels_in_doubt, cancels_not, cancels_unfiled, cancels_wanting}
 use Rattle.ledger_steps.specs.declared.step.Step.TheVariants.{Note}
-use Rattle.hall_calls.specs.Filing.{is_open, lists_ended}
+use Rattle.hall_calls.specs.Filing.{AreWaiting, is_open, lists_ended, stays_known}
 use Rattle.hall_calls.specs.OpenLists.{AgreeAll, AreOpenLists}
 use Rattle.hall_calls.proofs.ending.OverFile.{failed_before, half_written_files, refused_files, same_file, written_files}
-use Rattle.hall_calls.proofs.lists.AsCallsEnd.{ended_so, gone_agree, gone_half, gone_lists}
+use Rattle.hall_calls.proofs.lists.AsCallsEnd.{ended_so, gone_agree, gone_half, gone_known, gone_lists}
 use Rattle.hall_calls.proofs.units.cancel.Goals as goal
 
 pub returns-in-Err-clause-act : goal.returns-in-Err-clause-act
@@ -70,7 +73,8 @@ returns-in-Err-end_locks-clause-act g c s e f l m room =
     c.in-Ok-write.ensures.done ∙ ap (after_step c.prepare_mark.new.self.ledger) c.in-Ok-prepare_mark.ensures.step
     ∙ ap (λ ledger. with_mark ledger c.args.unit Gone) c.prepare_mark.ensures.unmoved.ledger in
     cancels_unfiled s c.args.orders.now c.args.books.now.ledger c.write.new.self.ledger c.args.max_marks c.args.unit c.in-Ok.status e l m room
-    (sym c.to_cancel.ensures ∙ c.in-Ok.is) (sym c.is_open.ensures ∙ c.in-Err-end_locks.ensures.file.needed) new
+    (sym c.to_cancel.ensures ∙ c.in-Ok.is)
+    (sym (c.requires.filed.standing c.args.unit) ∙ (and_parts c.is_open.result _ c.in-Err-end_locks.ensures.file.needed).1) new
 
 pub returns-in-Err-write-clause-act : goal.returns-in-Err-write-clause-act
 returns-in-Err-write-clause-act g c s e f l m room =
@@ -143,7 +147,12 @@ returns-in-Ok-end_locks-clause-file g c =
     let freed = c.in-Ok-end_locks.ensures.file in
     written_files g.D.Disk.tells g.D.Disk.reads g.D.Disk.may_leave g.D.Disk.faults ledger c.write.new.self.ledger
     (λ lists. lists_ended c.is_open.result lists unit) c.args.locks.now.file c.end_locks.new.locks.file (reply.Unit unit) c.requires.filed
-    freed.usable freed.freed
+    freed.usable
+    (subst (λ l. AreWaiting l c.end_locks.new.locks.file.units) (sym new)
+    (gone_known ledger unit c.in-Ok.status c.args.locks.now.file.units c.end_locks.new.locks.file.units can.recorded can.allowed c.requires.filed.standing
+    (subst (λ b. (other : UnitKey) → is_known other c.end_locks.new.locks.file.units ≡ stays_known b unit c.args.locks.now.file.units other)
+    c.is_open.ensures freed.standing)))
+    freed.freed
     (λ lists just.
     subst (λ b. AreOpenLists c.write.new.self.ledger (lists_ended b lists unit)) (sym c.is_open.ensures)
     (subst (λ l. AreOpenLists l (lists_ended (is_open c.in-Ok.status) lists unit)) (sym new)

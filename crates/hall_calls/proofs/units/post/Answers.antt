@@ -1,4 +1,4 @@
-use Rattle.std.proofs.Common.{◌≤◌, inl, inr, sym, refl, ap, ◌∙◌, subst}
+use Rattle.std.proofs.Common.{◌≤◌, ◌&&◌, inl, inr, sym, refl, ap, ◌∙◌, subst}
 use Rattle.std.specs.Prelude.{nat_eq, None, Some, is_some, slice_set}
 use Rattle.enq_base.specs.declared.refusal.Refusal.TheVariants as refusal
 use Rattle.enq_base.specs.Causes.{Rose}
@@ -16,12 +16,12 @@ use Rattle.hall_model.specs.Calls.{call_of}
 use Rattle.hall_model.specs.History.{doubted, without_stock}
 use Rattle.hall_model.specs.declared.command.Reply.TheVariants as reply
 use Rattle.hall_model.specs.Orders.{order_for, order_of}
-use Rattle.hall_calls.specs.Filing.{FilesAs, lists_ended}
+use Rattle.hall_calls.specs.Filing.{AreWaiting, FilesAs, lists_ended}
 use Rattle.hall_calls.specs.OpenLists.{AgreeAll, AreOpenLists}
 use Rattle.hall_model.specs.Step.{posted_reply}
 use Rattle.hall_calls.specs.declared.units.Written.TheVariants.{Answered}
 use Rattle.hall_calls.proofs.ending.OverFile.{failed_before, half_written_files, posted_file, posted_keeps_file, refused_files, same_file, written_files}
-use Rattle.hall_calls.proofs.lists.AsCallsEnd.{posted_agree, posted_half, posted_lists}
+use Rattle.hall_calls.proofs.lists.AsCallsEnd.{posted_agree, posted_half, posted_known, posted_lists}
 use Rattle.hall_calls.proofs.units.post.Goals as goal
 
 pub returns-in_default-clause-act : goal.returns-in_default-clause-act
@@ -93,7 +93,8 @@ returns-in-Err-end_locks-clause-act g c s t e f l m none room =
     let new = c.in-Ok-write.ensures.done ∙ ap (after_step c.prepare.new.books.ledger) c.in-Ok.ensures.step
     ∙ ap (λ x. with_mark x c.in-Some.unit kind) c.in-Ok.ensures.ledger in
     posts_unfiled c.args.part s (is_some (g.K.Keeper.held c.args.books.now.keeper)) c.args.orders.now.items c.args.books.now.ledger c.write.new.self.ledger
-    c.args.max_marks c.args.worker c.in-Some.unit c.in-Ok.ready.1 c.requires.part c.in-Err-end_locks.ensures.file.needed t e l m room
+    c.args.max_marks c.args.worker c.in-Some.unit c.in-Ok.ready.1 c.requires.part
+    (ap (λ b. nat_eq c.args.part 1 && b) (sym (c.requires.filed.standing c.in-Some.unit)) ∙ c.in-Err-end_locks.ensures.file.needed) t e l m room
     (ap (λ xs. order_for c.args.part c.args.books.now.ledger xs c.args.worker) (sym c.as_slice.ensures.value) ∙ sym c.order_for.ensures ∙ c.in-Some.is)
     (sym c.is_full.ensures ∙ c.if-is_full.false)
     (may_come c.args.part _ (g.K.Keeper.held c.args.books.now.keeper) c.args.books.now.ledger c.in-Some.unit c.in-Ok.ready.1 refl c.in-Ok.ensures.outcome
@@ -247,7 +248,11 @@ returns-in-Ok-end_locks-clause-file g c =
     (written_files g.D.Disk.tells g.D.Disk.reads g.D.Disk.may_leave g.D.Disk.faults ledger c.write.new.self.ledger
     (λ lists. lists_ended (nat_eq c.args.part 1) lists unit) c.args.locks.now.file c.end_locks.new.locks.file
     (posted_reply c.args.part unit outcome) c.requires.filed
-    freed.usable freed.freed
+    freed.usable
+    (subst (λ l. AreWaiting l c.end_locks.new.locks.file.units) (sym new)
+    (posted_known c.args.part c.requires.part ledger unit outcome c.args.locks.now.file.units c.end_locks.new.locks.file.units waits
+    c.requires.filed.standing freed.standing))
+    freed.freed
     (λ lists just. subst (λ l. AreOpenLists l (lists_ended (nat_eq c.args.part 1) lists unit)) (sym new)
     (posted_lists c.args.part c.requires.part ledger unit outcome waits lists just)) freed.cause.quiet
     (λ n m same. posted_file c.args.part unit outcome n m same) (posted_keeps_file c.args.locks.now.file c.end_locks.new.locks.file c.args.part unit outcome))

@@ -27,7 +27,8 @@ record_saved-requires-clause-saved g c =
     subst (λ (l : Ledger). IsSaved g.D.Disk.tells g.D.Disk.reads g.D.Disk.may_leave l
     (with_intervals c.args.levels.items (with_unit l c.args.unit)) c.save.new.self.file) (sym c.prepare_unit.ensures.unmoved.ledger)
     (written_saved g.D.Disk.tells g.D.Disk.reads g.D.Disk.may_leave c.args.books.now.ledger c.args.unit c.args.levels.items c.args.locks.now.table.entries
-    c.args.locks.now.file c.save.new.self.file c.requires.filed c.in-Ok-save.ensures.usable c.requires.commits c.in-Ok-save.ensures.saved)
+    c.args.locks.now.file c.save.new.self.file c.requires.filed c.in-Ok-save.ensures.usable c.requires.commits c.in-Ok-save.ensures.saved
+    c.in-Ok-save.ensures.known)
 
 pub returns-in-Ok-save-clause-outcome : goal.returns-in-Ok-save-clause-outcome
 returns-in-Ok-save-clause-outcome g c =

@@ -12,13 +12,14 @@ use Rattle.ledger_steps.specs.Steps.{after_step}
 use Rattle.update_records.specs.Growing.{with_mark}
 use Rattle.update_records.specs.declared.records.MarkKind.TheVariants.{Again1}
 use Rattle.hall_calls.specs.Written.{IsWritten, written_reply}
-use Rattle.hall_calls.specs.Filing.{FilesAs}
+use Rattle.hall_calls.specs.Filing.{AreWaiting, FilesAs}
 use Rattle.hall_calls.specs.OpenLists.{AreOpenLists}
 use Rattle.hall_calls.proofs.ending.OverFile.{failed_files, refused_files, same_file, written_files}
 use Rattle.hall_calls.proofs.ending.AfterStop.{also_answered, also_store_failed, answered_leaves, failed_leaves, where_told}
 use Rattle.hall_calls.proofs.lists.AsCallsEnd.{was_bad}
 use Rattle.hall_calls.proofs.lists.BehindMarks.{reopened_lists}
 use Rattle.hall_calls.proofs.lists.StoredLocks.{stored_handable}
+use Rattle.hall_calls.proofs.lists.WaitingLists.{again_known}
 use Rattle.hall_calls.proofs.verdicts.Ungranted.{again_agrees, ungranted_acts, ungranted_files, ungranted_keeps, ungranted_leaves, ungranted_quiet}
 use Rattle.hall_model.proofs.EachLock.{may_be_readmitted}
 use Rattle.enq_base.specs.declared.unit.Status.TheVariants.{Bad}
@@ -157,7 +158,11 @@ returns-in-Ok-write-clause-file g c =
     let h = c.in_default-readmit.ensures in
     written_files g.D.Disk.tells g.D.Disk.reads g.D.Disk.may_leave g.D.Disk.faults ledger c.write.new.self.ledger
     (λ lists. with_list unit c.as_slice.result.now lists) c.args.locks.now.file c.readmit.new.self.file (reply.Unit unit) c.requires.filed
-    h.usable h.listed
+    h.usable
+    (subst (λ l. AreWaiting l c.readmit.new.self.file.units) (sym new)
+    (again_known ledger unit c.as_slice.result.now c.args.locks.now.file.units c.readmit.new.self.file.units (was_bad _ c.requires.follows.follows) given
+    c.requires.filed.standing h.known))
+    h.listed
     (λ lists just. subst (λ es. AreOpenLists c.write.new.self.ledger (with_list unit es lists)) (sym given)
     (subst (λ l. AreOpenLists l (with_list unit (entries_of ledger.units unit) lists)) (sym new)
     (reopened_lists ledger unit lists (was_bad _ c.requires.follows.follows) c.requires.stored just)))

@@ -1,9 +1,10 @@
 use Rattle.std.proofs.Common.{inr, Some, refl, sym, ap, ◌∙◌, subst}
 use Rattle.enq_base.specs.declared.refusal.Refusal.TheVariants as refusal
 use Rattle.hall_model.specs.declared.command.Reply.TheVariants as reply
+use Rattle.hall_calls.specs.Filing.{AreWaiting}
 use Rattle.hall_calls.specs.OpenLists.{AreOpenLists}
 use Rattle.hall_calls.proofs.ending.OverFile.{failed_before, refused_files, same_file, written_files}
-use Rattle.hall_calls.proofs.lists.AsCallsEnd.{again2_agree, again2_lists}
+use Rattle.hall_calls.proofs.lists.AsCallsEnd.{again2_agree, again2_known, again2_lists}
 use Rattle.enq_base.specs.declared.unit.Status.TheVariants.{Bad2}
 use Rattle.ledger_steps.specs.Steps.{after_step}
 use Rattle.update_records.specs.Growing.{with_mark}
@@ -58,7 +59,10 @@ returns-in-Ok-write-clause-file g c =
     ∙ ap (λ l. with_mark l c.args.unit Again2) c.prepare_mark.ensures.unmoved.ledger in
     written_files g.D.Disk.tells g.D.Disk.reads g.D.Disk.may_leave g.D.Disk.faults ledger c.write.new.self.ledger
     (λ lists. lists) c.args.locks.now.file c.args.locks.now.file (reply.Unit c.args.unit) c.requires.filed
-    c.requires.filed.usable (λ t lists ready. ready)
+    c.requires.filed.usable
+    (subst (λ l. AreWaiting l c.args.locks.now.file.units) (sym new)
+    (again2_known ledger c.args.unit c.args.locks.now.file.units c.requires.follows.follows c.requires.filed.standing))
+    (λ t lists ready. ready)
     (λ lists just. subst (λ l. AreOpenLists l lists) (sym new) (again2_lists ledger c.args.unit c.requires.follows.follows lists just)) refl
     (λ n m same. same) tt
 

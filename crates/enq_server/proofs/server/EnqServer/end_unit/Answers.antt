@@ -1,6 +1,8 @@
-use Rattle.std.proofs.Common.{ap, subst, sym, ◌∙◌}
+use Rattle.std.proofs.Common.{ap, not, ◌&&◌, subst, sym, ◌∙◌}
 use Rattle.backup_file.specs.Backup.{IsReady}
-use Rattle.backup_file.specs.Lists.{without}
+use Rattle.backup_file.specs.Lists.{is_known, without}
+use Rattle.enq_base.specs.Owners.{same_unit}
+use Rattle.enq_server.proofs.Known.{without_absent as known_absent, without_freed}
 use Rattle.enq_server.proofs.Others.{without_absent}
 use Rattle.enq_server.proofs.server.EnqServer.end_unit.Goals as goal
 use Rattle.enq_server.proofs.server.EnqServer.end_unit.Goals.{then-stands+in_ok-free, else-stands}
@@ -16,3 +18,17 @@ returns-clause-freed g c = λ t l ready.
       | else-stands w ↦ subst (λ s. is_ready s.file kept) (sym w.self-is)
           (subst (is_ready c.args.self.now.file) (sym (without_absent c.args.unit.now l (sym (w.if-stands.ensures.lists t l inside)))) ready)
     ])
+
+pub returns-clause-known : goal.returns-clause-known
+returns-clause-known g c =
+    let unit = c.args.unit.now in
+    let old = c.args.self.now.file in
+    let before = ap (λ s. s.rest.file) c.self-inside.view_is ∙ ap (λ s. s.file) c.self.view_is in
+    elim c.if-stands.branch [
+      | then-stands+in_ok-free w ↦ without_freed unit old.units _
+          (λ other. ap (λ f. is_known other f.units) c.free_owner.ensures.file ∙ ap (λ s. is_known other s.file.units) w.self-is
+          ∙ w.in_ok-free.ensures.units other ∙ ap (λ b. not (same_unit unit other) && is_known other b.units) before)
+      | else-stands w ↦ known_absent unit old.units _
+          (sym (ap (λ b. is_known unit b.units) before) ∙ sym w.if-stands.ensures.units)
+          (λ other. ap (λ f. is_known other f.units) c.free_owner.ensures.file ∙ ap (λ s. is_known other s.file.units) w.self-is)
+    ]

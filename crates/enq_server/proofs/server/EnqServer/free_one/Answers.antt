@@ -3,7 +3,9 @@ use Rattle.std.specs.Prelude.{is_some}
 use Rattle.lock_entry.specs.Table.{IsTable}
 use Rattle.enq_server.specs.Following.{IsAt}
 use Rattle.enq_server.specs.Server.{table_of}
-use Rattle.enq_server.proofs.Stores.{at_store, good_store}
+use Rattle.enq_server.proofs.Stores.{at_store, good_store, lost_store}
+use Rattle.replica_link.specs.Shipping.{freed_ops}
+use Rattle.enq_server.proofs.Changed.{freed_other}
 use Rattle.replica_link.proofs.Frees.{freed_ops-freed}
 use Rattle.lock_entry.specs.Names.{named}
 use Rattle.enq_server.proofs.server.EnqServer.free_one.Goals as goal
@@ -22,3 +24,13 @@ invariant_of-self g c =
           ∙ sym (ap (λ t. t.entries) c.free_one.ensures.after))
           (c.ship_freed.ensures.at table.entries at),
     )
+
+pub returns-in-Some-clause-lost : goal.returns-in-Some-clause-lost
+returns-in-Some-clause-lost g c =
+    let table = g.T.LockStore.table c.in-Some.table in
+    lost_store g.T.LockStore.table c.self-inside.inside.0.1.0.follower c.ship_freed.new.follower c.args.self.now.copy c.self-inside.inside.0.0 c.in-Some.table
+    c.args.self.now.table (g.T.LockStore.table c.free_one.new.self) (freed_ops table.entries (named c.args.owner.now c.args.asked.now)) c.in-Some.is
+    (ap (λ s. s.rest.copy) c.self-inside.view_is ∙ ap (λ s. s.copy) c.self.view_is)
+    (ap (λ s. table_of g.T.LockStore.table s.table) c.self-inside.view_is ∙ ap (λ s. s.table) c.self.view_is)
+    c.ship_freed.ensures.lost
+    (λ some same. freed_other (named c.args.owner.now c.args.asked.now) table.entries some (sym (ap (λ t. t.entries) c.free_one.ensures.after) ∙ same))

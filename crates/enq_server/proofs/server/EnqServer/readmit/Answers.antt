@@ -1,7 +1,10 @@
-use Rattle.std.proofs.Common.{length, ap, sym, subst, ◌∙◌, arith}
+use Rattle.std.proofs.Common.{◌||◌, length, ap, sym, subst, ◌∙◌, arith}
 use Rattle.std.proofs.lemmas.Bool.{eqb-false}
 use Rattle.backup_file.specs.Backup.{IsReady}
+use Rattle.backup_file.specs.Lists.{is_known}
 use Rattle.backup_file.proofs.Adding.{ready_same}
+use Rattle.enq_base.specs.Owners.{same_unit}
+use Rattle.enq_server.proofs.Known.{with_written}
 use Rattle.enq_server.proofs.Lasting.{listed, listed_either}
 use Rattle.enq_server.proofs.server.EnqServer.readmit.Goals as goal
 
@@ -37,3 +40,14 @@ returns-clause-images g c = λ t l ready bytes may.
     let some = eqb-false (length c.args.entries.now) 0 (sym c.is_empty.ensures ∙ c.if-is_empty.false) in
     listed_either c.args.unit.now c.args.entries.now l bytes (omega (arith, some))
     (c.write_hand.ensures.images t c.args.unit.now c.args.entries.now c.in_ok-ready.ensures.ready l granted bytes may)
+
+pub returns-clause-known : goal.returns-clause-known
+returns-clause-known g c =
+    let unit = c.args.unit.now in
+    let before = ap (λ s. s.rest.file) c.self-inside.view_is ∙ ap (λ s. s.file) c.self.view_is in
+    let file = ap (λ s. s.rest.file) c.self-inside-2.view_is ∙ ap (λ s. s.file) c.self-2.view_is ∙ c.in_ok-grant_again-2.ensures.file in
+    let some = eqb-false (length c.args.entries.now) 0 (sym c.is_empty.ensures ∙ c.if-is_empty.false) in
+    with_written unit c.args.entries.now c.args.self.now.file.units c.write_hand.new.self.units (omega (arith, some))
+    (λ other. c.in_ok-write_hand.ensures.units unit c.args.entries.now c.in_ok-ready.ensures.ready other
+    ∙ ap (λ b. same_unit unit other || is_known other b.units) file
+    ∙ ap (λ b. same_unit unit other || b) (c.in_ok-ready.ensures.same.units other ∙ ap (λ b. is_known other b.units) before))

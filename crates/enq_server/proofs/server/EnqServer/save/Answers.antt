@@ -1,9 +1,12 @@
-use Rattle.std.proofs.Common.{◌⊎◌, List, inl, ap, sym, subst, ◌∙◌, arith}
+use Rattle.std.proofs.Common.{◌⊎◌, ◌||◌, List, length, inl, ap, sym, subst, ◌∙◌, arith}
 use Rattle.lock_entry.specs.declared.entry.Entry.{Entry}
 use Rattle.backup_file.specs.Backup.{IsReady}
 use Rattle.backup_file.specs.File.{Stands}
+use Rattle.backup_file.specs.Lists.{is_known}
+use Rattle.enq_base.specs.Owners.{same_unit}
 use Rattle.enq_server.specs.Server.{lasting, of_user, table_of, with_list}
-use Rattle.enq_server.proofs.Lasting.{listed_either}
+use Rattle.enq_server.proofs.Known.{with_none, with_written}
+use Rattle.enq_server.proofs.Lasting.{length-user, listed_either}
 use Rattle.enq_server.proofs.server.EnqServer.save.Goals as goal
 use Rattle.enq_server.proofs.server.EnqServer.save.Goals.{then-count-gt0+in_ok-hand, else-count-gt0}
 
@@ -40,4 +43,22 @@ returns-clause-images g c = λ t l ready bytes may.
       | else-count-gt0 w ↦
           let may_here = subst (λ s. g.D.Disk.may_leave s.file.disk bytes) w.self-is may in
           inl (subst (λ b. Stands b l) (sym (ready.at_rest.durable bytes may_here)) ready.stands)
+    ]
+
+pub returns-clause-known : goal.returns-clause-known
+returns-clause-known g c =
+    let unit = c.args.unit.now in
+    let own : List Entry = lasting unit c.args.self.now.table.entries in
+    let before = ap (λ s. s.rest.file) c.self-inside.view_is ∙ ap (λ s. s.file) c.self.view_is in
+    let long =
+    ap length (c.in_ok-entries.ensures.entries
+    ∙ ap (λ s. of_user c.args.user.now (lasting unit (table_of g.T.LockStore.table s.table).entries)) c.self-inside.view_is
+    ∙ ap (λ s. of_user c.args.user.now (lasting unit s.table.entries)) c.self.view_is) ∙ length-user c.args.user.now own in
+    elim c.if-count-gt0.branch [
+      | then-count-gt0+in_ok-hand w ↦ with_written unit own c.args.self.now.file.units _
+          (omega (arith, long, c.len.ensures, c.in-Ok.ensures.1, w.if-count-gt0.true))
+          (λ other. ap (λ s. is_known other s.file.units) w.self-is ∙ w.in_ok-hand.ensures.units other
+          ∙ ap (λ b. same_unit unit other || is_known other b.units) before)
+      | else-count-gt0 w ↦ with_none unit own c.args.self.now.file.units _
+          (omega (arith, long, c.len.ensures, c.in-Ok.ensures.1, w.if-count-gt0.false)) (λ other. ap (λ s. is_known other s.file.units) w.self-is)
     ]

@@ -1,7 +1,9 @@
 use Rattle.std.proofs.Common.{rules, inl, inr, refl, subst, ◌∙◌, is_some}
+use Rattle.enq_server.specs.Recovery.{AreKnown, locking}
 use Rattle.enq_server.specs.Server.{IsRecovered}
 use Rattle.ledger_steps.specs.Levels.{FitRows, intervals_of}
 use Rattle.hall_calls.proofs.lists.OfOpenUnits.{recovered_lists}
+use Rattle.hall_calls.proofs.lists.WaitingLists.{known_waiting}
 use Rattle.ledger_steps.specs.Views.{open_locks}
 use Rattle.hall.specs.Faults.{IsFileFault}
 use Rattle.hall.proofs.Refused.{ranges_file_counts, ranges_left}
@@ -34,6 +36,7 @@ first-requires-clause-filed g c =
     let are = c.as_slice.ensures.value ∙ c.in-Ok.ensures in
     record {
       usable = c.in-Ok-first_locks.ensures.usable;
+      standing = known_waiting ledger file.units (subst (λ us. AreKnown file.units (locking us)) are c.in-Ok-first_locks.ensures.known);
       ready = λ t.
           let h = recovered_lists reads may_leave bytes ledger file
           (subst (λ us. IsRecovered reads may_leave bytes us file) are (c.in-Ok-first_locks.ensures.file t)) in

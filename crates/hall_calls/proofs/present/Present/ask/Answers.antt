@@ -37,7 +37,7 @@ returns g c =
     (λ room. at_state _ _ _ _ _
     (λ i. record (with_calls (after Up).state c.args.past.now.items) { limit = sym c.ask.ensures.limit i; link_told = sym c.ask.ensures.follower.told i })
     (shipped s (command.Ask c.args.session.now c.args.requests.now) (record s { locks = c.ask.new.locks.table.entries }) _ c.ask.new.locks.copy.attached
-    (stays_shipped _ _ _ refl c.ask.ensures.follower.kept) room refl
+    (stays_shipped _ _ _ old.locks.table c.ask.new.locks.table refl c.ask.ensures.follower.kept c.ask.ensures.limit c.ask.ensures.lost) room refl
     (subst (λ xs. Admits s (command.Ask c.args.session.now xs) → IsAct s (command.Ask c.args.session.now xs)
     (record s { locks = c.ask.new.locks.table.entries }) (answer_of c.ask.result)) c.as_slice.ensures
     (c.ask.ensures.act s (sym c.start-start.ensures) refl refl refl) room)))

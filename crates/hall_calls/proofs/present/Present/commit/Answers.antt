@@ -70,7 +70,9 @@ returns g c =
     old.sessions called.new.sessions brought.new.sessions old.next_session old.orders.items old.orders.items old.locks called.new.locks brought.new.locks
     old.max_locks old.max_marks old.ranges called.new.ranges old.books.ledger called.new.books.ledger old.failure ended.new.failure past called.result
     (command.Commit c.args.session.now c.args.parts.now c.args.stock.now) ended.result c.start-start.result refl due called.ensures.store.told
-    called.ensures.follower.told (stays_shipped _ _ _ refl called.ensures.follower.kept) ended.ensures.condition
+    called.ensures.follower.told
+    (stays_shipped _ _ _ old.locks.table called.new.locks.table refl called.ensures.follower.kept called.ensures.limit called.ensures.lost)
+    ended.ensures.condition
     ended.ensures.failure
     ended.ensures.reply
     called.ensures.limit

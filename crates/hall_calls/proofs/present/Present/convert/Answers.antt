@@ -38,7 +38,7 @@ returns g c =
     (λ i. record (with_calls (after Up).state c.args.past.now.items)
     { limit = sym c.convert.ensures.limit i; link_told = sym c.convert.ensures.follower.told i })
     (shipped s (command.Convert c.args.session.now c.args.asked.now) (record s { locks = c.convert.new.locks.table.entries }) _
-    c.convert.new.locks.copy.attached (stays_shipped _ _ _ refl c.convert.ensures.follower.kept) room refl
+    c.convert.new.locks.copy.attached (stays_shipped _ _ _ old.locks.table c.convert.new.locks.table refl c.convert.ensures.follower.kept c.convert.ensures.limit c.convert.ensures.lost) room refl
     (subst (λ xs. Admits s (command.Convert c.args.session.now xs) → IsAct s (command.Convert c.args.session.now xs)
     (record s { locks = c.convert.new.locks.table.entries }) (answer_of c.convert.result)) c.as_slice.ensures
     (c.convert.ensures.act s (sym c.start-start.ensures) refl refl) room)))

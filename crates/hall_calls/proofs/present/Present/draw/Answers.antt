@@ -86,7 +86,7 @@ returns g c =
     old.max_locks old.max_marks old.ranges
     called.new.ranges old.books.ledger called.new.books.ledger
     old.failure ended.new.failure past called.result (command.Number c.args.session.now c.args.object.now c.args.nr) ended.result c.start-start.result refl due
-    called.ensures.store.told refl (stays_same _ _) ended.ensures.condition ended.ensures.failure ended.ensures.reply (also_answered _ called.result refl)
+    called.ensures.store.told refl (stays_same _ _ _ _) ended.ensures.condition ended.ensures.failure ended.ensures.reply (also_answered _ called.result refl)
     (lost_none old.books.ledger.start old.locks.table old.locks.table old.sessions called.result (also_failed _ called.result refl)) called.ensures.sessions
     (also_failed _ called.result refl) called.ensures.store.ledger
     (kept_ranges (call_of (command.Number c.args.session.now c.args.object.now c.args.nr)) called.result old.ranges called.new.ranges refl

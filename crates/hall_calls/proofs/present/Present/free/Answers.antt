@@ -35,5 +35,5 @@ returns g c =
     (λ room. at_state _ _ _ _ _
     (λ i. record (with_calls (after Up).state c.args.past.now.items) { limit = sym c.free.ensures.limit i; link_told = sym c.free.ensures.follower.told i })
     (shipped s (command.Free c.args.session.now c.args.requests.now) (record s { locks = c.free.new.locks.table.entries }) _ c.free.new.locks.copy.attached
-    (stays_shipped _ _ _ refl c.free.ensures.follower.kept) room refl
+    (stays_shipped _ _ _ old.locks.table c.free.new.locks.table refl c.free.ensures.follower.kept c.free.ensures.limit c.free.ensures.lost) room refl
     (c.free.ensures.act s (sym c.start-start.ensures) refl refl room)))

@@ -36,5 +36,5 @@ returns g c =
     (λ i. record (with_calls (after Up).state c.args.past.now.items)
     { limit = sym c.free_all.ensures.limit i; link_told = sym c.free_all.ensures.follower.told i })
     (shipped s (command.FreeAll c.args.session.now) (record s { locks = c.free_all.new.locks.table.entries }) _ c.free_all.new.locks.copy.attached
-    (stays_shipped _ _ _ refl c.free_all.ensures.follower.kept) room refl
+    (stays_shipped _ _ _ old.locks.table c.free_all.new.locks.table refl c.free_all.ensures.follower.kept c.free_all.ensures.limit c.free_all.ensures.lost) room refl
     (c.free_all.ensures.act s (sym c.start-start.ensures) refl refl room)))

@@ -36,5 +36,5 @@ returns g c =
     (λ i. record (with_calls (after Up).state c.args.past.now.items)
     { limit = sym c.log_off.ensures.limit i; link_told = sym c.log_off.ensures.follower.told i })
     (shipped s (command.Logoff c.args.session.now) (record s { sessions = c.log_off.new.sessions; locks = c.log_off.new.locks.table.entries }) _
-    c.log_off.new.locks.copy.attached (stays_shipped _ _ _ refl c.log_off.ensures.follower.kept) room refl
+    c.log_off.new.locks.copy.attached (stays_shipped _ _ _ old.locks.table c.log_off.new.locks.table refl c.log_off.ensures.follower.kept c.log_off.ensures.limit c.log_off.ensures.lost) room refl
     (c.log_off.ensures.act s (sym c.start-start.ensures) refl refl room)))

@@ -2,15 +2,13 @@ use Rattle.std.proofs.Common.{◌≡◌, [], true, refl, sym, ap, ◌∙◌, sub
 use Rattle.std.specs.Prelude.{nat_eq, None}
 use Rattle.enq_base.specs.declared.condition.Condition.{Condition}
 use Rattle.enq_base.specs.declared.condition.Condition.TheVariants.{Up}
-use Rattle.hall_calls.proofs.ending.WithHistory.{at_devices, lost_none, no_flight, posted_in, posted_limit, posts_file, server_up, written_call}
+use Rattle.hall_calls.proofs.ending.WithHistory.{at_devices, lost_none, no_flight, posted_in, posted_limit, posted_stays, posts_file, server_up, written_call}
 use Rattle.hall_calls.proofs.ending.OverFile.{recovers_after, same_lists, same_recovers}
 use Rattle.hall_calls.proofs.ending.StateBehind.{caller_of, locks_of, posts_part, ranges_without, same_ranges, state_with}
 use Rattle.hall_model.specs.Devices.{reaches_store}
 use Rattle.hall_calls.proofs.following.EachCall.{serves_as}
-use Rattle.hall_calls.proofs.following.Shipping.{Stays}
 use Rattle.hall_calls.proofs.ending.AfterStop.{also_answered, also_failed, leaves_after, usable_after}
 use Rattle.hall_calls.specs.Written.{IsWritten, post_of, written_failure}
-use Rattle.enq_server.specs.Following.{Following}
 use Rattle.hall_model.specs.Calls.{renews_replica, restarts, ships, wants_server, call_of}
 use Rattle.hall_calls.specs.Filing.{MayFile}
 use Rattle.hall_calls.specs.Leaving.{HasStoreCause, KeepsStore}
@@ -62,10 +60,8 @@ returns g c =
     let by = posts_part c.args.part c.args.worker c.requires.part in
     let up : nat_eq c.args.part 1 ≡ true → old.condition ≡ Up =
     λ first. server_up (before old.condition) (post_of c.args.part c.args.worker) (ap wants_server by ∙ first) due.admits in
-    let stays : Stays (call_of (post_of c.args.part c.args.worker)) old.locks.copy.attached called.new.locks.copy.attached = record {
-      kept = called.ensures.follower.kept;
-      apart = λ off. ap (λ (f : Following g.row.L.Denot). f.attached) (called.ensures.unshipped (sym (ap ships by) ∙ off));
-    } in
+    let stays = posted_stays g.L.Link.applied old.condition old.max_locks c.args.part (call_of (post_of c.args.part c.args.worker)) old.locks called.new.locks
+    (ap ships by) up called.ensures.limit called.ensures.unshipped called.ensures.follower.kept called.ensures.lost in
     let start : State = state_with g.L.Link.applied (is_some (held old.books.keeper)) old.taken_over old.condition old.sessions old.next_session
     old.orders.items old.locks old.max_locks old.max_marks old.ranges old.books.ledger old.failure [] in
     let new : State = state_with g.L.Link.applied (is_some (held called.new.books.keeper)) old.taken_over ended.new.condition brought.new.sessions

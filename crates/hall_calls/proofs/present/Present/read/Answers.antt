@@ -83,7 +83,7 @@ returns g c =
     old.books.ledger called.new.books.ledger
     old.failure ended.new.failure past called.result (command.Read c.args.session.now c.args.table.now c.args.key.now) ended.result c.start-start.result refl
     due
-    called.ensures.told refl (stays_same _ _) ended.ensures.condition ended.ensures.failure ended.ensures.reply (also_answered _ called.result refl)
+    called.ensures.told refl (stays_same _ _ _ _) ended.ensures.condition ended.ensures.failure ended.ensures.reply (also_answered _ called.result refl)
     (lost_none old.books.ledger.start old.locks.table old.locks.table old.sessions called.result (also_failed _ called.result refl))
     (also_failed _ called.result refl) (also_failed _ called.result refl)
     (also_store_failed _ called.result called.ensures.ledger)

@@ -86,7 +86,7 @@ returns g c =
     old.books.ledger called.new.books.ledger
     old.failure ended.new.failure past called.result (command.Reserve c.args.session.now c.args.object.now c.args.nr c.args.upto) ended.result
     c.start-start.result refl due
-    called.ensures.store.told refl (stays_same _ _) ended.ensures.condition ended.ensures.failure ended.ensures.reply (also_answered _ called.result refl)
+    called.ensures.store.told refl (stays_same _ _ _ _) ended.ensures.condition ended.ensures.failure ended.ensures.reply (also_answered _ called.result refl)
     (lost_none old.books.ledger.start old.locks.table old.locks.table old.sessions called.result (also_failed _ called.result refl))
     (also_failed _ called.result refl) (also_failed _ called.result refl) called.ensures.store.ledger
     (same_ranges (call_of (command.Reserve c.args.session.now c.args.object.now c.args.nr c.args.upto)) called.result old.ranges refl)

@@ -78,7 +78,9 @@ returns g c =
     old.sessions old.sessions brought.new.sessions old.next_session old.orders.items old.orders.items old.locks called.new.locks brought.new.locks
     old.max_locks old.max_marks old.ranges old.ranges old.books.ledger called.new.books.ledger old.failure ended.new.failure past called.result
     (command.Resubmit c.args.unit) ended.result c.start-start.result refl due called.ensures.told
-    called.ensures.follower.told (stays_shipped _ _ _ refl called.ensures.follower.kept) ended.ensures.condition
+    called.ensures.follower.told
+    (stays_shipped _ _ _ old.locks.table called.new.locks.table refl called.ensures.follower.kept called.ensures.limit called.ensures.lost)
+    ended.ensures.condition
     ended.ensures.failure
     ended.ensures.reply
     called.ensures.limit

@@ -36,5 +36,5 @@ returns g c =
     (λ i. record (with_calls (after Up).state c.args.past.now.items)
     { limit = sym c.roll_back.ensures.limit i; link_told = sym c.roll_back.ensures.follower.told i })
     (shipped s (command.Rollback c.args.session.now) (record s { sessions = c.roll_back.new.sessions; locks = c.roll_back.new.locks.table.entries }) _
-    c.roll_back.new.locks.copy.attached (stays_shipped _ _ _ refl c.roll_back.ensures.follower.kept) room refl
+    c.roll_back.new.locks.copy.attached (stays_shipped _ _ _ old.locks.table c.roll_back.new.locks.table refl c.roll_back.ensures.follower.kept c.roll_back.ensures.limit c.roll_back.ensures.lost) room refl
     (c.roll_back.ensures.act s (sym c.start-start.ensures) refl refl room)))
