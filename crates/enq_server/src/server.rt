@@ -385,8 +385,9 @@ impl<T: LockStore, D: Disk, L: Link> EnqServer<T, D, L> {
     }
 
     /// Grants the entries as they are, in place of those of the asker's update owner, all or none, and writes them as
-    /// the list of its unit. Where there are none nothing is written. It takes its memory before it grants. After
-    /// `Failed` the entries are granted, and the file takes no write: the server has to be ended.
+    /// the list of its unit. Where there are none nothing is written. It takes its memory before it grants: where
+    /// the owner has as many entries as are given it copies the table's list, to know whether that stays. After `Failed`
+    /// the entries are granted, and the file takes no write: the server has to be ended.
     pub fn readmit(
         &mut self,
         alloc: Global,

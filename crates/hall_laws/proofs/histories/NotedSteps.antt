@@ -21,9 +21,6 @@ pub record IsTold (first s : State) : Type 0 where
   pub answers : AnswersFrom first made
   pub state : s ≡ state_after first made
 
-pub told_first : (first : State) → first.past ≡ [] → IsTold first first
-told_first first none = record { made = []; calls = none; answers = tt; state = refl }
-
 pub told-answers : (first s : State) (h : IsTold first s) → AreModelAnswers first h.made
 told-answers first s h earlier later m e = answer_at first earlier later m (subst (λ ms. AnswersFrom first ms) e h.answers)
 
