@@ -13,11 +13,11 @@ import sys
 HOUSES = {
     "Words": (
         "names, keys, texts, modes, scopes, effects, numbers",
-        "enq_base mode_rules owner_scope module_effects number_ranges turn_list",
+        "enq_base byte_fields mode_rules owner_scope module_effects number_ranges turn_list",
     ),
     "Devices": (
         "streams, disks, logs, keepers of rows",
-        "io_edge bk_disk folder_disk gate_log keeper_api keeper_sqlite sorted_rows row_tree keeper_wal keeper_mem",
+        "io_edge bk_disk folder_disk gate_log keeper_api table_reading keeper_sqlite sorted_rows row_tree keeper_wal keeper_mem",
     ),
     "Locks": (
         "the lock table, its backup file, its replica",
@@ -25,11 +25,11 @@ HOUSES = {
     ),
     "Books": (
         "update units, their marks and rows, levels of intervals",
-        "update_records ledger_steps draw_laws store_reading store_laws posting ledger_laws range_list",
+        "update_records record_laws ledger_steps draw_laws store_reading store_laws posting ledger_laws range_list",
     ),
     "Hall": (
         "the model, and each call as one step of it",
-        "hall_model hall_laws hall_calls hall single_calls",
+        "hall_model model_laws hall_laws stock_laws hall_calls hall single_calls",
     ),
     "Scripts": (
         "lines and their replies, landscape, monitors",

@@ -4,6 +4,7 @@ use Rattle.hall_model.specs.declared.command.PastEntry.{PastEntry}
 use Rattle.lock_objects.specs.Objects.{Object}
 use Rattle.script_actors.specs.declared.line.NumberedLine.{NumberedLine}
 use Rattle.caller_laws.specs.Doing.{DidAs, Known, Left}
+use Rattle.gauges.specs.Boards.{seen}
 use Rattle.actor_threads.specs.declared.actor.Actor.{Actor}
 use Rattle.actor_threads.specs.declared.actor.Deed.{Deed}
 use Rattle.turn_desks.specs.declared.turn_desk.LockName.{Ghosts as Names}
@@ -16,7 +17,7 @@ module _ {N S R G : Type 0} {n : Names N} {g : Ghosts S PastEntry} where
   known_to a = record { view = known a.desk.pass; full_at = a.desk.notes.full_at }
 
   abbrev pub left_by : Actor N S R G n g → Left
-  left_by a = record { said = a.said; rests = a.rests }
+  left_by a = record { said = a.said; rests = a.rests; looks = seen a.glance.pass }
 
   -- an actor did its work
   pub record HasWorked (past : S → List PastEntry) (objects : List Object) (lines : List NumberedLine)
@@ -36,6 +37,7 @@ module _ {N S R G : Type 0} {n : Names N} {g : Ghosts S PastEntry} where
     pub said : d.said ≡ a.said
     pub rests : d.rests ≡ a.rests
     pub full_at : d.full_at ≡ a.desk.notes.full_at
+    pub glanced : d.glanced.value ≡ a.glance.pass
     pub full : IsTrue (is_some d.full_at) → 262144 ≤ length (known a.desk.pass).seen
 
   -- these are the deeds of the actors, the last of them first

@@ -4,17 +4,20 @@ ghost use Rattle.script_runner.specs.Preparing.{has_part};
 ghost use Rattle.actor_threads.specs.Working.{IsDeedOf, known_to, left_by};
 ghost use Rattle.caller_laws.specs.Doing.{DidAs, DidLines, LeadsTurn, desk_known};
 ghost use Rattle.order_workers.specs.Orders.{DidWork};
+ghost use Rattle.turn_desks.specs.Watching.{IsReaderAt};
 ghost use Rattle.turn_lock.specs.Passes.{known};
 
 use enq_base::Items;
+use gauges::GaugePass;
 use hall_model::Who;
 use lock_objects::LockObject;
 use order_workers::do_orders;
 use script_actors::{NumberedLine, Said, actor_lines};
 use std::alloc::Global;
+use std::snapshot::Snapshot;
 use std::sync::Wait;
 use std::sync::atomic::{AtomicU64, Ordering};
-use turn_desks::{Gate, LockName, Serving, TurnDesk};
+use turn_desks::{Gate, Glance, LockName, Serving, TurnDesk};
 use turn_lock::Pass;
 
 /// One of a run's actors: a session, the administrator, or a worker.
@@ -26,6 +29,8 @@ pub struct Actor<'a, N: LockName, S: Serving, R: Wait, G: Gate> {
     pub said: Option<Items<Said>>,
     /// Whether a worker ended because nothing was left to do.
     pub rests: bool,
+    /// How a worker rests. One with lines doesn't.
+    pub glance: Glance<'a, N, G>,
 }
 
 /// What an actor has done.
@@ -36,6 +41,8 @@ pub struct Deed {
     pub rests: bool,
     /// The line of its last call that found the history full.
     pub full_at: Option<u32>,
+    /// What it looked at the gauges with, for clauses alone.
+    pub glanced: Snapshot<GaugePass>,
 }
 
 impl<'a, N: LockName, S: Serving, R: Wait, G: Gate> Actor<'a, N, S, R, G> {
@@ -63,7 +70,7 @@ impl<'a, N: LockName, S: Serving, R: Wait, G: Gate> Actor<'a, N, S, R, G> {
         ensures who { self.new.who ≡ self.old.who }
         ensures did { DidWork (LeadsTurn S.past) worker self.new.rests (known_to self.old) (known_to self.new) }
     {
-        self.rests = do_orders(rt, &mut self.desk, worker, running);
+        self.rests = do_orders(rt, &mut self.desk, &mut self.glance, worker, running);
     }
 
     fn work_lines(
@@ -82,25 +89,31 @@ impl<'a, N: LockName, S: Serving, R: Wait, G: Gate> Actor<'a, N, S, R, G> {
         running.fetch_sub(1, Ordering::SeqCst);
     }
 
-    /// Gives its pass back, and what it has done.
+    /// Gives its passes back, and what it has done.
     pub(crate) fn retire(self) -> Retired<S>
         ensures pass { result.pass ≡ self.entry.desk.pass }
         ensures deed { IsDeedOf self.entry result.deed }
+        ensures glance { result.deed.glanced.value ≡ result.glance }
+        ensures own { IsReaderAt N.board result.glance }
     {
         let Actor {
             who,
             desk,
             said,
             rests,
+            glance,
         } = self;
+        let glance = glance.into_pass();
         let deed = Deed {
             who,
             said,
             rests,
             full_at: desk.notes.full_at,
+            glanced: Snapshot::of(&glance),
         };
         Retired {
             pass: desk.into_pass(),
+            glance,
             deed,
         }
     }
@@ -110,6 +123,7 @@ impl<'a, N: LockName, S: Serving, R: Wait, G: Gate> Actor<'a, N, S, R, G> {
 #[derive(Drop)]
 pub(crate) struct Retired<S: Serving> {
     pub(crate) pass: Pass<S>,
+    pub(crate) glance: GaugePass,
     pub(crate) deed: Deed,
 }
 

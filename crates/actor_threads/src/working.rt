@@ -1,4 +1,4 @@
-ghost use Rattle.std.specs.Prelude.{◌≡◌, ◌+◌, ◌<◌, ◌≤◌, [], ◌++◌, ℕ, true, length, slice_index_or, vec_capacity};
+ghost use Rattle.std.specs.Prelude.{◌≡◌, ◌+◌, ◌<◌, ◌≤◌, [], ◌++◌, ℕ, true, length, map, slice_index_or, vec_capacity};
 ghost use Rattle.std.specs.List.{AllByRecursion};
 ghost use Rattle.std.specs.List.Sorted.{IsPermutation};
 ghost use mathlib.Core.List.{IsPrefix};
@@ -6,10 +6,12 @@ ghost use Rattle.script_runner.specs.Preparing.{has_part};
 ghost use Rattle.actor_threads.specs.Working.{AreDeeds, HasWorked, entries_in};
 ghost use Rattle.turn_desks.specs.Asking.{table_of};
 ghost use Rattle.turn_desks.specs.Parts.{IsPart};
+ghost use Rattle.turn_desks.specs.Watching.{IsReaderAt};
 ghost use Rattle.turn_lock.specs.Passes.{known, IsPassOf};
 ghost use Rattle.turn_lock.specs.Rule.{own_entries};
 
 use crate::actor::{Actor, Deed};
+use gauges::GaugePass;
 use lock_objects::LockObject;
 use script_actors::NumberedLine;
 use std::alloc::Global;
@@ -52,17 +54,19 @@ pub fn work_all<
     );
 }
 
-/// Joins the passes of all actors into one, which then has the parts of all, and keeps what they have done.
+/// Joins the passes of all actors into one, which then has the parts of all, and keeps what they have done and what
+/// each looked at the gauges with.
 pub fn gather<'a, N: LockName, S: Serving, R: Wait, G: Gate>(
     lock: &TurnLock<S>,
     mut pass: Pass<S>,
     mut actors: Vec<Actor<'a, N, S, R, G>>,
     mut deeds: Vec<Deed>,
-) -> (Pass<S>, Vec<Deed>)
+    mut glances: Vec<GaugePass>,
+) -> (Pass<S>, Vec<Deed>, Vec<GaugePass>)
     requires lock { table_of lock.now ≡ N.table }
     requires own { IsPassOf lock.now pass }
-    requires none { deeds.items ≡ [] }
-    requires room { length actors.items ≤ vec_capacity deeds }
+    requires none { (deeds.items ≡ []) × (glances.items ≡ []) }
+    requires room { (length actors.items ≤ vec_capacity deeds) × (length actors.items ≤ vec_capacity glances) }
     ensures own { IsPassOf lock.now result.0 }
     ensures parts { (known result.0).parts ≡ (known pass).parts + length actors.entry.items }
     ensures entries { IsPermutation (own_entries (known pass) ++ entries_in actors.entry.items)
@@ -73,11 +77,14 @@ pub fn gather<'a, N: LockName, S: Serving, R: Wait, G: Gate>(
     ensures stand { AllByRecursion (λ a. ∥ IsPart (own_entries (known a.desk.pass)) (known a.desk.pass).seen ∥₁)
         actors.entry.items }
     ensures deeds { AreDeeds actors.entry.items result.1.items }
+    ensures glances { map (λ d. d.glanced.value) result.1.items ≡ result.2.items }
+    ensures readers { AllByRecursion (IsReaderAt N.board) result.2.items }
 {
     while let Some(actor) = actors.pop() {
         let retired = actor.retire();
         pass = lock.join(pass, retired.pass);
         deeds.push_reserved(retired.deed);
+        glances.push_reserved(retired.glance);
     }
-    (pass, deeds)
+    (pass, deeds, glances)
 }

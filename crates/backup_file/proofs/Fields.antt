@@ -1,106 +1,31 @@
 -- A field that is read is the field that was written, and what was written is read again.
-use Rattle.std.proofs.Common.{◌≡◌, ◌⊎◌, ℕ, suc, ◌+◌, ◌^◌, ◌<◌, ◌≤◌, Bool, true, false, ◌&&◌, cond, ltb, eqb, leb, List, [], ◌∷◌, ◌++◌, length, take, drop, Option, Some, None, refl, sym, ap, subst, ◌∙◌, append_assoc, arith, inl, inr}
+use Rattle.std.proofs.Common.{◌≡◌, ℕ, ◌^◌, ◌<◌, ◌≤◌, Bool, true, false, ◌&&◌, cond, ltb, leb, List, [], ◌∷◌, ◌++◌, length, take, drop, Some, None, refl, sym, ap, subst, arith}
 use Rattle.std.specs.Prelude.{IsTrue}
-use Rattle.std.specs.Int.{Width, w16, w32, byte_len, from_be_bytes, to_be_bytes}
-use Rattle.std.proofs.lemmas.Bool.{cases_lt, ltb-false, le-ltb, leb-true, le-leb, eqb-true}
-use Rattle.std.proofs.lemmas.List.{take_at, drop_at, take-append-drop, length-append, length-take, get_or-drop, get_or-take, get_or_past}
-use Rattle.std.proofs.lemmas.Nat.{be_bytes_2, be_bytes_4, from_be_bytes-to_be_bytes_2, from_be_bytes-to_be_bytes_4}
+use Rattle.std.specs.Int.{Width, w16, w32, to_be_bytes}
+use Rattle.std.proofs.lemmas.Bool.{ltb-false, le-ltb, leb-true, le-leb}
+use Rattle.std.proofs.lemmas.List.{take_at, drop_at, take-append-drop, length-append, length-take}
+use Rattle.byte_fields.specs.Fields.{◌>>=◌, number_at}
+use Rattle.byte_fields.proofs.lemmas.FieldLaws.{IsBytes-drop, IsBytes-rest, bind_some, guard_some, pass_some, some_is, IsCode, is_code, Takes, Takes-then, IsWide, wide16, wide32, is_number}
 use Rattle.enq_base.specs.declared.owner.UnitKey.{UnitKey}
+use Rattle.gate_log.specs.Grammars.{IsBytes}
 use Rattle.mode_rules.specs.declared.Mode.{Mode}
-use Rattle.mode_rules.specs.declared.Mode.TheVariants.{S, E, X, O}
-pub use Rattle.gate_log.specs.Grammars.{IsBytes}
-pub use Rattle.gate_log.proofs.Logs.{some_is, none_is}
-use Rattle.backup_file.specs.Spelling.{unit_bytes, short, mode_byte, IsUnit}
-use Rattle.backup_file.specs.Reading.{◌>>=◌, number_at, text_at, short_at, unit_at, mode_at, count_at}
-
-pub IsBytes-drop : (n : ℕ) (bytes : List ℕ) → IsBytes bytes → IsBytes (drop n bytes)
-IsBytes-drop n bytes h i = rw get_or-drop (h (n + i))
-
-pub IsBytes-take : (n : ℕ) (bytes : List ℕ) → IsBytes bytes → IsBytes (take n bytes)
-IsBytes-take n bytes h i =
-    elim (cases_lt i n) [
-      | inl lt ↦ rw (get_or-take n bytes i 0 lt) (h i)
-      | inr le ↦ rw (get_or_past (take n bytes) i 0 (omega (arith, length-take n bytes))) (omega arith)
-    ]
-
-pub IsBytes-rest : (b : ℕ) (bytes : List ℕ) → IsBytes (b ∷ bytes) → IsBytes bytes
-IsBytes-rest b bytes h i = h (suc i)
-
--- the value of a step that gave one
-pub bind_some : {A B : Type 0} (o : Option A) (f : A → Option B) (y : B) → (o >>= f) ≡ Some y → (x : A) × (o ≡ Some x) × (f x ≡ Some y)
-bind_some (Some x) f y e = (x, refl, e)
-bind_some None f y e = absurd cc
-
--- a test that stopped nothing
-pub guard_some : {A : Type 0} (b : Bool) (x y : A) → cond b None (Some x) ≡ Some y → (b ≡ false) × (x ≡ y)
-guard_some true x y e = absurd cc
-guard_some false x y e = (refl, cc)
-
-pub pass_some : {A : Type 0} (b : Bool) (x y : A) → cond b (Some x) None ≡ Some y → (b ≡ true) × (x ≡ y)
-pass_some true x y e = (refl, cc)
-pass_some false x y e = absurd cc
-
-pub chosen : {A : Type 0} (b : Bool) (x y z : A) → cond b x y ≡ z → ((b ≡ true) × (x ≡ z)) ⊎ ((b ≡ false) × (y ≡ z))
-chosen true x y z e = inl (refl, e)
-chosen false x y z e = inr (refl, e)
+use Rattle.mode_rules.specs.Modes.{mode_number, mode_of}
+use Rattle.mode_rules.proofs.lemmas.ModeNumbers.{again, read}
+use Rattle.backup_file.specs.Spelling.{unit_bytes, short, IsUnit}
+use Rattle.backup_file.specs.Reading.{text_at, short_at, unit_at, mode_at, count_at}
 
 pub both_true : (a b : Bool) → (a && b) ≡ true → (a ≡ true) × (b ≡ true)
 both_true true b e = (refl, e)
 both_true false b e = absurd cc
 
--- what a reader took from the front
-pub record Takes (bytes text rest : List ℕ) : Type 0 where
-  pub parts : bytes ≡ text ++ rest
-  pub rest_fits : IsBytes rest
-
-pub Takes-then : (a x b y c : List ℕ) → Takes a x b → Takes b y c → Takes a (x ++ y) c
-Takes-then a x b y c p q = record { parts = p.parts ∙ ap (λ (t : List ℕ). x ++ t) q.parts ∙ sym (append_assoc x y c); rest_fits = q.rest_fits }
-
 -- ---- numbers
-
-pub record IsWide (w : Width) (limit : ℕ) : Type 0 where
-  pub len : (n : ℕ) → length (to_be_bytes w n) ≡ byte_len w
-  pub back : (bytes : List ℕ) → length bytes ≡ byte_len w → IsBytes bytes → to_be_bytes w (from_be_bytes w bytes) ≡ bytes
-  pub again : (n : ℕ) → n < limit → from_be_bytes w (to_be_bytes w n) ≡ n
-  pub below : (bytes : List ℕ) → IsBytes bytes → from_be_bytes w bytes < limit
-
-pub wide16 : IsWide w16 (2 ^ 16)
-wide16 = record {
-  len = λ n. refl;
-  back = λ bytes len fits. be_bytes_2 bytes _ len fits refl;
-  again = λ n lt. from_be_bytes-to_be_bytes_2 n lt;
-  below = λ bytes fits. omega (arith, fits 0, fits 1);
-}
-
-pub wide32 : IsWide w32 (2 ^ 32)
-wide32 = record {
-  len = λ n. refl;
-  back = λ bytes len fits. be_bytes_4 bytes _ len fits refl;
-  again = λ n lt. from_be_bytes-to_be_bytes_4 n lt;
-  below = λ bytes fits. omega (arith, fits 0, fits 1, fits 2, fits 3);
-}
 
 pub number_takes : (w : Width) (limit : ℕ) (wide : IsWide w limit) (bytes : List ℕ) (n : ℕ) (rest : List ℕ) → IsBytes bytes → number_at w bytes ≡ Some (n, rest)
     → Takes bytes (to_be_bytes w n) rest × (n < limit)
-unfolding number_at
-number_takes w limit wide bytes n rest fits e =
-    let g = guard_some (ltb (length bytes) (byte_len w)) (from_be_bytes w (take (byte_len w) bytes), drop (byte_len w) bytes) (n, rest) e in
-    let long : byte_len w ≤ length bytes = ltb-false _ _ g.0 in
-    let n-is : from_be_bytes w (take (byte_len w) bytes) ≡ n = ap (λ (p : ℕ × List ℕ). p.0) g.1 in
-    let rest-is : drop (byte_len w) bytes ≡ rest = ap (λ (p : ℕ × List ℕ). p.1) g.1 in
-    let front : to_be_bytes w n ≡ take (byte_len w) bytes =
-    rw (← n-is) (wide.back (take (byte_len w) bytes) (omega (arith, length-take (byte_len w) bytes)) (IsBytes-take (byte_len w) bytes fits)) in (
-      record { parts = rw (front, ← rest-is) (sym (take-append-drop (byte_len w) bytes)); rest_fits = rw (← rest-is) (IsBytes-drop (byte_len w) bytes fits) },
-      rw
-          (← n-is) (wide.below (take (byte_len w) bytes) (IsBytes-take (byte_len w) bytes fits)),
-    )
+number_takes w limit wide bytes n rest fits e = (is_number w limit wide).takes bytes (n, rest) fits e
 
 pub number_again : (w : Width) (limit : ℕ) (wide : IsWide w limit) (n : ℕ) (rest : List ℕ) → n < limit → number_at w (to_be_bytes w n ++ rest) ≡ Some (n, rest)
-unfolding number_at
-number_again w limit wide n rest lt =
-    let len = wide.len n in
-    let long : ltb (length (to_be_bytes w n ++ rest)) (byte_len w) ≡ false = le-ltb _ _ (omega (arith, length-append (to_be_bytes w n) rest)) in
-    rw (long, take_at (to_be_bytes w n) rest (byte_len w) len, drop_at (to_be_bytes w n) rest (byte_len w) len, wide.again n lt) refl
+number_again w limit wide n rest lt = (is_number w limit wide).again n rest lt
 
 -- ---- short texts
 
@@ -136,28 +61,17 @@ short_again p text rest h = rw (text_again text rest, h) refl
 
 -- ---- modes and counts
 
-pub mode_takes : (bytes : List ℕ) (m : Mode) (rest : List ℕ) → IsBytes bytes → mode_at bytes ≡ Some (m, rest) → Takes bytes (mode_byte m ∷ []) rest
-    × (0 < mode_byte m)
-unfolding mode_at
-mode_takes [] m rest fits e = absurd cc
-mode_takes (b ∷ more) m rest fits e =
-    let Q : Mode × List ℕ → Type 0 = λ p. Takes (b ∷ more) (mode_byte p.0 ∷ []) p.1 × (0 < mode_byte p.0) in
-    let one : (m : Mode) → b ≡ mode_byte m → 0 < mode_byte m → Q (m, more) =
-    λ m is some. (record { parts = ap (λ (k : ℕ). k ∷ more) is; rest_fits = IsBytes-rest b more fits }, some) in
-    elim (chosen (eqb b 1) (Some (S, more)) (cond (eqb b 2) (Some (E, more)) (cond (eqb b 3) (Some (X, more)) None)) (Some (m, rest)) e) [
-      | inl h ↦ subst Q (some_is (S, more) (m, rest) h.1) (one S (eqb-true b 1 h.0) (omega arith))
-      | inr h ↦ elim (chosen (eqb b 2) (Some (E, more)) (cond (eqb b 3) (Some (X, more)) None) (Some (m, rest)) h.1) [
-        | inl k ↦ subst Q (some_is (E, more) (m, rest) k.1) (one E (eqb-true b 2 k.0) (omega arith))
-        | inr k ↦ (let g = pass_some (eqb b 3) (X, more) (m, rest) k.1 in subst Q g.1 (one X (eqb-true b 3 g.0) (omega arith)))
-      ]
-    ]
+is_mode : IsCode (λ (m : Mode). 0 < mode_number m) mode_number mode_of
+is_mode = record { takes = λ b m lt e. read b m e; again = λ m past. again m (mode_number m) refl past }
 
-pub mode_again : (m : Mode) (rest : List ℕ) → 0 < mode_byte m → mode_at (mode_byte m ∷ rest) ≡ Some (m, rest)
+pub mode_takes : (bytes : List ℕ) (m : Mode) (rest : List ℕ) → IsBytes bytes → mode_at bytes ≡ Some (m, rest) → Takes bytes (mode_number m ∷ []) rest
+    × (0 < mode_number m)
 unfolding mode_at
-mode_again S rest h = refl
-mode_again E rest h = refl
-mode_again X rest h = refl
-mode_again O rest h = absurd (omega arith)
+mode_takes bytes m rest fits e = (is_code is_mode).takes bytes (m, rest) fits e
+
+pub mode_again : (m : Mode) (rest : List ℕ) → 0 < mode_number m → mode_at (mode_number m ∷ rest) ≡ Some (m, rest)
+unfolding mode_at
+mode_again m rest past = (is_code is_mode).again m rest past
 
 pub count_takes : (bytes : List ℕ) (n : ℕ) (rest : List ℕ) → IsBytes bytes → count_at bytes ≡ Some (n, rest) → Takes bytes (to_be_bytes w16 n) rest × (0 < n)
     × (n ≤ 9999)

@@ -1,10 +1,8 @@
-pub mod Loop
-pub mod BigEndian
 pub mod Fields
-pub mod Records
 pub mod Handover
-pub mod Units
-pub mod Adding
 pub mod Names
 pub mod ReadBack
 pub mod WithEntries
+pub mod Opened
+pub mod ReadOn
+pub mod lemmas

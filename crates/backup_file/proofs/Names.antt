@@ -6,14 +6,12 @@ use Rattle.std.proofs.Math.Seq.{drop-cons}
 use Rattle.enq_base.specs.Owners.{same_owner}
 use Rattle.enq_base.specs.declared.owner.Owner.{Owner}
 use Rattle.enq_base.specs.declared.owner.Owner.TheVariants.{Dlg, Upd}
-use Rattle.mode_rules.specs.declared.Mode.{Mode}
-use Rattle.mode_rules.specs.declared.Mode.TheVariants.{S, E, X, O}
-use Rattle.mode_rules.specs.Modes.{same_mode}
 use Rattle.lock_entry.specs.declared.entry.Entry.{Entry}
-use Rattle.lock_entry.proofs.Naming.{same_name-sym}
+use Rattle.lock_entry.proofs.lemmas.Naming.{same_name-sym}
 use Rattle.lock_entry.specs.Names.{asked_of, has_distinct_names, name_of, names_differ, same_name, same_place}
-use Rattle.backup_file.specs.Ids.{kind_of, lock_id, numbers_of, same_id, same_lock}
-use Rattle.backup_file.specs.Spelling.{mode_byte}
+use Rattle.enq_base.specs.Ids.{same_id}
+use Rattle.backup_file.specs.Ids.{kind_of, lock_id, numbers_of, same_lock}
+use Rattle.mode_rules.proofs.lemmas.ModeNumbers.{numbers_tell}
 use Rattle.backup_file.specs.declared.ids.LockId.{LockId}
 
 and_true : (b : Bool) → (b && true) ≡ b
@@ -30,26 +28,8 @@ owners_alike (Dlg s n) (Upd v) = refl
 owners_alike (Upd u) (Dlg t m) = refl
 owners_alike (Upd u) (Upd v) = refl
 
-modes_alike : (m n : Mode) → (mode_byte m == mode_byte n) ≡ same_mode m n
-modes_alike S S = refl
-modes_alike S E = refl
-modes_alike S X = refl
-modes_alike S O = refl
-modes_alike E S = refl
-modes_alike E E = refl
-modes_alike E X = refl
-modes_alike E O = refl
-modes_alike X S = refl
-modes_alike X E = refl
-modes_alike X X = refl
-modes_alike X O = refl
-modes_alike O S = refl
-modes_alike O E = refl
-modes_alike O X = refl
-modes_alike O O = refl
-
 names_alike : (a b : Entry) → same_lock (lock_id a) (lock_id b) ≡ same_name (name_of a) (name_of b)
-names_alike a b = λ i. owners_alike a.owner b.owner i && (same_place (asked_of a) (asked_of b) && modes_alike a.mode b.mode i)
+names_alike a b = λ i. owners_alike a.owner b.owner i && (same_place (asked_of a) (asked_of b) && numbers_tell a.mode b.mode i)
 
 -- the names that stand among these entries
 abbrev pub has_lock : List Entry → LockId → Bool

@@ -9,9 +9,9 @@ use Rattle.enq_base.specs.declared.owner.UnitKey.{UnitKey}
 use Rattle.backup_file.specs.declared.handed.Handed.{Handed}
 use Rattle.backup_file.specs.declared.handed.Record.{Record}
 use Rattle.backup_file.specs.declared.handed.Record.TheVariants.{Hand, Free}
-use Rattle.backup_file.specs.declared.ids.UnitId.{UnitId}
+use Rattle.enq_base.specs.declared.unit_id.UnitId.{UnitId}
 use Rattle.backup_file.specs.Lists.{AreTouched, after, hands, is_known, is_touched, unit_of, without}
-use Rattle.backup_file.proofs.Units.{flipped}
+use Rattle.backup_file.proofs.lemmas.Units.{flipped}
 
 -- what of these lists stands after the records
 abbrev spared : List Record → List Handed → List Handed

@@ -7,7 +7,7 @@ use Rattle.backup_file.specs.declared.fault.WriteFault.{WriteFault}
 use Rattle.backup_file.specs.declared.fault.WriteFault.TheVariants.{Failed, NoMemory}
 use Rattle.backup_file.specs.declared.handed.Handed.{Handed}
 use Rattle.backup_file.specs.declared.handed.Record.TheVariants.{Hand}
-use Rattle.backup_file.specs.declared.ids.UnitId.{UnitId}
+use Rattle.enq_base.specs.declared.unit_id.UnitId.{UnitId}
 use Rattle.backup_file.specs.Handing.{handed_of}
 use Rattle.backup_file.specs.Lists.{AreUnits, is_known}
 use Rattle.backup_file.specs.Spelling.{IsRecord, spelling}

@@ -6,7 +6,8 @@ use Rattle.enq_base.specs.declared.owner.UnitKey.{UnitKey}
 use Rattle.enq_base.specs.declared.owner.Owner.TheVariants.{Upd}
 use Rattle.lock_entry.specs.declared.entry.Entry.{Entry}
 use Rattle.backup_file.specs.declared.handed.Handed.{Handed}
-use Rattle.backup_file.specs.Spelling.{mode_byte, user_of}
+use Rattle.backup_file.specs.Spelling.{user_of}
+use Rattle.mode_rules.specs.Modes.{mode_number}
 use Rattle.lock_entry.specs.Names.{has_distinct_names}
 
 -- the table and the argument are in their grammars
@@ -17,7 +18,7 @@ pub record HasNames (e : Entry) : Type 0 where
 -- an entry that the unit may hand over: its own, of mode S, E or X, and with a count in its range
 pub record MayBeHanded (unit : UnitKey) (e : Entry) : Type 0 where
   pub owned : e.owner ≡ Upd unit
-  pub lasting : 0 < mode_byte e.mode
+  pub lasting : 0 < mode_number e.mode
   pub counted : 0 < e.count
   pub countable : e.count ≤ 9999
 

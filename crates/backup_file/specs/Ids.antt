@@ -3,17 +3,11 @@ use Rattle.std.specs.Prelude.{ℕ, Bool, ◌==◌, ◌&&◌}
 use Rattle.std.specs.Str.{bytes_eq}
 use Rattle.enq_base.specs.declared.owner.Owner.{Owner}
 use Rattle.enq_base.specs.declared.owner.Owner.TheVariants.{Dlg, Upd}
-use Rattle.enq_base.specs.declared.owner.UnitKey.{UnitKey}
+use Rattle.enq_base.specs.Ids.{id_of, same_id}
 use Rattle.lock_entry.specs.declared.entry.Entry.{Entry}
-use Rattle.backup_file.specs.Spelling.{mode_byte}
+use Rattle.mode_rules.specs.Modes.{mode_number}
 use Rattle.backup_file.specs.declared.ids.LockId.{LockId}
-use Rattle.backup_file.specs.declared.ids.UnitId.{UnitId}
-
-abbrev pub id_of : UnitKey → UnitId
-id_of u = record { start = u.start; session = u.session; luw = u.luw }
-
-abbrev pub same_id : UnitId → UnitId → Bool
-same_id a b = (a.start == b.start && a.session == b.session) && a.luw == b.luw
+use Rattle.enq_base.specs.declared.unit_id.UnitId.{UnitId}
 
 -- 0 for a dialogue, 1 for an update
 abbrev pub kind_of : Owner → ℕ
@@ -33,7 +27,7 @@ lock_id e = record {
   table = e.table;
   pattern = e.pattern;
   mode =
-      mode_byte e.mode;
+      mode_number e.mode;
 }
 
 abbrev pub same_lock : LockId → LockId → Bool

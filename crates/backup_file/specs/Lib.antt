@@ -7,3 +7,4 @@ pub mod File
 pub mod Opening
 pub mod Handing
 pub mod Backup
+pub mod ReadOn

@@ -4,11 +4,11 @@ use Rattle.std.specs.List.{All, list_any}
 use Rattle.enq_base.specs.Owners.{same_unit}
 use Rattle.enq_base.specs.declared.owner.UnitKey.{UnitKey}
 use Rattle.lock_entry.specs.Names.{has_distinct_names}
-use Rattle.backup_file.specs.Ids.{id_of, same_id}
+use Rattle.enq_base.specs.Ids.{id_of, same_id}
 use Rattle.backup_file.specs.declared.handed.Handed.{Handed}
 use Rattle.backup_file.specs.declared.handed.Record.{Record}
 use Rattle.backup_file.specs.declared.handed.Record.TheVariants.{Hand, Free}
-use Rattle.backup_file.specs.declared.ids.UnitId.{UnitId}
+use Rattle.enq_base.specs.declared.unit_id.UnitId.{UnitId}
 
 -- whether the unit's list stands
 abbrev pub has_unit : UnitKey → List Handed → Bool

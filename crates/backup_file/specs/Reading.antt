@@ -1,36 +1,18 @@
 -- Reading a record from left to right.
-use Rattle.std.specs.Prelude.{◌≡◌, ℕ, zero, suc, Bool, true, List, [], ◌∷◌, length, take, drop, Option, Some, None}
-use Rattle.std.specs.Prelude.{Result, Ok, Err, option_and_then, nat_lt, nat_le, ◌==◌, ◌&&◌, if◌then◌else◌}
-use Rattle.std.specs.Int.{Width, w16, w32, byte_len, from_be_bytes}
+use Rattle.std.specs.Prelude.{ℕ, Bool, true, List, [], ◌∷◌, length, take, drop, Option, Some, None}
+use Rattle.std.specs.Prelude.{nat_lt, nat_le, ◌==◌, ◌&&◌, if◌then◌else◌}
+use Rattle.std.specs.Int.{w16, w32}
+use Rattle.byte_fields.specs.Fields.{◌>>=◌, Field, code_at, many, number_at}
 use Rattle.enq_base.specs.Grammar.{is_name, is_pattern}
 use Rattle.enq_base.specs.declared.owner.UnitKey.{UnitKey}
 use Rattle.enq_base.specs.declared.owner.Owner.TheVariants.{Upd}
 use Rattle.mode_rules.specs.declared.Mode.{Mode}
-use Rattle.mode_rules.specs.declared.Mode.TheVariants.{S, E, X}
+use Rattle.mode_rules.specs.Modes.{mode_of}
 use Rattle.lock_entry.specs.declared.entry.Entry.{Entry}
 use Rattle.backup_file.specs.declared.handed.Record.{Record}
 use Rattle.backup_file.specs.declared.handed.Record.TheVariants.{Hand, Free}
-use Rattle.backup_file.specs.declared.reading.ReadFault.{ReadFault}
-use Rattle.backup_file.specs.declared.reading.ReadFault.TheVariants as faults
-
-infixl 10 ◌>>=◌
-abbrev pub ◌>>=◌ : {A B : Type 0} → Option A → (A → Option B) → Option B
-o >>= f = option_and_then f o
-
--- What a function returned, seen by view, is what reading gives, unless memory ran out.
-abbrev pub Fails : {Y : Type 0} → ReadFault → Option Y → Type 0
-Fails faults.NoMemory read = Unit {0}
-Fails faults.Bad read = read ≡ None
-
-abbrev pub Gives : {X Y : Type 0} → (X → Y) → Result X ReadFault → Option Y → Type 0
-Gives view (Ok x) read = read ≡ Some (view x)
-Gives view (Err e) read = Fails e read
 
 -- A field is a value and the bytes after it.
-unfoldable pub number_at : Width → List ℕ → Option (ℕ × List ℕ)
-number_at w bytes = if nat_lt (length bytes) (byte_len w) then None else Some
-    (from_be_bytes w (take (byte_len w) bytes), drop (byte_len w) bytes)
-
 unfoldable pub text_at : List ℕ → Option (List ℕ × List ℕ)
 text_at [] = None
 text_at (n ∷ rest) = if nat_lt (length rest) n then None else Some (take n rest, drop n rest)
@@ -47,10 +29,8 @@ unit_at bytes = do
   luw ← number_at w32 session.1
   Some (record { start = start.0; session = session.0; luw = luw.0 }, luw.1)
 
-unfoldable pub mode_at : List ℕ → Option (Mode × List ℕ)
-mode_at [] = None
-mode_at (b ∷ rest) = if b == 1 then Some (S, rest) else
-    (if b == 2 then Some (E, rest) else (if b == 3 then Some (X, rest) else None))
+unfoldable pub mode_at : Field Mode
+mode_at = code_at mode_of
 
 unfoldable pub count_at : List ℕ → Option (ℕ × List ℕ)
 count_at bytes = do
@@ -77,20 +57,13 @@ entry_at unit user bytes = do
     pattern.1,
   )
 
-unfoldable pub entries_at : UnitKey → List ℕ → ℕ → List ℕ → Option (List Entry × List ℕ)
-entries_at unit user zero bytes = Some ([], bytes)
-entries_at unit user (suc n) bytes = do
-  first ← entry_at unit user bytes
-  others ← entries_at unit user n first.1
-  Some (first.0 ∷ others.0, others.1)
-
 -- all of the payload
 unfoldable pub hand_of : List ℕ → Option Record
 hand_of bytes = do
   unit ← unit_at bytes
   user ← short_at is_name unit.1
   n ← number_at w32 user.1
-  entries ← entries_at unit.0 user.0 n.0 n.1
+  entries ← many (entry_at unit.0 user.0) n.0 n.1
   if nat_le 1 n.0 && (length entries.1 == 0) then Some (Hand (record { unit = unit.0; entries = entries.0 })) else None
 
 unfoldable pub free_of : List ℕ → Option Record

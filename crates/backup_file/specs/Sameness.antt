@@ -2,18 +2,9 @@
 use Rattle.std.specs.Cmp.{IsEquivalence, IsPartialEquivalence, and_equiv, nat_eq_equiv, on_equiv}
 use Rattle.std.specs.Cmp.{partial_equiv_from_equiv}
 use Rattle.std.specs.Cmp.Lexicographic.{nat_list_eq_equiv}
-use Rattle.backup_file.specs.Ids.{same_id, same_lock}
+use Rattle.enq_base.specs.Ids.{ids_equiv}
+use Rattle.backup_file.specs.Ids.{same_lock}
 use Rattle.backup_file.specs.declared.ids.LockId.{LockId}
-use Rattle.backup_file.specs.declared.ids.UnitId.{UnitId}
-
-pub ids_equiv : IsEquivalence same_id
-ids_equiv =
-    and_equiv (and_equiv (on_equiv (λ (a : UnitId). a.start) nat_eq_equiv)
-    (on_equiv (λ (a : UnitId). a.session) nat_eq_equiv))
-    (on_equiv (λ (a : UnitId). a.luw) nat_eq_equiv)
-
-pub ids_partial : IsPartialEquivalence same_id
-ids_partial = partial_equiv_from_equiv ids_equiv
 
 pub locks_equiv : IsEquivalence same_lock
 locks_equiv =

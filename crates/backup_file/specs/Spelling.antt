@@ -5,8 +5,7 @@ use Rattle.std.specs.Int.{w16, w32, to_be_bytes}
 use Rattle.enq_base.specs.Grammar.{is_name, is_pattern}
 use Rattle.enq_base.specs.declared.owner.UnitKey.{UnitKey}
 use Rattle.enq_base.specs.declared.owner.Owner.TheVariants.{Upd}
-use Rattle.mode_rules.specs.declared.Mode.{Mode}
-use Rattle.mode_rules.specs.declared.Mode.TheVariants.{S, E, X, O}
+use Rattle.mode_rules.specs.Modes.{mode_number}
 use Rattle.lock_entry.specs.declared.entry.Entry.{Entry}
 use Rattle.backup_file.specs.declared.handed.Handed.{Handed}
 use Rattle.backup_file.specs.declared.handed.Record.{Record}
@@ -19,14 +18,8 @@ unit_bytes u = to_be_bytes w32 u.start ++ to_be_bytes w32 u.session ++ to_be_byt
 abbrev pub short : List ℕ → List ℕ
 short bytes = length bytes ∷ bytes
 
-abbrev pub mode_byte : Mode → ℕ
-mode_byte S = 1
-mode_byte E = 2
-mode_byte X = 3
-mode_byte O = 0
-
 abbrev pub entry_bytes : Entry → List ℕ
-entry_bytes e = short e.table ++ (mode_byte e.mode ∷ to_be_bytes w16 e.count) ++ short e.pattern
+entry_bytes e = short e.table ++ (mode_number e.mode ∷ to_be_bytes w16 e.count) ++ short e.pattern
 
 -- all entries of a list have one user
 abbrev pub user_of : List Entry → List ℕ
@@ -62,7 +55,7 @@ pub record IsLock (unit : UnitKey) (user : List ℕ) (e : Entry) : Type 0 where
   pub used : e.user ≡ user
   pub is_handed : e.handed ≡ true
   pub named : IsTrue (is_name e.table)
-  pub lasting : 0 < mode_byte e.mode
+  pub lasting : 0 < mode_number e.mode
   pub counted : 0 < e.count
   pub countable : e.count ≤ 9999
   pub patterned : IsTrue (is_pattern e.pattern)

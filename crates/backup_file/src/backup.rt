@@ -15,12 +15,11 @@ ghost use Rattle.lock_entry.specs.declared.entry.Entry.{Entry};
 
 use crate::fault::{BackFault, WriteFault};
 use crate::handed::Handed;
-use crate::ids::{UnitId, id_of};
 use crate::opening::open_file;
 use crate::unit_set::{forget, holds};
 use crate::writing::{free_text, hand_text};
 use bk_disk::Disk;
-use enq_base::{Failed, NoMemory, UnitKey};
+use enq_base::{Failed, NoMemory, UnitId, UnitKey, id_of};
 use gate_log::add_record;
 use lock_entry::Entry;
 use std::alloc::Global;
@@ -181,9 +180,13 @@ impl<D: Disk> Backup<D> {
         ensures no_memory { IsErrOf result WriteFault.NoMemory → IsSame self.old self.new }
         ensures cause { HasWriteCause (D.faults self.old.disk) (D.faults self.new.disk) result }
     {
-        let ready = self.ready_hand(alloc, unit, entries)?;
-        self.write_hand(ready)?;
-        Ok(())
+        let Ok(ready) = self.ready_hand(alloc, unit, entries) else {
+            return Err(WriteFault::NoMemory);
+        };
+        match self.write_hand(ready) {
+            Ok(()) => Ok(()),
+            Err(_) => Err(WriteFault::Failed),
+        }
     }
 
     /// Takes the memory that the writing of the unit's list needs. Nothing is written. It answers want of memory too

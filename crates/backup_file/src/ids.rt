@@ -1,47 +1,9 @@
 ghost use Rattle.std.specs.Prelude.{◌≡◌};
-ghost use Rattle.backup_file.specs.Ids.{id_of, kind_of, lock_id, numbers_of};
-ghost use Rattle.backup_file.specs.Spelling.{mode_byte};
+ghost use Rattle.backup_file.specs.Ids.{kind_of, lock_id, numbers_of};
 
-use enq_base::{ARGUMENT_BYTES, Name, Owner, ShortBytes, UnitKey};
-use lock_entry::{Entry, Mode};
-
-/// A unit, as maps and sets look it up.
-#[derive(Clone, Copy, Debug, Hash)]
-pub struct UnitId {
-    pub start: u32,
-    pub session: u32,
-    pub luw: u32,
-}
-
-impl PartialEq for UnitId {
-    ghost use Rattle.backup_file.specs.Ids.{same_id};
-    ghost use Rattle.backup_file.specs.Sameness.{ids_partial};
-
-    ghost eq = { same_id };
-
-    ghost laws = { ids_partial };
-
-    fn eq(&self, other: &UnitId) -> bool {
-        self.start == other.start && self.session == other.session && self.luw == other.luw
-    }
-}
-
-impl Eq for UnitId {
-    ghost use Rattle.backup_file.specs.Sameness.{ids_equiv};
-
-    ghost laws = { ids_equiv };
-}
-
-/// The unit, as maps and sets look it up.
-pub fn id_of(unit: &UnitKey) -> UnitId
-    ensures { result ≡ id_of unit.now }
-{
-    UnitId {
-        start: unit.start,
-        session: unit.session,
-        luw: unit.luw,
-    }
-}
+use enq_base::{ARGUMENT_BYTES, Name, Owner, ShortBytes, UnitId, id_of};
+use lock_entry::Entry;
+use mode_rules::mode_number;
 
 /// The name of an entry, as sets look it up.
 #[derive(Clone, Copy, Debug, Hash)]
@@ -98,17 +60,6 @@ fn numbers_of(owner: &Owner) -> UnitId
     }
 }
 
-fn number_of(mode: Mode) -> u8
-    ensures { result ≡ mode_byte mode }
-{
-    match mode {
-        Mode::S => 1,
-        Mode::E => 2,
-        Mode::X => 3,
-        Mode::O => 0,
-    }
-}
-
 pub(crate) fn lock_id(entry: &Entry) -> LockId
     ensures { result ≡ lock_id entry.now }
 {
@@ -120,6 +71,6 @@ pub(crate) fn lock_id(entry: &Entry) -> LockId
         numbers: numbers_of(&entry.owner),
         table: entry.table,
         pattern,
-        mode: number_of(entry.mode),
+        mode: mode_number(entry.mode),
     }
 }

@@ -18,5 +18,4 @@ mod writing;
 pub use backup::{Backup, ReadyHand};
 pub use fault::{BackFault, WriteFault};
 pub use handed::{Handed, Record};
-pub use ids::{UnitId, id_of};
 pub use laws::one_meaning;

@@ -7,9 +7,9 @@ ghost use Rattle.backup_file.specs.declared.handed.Handed.{Handed};
 ghost use Rattle.backup_file.specs.declared.handed.Record.{Record};
 
 use crate::handed::{Handed, Record};
-use crate::ids::{LockId, UnitId, lock_id};
+use crate::ids::{LockId, lock_id};
 use crate::unit_set::{add, forget, holds};
-use enq_base::{NoMemory, UnitKey};
+use enq_base::{NoMemory, UnitId, UnitKey};
 use lock_entry::Entry;
 use std::alloc::Global;
 use std::collections::HashSet;

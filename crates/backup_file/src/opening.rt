@@ -1,5 +1,6 @@
-ghost use Rattle.std.specs.Prelude.{◌≡◌, IsTrue, IfOk, IfErr};
-ghost use Rattle.bk_disk.specs.Disk.{Follows};
+ghost use Rattle.std.specs.Prelude.{◌≡◌, IsTrue, IfOk, IfErr, OnOk};
+ghost use Rattle.bk_disk.specs.Disk.{AddsNone, FitsDisk, Follows, Only};
+ghost use Rattle.gate_log.specs.Causes.{HasLogCause};
 ghost use Rattle.gate_log.specs.Logs.{SameOrFirst};
 ghost use Rattle.backup_file.specs.File.{Stands, IsBad, IsShort, IsLong, grammar, new_file};
 ghost use Rattle.backup_file.specs.Lists.{AreUnits, HaveEntries};
@@ -8,7 +9,7 @@ ghost use Rattle.backup_file.specs.Opening.{OnBad, HasBackCause, IsOpened};
 use crate::fault::BackFault;
 use crate::log::{Found, read_log};
 use bk_disk::Disk;
-use gate_log::{make_new, read_all};
+use gate_log::{LogFault, make_new, read_all};
 use std::alloc::Global;
 use std::collections::HashSet;
 
@@ -29,9 +30,9 @@ pub fn open_file<D: Disk>(alloc: Global, disk: &mut D) -> Result<Found, BackFaul
     ensures images { IsTrue D.tells → Follows (SameOrFirst grammar) (D.may_leave disk.old) (D.may_leave disk.new) }
     ensures cause { HasBackCause (D.faults disk.old) (D.faults disk.new) result }
 {
-    disk.sync()?;
-    let bytes = read_all(alloc, disk)?;
-    if bytes.len() <= 9 {
+    let bytes = read_file(alloc, disk)?;
+    let text = bytes.as_slice();
+    if text.len() <= 9 {
         make_new(disk, b"ENQBCK01\0")?;
         return Ok(Found {
             lists: Vec::new(alloc),
@@ -39,5 +40,18 @@ pub fn open_file<D: Disk>(alloc: Global, disk: &mut D) -> Result<Found, BackFaul
             gate: 8,
         });
     }
-    read_log(alloc, &bytes)
+    read_log(alloc, text)
+}
+
+/// Reads a file once all of it is on the disk.
+fn read_file<D: Disk>(alloc: Global, disk: &mut D) -> Result<Vec<u8>, LogFault>
+    ensures value { IsTrue D.tells → IfOk result (λ bytes. bytes.items ≡ D.reads disk.old) }
+    ensures same { IsTrue D.tells → OnOk result (D.reads disk.new ≡ D.reads disk.old) }
+    ensures fits { IsTrue D.tells → OnOk result (FitsDisk (D.reads disk.new)) }
+    ensures durable { IsTrue D.tells → OnOk result (Only (D.reads disk.new) (D.may_leave disk.new)) }
+    ensures left { IsTrue D.tells → AddsNone (D.may_leave disk.old) (D.may_leave disk.new) }
+    ensures cause { HasLogCause (D.faults disk.old) (D.faults disk.new) result }
+{
+    disk.sync()?;
+    read_all(alloc, disk)
 }

@@ -1,36 +1,14 @@
 ghost use Rattle.std.specs.Prelude.{◌≡◌, List, length};
 ghost use Rattle.enq_base.specs.Grammar.{is_name, is_pattern};
-ghost use Rattle.backup_file.specs.Reading.{Gives, text_at, short_at, unit_at, mode_at, count_at, entry_at, entries_at, hand_of, free_of, payload_of, record_at};
-ghost use Rattle.backup_file.specs.declared.reading.ReadFault.TheVariants.{NoMemory};
+ghost use Rattle.byte_fields.specs.Fields.{Gives, many};
+ghost use Rattle.backup_file.specs.Reading.{text_at, short_at, unit_at, mode_at, count_at, entry_at, hand_of, free_of, payload_of, record_at};
 
 use crate::handed::{Handed, Record};
-use crate::numbers::{u16_at, u32_at};
+use byte_fields::{ReadFault, u16_at, u32_at};
 use enq_base::{Items, Name, Owner, Pattern, UnitKey, read_name};
 use lock_entry::{Entry, Mode};
-use std::alloc::{AllocError, AllocFailed, Global};
-
-/// Why a record could not be read.
-#[derive(Clone, Copy, Debug, PartialEq, Eq)]
-pub enum ReadFault {
-    NoMemory,
-    Bad,
-}
-
-impl From<AllocError> for ReadFault {
-    ghost from_gives = { λ _ e. e ≡ NoMemory };
-
-    fn from(_e: AllocError) -> ReadFault {
-        ReadFault::NoMemory
-    }
-}
-
-impl<T: Drop> From<AllocFailed<T>> for ReadFault {
-    ghost from_gives = { λ _ e. e ≡ NoMemory };
-
-    fn from(_e: AllocFailed<T>) -> ReadFault {
-        ReadFault::NoMemory
-    }
-}
+use mode_rules::mode_of;
+use std::alloc::Global;
 
 #[tactic(auto, unfolding(crate::specs::Reading::text_at))]
 fn text_of(bytes: &[u8]) -> Result<(&[u8], &[u8]), ReadFault>
@@ -86,14 +64,15 @@ fn unit_of(bytes: &[u8]) -> Result<(UnitKey, &[u8]), ReadFault>
 }
 
 #[tactic(auto, unfolding(crate::specs::Reading::mode_at))]
-fn mode_of(bytes: &[u8]) -> Result<(Mode, &[u8]), ReadFault>
+fn mode_at(bytes: &[u8]) -> Result<(Mode, &[u8]), ReadFault>
     ensures { Gives (λ x. (x.0, x.1.now)) result (mode_at bytes.now) }
 {
-    match bytes {
-        [1, rest @ ..] => Ok((Mode::S, rest)),
-        [2, rest @ ..] => Ok((Mode::E, rest)),
-        [3, rest @ ..] => Ok((Mode::X, rest)),
-        _ => Err(ReadFault::Bad),
+    let [number, rest @ ..] = bytes else {
+        return Err(ReadFault::Bad);
+    };
+    match mode_of(*number) {
+        Some(mode) => Ok((mode, rest)),
+        None => Err(ReadFault::Bad),
     }
 }
 
@@ -121,7 +100,7 @@ fn entry_of<'a>(
         Ok(read) => read,
         Err(fault) => return Err(fault),
     };
-    let (mode, rest) = mode_of(rest)?;
+    let (mode, rest) = mode_at(rest)?;
     let (count, rest) = count_of(rest)?;
     let (pattern, rest) = match pattern_at(rest) {
         Ok(read) => read,
@@ -146,7 +125,7 @@ fn entries_of<'a>(
     count: u32,
     bytes: &'a [u8],
 ) -> Result<(Vec<Entry>, &'a [u8]), ReadFault>
-    ensures { Gives (λ x. (x.0.items, x.1.now)) result (entries_at unit.now user.now count bytes.now) }
+    ensures { Gives (λ x. (x.0.items, x.1.now)) result (many (entry_at unit.now user.now) count bytes.now) }
 {
     let mut entries = Vec::new(alloc);
     let mut rest = bytes;

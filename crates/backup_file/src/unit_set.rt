@@ -3,8 +3,7 @@ ghost use Rattle.enq_base.specs.Owners.{same_unit};
 ghost use Rattle.enq_base.specs.declared.owner.UnitKey.{UnitKey};
 ghost use Rattle.backup_file.specs.Lists.{is_known};
 
-use crate::ids::{UnitId, id_of};
-use enq_base::{NoMemory, UnitKey};
+use enq_base::{NoMemory, UnitId, UnitKey, id_of};
 use std::collections::HashSet;
 
 /// Whether the unit is among these.

@@ -2,14 +2,15 @@ ghost use Rattle.std.specs.Prelude.{◌≡◌, ◌<◌, ◌≤◌, ◌^◌, ◌+
 ghost use Rattle.std.specs.List.{flat_map, AllByRecursion};
 ghost use Rattle.enq_base.specs.Grammar.{is_name, is_pattern};
 ghost use Rattle.backup_file.specs.declared.handed.Record.TheVariants.{Hand, Free};
-ghost use Rattle.backup_file.specs.Spelling.{unit_bytes, short, mode_byte, entry_bytes, spelling, IsUnit, IsRecord, user_of, hand_bytes};
+ghost use Rattle.backup_file.specs.Spelling.{unit_bytes, short, entry_bytes, spelling, IsUnit, IsRecord, user_of, hand_bytes};
 ghost use Rattle.gate_log.specs.Logs.{opened};
 ghost use Rattle.backup_file.specs.File.{grammar};
 ghost use Rattle.backup_file.specs.Handing.{HasNames, IsHandable, handed_of};
 
 use crate::numbers::{bytes_of_16, bytes_of_32};
 use enq_base::{Name, NoMemory, Pattern, UnitKey};
-use lock_entry::{Entry, Mode};
+use lock_entry::Entry;
+use mode_rules::mode_number;
 use std::alloc::Global;
 
 /// The bytes of a unit.
@@ -60,23 +61,12 @@ fn put_pattern(out: &mut Vec<u8>, pattern: &Pattern) -> Result<(), NoMemory>
     put_short(out, pattern.bytes())
 }
 
-fn byte_of(mode: Mode) -> u8
-    ensures { result ≡ mode_byte mode }
-{
-    match mode {
-        Mode::S => 1,
-        Mode::E => 2,
-        Mode::X => 3,
-        Mode::O => 0,
-    }
-}
-
 fn put_entry(out: &mut Vec<u8>, entry: &Entry) -> Result<(), NoMemory>
     ensures value { OnOk result (out.new.items ≡ out.old.items ++ entry_bytes entry.now) }
     ensures named { OnOk result (HasNames entry.now) }
 {
     put_name(out, &entry.table)?;
-    out.push(byte_of(entry.mode))?;
+    out.push(mode_number(entry.mode))?;
     out.extend_from_slice(&bytes_of_16(entry.count))?;
     put_pattern(out, &entry.pattern)?;
     Ok(())

@@ -5,7 +5,7 @@ use keeper_api::{Change, Row};
 use lock_entry::{Entry, Mode};
 use std::alloc::Global;
 use std::test::*;
-use update_records::{Interval, RowFault, Unit, decode_row, encode_level, encode_unit};
+use update_records::{Interval, ReadFault, Unit, decode_row, encode_level, encode_unit};
 
 // Unit 1.2.3, as it begins the keys of its rows.
 const UNIT: UnitKey = UnitKey {
@@ -205,7 +205,7 @@ fn end_of(alloc: Global, table: u8, key: Vec<u8>, value: Vec<u8>) -> End {
     };
     match decode_row(alloc, &row, table) {
         Ok(_) => End::Read,
-        Err(RowFault::Bad) => End::Bad,
+        Err(ReadFault::Bad) => End::Bad,
         Err(_) => End::NoMemory,
     }
 }

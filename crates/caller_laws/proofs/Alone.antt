@@ -15,7 +15,7 @@ use Rattle.script_actors.specs.Actors.{desk_call, is_full}
 use Rattle.script_actors.specs.Doers.{is_same}
 use Rattle.script_actors.specs.declared.actor.Said.{Said}
 use Rattle.script_actors.specs.declared.line.NumberedLine.{NumberedLine}
-use Rattle.turn_desks.proofs.Parts.{filter_none}
+use Rattle.turn_desks.proofs.lemmas.Parts.{filter_none}
 use Rattle.caller_laws.specs.Callers.{AreAmong, AreTheirs, entries_by, is_by, view_by}
 use Rattle.caller_laws.specs.Doing.{Did, DidLines, LeadsAlone, Left, Looked, WorkerDid, is_idle_post, nothing_asked}
 use Rattle.caller_laws.specs.Seen.{AreSeen, Kept, Others, Unkept}

@@ -10,7 +10,7 @@ use Rattle.hall_model.specs.declared.command.Who.{Who}
 use Rattle.hall_model.specs.declared.command.Who.TheVariants as caller
 use Rattle.script_actors.specs.Doers.{is_same}
 use Rattle.turn_desks.specs.Parts.{IsPart}
-use Rattle.turn_desks.proofs.Parts.{AreOf, NoneOf}
+use Rattle.turn_desks.proofs.lemmas.Parts.{AreOf, NoneOf}
 use Rattle.caller_laws.specs.Callers.{is_by}
 use Rattle.caller_laws.proofs.Whose.{same_caller}
 

@@ -15,7 +15,7 @@ use Rattle.script_actors.specs.Doers.{is_same}
 use Rattle.script_actors.specs.declared.actor.Said.{Said}
 use Rattle.script_actors.specs.declared.line.NumberedLine.{NumberedLine}
 use Rattle.turn_desks.specs.Parts.{IsPart}
-use Rattle.turn_desks.proofs.Parts.{own_are_filter, part_of_longer}
+use Rattle.turn_desks.proofs.lemmas.Parts.{own_are_filter, part_of_longer}
 use Rattle.turn_lock.specs.Rule.{own_entries}
 use Rattle.caller_laws.specs.Callers.{AreAmong, AreDistinct, AreTheirs, entries_by, is_by, view_by}
 use Rattle.caller_laws.specs.Doing.{Did, DidAs, DidLines, IsThread, Known, LeadsTurn, Left, Thread, desk_known, entries_of, nothing_asked}

@@ -25,7 +25,7 @@ use Rattle.lock_entry.specs.declared.entry.Request.{Request}
 use Rattle.lock_objects.specs.Objects.{Object}
 use Rattle.mode_rules.specs.declared.Mode.{Mode}
 use Rattle.mode_rules.specs.declared.Mode.TheVariants as mode
-use Rattle.script_actors.specs.Actors.{AddsPart, Deeds, DeskCall, DeskView, DoesLines, acts, deeds, does, lines_of_actor, no_deeds, own_meaning, unseen}
+use Rattle.script_actors.specs.Actors.{AddsPart, Deeds, DeskCall, DeskView, DoesLines, acts, deeds, does, lines_of_actor, no_deeds, own_meaning}
 use Rattle.script_actors.specs.Doers.{is_done_by, is_same}
 use Rattle.script_actors.specs.declared.actor.Said.{Said}
 use Rattle.script_actors.specs.declared.line.NumberedLine.{NumberedLine}
@@ -34,7 +34,7 @@ use Rattle.script_lang.specs.declared.script_line.ScriptLine.{ScriptLine}
 use Rattle.script_lang.specs.declared.script_line.ScriptLine.TheVariants as line
 use Rattle.script_runner.specs.Lines.{Silent, Shows, Calls, Declines, Changes, Meaning, and_next, asking, collected, collecting, effect_of, key_in, key_with, meaning, number_in, of_session, reading, registered, registering, requesting, text_in, then_deed, unless_refused, with_asked, with_requested}
 use Rattle.script_runner.specs.Sides.{side_of, variables_of}
-use Rattle.script_runner.specs.World.{World, world}
+use Rattle.script_runner.specs.World.{Setting, setting}
 
 -- ---- one line
 
@@ -62,13 +62,13 @@ of_result w (Err r) next h = tt
 of_change : (w : Who) (r : Result (List Private) Refusal) → IsOf w (unless_refused r Changes)
 of_change w r = of_result w r Changes (λ sides. tt)
 
-of_requested : (x : World) (w : Who) (s object : List ℕ) (m : Mode) (scope : Scope) (values : List RawValue) (next : List Request → Meaning)
+of_requested : (x : Setting) (w : Who) (s object : List ℕ) (m : Mode) (scope : Scope) (values : List RawValue) (next : List Request → Meaning)
     → ((rs : List Request) → IsOf w (next rs)) → IsOf w (with_requested x s object m scope values next)
 of_requested x w s object m scope values next h =
     let made = requesting (variables_of x.sides s) x.objects object m scope values in
     of_one w x.sides s (unless_refused made next) (of_result w made next h)
 
-of_asked : (x : World) (w : Who) (s object : List ℕ) (m : Mode) (values : List RawValue) (next : List Asked → Meaning)
+of_asked : (x : Setting) (w : Who) (s object : List ℕ) (m : Mode) (values : List RawValue) (next : List Asked → Meaning)
     → ((asked : List Asked) → IsOf w (next asked)) → IsOf w (with_asked x s object m values next)
 of_asked x w s object m values next h =
     let made = asking (variables_of x.sides s) x.objects object m values in
@@ -79,21 +79,21 @@ abbrev effect_doing : List Variable → (List ℕ → Result Deed Refusal) → L
 effect_doing variables doing table key text =
     and_next (filled variables key) (λ k. and_next (filled variables text) (λ t. effect_of table (key_in k) (doing t)))
 
-of_effect : (x : World) (w : Who) (s : List ℕ) (part : ℕ) (doing : List ℕ → Result Deed Refusal) (table key text : List ℕ)
+of_effect : (x : Setting) (w : Who) (s : List ℕ) (part : ℕ) (doing : List ℕ → Result Deed Refusal) (table key text : List ℕ)
     → IsOf w (of_session x.sides s (unless_refused (effect_doing (variables_of x.sides s) doing table key text) (registering x.sides s part)))
 of_effect x w s part doing table key text =
     let made = effect_doing (variables_of x.sides s) doing table key text in
     of_one w x.sides s (unless_refused made (registering x.sides s part))
     (of_result w made (registering x.sides s part) (λ e. of_change w (registered x.sides s part e)))
 
-of_reading : (x : World) (w : Who) (s table key : List ℕ) → who.Session s ≡ w → IsOf w (reading x s table key)
+of_reading : (x : Setting) (w : Who) (s table key : List ℕ) → who.Session s ≡ w → IsOf w (reading x s table key)
 of_reading x w s table key own =
     let made = key_with (variables_of x.sides s) key in
     let next : List ℕ → Meaning = λ k. Calls (command.Read s table k) in
     of_one w x.sides s (unless_refused made next) (of_result w made next (λ k. own))
 
 -- a line that a caller does comes to no other's call
-pub line_is_of : (x : World) (w : Who) (l : ScriptLine) → is_done_by w l ≡ true → IsOf w (meaning x l)
+pub line_is_of : (x : Setting) (w : Who) (l : ScriptLine) → is_done_by w l ≡ true → IsOf w (meaning x l)
 line_is_of x w line.Blank h = tt
 line_is_of x w line.Sm12 h = tt
 line_is_of x w line.Sm13 h = tt
@@ -163,7 +163,7 @@ module _ (objects : List Object) (w : Who) where
       let m = own_meaning objects d.sides l in
       elim d.stopped as (λ b. AreOf w (if b then d else acts d l r m).desk.calls) [
         | true ↦ h
-        | false ↦ of_acts w d l r m (line_is_of (world objects unseen d.sides) w l.line own) h
+        | false ↦ of_acts w d l r m (line_is_of (setting objects d.sides) w l.line own) h
       ]
 
   of_lines : (lines : List NumberedLine) (old new : Deeds) → AllByRecursion OwnLine lines → AreOf w old.desk.calls → DoesLines objects lines old new

@@ -2,6 +2,7 @@
 use Rattle.std.specs.Prelude.{◌≡◌, ◌&&◌, ℕ, Bool, false, List, [], ◌∷◌, ◌++◌, map, MatchBool, Option, Some, None}
 use Rattle.std.specs.List.{AllByRecursion}
 use mathlib.Core.List.{IsPrefix}
+use Rattle.enq_base.specs.declared.condition.Readings.{Readings}
 use Rattle.hall_model.specs.Calls.{call_of}
 use Rattle.hall_model.specs.declared.command.PastEntry.{PastEntry}
 use Rattle.hall_model.specs.declared.command.Who.{Who}
@@ -31,10 +32,12 @@ abbrev pub desk_known : Known → DeskView
 desk_known k = record { calls = map desk_call (own_entries k.view); full_at = k.full_at }
 
 -- What an actor leaves: what its lines were answered that came to no call, None where memory was wanting for one, and
--- of a worker; and whether a worker ended because nothing was left to do.
+-- of a worker; whether a worker ended because nothing was left to do; and what it saw of the counts of the server while
+-- it rested, as a worker does.
 pub record Left : Type 0 where
   pub said : Option (List Said)
   pub rests : Bool
+  pub looks : List Readings
 
 -- a call of a worker, in a turn of its own
 pub record LeadsTurn {S : Type 0} (past : S → List PastEntry) (k : Known) (m : Made) (l : Known) : Type 0 where

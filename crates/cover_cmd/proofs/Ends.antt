@@ -7,21 +7,18 @@ use Rattle.std.proofs.lemmas.List.{append-nil, length-append}
 use Rattle.std.proofs.lemmas.List.Elements.{recursion_from_All}
 use Rattle.enq_base.specs.Causes.{Rose}
 use Rattle.io_edge.specs.Lines.{is_ended, lines_of}
+use Rattle.io_edge.specs.Reading.{IsUncut}
 use Rattle.script_lang.specs.declared.script_line.ScriptLine.{ScriptLine}
 use Rattle.script_runner.specs.LineFaults.{IsFirstBad, IsFirstLong, IsLineAt, IsToBlame}
 use Rattle.script_runner.specs.Lines.{line_in}
 use Rattle.script_runner.specs.Whole.{IsGood, IsScript}
 use Rattle.script_runner.specs.declared.runner.Why.{Why}
 use Rattle.script_runner.specs.declared.runner.Why.TheVariants.{BadLine, SourceFault, LongLine, ManyLines, NoMemory}
-use Rattle.cover_cmd.proofs.MoreBytes.{GoesFurther, goes_further}
-use Rattle.cover_cmd.specs.Reading.{ComesTo, IsReadingEnd, IsUncut}
+use Rattle.io_edge.proofs.lemmas.LinesRead.{told}
+use Rattle.io_edge.proofs.lemmas.MoreBytes.{GoesFurther, goes_further}
+use Rattle.cover_cmd.specs.Reading.{ComesTo, IsReadingEnd}
 
 -- the bytes that were read are the first of all
-told : (bytes taken : List ℕ) (left : Option (List ℕ)) → Consumes (Some bytes) left taken
-    → (rest : List ℕ) × (left ≡ Some rest) × (bytes ≡ taken ++ rest)
-told bytes taken None h = absurd h
-told bytes taken (Some rest) h = (rest, refl, h)
-
 further : (n : ℕ) (bytes rest : List ℕ) (earlier : List (List ℕ)) (line : List ℕ) → IsLineAt n bytes earlier line
     → GoesFurther (lines_of (bytes ++ rest)) earlier line (is_ended bytes ≡ true)
 further n bytes rest earlier line at = goes_further bytes rest earlier at.later line at.lines

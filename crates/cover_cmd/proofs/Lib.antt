@@ -1,5 +1,4 @@
 mod Ends
 mod Loop
-mod MoreBytes
 mod Outcomes
 mod Walking

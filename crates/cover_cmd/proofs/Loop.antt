@@ -1,6 +1,6 @@
 -- What the loop over the lines of a script keeps.
-use Rattle.std.proofs.Common.{inl, inr, ◌≡◌, ◌≢◌, ℕ, ◌+◌, ◌<◌, ◌≤◌, List, [], ◌∷◌, ◌++◌, length, refl, sym, ap, ◌∙◌, subst, arith, true, false}
-use Rattle.std.specs.Prelude.{Bool, Option, Result, Ok, Err, All}
+use Rattle.std.proofs.Common.{◌≡◌, ◌≢◌, ℕ, ◌+◌, ◌≤◌, List, [], ◌∷◌, ◌++◌, length, refl, sym, ap, ◌∙◌, subst, arith, true, false}
+use Rattle.std.specs.Prelude.{Option, Ok, Err, All}
 use Rattle.std.specs.Io.KnownBytes.{Consumes, IsAtEnd}
 use Rattle.std.specs.List.{AllByRecursion}
 use Rattle.std.proofs.KnownBytes.{Consumes-nil, Consumes-trans}
@@ -8,13 +8,15 @@ use Rattle.std.proofs.lemmas.List.{append-nil, length-append}
 use Rattle.std.proofs.lemmas.List.Elements.{All-append, All-cons, recursion_from_All}
 use Rattle.coverage.specs.Lacks.{Numbered}
 use Rattle.coverage.specs.Walked.{CoverView, HasWalked}
-use Rattle.io_edge.specs.Lines.{IsLine, IsUnbroken, is_ended, lines_of}
-use Rattle.io_edge.specs.Reading.{IsHalt, IsTakenAs, LineView, ReadsOn, Repeats}
+use Rattle.io_edge.specs.Lines.{IsLine, lines_of}
+use Rattle.io_edge.specs.Reading.{IsHalt, IsUncut, LineView, ReadsOn, Repeats}
 use Rattle.io_edge.specs.declared.reader.LineFault.{LineFault}
 use Rattle.io_edge.specs.declared.reader.LineFault.TheVariants.{Failed, TooLong, TooMany}
 use Rattle.io_edge.specs.declared.reader.Standing.{Standing}
 use Rattle.io_edge.specs.declared.reader.Standing.TheVariants.{Reading, Ended, Halted}
-use Rattle.io_edge.proofs.LineLemmas.{ended, ended-push, is_ended-ended, lines_of-ended, lines_of-last}
+use Rattle.io_edge.proofs.lemmas.LinesRead.{GotLine, IsReadAs, behind, fault_goes, few_lines, next_line, still_reading, uncut, one_line, whole_lines}
+use Rattle.io_edge.proofs.lemmas.MoreBytes.{some_line}
+use Rattle.io_edge.proofs.lemmas.LineLemmas.{ended, lines_of-last}
 use Rattle.lock_objects.specs.Objects.{Object}
 use Rattle.script_runner.specs.Faults.{why_of}
 use Rattle.script_runner.specs.LineFaults.{IsKnown, IsLineAt}
@@ -22,16 +24,9 @@ use Rattle.script_runner.specs.Lines.{line_in}
 use Rattle.script_runner.specs.Whole.{IsGood}
 use Rattle.script_runner.specs.declared.runner.Why.{Why}
 use Rattle.script_runner.specs.declared.runner.Why.TheVariants.{BadLine, NoMemory}
-use Rattle.cover_cmd.proofs.MoreBytes.{some_line}
 use Rattle.cover_cmd.specs.Lines.{Adds, Refuses, numbered}
-use Rattle.cover_cmd.specs.Reading.{AreGoodBefore, IsRead, IsReadingEnd, IsUncut}
+use Rattle.cover_cmd.specs.Reading.{AreGoodBefore, IsRead, IsReadingEnd}
 use Rattle.cover_cmd.proofs.Walking.{numbered-push}
-
--- the bytes read so far are whole lines; at the end the last line may lack its end
-abbrev pub IsReadAs : List ℕ → List (List ℕ) → Option (List ℕ) → Standing → Type 0
-IsReadAs bytes lines left Reading = bytes ≡ ended lines
-IsReadAs bytes lines left Ended = (lines_of bytes ≡ lines) × IsAtEnd left
-IsReadAs bytes lines left (Halted fault) = ⊥
 
 -- all lines that were read were walked over
 pub record GoesOn (objects : List Object) (old now : Option (List ℕ)) (f g : ℕ) (reader : LineView) (cover : CoverView) : Type 0 where
@@ -47,9 +42,6 @@ pub record GoesOn (objects : List Object) (old now : Option (List ℕ)) (f g : �
 
 none_all : All IsGood []
 none_all k d lt = absurd (omega arith)
-
-no_lines : All IsLine []
-no_lines k d lt = absurd (omega arith)
 
 -- the reading ended before the end of the script
 abbrev pub Stops : Option (List ℕ) → Option (List ℕ) → ℕ → ℕ → Why → Type 0
@@ -82,80 +74,16 @@ all_lines lines h k d lt = (h k d lt).fits
 all_known : (lines : List (List ℕ)) → All IsGood lines → AllByRecursion IsKnown lines
 all_known lines h = recursion_from_All IsKnown lines (λ k d lt. (h k d lt).known)
 
-whole_lines : (lines : List (List ℕ)) → All IsLine lines → lines_of (ended lines) ≡ lines
-whole_lines lines h = ap lines_of (sym (append-nil (ended lines))) ∙ lines_of-ended lines [] h ∙ append-nil lines
-
--- the lines of bytes that stand behind whole lines
-behind : (bytes taken : List ℕ) (lines later : List (List ℕ)) → bytes ≡ ended lines → All IsLine lines → lines_of taken ≡ later
-    → lines_of (bytes ++ taken) ≡ lines ++ later
-behind bytes taken lines later e all are = ap (λ x. lines_of (x ++ taken)) e ∙ lines_of-ended lines taken all ∙ ap (λ x. lines ++ x) are
-
-one_line : (line : List ℕ) → IsUnbroken line → 0 < length line → lines_of line ≡ line ∷ []
-one_line [] h some = absurd (omega arith)
-one_line (b ∷ line) h some = lines_of-last b line h
-
-lines_push : (lines : List (List ℕ)) (line : List ℕ) → All IsLine lines → IsLine line → All IsLine (lines ++ line ∷ [])
-lines_push lines line h k = All-append IsLine lines (line ∷ []) h (All-cons IsLine line [] k no_lines)
-
 good_push : (lines : List (List ℕ)) (line : List ℕ) → All IsGood lines → IsGood line → All IsGood (lines ++ line ∷ [])
 good_push lines line h k = All-append IsGood lines (line ∷ []) h (All-cons IsGood line [] k none_all)
 
--- a reader that answers anything but the end was reading, and all that was read before are whole lines
-still_reading : (bytes : List ℕ) (lines : List (List ℕ)) (left : Option (List ℕ)) (s : Standing) (r : Result Bool LineFault) → (r ≡ Ok false → ⊥)
-    → IsReadAs bytes lines left s → Repeats s r → (s ≡ Reading) × (bytes ≡ ended lines)
-still_reading bytes lines left Reading r goes h again = (refl, h)
-still_reading bytes lines left Ended r goes h again = absurd (goes again)
-still_reading bytes lines left (Halted fault) r goes h again = absurd h
-
-true_goes : ◌≡◌ {A = Result Bool LineFault} (Ok true) (Ok false) → ⊥
-true_goes e = cc
-
-fault_goes : (fault : LineFault) → ◌≡◌ {A = Result Bool LineFault} (Err fault) (Ok false) → ⊥
-fault_goes fault e = cc
-
--- a line was taken behind whole lines
-taken_as : (bytes taken : List ℕ) (lines : List (List ℕ)) (line : List ℕ) (left : Option (List ℕ)) (s : Standing) → bytes ≡ ended lines
-    → All IsLine lines → IsLine line → IsTakenAs taken line left s
-    → IsReadAs (bytes ++ taken) (lines ++ line ∷ []) left s × (lines_of (bytes ++ taken) ≡ lines ++ line ∷ [])
-taken_as bytes taken lines line left Reading e all fits t =
-    let whole : bytes ++ taken ≡ ended (lines ++ line ∷ []) = ap (λ x. x ++ taken) e ∙ ap (λ x. ended lines ++ x) t ∙ sym (ended-push lines line) in
-    (whole, ap lines_of whole ∙ whole_lines _ (lines_push lines line all fits))
-taken_as bytes taken lines line left Ended e all fits t =
-    let last = ap lines_of t.0 ∙ one_line line fits.unbroken t.1 in
-    let each = behind bytes taken lines (line ∷ []) e all last in
-    ((each, t.2), each)
-taken_as bytes taken lines line left (Halted fault) e all fits t = absurd t
-
 -- one line more was read
-record GotLine (old now : Option (List ℕ)) (f g : ℕ) (lines : List (List ℕ)) (reader : LineView) : Type 0 where
-  bytes : List ℕ
-  read : Consumes old now bytes
-  read_as : IsReadAs bytes (lines ++ reader.line ∷ []) now reader.standing
-  each : lines_of bytes ≡ lines ++ reader.line ∷ []
-  fits : IsLine reader.line
-  number : reader.number ≡ length lines + 1
-  few : reader.number ≤ 200000
-  quiet : g ≡ f
-
 got_line : (objects : List Object) (old now next : Option (List ℕ)) (f g g' : ℕ) (reader reader' : LineView) (cover : CoverView)
     (h : GoesOn objects old now f g reader cover)
     → (reader.standing ≡ Reading → ReadsOn now next g g' reader reader' (Ok true)) → Repeats reader.standing (Ok true)
     → GotLine old next f g' h.lines reader'
 got_line objects old now next f g g' reader reader' cover h reads again =
-    let s = still_reading h.bytes h.lines now reader.standing (Ok true) true_goes h.read_as again in
-    let n = reads s.0 in
-    let line = n.reading.0 in
-    let t = taken_as h.bytes n.taken h.lines reader'.line next reader'.standing s.1 (all_lines h.lines h.good) line.line line.taken_as in
-    record {
-      bytes = h.bytes ++ n.taken;
-      read = Consumes-trans old now next h.bytes n.taken h.read n.consumed;
-      read_as = t.0;
-      each = t.1;
-      fits = line.line;
-      number = line.number ∙ ap (λ k. k + 1) (sym h.number);
-      few = line.bound;
-      quiet = n.reading.1 ∙ h.quiet;
-    }
+    next_line old now next f g g' reader reader' h.bytes h.lines h.read h.read_as (all_lines h.lines h.good) h.number h.quiet reads again
 
 -- a line was read and walked over
 pub goes_on : (objects : List Object) (old now next : Option (List ℕ)) (f g g' n : ℕ) (given : List ℕ) (reader reader' : LineView) (cover cover' : CoverView)
@@ -180,12 +108,6 @@ goes_on objects old now next f g g' n given reader reader' cover cover' h reads 
       walked = subst (λ ls. HasWalked objects ls cover') (sym (numbered-push 0 n h.lines line (omega (arith, place)))) a.1;
       quiet = got.quiet;
     }
-
--- a line that was taken was read to its end
-uncut : (bytes : List ℕ) (lines : List (List ℕ)) (left : Option (List ℕ)) (s : Standing) → IsReadAs bytes lines left s → IsUncut bytes left
-uncut bytes lines left Reading h = inl (ap is_ended h ∙ is_ended-ended lines)
-uncut bytes lines left Ended h = inr h.1
-uncut bytes lines left (Halted fault) h = absurd h
 
 line_at : (n : ℕ) (bytes : List ℕ) (lines later : List (List ℕ)) (line : List ℕ) → lines_of bytes ≡ lines ++ line ∷ later → n ≡ length lines + 1
     → IsLineAt n bytes lines line
@@ -263,9 +185,6 @@ ends_fault objects old now next f g g' reader reader' cover fault why is h reads
       Consumes-trans old now next h.bytes n.taken h.read n.consumed,
       subst (λ w. IsReadingEnd (h.bytes ++ n.taken) next f g' w) (sym is) end,
     )
-
-few_lines : (lines : List (List ℕ)) (n : ℕ) → length lines ≡ n → n ≤ 200000 → length lines ≤ 200000
-few_lines lines n is few = omega (arith, is, few)
 
 -- what the walk says, where all bytes were read
 pub record IsWalked (objects : List Object) (old next : Option (List ℕ)) (f g : ℕ) (cover : CoverView) : Type 0 where

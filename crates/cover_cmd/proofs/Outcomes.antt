@@ -13,7 +13,7 @@ use Rattle.landscape.specs.Reading.{Answers, ReadsLandscape}
 use Rattle.landscape.specs.declared.land_fault.LandFault.{LandFault}
 use Rattle.landscape.specs.declared.land_fault.LandFault.TheVariants as land_fault
 use Rattle.landscape.specs.declared.landscape.Landscape.{Landscape}
-use Rattle.landscape.proofs.Limits.{broken_rules}
+use Rattle.landscape.proofs.lemmas.Limits.{broken_rules}
 use Rattle.lock_objects.specs.Objects.{Object}
 use Rattle.script_runner.specs.LineFaults.{IsToBlame}
 use Rattle.script_runner.specs.Whole.{IsScript}

@@ -1,12 +1,13 @@
 -- How the reading of a script ends whose lines are all looked at before any is told of.
-use Rattle.std.specs.Prelude.{◌≡◌, ◌⊎◌, ℕ, ◌≤◌, true, List, ◌++◌, length, All, Option, Result, Ok, Err}
+use Rattle.std.specs.Prelude.{◌≡◌, ℕ, ◌≤◌, List, ◌++◌, length, All, Option, Result, Ok, Err}
 use Rattle.std.specs.Global.{Vec}
 use Rattle.std.specs.Io.KnownBytes.{Consumes, IsAtEnd}
 use Rattle.std.specs.List.{AllByRecursion}
 use Rattle.coverage.specs.Lacks.{Numbered, lacks}
 use Rattle.coverage.specs.declared.lack.Lack.{Lack}
 use Rattle.enq_base.specs.Causes.{Rose}
-use Rattle.io_edge.specs.Lines.{is_ended, lines_of}
+use Rattle.io_edge.specs.Lines.{lines_of}
+use Rattle.io_edge.specs.Reading.{IsUncut}
 use Rattle.lock_objects.specs.Objects.{Object}
 use Rattle.script_runner.specs.LineFaults.{IsFirstBad, IsFirstLong, IsKnown, IsLineAt}
 use Rattle.script_runner.specs.Whole.{IsGood, IsScript}
@@ -19,10 +20,6 @@ use Rattle.cover_cmd.specs.Texts.{cover_text}
 pub record IsRead (bytes : List ℕ) (left : Option (List ℕ)) : Type 0 where
   pub script : IsScript bytes
   pub end : IsAtEnd left
-
--- the last line that was read was read to its end
-abbrev pub IsUncut : List ℕ → Option (List ℕ) → Type 0
-IsUncut bytes left = (is_ended bytes ≡ true) ⊎ IsAtEnd left
 
 -- there is a line n, and each line before it is in the grammar
 pub record ComesTo (n : ℕ) (bytes : List ℕ) : Type 0 where

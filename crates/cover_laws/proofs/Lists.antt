@@ -5,7 +5,7 @@ use Rattle.std.specs.List.{filter}
 use Rattle.std.specs.Option.{option_map}
 use Rattle.std.proofs.lemmas.Bool.{cases_Bool}
 use Rattle.std.proofs.lemmas.List.Elements.{Contains-append_left, Contains-append_right}
-use Rattle.hall_model.proofs.LockLists.{among_from, contains_from, filter_source, kept_map}
+use Rattle.model_laws.proofs.LockLists.{among_from, contains_from, filter_source, kept_map}
 
 -- ---- where an element stands
 

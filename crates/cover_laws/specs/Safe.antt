@@ -7,7 +7,7 @@ use Rattle.lock_objects.specs.Objects.{Object}
 use Rattle.dialogue_session.specs.Private.{Private}
 use Rattle.number_ranges.specs.declared.interval.Interval.{Interval}
 use Rattle.script_lang.specs.declared.script_line.ScriptLine.{ScriptLine}
-use Rattle.update_records.specs.Ledger.{Ledger, no_ledger}
+use Rattle.update_records.specs.Ledger.{Ledger}
 use Rattle.update_records.specs.declared.records.Unit.{Unit as UnitOfWork}
 use Rattle.hall_model.specs.Kept.{IsKept}
 use Rattle.hall_model.specs.Recall.{AreModelAnswers, Made, calls_of, state_after}
@@ -15,7 +15,7 @@ use Rattle.hall_model.specs.State.{State, opened}
 use Rattle.hall_model.specs.Step.{row_in}
 use Rattle.hall_model.specs.declared.command.PastEntry.{PastEntry}
 use Rattle.script_runner.specs.Lines.{Silent, Shows, Calls, Declines, Changes, meaning, settled}
-use Rattle.script_runner.specs.World.{world}
+use Rattle.script_runner.specs.World.{setting}
 use Rattle.coverage.specs.Lacks.{Numbered}
 use Rattle.cover_laws.specs.Histories.{IsCommitBy, IsDone, IsReadOf, NoneSettles, fails_a_session, is_by, settles}
 use Rattle.cover_laws.specs.Histories.{tries_again}
@@ -34,16 +34,12 @@ pub record IsBegun (first : State) : Type 0 where
   pub order : IsKept first
   pub done : All (λ (u : UnitOfWork). IsDone ledger u.key) ledger.units
 
--- No line of a session looks at the server but by a call, so that it means the same whatever state that has.
-abbrev pub unseen : State
-unseen = opened 0 0 [] true true no_ledger
-
 -- The calls of a session are those that its lines make, one after another, as far as they were done; no line is refused
 -- before its call.
 abbrev pub AreCallsOf : List Object → List Private → List ScriptLine → List PastEntry → Type 0
 AreCallsOf objects sides [] calls = calls ≡ []
 AreCallsOf objects sides (l ∷ ls) calls =
-    (calls ≡ []) ⊎ elim (meaning (world objects unseen sides) l) [
+    (calls ≡ []) ⊎ elim (meaning (setting objects sides) l) [
       | Silent ↦ AreCallsOf objects sides ls calls
       | Shows m ↦ AreCallsOf objects sides ls calls
       | Calls c ↦ elim calls [

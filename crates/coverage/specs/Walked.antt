@@ -13,7 +13,8 @@ use Rattle.coverage.specs.declared.lack.Watch.{Watch}
 use Rattle.coverage.specs.declared.lack.Wish.{Wish}
 use Rattle.coverage.specs.Lacks.{Fate, Numbered, Standing, Waiting, Dropped, Judged, after_line, abandons, commits}
 use Rattle.coverage.specs.Lacks.{fate_of, findings, fresh, is_guarded, is_kept, is_met, is_of, on_table, own_finding}
-use Rattle.coverage.specs.Lacks.{session_of, standing_of, table_read, uneven, wish_of}
+use Rattle.coverage.specs.Lacks.{standing_of, table_read, uneven, wish_of}
+use Rattle.script_lang.specs.Sessions.{session_of}
 
 -- the watch over a wish that still waits
 abbrev pub waiting : (place : ℕ) → Wish → Fate → List Watch

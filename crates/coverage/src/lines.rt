@@ -34,32 +34,6 @@ pub(crate) fn is_wrong(objects: &[LockObject], line: &ScriptLine) -> bool
     }
 }
 
-/// The session of the line.
-pub(crate) fn session_of(line: &ScriptLine) -> Option<Name>
-    ensures { result ≡ lacks.session_of line.now }
-{
-    match line {
-        ScriptLine::Logon { session, .. }
-        | ScriptLine::Logoff { session }
-        | ScriptLine::DeqAll { session }
-        | ScriptLine::Flush { session }
-        | ScriptLine::Reset { session }
-        | ScriptLine::Commit { session }
-        | ScriptLine::Rollback { session }
-        | ScriptLine::Enq { session, .. }
-        | ScriptLine::Deq { session, .. }
-        | ScriptLine::Collect { session, .. }
-        | ScriptLine::Convert { session, .. }
-        | ScriptLine::Num { session, .. }
-        | ScriptLine::Read { session, .. }
-        | ScriptLine::Put { session, .. }
-        | ScriptLine::Ins { session, .. }
-        | ScriptLine::Del { session, .. }
-        | ScriptLine::Add { session, .. } => Some(*session),
-        _ => None,
-    }
-}
-
 /// The variable that hides which row or which lock the line means.
 fn variable_finding(number: u32, line: &ScriptLine) -> Option<Finding>
     ensures { result ≡ lacks.variable_finding (number, line.now) }

@@ -4,17 +4,13 @@ use Rattle.std.specs.Prelude.{◌↔◌, ◌+◌, nat_eq, not, min, take_while, 
 use Rattle.std.specs.List.{position, position_or_len, prefix_len}
 use Rattle.std.proofs.lemmas.Bool.{cases_Bool, ltb-false}
 use Rattle.std.proofs.lemmas.List.{length-take, take_all, take_min}
-use Rattle.lock_entry.proofs.Places.{list_any-position, position-None, position-Some}
+use Rattle.lock_entry.proofs.lemmas.Places.{list_any-position, position-None, position-Some}
 use Rattle.enq_base.specs.Grammar.{is_name, is_name_byte}
 use Rattle.enq_base.specs.declared.refusal.Refusal.{Refusal}
-use Rattle.dialogue_session.specs.Filling.{IsRefusedAs, filled, filled_from, holds_dollar, if_name, joined, name_ahead, name_behind, text_for}
+use Rattle.dialogue_session.specs.Filling.{filled, filled_from, holds_dollar, if_name, joined, name_ahead, name_behind, text_for}
 use Rattle.dialogue_session.specs.declared.variables.Variable.{Variable}
 
 -- ---- texts one behind the other
-
-pub joined-nothing : (r : Result (List ℕ) Refusal) → joined (Ok []) r ≡ r
-joined-nothing (Ok rest) = refl
-joined-nothing (Err r) = refl
 
 joined-twice : (a b : List ℕ) (r : Result (List ℕ) Refusal) → joined (Ok (a ++ b)) r ≡ joined (Ok a) (joined (Ok b) r)
 joined-twice a b (Ok rest) = ap Ok (append_assoc a b rest)
@@ -26,14 +22,6 @@ joined-over a t (Ok b) r h =
     let same : a ++ b ≡ t = cc in
     subst (λ s. joined (Ok s) r ≡ joined (Ok a) (joined (Ok b) r)) same (joined-twice a b r)
 joined-over a t (Err e) r h = absurd (cc)
-
-pub refused-behind : (a : List ℕ) (rule whole : Result (List ℕ) Refusal) (r : Refusal) → joined (Ok a) rule ≡ whole → IsRefusedAs rule r → IsRefusedAs whole r
-refused-behind a rule whole r h (inl e) = inl (sym h ∙ ap (joined (Ok a)) e)
-refused-behind a rule whole r h (inr e) = inr e
-
-refused-first : (rule rest : Result (List ℕ) Refusal) (r : Refusal) → IsRefusedAs rule r → IsRefusedAs (joined rule rest) r
-refused-first rule rest r (inl e) = inl (ap (λ x. joined x rest) e)
-refused-first rule rest r (inr e) = inr e
 
 -- ---- bytes passed over
 
@@ -60,12 +48,6 @@ pub name-step : (vs : List Variable) (b : ℕ) (bytes name old text : List ℕ) 
     → joined (Ok text) (filled_from vs (length name) bytes) ≡ joined (Ok old) (filled vs (b ∷ bytes))
 name-step vs b bytes name old text some known =
     joined-over old text (text_for vs name) (filled_from vs (length name) bytes) known ∙ ap (joined (Ok old)) (sym (ap (next vs b bytes) some))
-
--- a name that isn't known
-pub name-stop : (vs : List Variable) (b : ℕ) (bytes name : List ℕ) (r : Refusal) → name_behind b bytes ≡ Some name → IsRefusedAs (text_for vs name) r
-    → IsRefusedAs (filled vs (b ∷ bytes)) r
-name-stop vs b bytes name r some unknown =
-    subst (λ rule. IsRefusedAs rule r) (sym (ap (next vs b bytes) some)) (refused-first (text_for vs name) (filled_from vs (length name) bytes) r unknown)
 
 -- ---- names
 

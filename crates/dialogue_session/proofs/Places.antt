@@ -4,7 +4,7 @@ use Rattle.std.specs.List.{find, list_any, position, position_or_len}
 use Rattle.std.specs.Option.{option_map}
 use Rattle.std.proofs.lemmas.Bool.{cases_Bool}
 use Rattle.std.proofs.lemmas.Option.{slice_get_read}
-use Rattle.lock_entry.proofs.Places.{position-None, position-Some, position-find_none, position-find_some}
+use Rattle.lock_entry.proofs.lemmas.Places.{position-None, position-Some, position-find_none, position-find_some}
 use Rattle.dialogue_session.specs.Variables.{is_called, text_of, with_text}
 use Rattle.dialogue_session.specs.declared.variables.Variable.{Variable}
 

@@ -4,7 +4,7 @@ use Rattle.std.specs.Prelude.{Some, None}
 use Rattle.enq_base.specs.declared.condition.Condition.TheVariants.{Doubt}
 use Rattle.enq_base.specs.declared.refusal.Refusal.{Refusal}
 use Rattle.enq_base.specs.declared.refusal.Refusal.TheVariants as refusal
-use Rattle.hall_model.proofs.ByCall.{by_stock}
+use Rattle.model_laws.proofs.ByCall.{by_stock}
 use Rattle.hall_laws.proofs.keeping.Unchanged.{Becomes, step_becomes}
 use Rattle.hall_model.specs.Calls.{call_of}
 use Rattle.hall_model.specs.declared.command.Command.{Command}

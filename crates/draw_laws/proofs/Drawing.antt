@@ -6,7 +6,7 @@ use Rattle.std.proofs.lemmas.Bool.{eqb-true}
 use Rattle.std.proofs.lemmas.List.{length-append}
 use Rattle.std.proofs.lemmas.List.Sums.{sum_by-append, sum_by-cons}
 use Rattle.enq_base.specs.declared.unit.Num.{Num}
-use Rattle.module_effects.proofs.Tables.{same_row, same_row-Decides}
+use Rattle.module_effects.proofs.lemmas.Tables.{same_row, same_row-Decides}
 use Rattle.module_effects.specs.Rows.{RowName}
 use Rattle.number_ranges.specs.Intervals.{is_buffered, is_named}
 use Rattle.number_ranges.specs.declared.interval.Interval.{Interval}

@@ -10,11 +10,11 @@ use Rattle.std.specs.Ordering.{eq_by_cmp, nat_cmp}
 use Rattle.std.proofs.lemmas.Bool.{and_parts, eqb-true, leb-true, or_cases}
 use Rattle.std.proofs.lemmas.List.Elements.{All-contains, All-from_recursion}
 use Rattle.std.proofs.lemmas.Iterator.Adapters.{position_from-zero}
-use Rattle.module_effects.proofs.Tables.{same_row-Decides}
+use Rattle.module_effects.proofs.lemmas.Tables.{same_row-Decides}
 use Rattle.module_effects.specs.Rows.{RowName, row_cmp}
 use Rattle.number_ranges.specs.Intervals.{IsInterval, is_buffered, is_named}
 use Rattle.number_ranges.specs.declared.interval.Interval.{Interval}
-use Rattle.ledger_steps.proofs.RowNames.{called_row, first_called}
+use Rattle.draw_laws.proofs.RowNames.{called_row, first_called}
 use Rattle.ledger_steps.specs.Intervals.{interval_of_entry, is_called, keyed}
 use Rattle.update_records.specs.Intervals.{entry_of, level_of, named}
 use Rattle.update_records.specs.Ledger.{Levels}

@@ -13,3 +13,4 @@ pub mod SettledRows
 pub mod StartedRanges
 pub mod Stocks
 pub mod StoredDraws
+pub mod RowNames

@@ -5,7 +5,7 @@ use Rattle.std.specs.FinMap.{get, get-insert, insert}
 use Rattle.std.specs.List.{AllByRecursion, IsDistinct, filter, list_any}
 use Rattle.std.proofs.lemmas.Map.Keys.{IsDistinct-cons}
 use Rattle.enq_base.specs.declared.unit.Num.{Num}
-use Rattle.module_effects.proofs.Tables.{rows_total, same_row, same_row-Decides}
+use Rattle.module_effects.proofs.lemmas.Tables.{rows_total, same_row, same_row-Decides}
 use Rattle.module_effects.specs.Rows.{RowName}
 use Rattle.number_ranges.specs.Intervals.{is_named}
 use Rattle.number_ranges.specs.declared.interval.Interval.{Interval}

@@ -6,7 +6,7 @@ use Rattle.std.specs.List.{All, AllByRecursion, IsDistinct, list_any, range_with
 use Rattle.std.proofs.lemmas.List.Elements.{All-contains, All-contains_itself, All-from_recursion, recursion_from_All}
 use Rattle.std.proofs.lemmas.List.Sums.{count_by-le-length, sum_by-append, sum_by-cons}
 use Rattle.enq_base.specs.declared.unit.Num.{Num}
-use Rattle.module_effects.proofs.Tables.{same_row, same_row-Decides}
+use Rattle.module_effects.proofs.lemmas.Tables.{same_row, same_row-Decides}
 use Rattle.module_effects.specs.Rows.{RowName}
 use Rattle.number_ranges.specs.Intervals.{IsInterval, is_buffered, is_named, with_level}
 use Rattle.number_ranges.specs.declared.interval.Interval.{Interval}

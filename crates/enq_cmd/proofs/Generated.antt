@@ -8,13 +8,13 @@ use Rattle.std.proofs.lemmas.Fmt.{decimal_digit, digits_decimal, length-decimal-
 use Rattle.std.proofs.lemmas.List.{append-nil, length-replicate}
 use Rattle.std.proofs.lemmas.List.Elements.{All-from_recursion, recursion_from_All}
 use Rattle.std.proofs.lemmas.List.Folds.{list_all-append}
-use Rattle.enq_base.proofs.Numbers.{digits_model}
+use Rattle.enq_base.proofs.lemmas.Numbers.{digits_model}
 use Rattle.enq_base.specs.Grammar.{is_digit, is_key_byte, is_name, is_name_byte, is_text_byte}
 use Rattle.enq_base.specs.declared.owner.Scope.TheVariants.{Two}
 use Rattle.io_edge.specs.Lines.{lines_of, onto_first}
 use Rattle.load_gen.specs.Script.{commit_line, header_line, item_line, line_text, lines_by, lines_of_unit, lock_line, logon_line, logon_lines, number_line, order_digits, script_of, session, session_of, statistics_line, text_of, unit_lines, work_lines}
 use Rattle.mode_rules.specs.declared.Mode.TheVariants.{E}
-use Rattle.script_lang.proofs.Again.{line_again}
+use Rattle.script_lang.proofs.lemmas.Again.{line_again}
 use Rattle.script_lang.specs.Spelling.{Spells}
 use Rattle.script_lang.specs.Spelling.{IsLine as IsScriptLine}
 use Rattle.script_lang.specs.declared.script_line.RawValue.{RawValue}

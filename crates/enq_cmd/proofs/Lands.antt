@@ -13,7 +13,7 @@ use Rattle.landscape.specs.Reading.{Answers, ReadsLandscape}
 use Rattle.landscape.specs.declared.land_fault.LandFault.{LandFault}
 use Rattle.landscape.specs.declared.land_fault.LandFault.TheVariants as fault
 use Rattle.landscape.specs.declared.landscape.Landscape.{Landscape}
-use Rattle.landscape.proofs.Limits.{HasLimits, HaveOwnNames, IsRange, broken_rules, read_limits}
+use Rattle.landscape.proofs.lemmas.Limits.{HasLimits, HaveOwnNames, IsRange, broken_rules, read_limits}
 use Rattle.enq_cmd.specs.Main.{IsLandEnd, IsRead, IsUnfitEnd, land_end}
 use Rattle.keeper_api.specs.Rows.{Rows}
 

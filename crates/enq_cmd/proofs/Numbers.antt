@@ -1,35 +1,31 @@
 -- The numbers that are committed stay right, whatever is called.
-use Rattle.std.proofs.Common.{◌≡◌, inl, inr, ℕ, zero, suc, ◌+◌, ◌-◌, ◌≤◌, ◌<◌, ◌||◌, Bool, true, false, not, nat_eq, List, [], ◌∷◌, ◌++◌, Option, Some, None, refl, sym, subst, arith, append-nil}
-use Rattle.std.specs.Prelude.{Contains, IfSome, if◌then◌else◌, nat_le, nat_lt}
-use Rattle.std.specs.FinMap.{empty, get, get-empty}
-use Rattle.std.specs.List.{All, AllByRecursion, IsDistinct, range_with_len}
-use Rattle.std.proofs.lemmas.Bool.{eqb-true}
+use Rattle.std.proofs.Common.{◌≡◌, inl, inr, ℕ, ◌+◌, ◌-◌, ◌≤◌, ◌||◌, Bool, true, false, not, List, [], ◌∷◌, ◌++◌, Option, Some, None, refl, sym, subst, arith, append-nil}
+use Rattle.std.specs.Prelude.{Contains, if◌then◌else◌, nat_le, nat_lt}
+use Rattle.std.specs.FinMap.{empty, get-empty}
 use Rattle.std.proofs.lemmas.Bool.Decides.{nat_tests}
 use Rattle.std.proofs.lemmas.List.Elements.{All-from_recursion}
-use Rattle.std.proofs.lemmas.Map.Keys.{IsDistinct-cons}
 use Rattle.enq_base.specs.declared.owner.UnitKey.{UnitKey}
 use Rattle.enq_base.specs.declared.unit.Num.{Num as Number}
 use Rattle.enq_base.specs.declared.unit.Parts.{Parts}
 use Rattle.number_ranges.specs.Intervals.{block_level, is_buffered, with_level}
 use Rattle.number_ranges.specs.declared.interval.Interval.{Interval}
-use Rattle.ledger_steps.proofs.CommittedNumbers.{numbers_push, numbers_recorded, numbers_same}
+use Rattle.record_laws.proofs.CommittedNumbers.{numbers_push, numbers_recorded, numbers_same}
 use Rattle.ledger_steps.specs.Intervals.{with_intervals, with_levels}
 use Rattle.posting.specs.Numbers.{AreNumbersRight, committed}
+use Rattle.posting.proofs.lemmas.LedgerNumbers.{agreeing}
 use Rattle.ledger_steps.specs.Posts.{kind_for}
 use Rattle.draw_laws.proofs.Drawing.{interval_among, range_found}
 use Rattle.draw_laws.proofs.FittingLevels.{level_fits}
 use Rattle.draw_laws.proofs.OverSessions.{session_may_commit_stock}
-use Rattle.draw_laws.proofs.StoredDraws.{may_raise, none_committed}
+use Rattle.draw_laws.proofs.StoredDraws.{may_raise}
 use Rattle.ledger_steps.specs.Drawn.{handed_out, num_of, settled_rows, stored_as}
 use Rattle.ledger_steps.specs.Levels.{intervals_of, present}
 use Rattle.ledger_steps.specs.declared.range.NumberRange.{NumberRange}
 use Rattle.store_reading.specs.Good.{IsSound}
-use Rattle.update_records.proofs.Status.{none_of}
-use Rattle.update_records.specs.Business.{numbers_from}
+use Rattle.record_laws.proofs.Status.{none_of}
 use Rattle.update_records.specs.Growing.{next_mark, with_mark}
-use Rattle.update_records.specs.Ledger.{AreDrawn, IsRightLevel, Ledger, Levels, LevelsAgree}
+use Rattle.update_records.specs.Ledger.{Ledger, LevelsAgree}
 use Rattle.update_records.specs.Marks.{has_no_v2}
-use Rattle.update_records.specs.RecordRows.{Level}
 use Rattle.update_records.specs.declared.records.MarkKind.{MarkKind}
 use Rattle.update_records.specs.declared.records.MarkKind.TheVariants as mark
 use Rattle.hall_model.specs.declared.command.Command.{Command}
@@ -46,11 +42,11 @@ use Rattle.hall_model.specs.State.{State, opened}
 use Rattle.hall_model.specs.Stocks.{IsStockIn, MayCall}
 use Rattle.hall_model.specs.Step.{Found, Leaves, Refuses, Verdict, call_verdict, committed as recorded, is_taken, numbered, stored_anew, unit_of}
 use Rattle.hall_laws.proofs.starting.FirstKeeps.{AgreeWith, IsFirst}
-use Rattle.hall_model.proofs.ByCall.{CanDraw, OfEach, by_event, by_filing, by_made, by_stock}
+use Rattle.model_laws.proofs.ByCall.{CanDraw, OfEach, by_event, by_filing, by_made, by_stock}
 use Rattle.hall_laws.proofs.keeping.DrawnNumbers.{CommitsNone, post_commits_none}
-use Rattle.hall_model.proofs.BlockLevels.{blocks}
+use Rattle.model_laws.proofs.BlockLevels.{blocks}
 use Rattle.hall_laws.proofs.starting.FirstState.{IsFirstTable, first_few, first_open, first_sound, first_steady}
-use Rattle.hall_model.proofs.NotedCalls.{by_noting}
+use Rattle.model_laws.proofs.NotedCalls.{by_noting}
 use Rattle.hall_laws.proofs.keeping.Unchanged.{verdict_pending}
 use Rattle.hall_laws.proofs.keeping.UnitsToCome.{open_unheard}
 use Rattle.hall_laws.proofs.keeping.InFlight.{HoldsAll, step_all}
@@ -246,66 +242,6 @@ sound_agrees ledger (inr law) = law.levels
 first_agrees : (ledger : Ledger) → IsFirst ledger → Agrees ledger
 first_agrees ledger first = subst Agrees (sym first.2) (sound_agrees first.0 first.1)
 
--- ---- what agreeing levels say
-
-differ : (n k : ℕ) → n < k → nat_eq n k ≡ false
-differ n k less = elim (nat_eq n k) as (λ b. nat_eq n k ≡ b → b ≡ false)
-    [ true ↦ λ e. let same = eqb-true n k e in absurd (omega (arith, same, less)) | false ↦ λ e. refl ] refl
-
-all_past : (n a len : ℕ) → n < a → AllByRecursion (λ k. nat_eq n k ≡ false) (range_with_len a len)
-all_past n a zero less = tt
-all_past n a (suc len) less = (differ n a less, all_past n (a + 1) len (omega (arith, less)))
-
-range_once : (a len : ℕ) → IsDistinct nat_eq (range_with_len a len)
-unfolding IsDistinct
-range_once a zero = tt
-range_once a (suc len) = IsDistinct-cons nat_eq a (range_with_len (a + 1) len) (all_past a (a + 1) len (omega arith)) (range_once (a + 1) len)
-
-range_inside : (low high a len : ℕ) → low ≤ a → a + len ≤ high + 1 → AllByRecursion (λ n. (low ≤ n) × (n ≤ high)) (range_with_len a len)
-range_inside low high a zero from to = tt
-range_inside low high a (suc len) from to = ((from, omega (arith, to)), range_inside low high (a + 1) len (omega (arith, from)) (omega (arith, to)))
-
-drawn_once : (buffered : Bool) (level : Level) (numbers : List ℕ) → AreDrawn buffered level numbers → IsDistinct nat_eq numbers
-drawn_once false level numbers draws = subst (IsDistinct nat_eq) (sym draws) (range_once level.from (level.level + 1 - level.from))
-drawn_once true level numbers draws = draws.0
-
-drawn_inside : (buffered : Bool) (level : Level) (numbers : List ℕ) → level.from ≤ level.level + 1 → AreDrawn buffered level numbers
-    → All (λ n. (level.from ≤ n) × (n ≤ level.level)) numbers
-drawn_inside false level numbers begun draws =
-    subst (All (λ n. (level.from ≤ n) × (n ≤ level.level))) (sym draws)
-    (All-from_recursion (λ n. (level.from ≤ n) × (n ≤ level.level)) (range_with_len level.from (level.level + 1 - level.from))
-    (range_inside level.from level.level level.from (level.level + 1 - level.from) (omega arith) (omega (arith, begun))))
-drawn_inside true level numbers begun draws = draws.1
-
-drawn_run : (level : Level) (numbers : List ℕ) (buffered : Bool) → level.buffered ≡ buffered → AreDrawn level.buffered level numbers → buffered ≡ false
-    → numbers ≡ range_with_len level.from (level.level + 1 - level.from)
-drawn_run level numbers false is draws h = subst (λ b. AreDrawn b level numbers) is draws
-drawn_run level numbers true is draws h = cc
-
-once_by : (levels : Levels) (numbers : List Number) (name : List ℕ × List ℕ) (found : Option Level) → LevelsAgree levels numbers → get levels name ≡ found
-    → IfSome found (IsRightLevel name numbers) → IsDistinct nat_eq (numbers_from name numbers)
-unfolding IsDistinct
-once_by levels numbers name None agree is right = subst (IsDistinct nat_eq) (sym (none_committed levels numbers name agree is)) tt
-once_by levels numbers name (Some level) agree is right = drawn_once level.buffered level (numbers_from name numbers) right.drawn
-
-run_by : (name : List ℕ × List ℕ) (numbers : List Number) (found : Option Level) → IfSome found (IsRightLevel name numbers)
-    → IfSome found (λ level. level.buffered ≡ false → numbers_from name numbers ≡ range_with_len level.from (level.level + 1 - level.from))
-run_by name numbers None right = tt
-run_by name numbers (Some level) right = λ h. drawn_run level (numbers_from name numbers) level.buffered refl right.drawn h
-
-inside_by : (name : List ℕ × List ℕ) (numbers : List Number) (found : Option Level) → IfSome found (IsRightLevel name numbers)
-    → IfSome found (λ level. All (λ n. (level.from ≤ n) × (n ≤ level.level)) (numbers_from name numbers))
-inside_by name numbers None right = tt
-inside_by name numbers (Some level) right = drawn_inside level.buffered level (numbers_from name numbers) right.begun right.drawn
-
-agreed_right : (ledger : Ledger) → Agrees ledger → AreNumbersRight ledger
-agreed_right ledger agree = record {
-  once = λ name. once_by ledger.levels (committed ledger) name (get ledger.levels name) agree refl (agree.right name);
-  consecutive = λ name. run_by name (committed ledger) (get ledger.levels name) (agree.right name);
-  within = λ name. inside_by name (committed ledger) (get ledger.levels name) (agree.right name);
-  stored = agree.stored;
-}
-
 -- ---- whole histories
 
 reached : (limit mark_limit : ℕ) (intervals : List Interval) (told linked : Bool) (ledger : Ledger) (made : List Made) → IsFirstTable limit ledger
@@ -333,7 +269,7 @@ pub numbers_right : (limit mark_limit : ℕ) (intervals : List Interval) (told l
     → mark_limit ≤ 1048576 → AgreeWith intervals ledger → IsFirst ledger → AnswersFrom (opened limit mark_limit intervals told linked ledger) made
     → AreNumbersRight (state_after (opened limit mark_limit intervals told linked ledger) made).stored
 numbers_right limit mark_limit intervals told linked ledger made fits limited agree first answers =
-    agreed_right (state_after (opened limit mark_limit intervals told linked ledger) made).stored
+    agreeing (state_after (opened limit mark_limit intervals told linked ledger) made).stored
     (reached limit mark_limit intervals told linked ledger made fits limited agree first answers).agreed
 
 -- and while the server is up, where the locks can be told from the calls, those that were handed over are just those of the units that wait

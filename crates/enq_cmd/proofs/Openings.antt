@@ -24,7 +24,7 @@ use Rattle.ledger_steps.specs.Views.{open_locks}
 use Rattle.ledger_steps.specs.Levels.{fits}
 use Rattle.store_reading.specs.Good.{IsBadPlace}
 use Rattle.update_records.specs.Ledger.{IsGood, Ledger}
-use Rattle.hall_calls.proofs.restarting.StoreRead.{bad_is_not_good}
+use Rattle.hall_calls.proofs.lemmas.StoreRead.{bad_is_not_good}
 use Rattle.hall_model.specs.declared.command.PastEntry.{PastEntry}
 use Rattle.hall.specs.declared.opening.HallFault.{HallFault}
 use Rattle.hall.specs.declared.opening.HallFault.TheVariants as fault

@@ -12,13 +12,13 @@ use Rattle.enq_base.specs.declared.condition.BackupBad.{BackupBad}
 use Rattle.hall_model.specs.declared.command.PastEntry.{PastEntry}
 use Rattle.hall_model.specs.declared.command.Reply.{Reply}
 use Rattle.keeper_api.specs.Rows.{Rows}
-use Rattle.landscape.proofs.Limits.{read_limits}
+use Rattle.landscape.proofs.lemmas.Limits.{read_limits}
 use Rattle.landscape.specs.declared.landscape.Landscape.{Landscape}
 use Rattle.lock_entry.specs.declared.entry.Entry.{Entry}
 use Rattle.lock_objects.specs.Objects.{Object}
 use Rattle.update_records.specs.Ledger.{Ledger}
 use Rattle.hall_model.specs.Unsound.{is_unsound_file, is_unsound_replica, is_unsound_store}
-use Rattle.script_runner.proofs.Kept.{same_counts}
+use Rattle.script_runner.proofs.lemmas.Kept.{same_counts}
 use Rattle.script_runner.specs.Counts.{CountsCalls, file_fails_in_call, store_fails_in_call}
 use Rattle.script_runner.specs.Faults.{NoneTells, NoneUnsound, NoneUnsoundReplica, NoneUnsoundStore, TellsNoFault, is_link_fault}
 use Rattle.script_runner.specs.Replay.{RunsScript, Seen, seen}

@@ -15,7 +15,7 @@ use Rattle.hall_model.specs.State.{State, is_honest}
 use Rattle.hall_model.specs.Views.{unless_in_doubt}
 use Rattle.hall_laws.proofs.starting.FirstKeeps.{AgreeWith}
 use Rattle.hall_laws.proofs.starting.FirstState.{IsFirstTable}
-use Rattle.hall_calls.proofs.lists.GoodFiles.{no_bad_place}
+use Rattle.hall_calls.proofs.lemmas.GoodFiles.{no_bad_place}
 use Rattle.hall_laws.proofs.histories.FlaggedSessions.{just_losers}
 use Rattle.hall_laws.proofs.histories.ToldLosers.{losers_told}
 use Rattle.hall_laws.proofs.histories.StandingLocks.{locks_return, locks_stand, stays_sound}
@@ -24,14 +24,14 @@ use Rattle.script_runner.specs.declared.runner.Why.{Why}
 use Rattle.script_runner.specs.declared.runner.Why.TheVariants.{Done, BadWords, BadLandscape, BadLine, SourceFault, SinkFault, LongLine, ManyLines, StoreFault, BackupFault, BadStore, BadBackup, NoStart, NoMemory, LogFull}
 use Rattle.lock_objects.specs.Objects.{Object}
 use Rattle.landscape.specs.declared.landscape.Landscape.{Landscape}
-use Rattle.landscape.proofs.Limits.{HasLimits}
+use Rattle.landscape.proofs.lemmas.Limits.{HasLimits}
 use Rattle.ledger_steps.specs.Levels.{FitRows}
 use Rattle.script_runner.specs.Counts.{CountsCalls, file_fails_in_call, store_fails_in_call}
 use Rattle.script_runner.specs.Replay.{RunsLines, RunsScript, Seen, HasBadCause, IsFoundBad, doubt_of}
 use Rattle.script_runner.specs.Run.{Turn, begun}
-use Rattle.script_runner.proofs.MadeCalls.{Leads, run_leads}
+use Rattle.script_runner.proofs.lemmas.MadeCalls.{Leads, run_leads}
 use Rattle.script_runner.specs.World.{World, first_world}
-use Rattle.script_runner.proofs.GoodFiles.{answer_sound, never_met}
+use Rattle.script_runner.proofs.lemmas.GoodFiles.{answer_sound, never_met}
 use Rattle.script_runner.specs.Faults.{NoneTells, NoneUnsound, NoneUnsoundReplica, NoneUnsoundStore}
 use Rattle.script_runner.specs.Whole.{IsComplete, IsScript}
 use Rattle.enq_cmd.specs.Main.{AreServed, EndsComplete, HadHanded, HasHanded, IsFaultless, IsGoodFile, IsLedgerBy, IsLedgerOf, IsNextOf, IsServed, Ran, SiteFound, SiteLeft, SurvivesStop, first_state, made_from}

@@ -16,7 +16,7 @@ use Rattle.hall_model.specs.declared.command.Reply.{Reply}
 use Rattle.hall_model.specs.declared.command.Reply.TheVariants as reply
 use Rattle.keeper_api.specs.Rows.{Rows}
 use Rattle.lock_objects.specs.Objects.{Object}
-use Rattle.script_runner.proofs.GoodFiles.{answer_sound}
+use Rattle.script_runner.proofs.lemmas.GoodFiles.{answer_sound}
 use Rattle.script_runner.specs.Faults.{NoneTells, NoneUnsound, NoneUnsoundStore}
 use Rattle.script_runner.specs.Replay.{IsDoubtedBy, Seen}
 use Rattle.script_runner.specs.declared.runner.Why.{Why}

@@ -4,7 +4,7 @@ use Rattle.std.specs.Prelude.{IfNone}
 use Rattle.std.specs.Str.{bytes_eq}
 use Rattle.std.proofs.lemmas.Fmt.{decimal_injective}
 use Rattle.enq_cmd.specs.Running.{ReadsScript, RunsWords}
-use Rattle.enq_cmd.specs.Words.{IsCount, IsCrew, NamesNone, NamesWork, OpensStore, cover_words, gen_words, load_words, replay_words, run_words, run_words_joined}
+use Rattle.enq_cmd.specs.Words.{IsCount, IsCrew, NamesNone, NamesWork, cover_words, gen_words, load_words, replay_words, run_words, run_words_joined}
 use Rattle.enq_cmd.specs.declared.words.Work.TheVariants.{Replays, Generates, Loads, Runs, Covers}
 
 second_is : (a b c d : List ℕ) → ◌≡◌ {A = List (List ℕ)} (a ∷ b ∷ []) (c ∷ d ∷ []) → b ≡ d
@@ -98,11 +98,6 @@ cover_not_gen words n is also = first_apart words cover_words (gen_words n) is a
 pub cover_not_load : (words : List (List ℕ)) (n : ℕ) → words ≡ cover_words → NamesWork words (Loads n) → ⊥
 cover_not_load words n is also = first_apart words cover_words (load_words n) is also.1 refl refl
 
-pub cover_opens_none : (words : List (List ℕ)) → words ≡ cover_words → OpensStore words → ⊥
-cover_opens_none words is (inl also) = cover_not_replay words is also
-cover_opens_none words is (inr (inl (n, also))) = cover_not_load words n is also
-cover_opens_none words is (inr (inr runs)) = covers_alone words is runs
-
 -- ---- words that name nothing
 
 -- two words, the first of which is run, name nothing but work for threads
@@ -113,31 +108,6 @@ none_joined last none (Loads n) h = let wrong : true ≡ false = ap (is_first (c
 none_joined last none Covers e = let wrong : ◌≡◌ {A = ℕ} 2 1 = ap length e in absurd cc
 none_joined last none (Runs n) (crew, inl is) = let wrong : ◌≡◌ {A = ℕ} 2 3 = ap length is in absurd cc
 none_joined last none (Runs n) (crew, inr is) = none n crew (second_is _ _ _ _ is)
-
--- three words that don't begin so name nothing
-pub none_three : (word option count : List ℕ) → ((n : ℕ) → IsCrew n → ◌≢◌ {A = List (List ℕ)} (word ∷ option ∷ count ∷ []) (run_words n))
-    → NamesNone (word ∷ option ∷ count ∷ [])
-none_three word option count none Replays e = let wrong : ◌≡◌ {A = ℕ} 3 1 = ap length e in absurd cc
-none_three word option count none (Generates n) h = let wrong : ◌≡◌ {A = ℕ} 3 2 = ap length h.1 in absurd cc
-none_three word option count none (Loads n) h = let wrong : ◌≡◌ {A = ℕ} 3 2 = ap length h.1 in absurd cc
-none_three word option count none Covers e = let wrong : ◌≡◌ {A = ℕ} 3 1 = ap length e in absurd cc
-none_three word option count none (Runs n) (crew, inl is) = none n crew is
-none_three word option count none (Runs n) (crew, inr is) = let wrong : ◌≡◌ {A = ℕ} 3 2 = ap length is in absurd cc
-
-first_three : (a b c d e f : List ℕ) → ◌≡◌ {A = List (List ℕ)} (a ∷ b ∷ c ∷ []) (d ∷ e ∷ f ∷ []) → a ≡ d
-first_three a b c d e f h = cc
-
-second_three : (a b c d e f : List ℕ) → ◌≡◌ {A = List (List ℕ)} (a ∷ b ∷ c ∷ []) (d ∷ e ∷ f ∷ []) → b ≡ e
-second_three a b c d e f h = cc
-
-pub none_spaced : (count : List ℕ) → ((n : ℕ) → IsCrew n → count ≢ decimal n) → NamesNone (codes "run" ∷ codes "--workers" ∷ count ∷ [])
-none_spaced count none = none_three (codes "run") (codes "--workers") count (λ n crew e. none n crew (third_is _ _ _ _ _ _ e))
-
-pub other_word : (word option count : List ℕ) → word ≢ codes "run" → NamesNone (word ∷ option ∷ count ∷ [])
-other_word word option count other = none_three word option count (λ n crew e. other (first_three _ _ _ _ _ _ e))
-
-pub other_option : (word option count : List ℕ) → option ≢ codes "--workers" → NamesNone (word ∷ option ∷ count ∷ [])
-other_option word option count other = none_three word option count (λ n crew e. other (second_three _ _ _ _ _ _ e))
 
 pub runs_none : (words : List (List ℕ)) → NamesNone words → RunsWords words → ⊥
 runs_none words none runs = none (Runs runs.0) runs.1

@@ -29,8 +29,8 @@ use Rattle.lock_entry.specs.declared.entry.LockName.{LockName}
 use Rattle.lock_entry.specs.declared.entry.Request.{Request}
 use Rattle.lock_entry.specs.declared.fault.AskFault.{AskFault}
 use Rattle.lock_entry.specs.declared.fault.AskFault.TheVariants as ask
-use Rattle.lock_entry.proofs.Lists.{count_by-any, length-filter_le, list_any-filter, list_any-weaken}
-use Rattle.lock_entry.proofs.Naming.{same_name-refl, same_name-same}
+use Rattle.lock_entry.proofs.lemmas.Lists.{count_by-any, length-filter_le, list_any-filter, list_any-weaken}
+use Rattle.lock_entry.proofs.lemmas.Naming.{same_name-refl, same_name-same}
 use Rattle.replica_link.specs.Operations.{replica}
 use Rattle.replica_link.specs.Shipping.{drop_of, freed_ops, granted_ops, lowered_op, owner_ops, put_ops, turn_ops}
 use Rattle.replica_link.specs.declared.operation.TableOp.{TableOp}

@@ -16,9 +16,9 @@ use Rattle.lock_entry.specs.declared.fault.AskFault.TheVariants as ask
 use Rattle.replica_link.specs.Operations.{replica}
 use Rattle.replica_link.specs.Shipping.{drop_of, granted_ops, owner_ops, turn_ops}
 use Rattle.replica_link.specs.declared.operation.TableOp.TheVariants.{Put}
-use Rattle.replica_link.proofs.Converts.{converted_ops-conversion}
-use Rattle.replica_link.proofs.Drops.{replica-append}
-use Rattle.replica_link.proofs.Grants.{granted_ops-granted, readmitted_ops-readmitted}
+use Rattle.replica_link.proofs.lemmas.Converts.{converted_ops-conversion}
+use Rattle.replica_link.proofs.lemmas.Drops.{replica-append}
+use Rattle.replica_link.proofs.lemmas.Grants.{granted_ops-granted, readmitted_ops-readmitted}
 
 unbarred : {X : Type 0} (b : Option Entry) (r : Result X AskFault) (x : X) → unless_barred b r ≡ Ok x → r ≡ Ok x
 unbarred None r x h = h

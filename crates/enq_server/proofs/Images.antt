@@ -1,14 +1,14 @@
 -- What a crash leaves of the lists in a file that is opened.
 use Rattle.std.proofs.Common.{ℕ, List, [], sym, subst}
 use Rattle.bk_disk.specs.Disk.{Follows}
-use Rattle.gate_log.proofs.Logs.{stands_once, stands_unbroken}
+use Rattle.gate_log.proofs.lemmas.Logs.{stands_once, stands_unbroken}
 use Rattle.lock_entry.specs.declared.entry.UnitLocks.{UnitLocks}
 use Rattle.backup_file.specs.File.{Keeps, Stands, grammar}
 use Rattle.backup_file.specs.Reading.{record_at}
 use Rattle.backup_file.specs.declared.fault.BackFault.{BackFault}
 use Rattle.backup_file.specs.declared.fault.BackFault.TheVariants as back
 use Rattle.backup_file.specs.declared.handed.Handed.{Handed}
-use Rattle.backup_file.proofs.Records.{record_reader}
+use Rattle.backup_file.proofs.lemmas.Records.{record_reader}
 use Rattle.enq_server.specs.Faults.{Leaves, opening_fault}
 use Rattle.enq_server.specs.Recovery.{FreesOthers, StandsLess}
 use Rattle.enq_server.proofs.Others.{left_none}

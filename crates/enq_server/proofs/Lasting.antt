@@ -5,16 +5,15 @@ use Rattle.std.proofs.lemmas.Bool.{leb-true}
 use Rattle.std.proofs.lemmas.List.{length-map}
 use Rattle.enq_base.specs.declared.owner.Owner.TheVariants.{Upd}
 use Rattle.enq_base.specs.declared.owner.UnitKey.{UnitKey}
-use Rattle.mode_rules.specs.declared.Mode.{Mode}
-use Rattle.mode_rules.specs.declared.Mode.TheVariants.{S, E, X, O}
+use Rattle.mode_rules.specs.declared.Mode.TheVariants.{O}
 use Rattle.mode_rules.specs.Modes.{same_mode}
-use Rattle.lock_entry.proofs.Lists.{list_all-filter_self}
-use Rattle.lock_entry.proofs.Naming.{same_owner-same}
-use Rattle.lock_entry.proofs.Sounds.{IsSound-filter}
+use Rattle.lock_entry.proofs.lemmas.Lists.{list_all-filter_self}
+use Rattle.lock_entry.proofs.lemmas.Naming.{same_owner-same}
+use Rattle.lock_laws.proofs.Sounds.{IsSound-filter}
 use Rattle.lock_entry.specs.Names.{has_distinct_names, is_of, names_differ}
 use Rattle.lock_entry.specs.Sound.{IsSound, has_count}
 use Rattle.lock_entry.specs.declared.entry.Entry.{Entry}
-use Rattle.backup_file.specs.Spelling.{mode_byte}
+use Rattle.mode_rules.proofs.lemmas.ModeNumbers.{lasts}
 use Rattle.backup_file.specs.File.{Stands}
 use Rattle.backup_file.specs.Handing.{IsHandable, MayBeHanded, handed_of}
 use Rattle.backup_file.specs.Lists.{after}
@@ -29,12 +28,6 @@ first_of false b h = h
 second_of : (a b : Bool) → (a && b) ≡ true → b ≡ true
 second_of true b h = h
 second_of false b h = cc
-
-lasts : (m : Mode) → not (same_mode m O) ≡ true → 0 < mode_byte m
-lasts S h = omega arith
-lasts E h = omega arith
-lasts X h = omega arith
-lasts O h = cc
 
 handed : (unit : UnitKey) (e : Entry) → is_lasting unit e ≡ true → has_count e ≡ true → MayBeHanded unit e
 handed unit e own count = record {

@@ -2,10 +2,8 @@ pub mod Others
 pub mod Differences
 pub mod Images
 pub mod Lasting
-pub mod Listed
-pub mod Known
-pub mod Following
 pub mod Copies
-pub mod Held
 pub mod Stores
 pub mod Changed
+pub mod Readmitted
+pub mod lemmas

@@ -8,7 +8,7 @@ use Rattle.enq_base.specs.declared.owner.UnitKey.{UnitKey}
 use Rattle.backup_file.specs.File.{Stands}
 use Rattle.backup_file.specs.Lists.{has_unit, without}
 use Rattle.backup_file.specs.declared.handed.Handed.{Handed}
-use Rattle.backup_file.proofs.Units.{flipped, itself, same_key}
+use Rattle.backup_file.proofs.lemmas.Units.{flipped, itself, same_key}
 use Rattle.enq_server.specs.Recovery.{StandsLess, is_among, is_one_of, left, lists_among, stays}
 
 -- the units of these lists
@@ -64,11 +64,6 @@ unneeded true g r h = refl
 unneeded false true r h = refl
 unneeded false false true h = let odd : false ≡ true = h refl in cc
 unneeded false false false h = refl
-
-absorbed : (a n : Bool) → ((a || n) && a) ≡ a
-absorbed true n = refl
-absorbed false true = refl
-absorbed false false = refl
 
 -- a list of another unit goes
 pub left_freed : (units : List UnitLocks) (gone : List UnitKey) (l : List Handed) (u : UnitKey) → is_one_of units u ≡ false
@@ -134,13 +129,6 @@ filter_all p (x ∷ xs) all = ap (λ b. cond b (x ∷ filter p xs) (filter p xs)
 -- at first all stand
 pub left_none : (units : List UnitLocks) (l : List Handed) → left units [] l ≡ l
 left_none units l = filter_all (stays units []) l (λ h. or_true (is_one_of units h.unit))
-
--- the lists of these units stand all the time
-pub left_keeps : (units : List UnitLocks) (gone : List UnitKey) (l : List Handed) → lists_among units (left units gone l) ≡ lists_among units l
-left_keeps units gone l =
-    filter_twice (λ (h : Handed). is_one_of units h.unit) (stays units gone) l
-    ∙ filter_alike (λ (h : Handed). stays units gone h && is_one_of units h.unit) (λ (h : Handed). is_one_of units h.unit) l
-    (λ h. absorbed (is_one_of units h.unit) (not (is_among h.unit gone)))
 
 pub taken_units : (l : List Handed) (i : ℕ) (h : Handed) → i < length l → h ≡ get_or l i h → units_of (take (i + 1) l) ≡ units_of (take i l) ++ h.unit ∷ []
 taken_units l i h low is =

@@ -9,10 +9,10 @@ use Rattle.enq_base.specs.declared.owner.UnitKey.{UnitKey}
 use Rattle.lock_entry.specs.declared.entry.Entry.{Entry}
 use Rattle.lock_entry.specs.declared.entry.UnitLocks.{UnitLocks}
 use Rattle.backup_file.specs.File.{IsBad, Stands}
-use Rattle.backup_file.specs.Ids.{id_of, same_id}
+use Rattle.enq_base.specs.Ids.{id_of, same_id}
 use Rattle.backup_file.specs.Lists.{is_known}
 use Rattle.backup_file.specs.declared.handed.Handed.{Handed}
-use Rattle.backup_file.specs.declared.ids.UnitId.{UnitId}
+use Rattle.enq_base.specs.declared.unit_id.UnitId.{UnitId}
 
 -- the unit is one of these
 abbrev pub is_one_of : List UnitLocks → UnitKey → Bool

@@ -1,5 +1,6 @@
 -- A lock table and its backup file.
-use Rattle.std.specs.Prelude.{ℕ, ◌≡◌, Bool, ◌&&◌, not, [], ◌∷◌, ◌++◌, List, length, if◌then◌else◌, map, nat_le, Ok, Option}
+use Rattle.std.specs.Prelude.{ℕ, ◌≡◌, ◌≤◌, Bool, ◌&&◌, not, [], ◌∷◌, ◌++◌, List, length, if◌then◌else◌, map, nat_le}
+use Rattle.std.specs.Prelude.{Ok, Option, Some, None}
 use Rattle.std.specs.List.{All, filter}
 use Rattle.std.specs.Option.{option_map_or}
 use Rattle.enq_base.specs.declared.owner.Owner.{Owner}
@@ -15,7 +16,7 @@ use Rattle.lock_entry.specs.declared.entry.Asked.{Asked}
 use Rattle.lock_entry.specs.declared.entry.Asker.{Asker}
 use Rattle.lock_entry.specs.declared.entry.Entry.{Entry}
 use Rattle.lock_entry.specs.declared.entry.UnitLocks.{UnitLocks}
-use Rattle.backup_file.specs.Backup.{BackupView, IsReady}
+use Rattle.backup_file.specs.Backup.{BackupView, IsHandFor, IsReady, ReadyView}
 use Rattle.backup_file.specs.File.{Stands}
 use Rattle.backup_file.specs.Handing.{handed_of}
 use Rattle.backup_file.specs.Lists.{after}
@@ -81,6 +82,11 @@ of_user user entries = map (with_user user) entries
 abbrev pub with_list : UnitKey → List Entry → List Handed → List Handed
 with_list unit [] l = l
 with_list unit (e ∷ es) l = after l (Hand (handed_of unit (e ∷ es)))
+
+-- ready to be written is the unit's list, and nothing where it has no entries
+abbrev pub IsListFor : UnitKey → List Entry → Option ReadyView → Type 0
+IsListFor unit entries None = entries ≡ []
+IsListFor unit entries (Some ready) = (1 ≤ length entries) × IsHandFor unit entries ready
 
 -- the given entries stand in place of the owner's, behind those of the others
 abbrev pub put_back : List Entry → Owner → List Entry → List Entry

@@ -2,12 +2,12 @@ ghost use Rattle.std.specs.Prelude.{◌≡◌, ◌||◌, Option, Some, OnOk, IfO
 ghost use Rattle.std.specs.HashMap.{get};
 ghost use Rattle.enq_base.specs.Owners.{same_unit};
 ghost use Rattle.enq_base.specs.declared.owner.UnitKey.{UnitKey};
-ghost use Rattle.backup_file.specs.Ids.{id_of, same_id};
+ghost use Rattle.enq_base.specs.Ids.{id_of, same_id};
 ghost use Rattle.backup_file.specs.Lists.{is_known};
 ghost use Rattle.enq_server.specs.Recovery.{AreKnown, ArePlaces, entries_at};
 
-use backup_file::{Handed, UnitId, id_of};
-use enq_base::{NoMemory, UnitKey};
+use backup_file::Handed;
+use enq_base::{NoMemory, UnitId, UnitKey, id_of};
 use lock_entry::{Entry, UnitLocks};
 use std::alloc::Global;
 use std::collections::{HashMap, HashSet};

@@ -13,9 +13,9 @@ ghost use Rattle.enq_server.specs.Server.{IsRecovered, larger, recovered, replic
 
 use crate::fault::OpenFault;
 use crate::places::{entries_of, is_known, known_units, places_of};
-use backup_file::{Backup, Handed, UnitId};
+use backup_file::{Backup, Handed};
 use bk_disk::Disk;
-use enq_base::{BackupBad, Failed, NoMemory, UnitKey};
+use enq_base::{BackupBad, Failed, NoMemory, UnitId, UnitKey};
 use lock_entry::{Entry, LoadFault, LockStore, UnitLocks};
 use std::alloc::Global;
 use std::collections::{HashMap, HashSet};

@@ -22,7 +22,9 @@ ghost use Rattle.backup_file.specs.declared.handed.Handed.{Handed};
 ghost use Rattle.enq_server.specs.Faults.{CountsFault, HasCallCause, IsOpenFault, IsReadmission, IsRefusal, Leaves, OnBytes};
 ghost use Rattle.enq_server.specs.declared.fault.ServerFault.TheVariants as server;
 ghost use Rattle.enq_server.specs.Recovery.{AreKnown, AreWith, AreWithout, FreesOthers, locking};
-ghost use Rattle.enq_server.specs.Server.{IsConverted, IsRecovered, lasting, no_table, of_user, put_back, recovered, replicated, table_of, with_list};
+ghost use Rattle.enq_server.specs.Server.{IsConverted, IsListFor, IsRecovered, lasting, no_table, of_user, put_back, recovered, replicated, table_of, with_list};
+ghost use Rattle.enq_base.specs.declared.owner.UnitKey.{UnitKey};
+ghost use Rattle.lock_entry.specs.declared.entry.Entry.{Entry};
 
 use crate::fault::{OpenFault, OverFault, ServerFault};
 use crate::follower::Follower;
@@ -31,7 +33,7 @@ use crate::shipping::{
     hand, ship_drops, ship_freed, ship_granted, ship_owner, ship_readmitted, ship_turns,
 };
 use crate::wreck::Wreck;
-use backup_file::{Backup, WriteFault};
+use backup_file::{Backup, ReadyHand, WriteFault};
 use bk_disk::Disk;
 use enq_base::{Failed, Name, NoMemory, Owner, UnitKey};
 use lock_entry::{Asked, Asker, Entry, LockStore, Mode, Request, UnitLocks};
@@ -425,15 +427,27 @@ impl<T: LockStore, D: Disk, L: Link> EnqServer<T, D, L> {
         ensures copy { KeepsOn L.applied L.faults L.refusals self.old.copy self.new.copy }
         ensures lost { IsLostWith self.old.copy self.new.copy self.old.table self.new.table }
     {
-        let own = self.entries_of(alloc, &asker.update)?;
-        if entries.is_empty() {
-            self.grant_again(alloc, asker, entries, own.as_slice())?;
-            return Ok(());
+        let Ok(own) = self.entries_of(alloc, &asker.update) else {
+            return Err(ServerFault::NoMemory);
+        };
+        let Ok(ready) = self.ready_list(alloc, unit, entries) else {
+            drop(own);
+            return Err(ServerFault::NoMemory);
+        };
+        match self.grant_again(alloc, asker, entries, own.as_slice()) {
+            Ok(()) => {
+                drop(own);
+                match self.write_list(ready) {
+                    Ok(()) => Ok(()),
+                    Err(_) => Err(ServerFault::Failed),
+                }
+            }
+            Err(fault) => {
+                drop(own);
+                drop(ready);
+                Err(fault)
+            }
         }
-        let ready = self.rest.backup.ready_hand(alloc, unit, entries)?;
-        self.grant_again(alloc, asker, entries, own.as_slice())?;
-        self.rest.backup.write_hand(ready)?;
-        Ok(())
     }
 
     /// Frees the unit's list in the file, where it stands, and then removes the entries of its update owner. After
@@ -463,6 +477,58 @@ impl<T: LockStore, D: Disk, L: Link> EnqServer<T, D, L> {
         }
         self.free_owner(&Owner::Upd(*unit));
         Ok(())
+    }
+
+    /// Takes the memory that the writing of the unit's list needs, where it has entries. Nothing is written.
+    fn ready_list(
+        &mut self,
+        alloc: Global,
+        unit: &UnitKey,
+        entries: &[Entry],
+    ) -> Result<Option<ReadyHand>, NoMemory>
+        requires { 1 ≤ length entries.now → IsHandable unit.now entries.now }
+        ensures ready { IfOk result (IsListFor unit.now entries.now) }
+        ensures room { IfOk result (λ ready. IfSome ready (λ _. 1 ≤ self.new.file.room)) }
+        ensures standing { self.new.stands ≡ self.old.stands }
+        ensures table { self.new.table ≡ self.old.table }
+        ensures file { IsSame self.old.file self.new.file }
+        ensures copy { self.new.copy ≡ self.old.copy }
+    {
+        if entries.is_empty() {
+            return Ok(None);
+        }
+        match self.rest.backup.ready_hand(alloc, unit, entries) {
+            Ok(ready) => Ok(Some(ready)),
+            Err(_) => Err(NoMemory),
+        }
+    }
+
+    /// Writes a unit's list that was made ready, where there is one. It takes no memory.
+    fn write_list(&mut self, ready: Option<ReadyHand>) -> Result<(), Failed>
+        requires usable { self.old.file.failed ≡ false }
+        requires room { IfSome ready (λ _. 1 ≤ self.old.file.room) }
+        ensures standing { self.new.stands ≡ self.old.stands }
+        ensures table { self.new.table ≡ self.old.table }
+        ensures copy { self.new.copy ≡ self.old.copy }
+        ensures listed { IsTrue D.tells → (unit : UnitKey) (entries : List Entry) → IsListFor unit entries ready
+            → (l : List Handed) → IsReady D.reads D.may_leave self.old.file l
+            → OnOk result (IsReady D.reads D.may_leave self.new.file (with_list unit entries l)) }
+        ensures images { IsTrue D.tells → (unit : UnitKey) (entries : List Entry) → IsListFor unit entries ready
+            → (l : List Handed) → IsReady D.reads D.may_leave self.old.file l
+            → (c : List ℕ) → D.may_leave self.new.file.disk c
+            → Stands c l ⊎ Stands c (with_list unit entries l) }
+        ensures known { (unit : UnitKey) (entries : List Entry) → IsListFor unit entries ready
+            → OnOk result (AreWith unit entries self.old.file.units self.new.file.units) }
+        ensures some { (unit : UnitKey) (entries : List Entry) → IsListFor unit entries ready
+            → OnErr result (1 ≤ length entries) }
+        ensures usable { OnOk result (self.new.file.failed ≡ false) }
+        ensures failed { OnErr result (self.new.file.failed ≡ true) }
+        ensures cause { HasCause (D.faults self.old.file.disk) (D.faults self.new.file.disk) result }
+    {
+        match ready {
+            Some(ready) => self.rest.backup.write_hand(ready),
+            None => Ok(()),
+        }
     }
 
     /// Grants the entries in place of those of the update owner, which are these, and ships that.

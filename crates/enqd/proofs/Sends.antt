@@ -10,7 +10,6 @@ use Rattle.sqlite_schema.specs.contracts.schema.Schema as schema
 use Rattle.sqlite.specs.contracts.history.Mark as mark
 use Rattle.sqlite.specs.contracts.history.History as history
 use Rattle.sqlite_schema.specs.contracts.code.Op as op
-use Rattle.sqlite_schema.specs.contracts.plan.Scan as scan
 use Rattle.sqlite_schema.specs.contracts.plan.Stage as stage
 use Rattle.sqlite_schema.specs.contracts.plan.Groups as groups
 use Rattle.sqlite_schema.specs.contracts.plan.Plan as plan
@@ -27,6 +26,7 @@ use Rattle.sqlite.specs.contracts.run.reading.Reading as reading
 use Rattle.sqlite_exec.specs.contracts.work.Workspace as work
 use Rattle.sqlite_value.specs.contracts.row.Row as srow
 use Rattle.sqlite.specs.contracts.clock.WallClock as clock
+use Rattle.keeper_sqlite.specs.contracts.file_connection.FileConnection as held
 use Rattle.keeper_sqlite.specs.contracts.sqlite_keeper.SqliteKeeper as keeper
 use Rattle.sqlite.specs.contracts.connection.Connection as connection
 use Rattle.sqlite_store.specs.contracts.store.FileStore as store
@@ -49,9 +49,6 @@ history_send = search (schema_send, mark_send, sendable, crosses) depth 60 fits 
 
 pub op_send : IsSend op.the_row
 op_send = search (sendable, crosses) depth 60 fits 20000
-
-pub scan_send : IsSend scan.the_row
-scan_send = search (sendable, crosses) depth 60 fits 20000
 
 pub stage_send : IsSend stage.the_row
 stage_send = search (sendable, crosses) depth 60 fits 20000
@@ -128,5 +125,8 @@ host_send = search (declared_send, file_send, sendable, crosses) depth 60 fits 2
 pub modelled_send : (C T : RattleType) (g : _) (h : _) → IsSend C → IsSend T → IsSend (modelled.the_row C T g h)
 modelled_send C T g h s t = search (declared_send, as_row_send, sendable, crosses) depth 60 fits 20000
 
+pub held_send : IsSend held.the_row
+held_send = search (declared_send, as_row_send, connection_send, store_send, modelled_send, host_send, sendable, crosses) depth 60 fits 20000
+
 pub keeper_send : IsSend keeper.the_row
-keeper_send = search (declared_send, as_row_send, connection_send, store_send, modelled_send, host_send, sendable, crosses) depth 60 fits 20000
+keeper_send = search (declared_send, as_row_send, held_send, sendable, crosses) depth 60 fits 20000

@@ -1,3 +1,2 @@
 pub mod Crash
-pub mod Logs
-pub mod Scan
+pub mod lemmas

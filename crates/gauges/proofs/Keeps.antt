@@ -14,9 +14,9 @@ use Rattle.atomic_table.specs.Table.{State, Me, step, keeps, Allows, Splits, Joi
 use Rattle.enq_base.specs.declared.condition.Readings.{Readings}
 use Rattle.seat_sums.specs.Entries.{entries_at}
 use Rattle.seat_sums.specs.Sums.{one_if}
-use Rattle.seat_sums.proofs.Beginnings.{front_is_all}
-use Rattle.seat_sums.proofs.Entries.{below_higher, entries_longer, same_there}
-use Rattle.seat_sums.proofs.Totals.{total_set, total_whole, total_only, total_le, each_set, each_snoc, was_there, one_if_true}
+use Rattle.seat_sums.proofs.lemmas.Beginnings.{front_is_all}
+use Rattle.seat_sums.proofs.lemmas.Entries.{below_higher, entries_longer, same_there}
+use Rattle.seat_sums.proofs.lemmas.Totals.{total_set, total_whole, total_only, total_le, each_set, each_snoc, was_there, one_if_true}
 use Rattle.gauges.specs.declared.watch.Watch.{Watch}
 use Rattle.gauges.specs.Rule.{words_of, Fits, Kept, opener, writer_of, reader_of, took_in, spent, found_so_far, looked, begun, published, Starts, Reads, Looks, Repeats, Begins, Writes, Publishes, Notes, Learns}
 use Rattle.gauges.proofs.Views.{half_one, writes_one, half_few, set_same, read_more, write_more, words_injective, last_there, lower_pasts, found_fits, looked_fits, rises, rewritten, told_more, shown_later, writer_fits, reader_fits, spent_fits, took_in_fits}

@@ -6,7 +6,7 @@ use Rattle.hall_model.specs.Calls.{Call}
 use Rattle.hall_model.specs.State.{State}
 use Rattle.hall_model.specs.Step.{barred, is_full}
 use Rattle.hall_calls.proofs.verdicts.FoundChange.{shut_by_history}
-use Rattle.hall_model.proofs.NotedCalls.{full_or}
+use Rattle.model_laws.proofs.NotedCalls.{full_or}
 
 -- a call is served only where the history has room
 pub has_room : (s : State) (call : Call) → barred s call ≡ None → is_full s ≡ false

@@ -1,9 +1,11 @@
 pub mod verdicts
 pub mod ending
 pub mod following
-pub mod NamedValues
 pub mod restarting
 pub mod RangesShown
 pub mod lists
 pub mod TestedLocks
 pub mod HistoryRoom
+pub mod MarkedUnits
+pub mod CommittedChanges
+pub mod lemmas

@@ -1,5 +1,7 @@
-pub mod WithHistory
 pub mod StateBehind
+pub mod OverFields
+pub mod PresentCalls
+pub mod Answering
 pub mod AfterStop
 pub mod OverStore
 pub mod OverFile

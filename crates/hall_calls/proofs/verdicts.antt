@@ -1,5 +1,4 @@
 pub mod EachCall
-pub mod Replies
 pub mod UnitCalls
 pub mod Recording
 pub mod NumberCalls

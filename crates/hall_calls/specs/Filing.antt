@@ -7,7 +7,7 @@ use Rattle.backup_file.specs.Backup.{BackupView, IsReady, IsSame}
 use Rattle.backup_file.specs.File.{Stands}
 use Rattle.backup_file.specs.declared.handed.Handed.{Handed}
 use Rattle.backup_file.specs.Lists.{is_known, without}
-use Rattle.backup_file.specs.declared.ids.UnitId.{UnitId}
+use Rattle.enq_base.specs.declared.unit_id.UnitId.{UnitId}
 use Rattle.enq_base.specs.Causes.{HasCause, Rose}
 use Rattle.enq_base.specs.Owners.{same_unit}
 use Rattle.enq_base.specs.declared.owner.Owner.TheVariants.{Upd}

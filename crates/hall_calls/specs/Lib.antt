@@ -1,8 +1,10 @@
 pub mod Filing
 pub mod Commits
 pub mod Leaving
+pub mod Marking
 pub mod Named
 pub mod Serving
+pub mod Standing
 pub mod Storing
 pub mod Remaking
 pub mod OpenLists

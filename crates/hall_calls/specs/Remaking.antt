@@ -13,7 +13,9 @@ use Rattle.enq_server.specs.declared.fault.OverFault.{OverFault}
 use Rattle.enq_server.specs.declared.fault.OverFault.TheVariants as over
 use Rattle.enq_server.specs.declared.fault.OpenFault.TheVariants as opening
 use Rattle.keeper_api.specs.Rows.{Rows}
+use Rattle.ledger_steps.specs.Views.{open_locks}
 use Rattle.lock_entry.specs.Table.{Table}
+use Rattle.lock_entry.specs.declared.entry.UnitLocks.{UnitLocks}
 use Rattle.posting.specs.declared.opening.BooksFault.{BooksFault}
 use Rattle.posting.specs.declared.opening.BooksFault.TheVariants as books
 use Rattle.posting.specs.Settling.{FoundAnew}
@@ -170,6 +172,20 @@ pub record IsFoundRight (before : Ledger) (failure : Failure) (found : FoundAnew
   pub ledger : found.ledger ≡ stored_anew found.taken before (flight_over before failure)
   pub flight : IsTrue found.taken → IsInFlight before (flight_over before failure)
   pub known : IsAsBefore failure.found found.taken
+
+-- it is taken up with the locks of its open units, as it was read before if it was
+pub record IsTakenUp (found : Option Bool) (reread : FoundAnew) (units : List UnitLocks) (taken_up : Option FoundAnew) :
+    Type 0 where
+  pub all : taken_up ≡ Some reread
+  pub known : IsAsBefore found reread.taken
+  pub waiting : units ≡ open_locks reread.ledger
+
+-- or it isn't, since it isn't as it was read before, or since memory is wanting
+abbrev pub IsNotTaken : Option Bool → Bool → Remade → Type 0
+IsNotTaken found taken (Done done) = ⊥
+IsNotTaken found taken (Refused r) = ⊥
+IsNotTaken found taken (InDoubt r None) = (r ≡ refusal.Unsound (bad.Store 0 0)) × (IsAsBefore found taken → ⊥)
+IsNotTaken found taken (InDoubt r (Some read)) = (r ≡ refusal.NoMemory) × (read ≡ taken) × IsAsBefore found taken
 
 -- it is read in doubt alone
 abbrev pub IsReadAs : Condition → Ledger → Failure → Option FoundAnew → Type 0

@@ -1,5 +1,5 @@
 -- A call that what is present serves, apart from its place in the history.
-use Rattle.std.specs.Prelude.{◌≡◌, ◌⊎◌, ℕ, Bool, true, false, List, Option, Some, is_some}
+use Rattle.std.specs.Prelude.{◌≡◌, ◌⊎◌, ℕ, Bool, true, false, List, Option, Some, is_some, IsTrue}
 use Rattle.backup_file.specs.Backup.{BackupView}
 use Rattle.enq_base.specs.Causes.{Rose}
 use Rattle.enq_base.specs.declared.condition.Bad.TheVariants as bad
@@ -9,17 +9,21 @@ use Rattle.keeper_api.specs.Keeping.{IsWithin}
 use Rattle.keeper_api.specs.Rows.{Rows}
 use Rattle.lock_entry.specs.Sound.{IsSound, first_clash}
 use Rattle.lock_entry.specs.declared.entry.Entry.{Entry}
+use Rattle.hall_model.specs.declared.command.Answer.{Answer}
 use Rattle.hall_model.specs.declared.command.Command.{Command}
 use Rattle.hall_model.specs.declared.command.PastEntry.{PastEntry}
 use Rattle.hall_model.specs.declared.command.Reply.{Reply}
 use Rattle.hall_model.specs.declared.command.Reply.TheVariants as reply
-use Rattle.hall_model.specs.Acts.{Admits, IsAct}
-use Rattle.hall_model.specs.Calls.{call_of, fails_over, renews_replica, restarts, touches_file}
+use Rattle.hall_model.specs.Acts.{Admits, IsAct, IsTelling}
+use Rattle.hall_model.specs.Calls.{Call, OfSession, LogsOff, Asks, Frees, FreesAll, Converts, RollsBack, call_of, fails_over, renews_replica, restarts, touches_file}
 use Rattle.hall_model.specs.Devices.{is_doubt, reaches_store}
-use Rattle.hall_calls.specs.Filing.{DoesFile, HasFileCause}
+use Rattle.hall_calls.specs.Filing.{DoesFile, HasFileCause, KeepsFile}
+use Rattle.hall_model.specs.History.{is_unrecorded}
 use Rattle.hall_model.specs.Kept.{IsKept}
 use Rattle.hall_calls.specs.Leaving.{HasStoreCause, KeepsStore}
-use Rattle.hall_model.specs.State.{State}
+use Rattle.hall_model.specs.State.{State, is_honest}
+use Rattle.hall_model.specs.Step.{is_full}
+use Rattle.hall_model.specs.Unsound.{is_unsound_file, is_unsound_replica, is_unsound_store}
 use Rattle.hall_calls.specs.View.{View}
 
 -- the state with these calls as its history
@@ -30,6 +34,16 @@ with_calls s past = record s { past = past }
 pub record IsDue (s : State) (past : List PastEntry) (c : Command) : Type 0 where
   pub kept : IsKept (with_calls s past)
   pub admits : Admits (with_calls s past) c
+
+-- the calls that the lock server alone answers
+abbrev pub is_of_locks : Call → Bool
+is_of_locks (OfSession session LogsOff) = true
+is_of_locks (OfSession session (Asks requests)) = true
+is_of_locks (OfSession session (Frees requests)) = true
+is_of_locks (OfSession session FreesAll) = true
+is_of_locks (OfSession session (Converts wanted)) = true
+is_of_locks (OfSession session RollsBack) = true
+is_of_locks call = false
 
 -- what a call may do to the store
 pub record MayWrite {K : Type 0} (held : K → Option Rows) (may_leave : K → Rows → Type 0) (faults : K → ℕ) (old new : K)
@@ -94,3 +108,26 @@ pub record Serves {K D L : Type 0} (held : K → Option Rows) (may_leave : K →
   pub follower : Follows applied link_faults refusals (renews_replica (call_of c)) old.follower new.follower
   pub over : IsOver (fails_over (call_of c)) new.state.locks (gives old.follower.link) r
   pub link : HasLinkCause (link_faults old.follower.link) (link_faults new.follower.link) r
+
+-- all that a call does, served or not, and what its answer tells
+pub record IsAnswered {K D L : Type 0} (held : K → Option Rows) (may_leave : K → Rows → Type 0) (faults : K → ℕ)
+    (tells : Bool) (disk_faults : D → ℕ) (gives : L → List Entry) (applied : L → Option (List Entry))
+    (link_faults refusals : L → ℕ) (old new : View K D L) (past : List PastEntry) (c : Command) (a : Answer)
+    : Type 0 where
+  pub call : IsTelling (with_calls old.state past) c a.taken (with_calls new.state past) a.reply
+  pub told : is_some (held new.keeper) ≡ is_some (held old.keeper)
+  pub store_cause : HasStoreCause (faults old.keeper) (faults new.keeper) a.reply
+  pub store : restarts (call_of c) ≡ false → KeepsStore held may_leave old.keeper new.keeper a.reply
+  pub reread : restarts (call_of c) ≡ true → IsWithin (may_leave new.keeper) (may_leave old.keeper)
+  pub keeper : reaches_store old.state (call_of c) ≡ false → new.keeper ≡ old.keeper
+  pub file_cause : HasFileCause (disk_faults old.file.disk) (disk_faults new.file.disk) a.reply
+  pub file : restarts (call_of c) ≡ false → KeepsFile old.file new.file a.reply
+  pub unfiled : touches_file (call_of c) ≡ false → new.file ≡ old.file
+  pub link : IsLater applied link_faults refusals old.follower new.follower
+  pub follower : renews_replica (call_of c) ≡ false → KeepsOn applied link_faults refusals old.follower new.follower
+  pub over : IsOver (fails_over (call_of c)) new.state.locks (gives old.follower.link) a.reply
+  pub link_cause : HasLinkCause (link_faults old.follower.link) (link_faults new.follower.link) a.reply
+  pub room : is_unrecorded a.reply ≡ false → is_full (with_calls old.state past) ≡ false
+  pub good_file : IsTrue tells → IsTrue (is_honest old.state) → is_unsound_file a.reply ≡ false
+  pub good_store : is_some (held old.keeper) ≡ true → is_unsound_store a.reply ≡ false
+  pub good_replica : is_some (applied old.follower.link) ≡ true → is_unsound_replica a.reply ≡ false

@@ -2,7 +2,9 @@ ghost use Rattle.std.specs.Prelude.{◌≡◌, fold, true};
 ghost use Rattle.std.specs.List.{AllByRecursion};
 ghost use Rattle.enq_server.specs.Following.{IsLostWith, KeepsOn};
 ghost use Rattle.hall_model.specs.declared.command.Command.TheVariants as command;
+ghost use Rattle.hall_calls.specs.Serving.{is_of_locks};
 ghost use Rattle.hall_model.specs.Acts.{Admits, IsAct};
+ghost use Rattle.hall_model.specs.Calls.{call_of};
 ghost use Rattle.hall_model.specs.Kept.{IsYoung};
 ghost use Rattle.hall_model.specs.State.{State};
 ghost use Rattle.hall_model.specs.Step.{answer_of, ask_refusal, fault_refusal};
@@ -14,12 +16,56 @@ use crate::sessions::{Sessions, pair_of, session_of};
 use bk_disk::Disk;
 use enq_base::{Name, Refusal};
 use enq_server::{EnqServer, ServerFault};
+use hall_model::Command;
 use lock_entry::{AskFault, Asked, Asker, LockStore, Request};
 use replica_link::Link;
 use std::alloc::Global;
 
+/// Does a call that the lock server alone answers.
+pub(crate) fn lock<T: LockStore, D: Disk, L: Link>(
+    alloc: Global,
+    start: u32,
+    sessions: &mut Sessions,
+    locks: &mut EnqServer<T, D, L>,
+    command: &Command,
+) -> Result<(), Refusal>
+    requires of_locks { is_of_locks (call_of command.now) ≡ true }
+    requires stands { locks.old.stands ≡ true }
+    requires young { AllByRecursion (IsYoung 262145) sessions.old }
+    ensures act { (s : State) → s.stored.start ≡ start → s.sessions ≡ sessions.old
+        → s.locks ≡ locks.old.table.entries
+        → s.limit ≡ locks.old.table.limit → Admits s command.now
+        → IsAct s command.now
+        (record s { sessions = sessions.new; locks = locks.new.table.entries }) (answer_of result) }
+    ensures limit { locks.new.table.limit ≡ locks.old.table.limit }
+    ensures standing { locks.new.stands ≡ locks.old.stands }
+    ensures file { locks.new.file ≡ locks.old.file }
+    ensures follower { KeepsOn L.applied L.faults L.refusals locks.old.copy locks.new.copy }
+    ensures lost { IsLostWith locks.old.copy locks.new.copy locks.old.table locks.new.table }
+{
+    match command {
+        Command::Logoff { session } => log_off(start, sessions, locks, session),
+        Command::Ask { session, requests } => {
+            ask(alloc, start, sessions, locks, session, requests.as_slice())
+        }
+        Command::Free { session, requests } => free(
+            start,
+            sessions,
+            locks,
+            session,
+            requests.as_slice(),
+        ),
+        Command::FreeAll { session } => free_all(start, sessions, locks, session),
+        Command::Convert { session, asked } => {
+            convert(alloc, start, sessions, locks, session, asked.as_slice())
+        }
+        Command::Rollback { session } => roll_back(alloc, start, sessions, locks, session),
+        _ => unreachable!(),
+    }
+}
+
 /// Asks for locks on behalf of a session.
-pub(crate) fn ask<T: LockStore, D: Disk, L: Link>(
+fn ask<T: LockStore, D: Disk, L: Link>(
     alloc: Global,
     start: u32,
     sessions: &Sessions,
@@ -76,7 +122,7 @@ pub(crate) fn table_refusal_of(fault: AskFault) -> Refusal
 }
 
 /// Frees locks on behalf of a session.
-pub(crate) fn free<T: LockStore, D: Disk, L: Link>(
+fn free<T: LockStore, D: Disk, L: Link>(
     start: u32,
     sessions: &Sessions,
     locks: &mut EnqServer<T, D, L>,
@@ -136,7 +182,7 @@ fn free_request<T: LockStore, D: Disk, L: Link>(
 }
 
 /// Logs a session off: it goes, and the locks of its two owners with it.
-pub(crate) fn log_off<T: LockStore, D: Disk, L: Link>(
+fn log_off<T: LockStore, D: Disk, L: Link>(
     start: u32,
     sessions: &mut Sessions,
     locks: &mut EnqServer<T, D, L>,
@@ -160,7 +206,7 @@ pub(crate) fn log_off<T: LockStore, D: Disk, L: Link>(
 }
 
 /// Frees all locks of a session's two owners.
-pub(crate) fn free_all<T: LockStore, D: Disk, L: Link>(
+fn free_all<T: LockStore, D: Disk, L: Link>(
     start: u32,
     sessions: &Sessions,
     locks: &mut EnqServer<T, D, L>,
@@ -195,7 +241,7 @@ fn free_pair<T: LockStore, D: Disk, L: Link>(locks: &mut EnqServer<T, D, L>, ask
 }
 
 /// Turns optimistic locks of a session into exclusive ones.
-pub(crate) fn convert<T: LockStore, D: Disk, L: Link>(
+fn convert<T: LockStore, D: Disk, L: Link>(
     alloc: Global,
     start: u32,
     sessions: &Sessions,
@@ -223,7 +269,7 @@ pub(crate) fn convert<T: LockStore, D: Disk, L: Link>(
 }
 
 /// Rolls a session back: the locks of its open unit go, and the next unit is open.
-pub(crate) fn roll_back<T: LockStore, D: Disk, L: Link>(
+fn roll_back<T: LockStore, D: Disk, L: Link>(
     alloc: Global,
     start: u32,
     sessions: &mut Sessions,

@@ -1,5 +1,5 @@
 ghost use Rattle.hall_calls.specs.Remaking.{over_refusal};
-ghost use Rattle.std.specs.Prelude.{◌≡◌, ◌≢◌, ◌⊎◌, ◌&&◌, ℕ, [], if◌then◌else◌, true, false, length, replicate, None, IfOk, IfSome, is_some, IsTrue};
+ghost use Rattle.std.specs.Prelude.{◌≡◌, ◌≢◌, ◌⊎◌, ◌&&◌, ℕ, ◌+◌, List, [], if◌then◌else◌, true, false, length, replicate, Option, None, IfOk, IfSome, is_some, IsTrue};
 ghost use Rattle.std.specs.List.{All};
 ghost use Rattle.enq_server.specs.Following.{IsLater, KeepsOn, told_list};
 ghost use Rattle.enq_server.specs.Server.{recovered};
@@ -14,31 +14,32 @@ ghost use Rattle.hall_calls.specs.Leaving.{HasStoreCause, KeepsStore, LeavesStat
 ghost use Rattle.keeper_api.specs.Keeping.{IsWithin};
 ghost use Rattle.hall_model.specs.Calls.{call_of, fails_over, renews_replica, restarts, touches_file};
 ghost use Rattle.hall_model.specs.Devices.{reaches_store};
-ghost use Rattle.hall_calls.specs.Serving.{HasLinkCause, IsDue, IsOver, Serves, with_calls};
+ghost use Rattle.hall_calls.specs.Serving.{HasLinkCause, IsAnswered, IsDue, IsOver, Serves, is_of_locks, with_calls};
+ghost use Rattle.hall_calls.specs.Standing.{IsEnded};
 ghost use Rattle.hall_model.specs.Sessions.{has_one_of, with_marks};
 ghost use Rattle.hall_model.specs.State.{attached_in, is_honest, is_up, opened, seen_locks, unhanded};
 ghost use Rattle.hall_model.specs.Unsound.{is_unsound_file, is_unsound_replica, is_unsound_store};
 ghost use Rattle.hall_model.specs.Stocks.{IsStockIn, MayCall};
 ghost use Rattle.hall_model.specs.History.{after_of, is_unrecorded};
 ghost use Rattle.hall_model.specs.Step.{barred, is_full, unavailable};
-ghost use Rattle.hall_model.specs.Views.{marks_shown, numbers_shown, ranges_shown, units_shown};
+ghost use Rattle.hall_model.specs.Views.{marks_shown, numbers_shown, ranges_shown, units_shown, waiting_shown};
 ghost use Rattle.posting.specs.BooksView.{IsUsable};
 
 use crate::barring::{caller_refusal, down_refusal, server_refusal};
-use crate::locks::{ask, convert, free, free_all, log_off, roll_back};
+use crate::locks::lock;
 use crate::numbers::{draw, reserve};
 use crate::orders::{drop_order, take};
-use crate::remaking::{remake, settled};
+use crate::remaking::{Basis, remake, settled};
 use crate::sessions::{Sessions, log_on};
 use crate::shown::shown_ranges;
 use crate::units::{Failure, Written, cancel, commit, post, read, resubmit};
 use bk_disk::Disk;
-use enq_base::{Bad, Condition, Items, Key, Name, NoMemory, Num, Parts, Refusal, UnitKey};
+use enq_base::{Bad, Condition, Key, Name, NoMemory, Num, Parts, Refusal, UnitKey};
 use enq_server::{EnqServer, OverFault};
 use hall_model::{After, Answer, Command, PastEntry, Reply};
 use keeper_api::Keeper;
 use ledger_laws::views_tell_refusals;
-use lock_entry::{Asked, Entry, LockStore, Request};
+use lock_entry::{Entry, LockStore};
 use number_ranges::Range;
 use posting::Books;
 use range_list::Ranges;
@@ -79,14 +80,10 @@ impl<T: LockStore, K: Keeper, D: Disk, L: Link> Model for Present<T, K, D, L> {
 
     ghost coded = { Prim.hlevel (codes, levels_code, K.code, D.code, L.code) };
 
-    ghost use Rattle.std.specs.Prelude.{◌≡◌, [], is_some};
+    ghost use Rattle.std.specs.Prelude.{[], is_some};
     ghost use Rattle.enq_server.specs.Following.{told_list};
-    ghost use Rattle.hall_model.specs.Kept.{OutsideDoubt};
-    ghost use Rattle.hall_model.specs.State.{is_up};
-    ghost use Rattle.hall_calls.specs.Leaving.{LeavesState};
-    ghost use Rattle.posting.specs.BooksView.{IsUsable};
-    ghost use Rattle.hall_calls.specs.Filing.{HasOpenLists, LeavesLists};
     ghost use Rattle.hall_calls.specs.Remaking.{flight_over};
+    ghost use Rattle.hall_calls.specs.Standing.{IsPresent};
 
     ghost view = { λ h. record {
       state = state_of (is_some (K.held h.books.keeper)) (is_some (L.applied h.locks.copy.link)) h.locks.copy.attached
@@ -98,22 +95,16 @@ impl<T: LockStore, K: Keeper, D: Disk, L: Link> Model for Present<T, K, D, L> {
       follower = h.locks.copy;
     } };
 
-    ghost invariant = { λ h.
-        let s = state_of (is_some (K.held h.books.keeper)) (is_some (L.applied h.locks.copy.link)) h.locks.copy.attached
-        h.taken_over h.condition h.sessions h.next_session h.orders.items h.locks.table
-        (told_list L.applied h.locks.copy) h.max_locks h.max_marks h.ranges h.books.ledger
-        (flight_over h.books.ledger h.failure) h.failure.found h.failure.caller [] in
-        let v : View K D L = record {
-          state = s;
-          keeper = h.books.keeper;
-          file = h.locks.file;
-          follower = h.locks.copy;
-        } in
-        OutsideDoubt h.condition (IsUsable K.held K.is_open h.books)
-        × LeavesState K.held K.may_leave v
-        × OutsideDoubt h.condition (HasOpenLists D.tells D.reads D.may_leave h.books.ledger h.locks.file)
-        × LeavesLists D.tells D.may_leave v
-        × (h.locks.stands ≡ is_up h.condition) };
+    ghost invariant = { λ h. IsPresent K.held K.is_open K.may_leave D.tells D.reads D.may_leave h.condition h.books
+        h.failure h.locks };
+}
+
+/// A call that uses store and backup file: its number, that of the start, and the session that makes it, if one does.
+#[derive(Drop)]
+struct StoreCall {
+    number: u64,
+    start: u32,
+    caller: Option<Name>,
 }
 
 impl<T: LockStore, K: Keeper, D: Disk, L: Link> Present<T, K, D, L> {
@@ -236,6 +227,28 @@ impl<T: LockStore, K: Keeper, D: Disk, L: Link> Present<T, K, D, L> {
         }
     }
 
+    /// How many units wait for a part: none where the server is in doubt.
+    pub fn waiting(&self, part: u8) -> u32
+        requires { (part ≡ 1) ⊎ (part ≡ 2) }
+        ensures { result ≡ waiting_shown part self.now.state }
+    {
+        match self.condition {
+            Condition::Up | Condition::NoServer => self.books.waiting(part),
+            Condition::Doubt(_) => 0,
+        }
+    }
+
+    /// How many locks stand: none where the server isn't up.
+    pub fn lock_count(&self) -> u32
+        ensures { result ≡ length (seen_locks self.now.state) }
+    {
+        match self.condition {
+            Condition::Up => self.locks.len(),
+            Condition::NoServer => 0,
+            Condition::Doubt(_) => 0,
+        }
+    }
+
     /// How many numbers were committed: none where the server is in doubt.
     pub fn numbers(&self) -> u64
         ensures { result ≡ numbers_shown self.now.state }
@@ -252,8 +265,15 @@ impl<T: LockStore, K: Keeper, D: Disk, L: Link> Present<T, K, D, L> {
         ensures disk { result.1 ≡ self.file.disk }
         ensures link { result.2 ≡ self.follower.link }
     {
-        let (disk, link) = self.locks.into_parts();
-        (self.books.into_keeper(), disk, link)
+        let Present {
+            locks,
+            books,
+            failure,
+            ..
+        } = self;
+        drop(failure);
+        let (disk, link) = locks.into_parts();
+        (books.into_keeper(), disk, link)
     }
 
     /// Tells what holds of all that is present: what a stop may leave in the store and in the backup file stands for
@@ -320,6 +340,16 @@ impl<T: LockStore, K: Keeper, D: Disk, L: Link> Present<T, K, D, L> {
         ensures good_replica { is_some (L.applied self.old.follower.link) ≡ true
             → is_unsound_replica result.reply ≡ false }
     {
+        self.answer(alloc, past, command)
+    }
+
+    /// Answers a call, served or not.
+    fn answer(&mut self, alloc: Global, past: &Vec<PastEntry>, command: &Command) -> Answer
+        requires kept { IsKept (with_calls self.old.state past.now.items) }
+        requires call { MayCall self.old.state (call_of command.now) }
+        ensures { IsAnswered K.held K.may_leave K.faults D.tells D.faults L.gives L.applied L.faults L.refusals self.old
+            self.new past.now.items command.now result }
+    {
         self.read_invariant();
         match self.unavailable(past, command) {
             Some(refusal) => Answer::of(Reply::Refused(refusal)),
@@ -359,12 +389,12 @@ impl<T: LockStore, K: Keeper, D: Disk, L: Link> Present<T, K, D, L> {
     {
         match command {
             Command::Logon { session, user } => self.log_on(alloc, past, *session, *user),
-            Command::Logoff { session } => self.log_off(past, session),
-            Command::Ask { session, requests } => self.ask(alloc, past, session, requests),
-            Command::Free { session, requests } => self.free(past, session, requests.as_slice()),
-            Command::FreeAll { session } => self.free_all(past, session),
-            Command::Convert { session, asked } => self.convert(alloc, past, session, asked),
-            Command::Rollback { session } => self.roll_back(alloc, past, session),
+            Command::Logoff { .. }
+            | Command::Ask { .. }
+            | Command::Free { .. }
+            | Command::FreeAll { .. }
+            | Command::Convert { .. }
+            | Command::Rollback { .. } => self.lock(alloc, past, command),
             Command::Read {
                 session,
                 table,
@@ -412,84 +442,15 @@ impl<T: LockStore, K: Keeper, D: Disk, L: Link> Present<T, K, D, L> {
         ))
     }
 
-    fn log_off(&mut self, past: &Vec<PastEntry>, session: &Name) -> Reply
-        requires { IsDue self.old.state past.now.items (command.Logoff session.now) }
+    /// Does a call that the lock server alone answers.
+    fn lock(&mut self, alloc: Global, past: &Vec<PastEntry>, command: &Command) -> Reply
+        requires due { IsDue self.old.state past.now.items command.now }
+        requires of_locks { is_of_locks (call_of command.now) ≡ true }
         ensures { Serves K.held K.may_leave K.faults D.faults L.gives L.applied L.faults L.refusals self.old self.new
-            past.now.items (command.Logoff session.now) result }
+            past.now.items command.now result }
     {
         let start = self.books.start();
-        Reply::of(log_off(start, &mut self.sessions, &mut self.locks, session))
-    }
-
-    fn ask(
-        &mut self,
-        alloc: Global,
-        past: &Vec<PastEntry>,
-        session: &Name,
-        requests: &Items<Request>,
-    ) -> Reply
-        requires { IsDue self.old.state past.now.items (command.Ask session.now requests.now) }
-        ensures { Serves K.held K.may_leave K.faults D.faults L.gives L.applied L.faults L.refusals self.old self.new
-            past.now.items (command.Ask session.now requests.now) result }
-    {
-        let start = self.books.start();
-        Reply::of(ask(
-            alloc,
-            start,
-            &self.sessions,
-            &mut self.locks,
-            session,
-            requests.as_slice(),
-        ))
-    }
-
-    fn free(&mut self, past: &Vec<PastEntry>, session: &Name, requests: &[Request]) -> Reply
-        requires { IsDue self.old.state past.now.items (command.Free session.now requests.now) }
-        ensures { Serves K.held K.may_leave K.faults D.faults L.gives L.applied L.faults L.refusals self.old self.new
-            past.now.items (command.Free session.now requests.now) result }
-    {
-        let start = self.books.start();
-        Reply::of(free(start, &self.sessions, &mut self.locks, session, requests))
-    }
-
-    fn free_all(&mut self, past: &Vec<PastEntry>, session: &Name) -> Reply
-        requires { IsDue self.old.state past.now.items (command.FreeAll session.now) }
-        ensures { Serves K.held K.may_leave K.faults D.faults L.gives L.applied L.faults L.refusals self.old self.new
-            past.now.items (command.FreeAll session.now) result }
-    {
-        let start = self.books.start();
-        Reply::of(free_all(start, &self.sessions, &mut self.locks, session))
-    }
-
-    fn convert(
-        &mut self,
-        alloc: Global,
-        past: &Vec<PastEntry>,
-        session: &Name,
-        asked: &Items<Asked>,
-    ) -> Reply
-        requires { IsDue self.old.state past.now.items (command.Convert session.now asked.now) }
-        ensures { Serves K.held K.may_leave K.faults D.faults L.gives L.applied L.faults L.refusals self.old self.new
-            past.now.items (command.Convert session.now asked.now) result }
-    {
-        let start = self.books.start();
-        Reply::of(convert(
-            alloc,
-            start,
-            &self.sessions,
-            &mut self.locks,
-            session,
-            asked.as_slice(),
-        ))
-    }
-
-    fn roll_back(&mut self, alloc: Global, past: &Vec<PastEntry>, session: &Name) -> Reply
-        requires { IsDue self.old.state past.now.items (command.Rollback session.now) }
-        ensures { Serves K.held K.may_leave K.faults D.faults L.gives L.applied L.faults L.refusals self.old self.new
-            past.now.items (command.Rollback session.now) result }
-    {
-        let start = self.books.start();
-        Reply::of(roll_back(alloc, start, &mut self.sessions, &mut self.locks, session))
+        Reply::of(lock(alloc, start, &mut self.sessions, &mut self.locks, command))
     }
 
     /// Reads a business row.
@@ -505,20 +466,14 @@ impl<T: LockStore, K: Keeper, D: Disk, L: Link> Present<T, K, D, L> {
         ensures { Serves K.held K.may_leave K.faults D.faults L.gives L.applied L.faults L.refusals self.old self.new
             past.now.items (command.Read session.now table.now key.now) result }
     {
-        let start = self.books.start();
+        let call = begun(&self.books, past, Some(*session));
         let written = read(alloc, &self.sessions, &mut self.books, session, table, key);
-        bring_down(
-            self.condition,
-            start,
-            &mut self.sessions,
-            &mut self.locks,
-            &written,
-        );
         ended(
             &mut self.condition,
             &mut self.failure,
-            past,
-            Some(*session),
+            &mut self.sessions,
+            &mut self.locks,
+            call,
             written,
         )
     }
@@ -536,7 +491,7 @@ impl<T: LockStore, K: Keeper, D: Disk, L: Link> Present<T, K, D, L> {
         ensures { Serves K.held K.may_leave K.faults D.faults L.gives L.applied L.faults L.refusals self.old self.new
             past.now.items (command.Number session.now object.now nr) result }
     {
-        let start = self.books.start();
+        let call = begun(&self.books, past, Some(*session));
         let written = draw(
             alloc,
             &mut self.sessions,
@@ -546,18 +501,12 @@ impl<T: LockStore, K: Keeper, D: Disk, L: Link> Present<T, K, D, L> {
             object,
             nr,
         );
-        bring_down(
-            self.condition,
-            start,
-            &mut self.sessions,
-            &mut self.locks,
-            &written,
-        );
         ended(
             &mut self.condition,
             &mut self.failure,
-            past,
-            Some(*session),
+            &mut self.sessions,
+            &mut self.locks,
+            call,
             written,
         )
     }
@@ -576,7 +525,7 @@ impl<T: LockStore, K: Keeper, D: Disk, L: Link> Present<T, K, D, L> {
         ensures { Serves K.held K.may_leave K.faults D.faults L.gives L.applied L.faults L.refusals self.old self.new
             past.now.items (command.Reserve session.now object.now nr upto) result }
     {
-        let start = self.books.start();
+        let call = begun(&self.books, past, Some(*session));
         let written = reserve(
             alloc,
             &self.sessions,
@@ -587,18 +536,12 @@ impl<T: LockStore, K: Keeper, D: Disk, L: Link> Present<T, K, D, L> {
             nr,
             upto,
         );
-        bring_down(
-            self.condition,
-            start,
-            &mut self.sessions,
-            &mut self.locks,
-            &written,
-        );
         ended(
             &mut self.condition,
             &mut self.failure,
-            past,
-            Some(*session),
+            &mut self.sessions,
+            &mut self.locks,
+            call,
             written,
         )
     }
@@ -616,7 +559,7 @@ impl<T: LockStore, K: Keeper, D: Disk, L: Link> Present<T, K, D, L> {
         ensures { Serves K.held K.may_leave K.faults D.faults L.gives L.applied L.faults L.refusals self.old self.new
             past.now.items (command.Commit session.now parts.now stock.now) result }
     {
-        let start = self.books.start();
+        let call = begun(&self.books, past, Some(*session));
         let written = commit(
             alloc,
             &mut self.sessions,
@@ -628,18 +571,12 @@ impl<T: LockStore, K: Keeper, D: Disk, L: Link> Present<T, K, D, L> {
             stock,
             self.max_marks,
         );
-        bring_down(
-            self.condition,
-            start,
-            &mut self.sessions,
-            &mut self.locks,
-            &written,
-        );
         ended(
             &mut self.condition,
             &mut self.failure,
-            past,
-            Some(*session),
+            &mut self.sessions,
+            &mut self.locks,
+            call,
             written,
         )
     }
@@ -661,7 +598,7 @@ impl<T: LockStore, K: Keeper, D: Disk, L: Link> Present<T, K, D, L> {
         ensures { Serves K.held K.may_leave K.faults D.faults L.gives L.applied L.faults L.refusals self.old self.new
             past.now.items (post_of part worker) result }
     {
-        let start = self.books.start();
+        let call = begun(&self.books, past, None);
         let written = post(
             alloc,
             &mut self.orders,
@@ -671,14 +608,14 @@ impl<T: LockStore, K: Keeper, D: Disk, L: Link> Present<T, K, D, L> {
             part,
             self.max_marks,
         );
-        bring_down(
-            self.condition,
-            start,
+        ended(
+            &mut self.condition,
+            &mut self.failure,
             &mut self.sessions,
             &mut self.locks,
-            &written,
-        );
-        ended(&mut self.condition, &mut self.failure, past, None, written)
+            call,
+            written,
+        )
     }
 
     fn drop_order(&mut self, past: &Vec<PastEntry>, worker: u8) -> Reply
@@ -745,16 +682,19 @@ impl<T: LockStore, K: Keeper, D: Disk, L: Link> Present<T, K, D, L> {
         ensures good_file { IsTrue D.tells → IsTrue (is_honest self.old.state) → is_unsound_file result.reply ≡ false }
         ensures good_store { is_some (K.held self.old.keeper) ≡ true → is_unsound_store result.reply ≡ false }
     {
+        let basis = Basis {
+            condition: self.condition,
+            failure: &self.failure,
+            ranges: &self.ranges,
+            max_locks: self.max_locks,
+        };
         let remade = remake(
             alloc,
-            self.condition,
+            &basis,
             &mut self.sessions,
             &mut self.orders,
             &mut self.locks,
             &mut self.books,
-            &self.failure,
-            &self.ranges,
-            self.max_locks,
         );
         settled(
             &mut self.condition,
@@ -770,7 +710,7 @@ impl<T: LockStore, K: Keeper, D: Disk, L: Link> Present<T, K, D, L> {
         ensures { Serves K.held K.may_leave K.faults D.faults L.gives L.applied L.faults L.refusals self.old self.new
             past.now.items (command.Cancel unit) result }
     {
-        let start = self.books.start();
+        let call = begun(&self.books, past, None);
         let written = cancel(
             alloc,
             self.orders.as_slice(),
@@ -779,14 +719,14 @@ impl<T: LockStore, K: Keeper, D: Disk, L: Link> Present<T, K, D, L> {
             unit,
             self.max_marks,
         );
-        bring_down(
-            self.condition,
-            start,
+        ended(
+            &mut self.condition,
+            &mut self.failure,
             &mut self.sessions,
             &mut self.locks,
-            &written,
-        );
-        ended(&mut self.condition, &mut self.failure, past, None, written)
+            call,
+            written,
+        )
     }
 
     fn resubmit(&mut self, alloc: Global, past: &Vec<PastEntry>, unit: UnitKey) -> Reply
@@ -794,7 +734,7 @@ impl<T: LockStore, K: Keeper, D: Disk, L: Link> Present<T, K, D, L> {
         ensures { Serves K.held K.may_leave K.faults D.faults L.gives L.applied L.faults L.refusals self.old self.new
             past.now.items (command.Resubmit unit) result }
     {
-        let start = self.books.start();
+        let call = begun(&self.books, past, None);
         let written = resubmit(
             alloc,
             &mut self.locks,
@@ -802,15 +742,59 @@ impl<T: LockStore, K: Keeper, D: Disk, L: Link> Present<T, K, D, L> {
             unit,
             self.max_marks,
         );
-        bring_down(
-            self.condition,
-            start,
+        ended(
+            &mut self.condition,
+            &mut self.failure,
             &mut self.sessions,
             &mut self.locks,
-            &written,
-        );
-        ended(&mut self.condition, &mut self.failure, past, None, written)
+            call,
+            written,
+        )
     }
+}
+
+/// A call that uses store and backup file as it begins.
+fn begun<K: Keeper>(books: &Books<K>, past: &Vec<PastEntry>, caller: Option<Name>) -> StoreCall
+    ensures { result ≡ record {
+      number = length past.now.items + 1;
+      start = books.now.ledger.start;
+      caller = caller;
+    } }
+{
+    StoreCall {
+        number: past.len() as u64 + 1,
+        start: books.start(),
+        caller,
+    }
+}
+
+/// Ends a call that uses store and backup file, and says what it is answered. Where one of them failed the lock table
+/// goes that stood, and each session is marked that had a lock of its own in it.
+fn ended<T: LockStore, D: Disk, L: Link>(
+    condition: &mut Condition,
+    failure: &mut Failure,
+    sessions: &mut Sessions,
+    locks: &mut EnqServer<T, D, L>,
+    call: StoreCall,
+    written: Written,
+) -> Reply
+    requires { locks.old.stands ≡ is_up condition.old }
+    ensures { (calls start : ℕ) → (caller : Option (List ℕ))
+        → call ≡ record { number = calls + 1; start = start; caller = caller }
+        → IsEnded (record {
+          condition = condition.old;
+          failure = failure.old;
+          sessions = sessions.old;
+          locks = locks.old;
+        }) (record {
+          condition = condition.new;
+          failure = failure.new;
+          sessions = sessions.new;
+          locks = locks.new;
+        }) calls start caller written result }
+{
+    bring_down(*condition, call.start, sessions, locks, &written);
+    answered(condition, failure, call, written)
 }
 
 /// Where a device failed in a call the lock table goes that stood, and each session is marked that had a lock of its
@@ -860,28 +844,28 @@ fn end_table<T: LockStore, D: Disk, L: Link>(
 
 /// What a call that uses store and backup file is answered. Where one of them fails the server is in doubt since this
 /// call, of this session if a session made it.
-fn ended(
+fn answered(
     condition: &mut Condition,
     failure: &mut Failure,
-    past: &Vec<PastEntry>,
-    caller: Option<Name>,
+    call: StoreCall,
     written: Written,
 ) -> Reply
     ensures reply { result ≡ written_reply written }
-    ensures condition { condition.new ≡ written_condition condition.old (length past.now.items) written }
-    ensures failure { failure.new ≡ written_failure failure.old caller written }
+    ensures condition { (calls : ℕ) → call.number ≡ calls + 1
+        → condition.new ≡ written_condition condition.old calls written }
+    ensures failure { failure.new ≡ written_failure failure.old call.caller written }
 {
     match written {
         Written::Answered(reply) => reply,
         Written::Failed(change) => {
-            *condition = Condition::Doubt(past.len() as u64 + 1);
-            failure.pending = change;
-            failure.caller = caller;
+            *condition = Condition::Doubt(call.number);
+            drop(std::mem::replace(&mut failure.pending, change));
+            failure.caller = call.caller;
             Reply::Refused(Refusal::StoreFault)
         }
         Written::Unfiled => {
-            *condition = Condition::Doubt(past.len() as u64 + 1);
-            failure.caller = caller;
+            *condition = Condition::Doubt(call.number);
+            failure.caller = call.caller;
             Reply::Refused(Refusal::BackupFault)
         }
     }

@@ -7,7 +7,7 @@ ghost use Rattle.hall_model.specs.Devices.{IsAsBefore, is_doubt};
 ghost use Rattle.hall_calls.specs.Filing.{AllRecover, HasFileCause};
 ghost use Rattle.hall_model.specs.Kept.{IsKnownRight, IsYoung, OutsideDoubt};
 ghost use Rattle.hall_model.specs.OpenUnits.{OfPending, open_entries};
-ghost use Rattle.hall_calls.specs.Remaking.{IsFoundRight, IsReadAs, IsUnread, IsUnreadInDoubt, IsUsableAs, ledger_read, taken_in, taken_read, IsLeftReady, LeavesKnown, LeavesRemade, OnNotRemade, OnRefusedFirst, OnRemade, flight_over, remade_condition, remade_failure, remade_over, remade_reply, remade_state, remade_taken, remake_refusal, books_refusal, IsOtherRefusal, IsStoreRefusal};
+ghost use Rattle.hall_calls.specs.Remaking.{IsFoundRight, IsNotTaken, IsReadAs, IsTakenUp, IsUnread, IsUnreadInDoubt, IsUsableAs, ledger_read, taken_in, taken_read, IsLeftReady, LeavesKnown, LeavesRemade, OnNotRemade, OnRefusedFirst, OnRemade, flight_over, remade_condition, remade_failure, remade_over, remade_reply, remade_state, remade_taken, remake_refusal, books_refusal, IsOtherRefusal, IsStoreRefusal};
 ghost use Rattle.hall_calls.specs.Serving.{DoesStore};
 ghost use Rattle.hall_model.specs.History.{known_behind};
 ghost use Rattle.hall_model.specs.State.{State, is_up};
@@ -51,70 +51,79 @@ struct Waiting {
     reread: Option<Reread>,
 }
 
+/// What a restart goes by: how the server stands, the failure since which it is in doubt, the ranges of the landscape,
+/// and how many locks this allows.
+#[derive(Drop)]
+pub(crate) struct Basis<'a> {
+    pub(crate) condition: Condition,
+    pub(crate) failure: &'a Failure,
+    pub(crate) ranges: &'a Ranges,
+    pub(crate) max_locks: u32,
+}
+
 /// Makes the lock server anew, with the locks of the units that wait for their V1 part. In doubt the store is read anew
 /// first, and tells what became of the change in flight. The sessions that are marked lose, one in whose call a device
 /// failed too, and no order stands.
 pub(crate) fn remake<T: LockStore, K: Keeper, D: Disk, L: Link>(
     alloc: Global,
-    condition: Condition,
+    basis: &Basis<'_>,
     sessions: &mut Sessions,
     orders: &mut Vec<Option<UnitKey>>,
     locks: &mut EnqServer<T, D, L>,
     books: &mut Books<K>,
-    failure: &Failure,
-    ranges: &Ranges,
-    max_locks: u32,
 ) -> Remade
-    requires ended { locks.old.stands ≡ is_up condition }
+    requires ended { locks.old.stands ≡ is_up basis.now.condition }
     requires young { AllByRecursion (IsYoung 262145) sessions.old }
     requires places { length orders.old.items ≡ 256 }
-    requires usable { OutsideDoubt condition (IsUsable K.held K.is_open books.old) }
-    requires unknown { OutsideDoubt condition (failure.now.found ≡ None) }
-    requires settled { OutsideDoubt condition (failure.now.pending ≡ None) }
-    requires known { IsKnownRight failure.now.found books.old.ledger (flight_over books.old.ledger failure.now) }
-    requires left { LeavesKnown K.held K.may_leave books.old.keeper failure.now.found books.old.ledger
-        (flight_over books.old.ledger failure.now) }
-    requires lists { AllRecover D.tells D.may_leave condition books.old.ledger
-        (flight_over books.old.ledger failure.now) failure.now.found locks.old.file }
-    ensures act { (s : State) → s.condition ≡ condition → s.sessions ≡ sessions.old → s.stored ≡ books.old.ledger
-        → s.pending ≡ flight_over books.old.ledger failure.now → s.found ≡ failure.now.found
-        → s.failed_caller ≡ failure.now.caller
-        → s.max_locks ≡ max_locks → Admits s command.Restart
+    requires usable { OutsideDoubt basis.now.condition (IsUsable K.held K.is_open books.old) }
+    requires unknown { OutsideDoubt basis.now.condition (basis.now.failure.now.found ≡ None) }
+    requires settled { OutsideDoubt basis.now.condition (basis.now.failure.now.pending ≡ None) }
+    requires known { IsKnownRight basis.now.failure.now.found books.old.ledger
+        (flight_over books.old.ledger basis.now.failure.now) }
+    requires left { LeavesKnown K.held K.may_leave books.old.keeper basis.now.failure.now.found books.old.ledger
+        (flight_over books.old.ledger basis.now.failure.now) }
+    requires lists { AllRecover D.tells D.may_leave basis.now.condition books.old.ledger
+        (flight_over books.old.ledger basis.now.failure.now) basis.now.failure.now.found locks.old.file }
+    ensures act { (s : State) → s.condition ≡ basis.now.condition → s.sessions ≡ sessions.old
+        → s.stored ≡ books.old.ledger → s.pending ≡ flight_over books.old.ledger basis.now.failure.now
+        → s.found ≡ basis.now.failure.now.found
+        → s.failed_caller ≡ basis.now.failure.now.caller
+        → s.max_locks ≡ basis.now.max_locks → Admits s command.Restart
         → IsTelling s command.Restart (remade_taken result)
         (remade_state s sessions.new orders.new.items locks.new.table books.new.ledger result) (remade_reply result) }
     ensures sessions { OnNotRemade result (sessions.new ≡ sessions.old) }
     ensures orders { OnNotRemade result (orders.new.items ≡ orders.old.items) }
-    ensures stands { (calls : ℕ) → locks.new.stands ≡ is_up (remade_condition condition calls result) }
+    ensures stands { (calls : ℕ) → locks.new.stands ≡ is_up (remade_condition basis.now.condition calls result) }
     ensures ledger { OnNotRemade result (books.new.ledger ≡ books.old.ledger) }
     ensures usable { OnRemade result (IsUsable K.held K.is_open books.new) }
     ensures apart { OnRefusedFirst result (books.new ≡ books.old) }
-    ensures store { DoesStore K.held K.may_leave K.faults true (is_doubt condition) books.old.keeper books.new.keeper
-        (remade_reply result) }
-    ensures left { LeavesRemade K.held K.may_leave books.new.keeper books.old.ledger books.new.ledger failure.now
-        result }
-    ensures file { IsLeftReady D.tells D.reads D.may_leave books.old.ledger books.new.ledger failure.now locks.old.file
-        locks.new.file result }
+    ensures store { DoesStore K.held K.may_leave K.faults true (is_doubt basis.now.condition) books.old.keeper
+        books.new.keeper (remade_reply result) }
+    ensures left { LeavesRemade K.held K.may_leave books.new.keeper books.old.ledger books.new.ledger
+        basis.now.failure.now result }
+    ensures file { IsLeftReady D.tells D.reads D.may_leave books.old.ledger books.new.ledger basis.now.failure.now
+        locks.old.file locks.new.file result }
     ensures cause { HasFileCause (D.faults locks.old.file.disk) (D.faults locks.new.file.disk) (remade_reply result) }
     ensures follower { IsLater L.applied L.faults L.refusals locks.old.copy locks.new.copy }
     ensures detached { OnRemade result (locks.new.copy.attached ≡ false) }
     ensures untouched { OnRefusedFirst result (locks.new ≡ locks.old) }
     // A file whose images have the lists of the open units is good.
     ensures good_file { IsTrue D.tells → IsSound (open_entries books.old.ledger)
-        → OfPending (flight_over books.old.ledger failure.now) (λ ledger. IsSound (open_entries ledger))
+        → OfPending (flight_over books.old.ledger basis.now.failure.now) (λ ledger. IsSound (open_entries ledger))
         → is_unsound_file (remade_reply result) ≡ false }
     // A store that tells its rows is good, and has what it had or the change in flight.
     ensures good_store { is_some (K.held books.old.keeper) ≡ true → is_unsound_store (remade_reply result) ≡ false }
 {
-    if let Condition::Up = condition {
+    if let Condition::Up = basis.condition {
         return Remade::Refused(Refusal::ServerUp);
     }
-    let waiting = match read_waiting(alloc, condition, ranges, books, failure) {
+    let waiting = match read_waiting(alloc, basis, books) {
         Ok(waiting) => waiting,
         Err(remade) => return remade,
     };
-    match locks.restart(alloc, max_locks, waiting.units.as_slice()) {
+    match locks.restart(alloc, basis.max_locks, waiting.units.as_slice()) {
         Ok(()) => {
-            sessions.bereave(alloc, &failure.caller);
+            sessions.bereave(alloc, &basis.failure.caller);
             drop_orders(orders);
             Remade::Done(adopt(books, waiting.reread))
         }
@@ -125,31 +134,32 @@ pub(crate) fn remake<T: LockStore, K: Keeper, D: Disk, L: Link>(
 /// The units that wait for their V1 part: those of the books, or in doubt those of the store, which is read anew.
 fn read_waiting<K: Keeper>(
     alloc: Global,
-    condition: Condition,
-    ranges: &Ranges,
+    basis: &Basis<'_>,
     books: &mut Books<K>,
-    failure: &Failure,
 ) -> Result<Waiting, Remade>
-    requires known { IsKnownRight failure.now.found books.old.ledger (flight_over books.old.ledger failure.now) }
-    requires left { LeavesKnown K.held K.may_leave books.old.keeper failure.now.found books.old.ledger
-        (flight_over books.old.ledger failure.now) }
+    requires known { IsKnownRight basis.now.failure.now.found books.old.ledger
+        (flight_over books.old.ledger basis.now.failure.now) }
+    requires left { LeavesKnown K.held K.may_leave books.old.keeper basis.now.failure.now.found books.old.ledger
+        (flight_over books.old.ledger basis.now.failure.now) }
     ensures units { IfOk result (λ w. w.units.items ≡ open_locks (ledger_read books.old.ledger w.reread)) }
-    ensures read { IfOk result (λ w. IsReadAs condition books.old.ledger failure.now w.reread) }
+    ensures read { IfOk result (λ w. IsReadAs basis.now.condition books.old.ledger basis.now.failure.now w.reread) }
     ensures usable { IfOk result (λ w. IsUsableAs K.held K.is_open books.new w.reread) }
     ensures counts { OnOk result (K.faults books.new.keeper ≡ K.faults books.old.keeper) }
     ensures left { IfOk result
-        (λ w. LeavesKnown K.held K.may_leave books.new.keeper (known_behind failure.now.found (taken_in w.reread))
-        books.old.ledger (flight_over books.old.ledger failure.now)) }
-    ensures unread { IfErr result (IsUnread K.held K.may_leave K.faults condition failure.now books.old books.new) }
+        (λ w. LeavesKnown K.held K.may_leave books.new.keeper
+        (known_behind basis.now.failure.now.found (taken_in w.reread)) books.old.ledger
+        (flight_over books.old.ledger basis.now.failure.now)) }
+    ensures unread { IfErr result (IsUnread K.held K.may_leave K.faults basis.now.condition basis.now.failure.now
+        books.old books.new) }
     ensures good_store { is_some (K.held books.old.keeper) ≡ true
         → IfErr result (λ remade. is_unsound_store (remade_reply remade) ≡ false) }
     ensures ledger { books.new.ledger ≡ books.old.ledger }
-    ensures apart { is_doubt condition ≡ false → books.new ≡ books.old }
+    ensures apart { is_doubt basis.now.condition ≡ false → books.new ≡ books.old }
     ensures told { is_some (K.held books.new.keeper) ≡ is_some (K.held books.old.keeper) }
     ensures within { IsWithin (K.may_leave books.new.keeper) (K.may_leave books.old.keeper) }
 {
-    match condition {
-        Condition::Doubt(_) => reread(alloc, ranges, books, failure),
+    match basis.condition {
+        Condition::Doubt(_) => reread(alloc, basis, books),
         Condition::Up | Condition::NoServer => match books.open_units(alloc) {
             Ok(units) => Ok(Waiting {
                 units,
@@ -163,34 +173,42 @@ fn read_waiting<K: Keeper>(
 /// Reads the store anew. It has to have what it had or the change in flight, and what was read of it before.
 fn reread<K: Keeper>(
     alloc: Global,
-    ranges: &Ranges,
+    basis: &Basis<'_>,
     books: &mut Books<K>,
-    failure: &Failure,
 ) -> Result<Waiting, Remade>
-    requires known { IsKnownRight failure.now.found books.old.ledger (flight_over books.old.ledger failure.now) }
-    requires left { LeavesKnown K.held K.may_leave books.old.keeper failure.now.found books.old.ledger
-        (flight_over books.old.ledger failure.now) }
+    requires known { IsKnownRight basis.now.failure.now.found books.old.ledger
+        (flight_over books.old.ledger basis.now.failure.now) }
+    requires left { LeavesKnown K.held K.may_leave books.old.keeper basis.now.failure.now.found books.old.ledger
+        (flight_over books.old.ledger basis.now.failure.now) }
     ensures units { IfOk result (λ w. w.units.items ≡ open_locks (ledger_read books.old.ledger w.reread)) }
-    ensures read { IfOk result (λ w. IsSomeAnd w.reread (IsFoundRight books.old.ledger failure.now)) }
+    ensures read { IfOk result (λ w. IsSomeAnd w.reread (IsFoundRight books.old.ledger basis.now.failure.now)) }
     ensures usable { IfOk result (λ w. IsUsableAs K.held K.is_open books.new w.reread) }
     ensures counts { OnOk result (K.faults books.new.keeper ≡ K.faults books.old.keeper) }
     ensures left { IfOk result
-        (λ w. LeavesKnown K.held K.may_leave books.new.keeper (known_behind failure.now.found (taken_in w.reread))
-        books.old.ledger (flight_over books.old.ledger failure.now)) }
+        (λ w. LeavesKnown K.held K.may_leave books.new.keeper
+        (known_behind basis.now.failure.now.found (taken_in w.reread)) books.old.ledger
+        (flight_over books.old.ledger basis.now.failure.now)) }
     ensures unread { IfErr result
-        (λ remade. IsUnreadInDoubt K.held K.may_leave K.faults failure.now books.old books.new remade) }
+        (λ remade. IsUnreadInDoubt K.held K.may_leave K.faults basis.now.failure.now books.old books.new remade) }
     ensures good_store { is_some (K.held books.old.keeper) ≡ true
         → IfErr result (λ remade. is_unsound_store (remade_reply remade) ≡ false) }
     ensures ledger { books.new.ledger ≡ books.old.ledger }
     ensures told { is_some (K.held books.new.keeper) ≡ is_some (K.held books.old.keeper) }
     ensures within { IsWithin (K.may_leave books.new.keeper) (K.may_leave books.old.keeper) }
 {
-    let reread = match books.reread(alloc, failure.pending.as_ref()) {
-        Ok(reread) => reread,
-        Err(fault) => return Err(Remade::InDoubt(store_refusal(&fault, ranges), None)),
-    };
+    match books.reread(alloc, basis.failure.pending.as_ref()) {
+        Ok(reread) => taken_up(alloc, basis.failure.found, reread),
+        Err(fault) => Err(Remade::InDoubt(store_refusal(&fault, basis.ranges), None)),
+    }
+}
+
+/// Takes up what was read, where it is as it was read before, if it was.
+fn taken_up(alloc: Global, found: Option<bool>, reread: Reread) -> Result<Waiting, Remade>
+    ensures taken { IfOk result (λ w. IsTakenUp found reread w.units.items w.reread) }
+    ensures refused { IfErr result (IsNotTaken found reread.taken) }
+{
     let taken = reread.taken();
-    if !is_as_before(failure.found, taken) {
+    if !is_as_before(found, taken) {
         return Err(Remade::InDoubt(Refusal::Unsound(Bad::Store { table: 0, row: 0 }), None));
     }
     match reread.open_units(alloc) {
@@ -310,7 +328,7 @@ pub(crate) fn settled(
         Remade::Done(taken) => {
             *condition = Condition::Up;
             *taken_over = false;
-            *failure = Failure::none();
+            drop(std::mem::replace(failure, Failure::none()));
             Answer {
                 reply: Reply::Done,
                 taken,

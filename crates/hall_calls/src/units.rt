@@ -1,4 +1,4 @@
-ghost use Rattle.std.specs.Prelude.{◌≡◌, ◌⊎◌, ◌≤◌, ◌<◌, ◌+◌, ◌^◌, ◌++◌, None, Ok, Some, IfOk, IfSome, OnErr, OnOk, false, true, is_some, length, nat_eq, nat_le};
+ghost use Rattle.std.specs.Prelude.{ℕ, ◌≡◌, ◌⊎◌, ◌≤◌, ◌<◌, ◌+◌, ◌^◌, ◌++◌, None, Ok, Some, Contains, IfErr, IfOk, IfSome, OnErr, OnOk, false, true, is_some, length, nat_eq, nat_le};
 ghost use Rattle.std.specs.List.{AllByRecursion};
 ghost use Rattle.enq_server.specs.Following.{IsLostWith, KeepsOn};
 ghost use Rattle.enq_server.specs.Server.{of_user};
@@ -6,7 +6,10 @@ ghost use Rattle.hall_model.specs.declared.command.Command.TheVariants as comman
 ghost use Rattle.enq_base.specs.declared.unit.Num.{Num as Number};
 ghost use Rattle.hall_model.specs.Acts.{Admits};
 ghost use Rattle.hall_calls.specs.Written.{IsWritten, OnAnswer, IsRegained, OnFailure, OnStoreFailure, locks_posted, post_of, ranges_behind, written_reply};
-ghost use Rattle.hall_calls.specs.Commits.{IsOfCommit, RecordsNumbers, RecordsUnit};
+ghost use Rattle.hall_calls.specs.Commits.{AnswersCommit, IsChange, IsCommitting, IsOfCommit, RecordsNumbers, RecordsUnit, SavesList, TellsNoFault, unsaved};
+ghost use Rattle.hall_calls.specs.Marking.{EndsList, IsMarked, IsNoted, Readmits, ServesOn, orders_behind, to_post};
+ghost use Rattle.hall_calls.specs.declared.units.Written.TheVariants.{Answered};
+ghost use Rattle.hall_model.specs.Orders as claims;
 ghost use Rattle.hall_model.specs.Kept.{HasGoodLocks, HaveMarks, IsAhead, IsYoung, draws_in};
 ghost use Rattle.hall_calls.specs.Leaving.{HasStoreCause, KeepsStore, LeavesWritten};
 ghost use Rattle.hall_model.specs.Sessions.{owners_of};
@@ -19,14 +22,17 @@ ghost use Rattle.hall_calls.specs.Filing.{ChangesLevels, FilesAs, FreesList, Has
 ghost use Rattle.lock_entry.specs.Table.{IsTable, with_entries};
 ghost use Rattle.ledger_steps.specs.Intervals.{with_intervals, MayStore};
 ghost use Rattle.ledger_steps.specs.declared.step.Step.TheVariants.{Record, Note};
-ghost use Rattle.update_records.specs.Growing.{with_unit};
+ghost use Rattle.update_records.specs.Growing.{with_mark, with_unit};
+ghost use Rattle.update_records.specs.Marks.{status_of};
 ghost use Rattle.ledger_steps.specs.Posts as posts;
 ghost use Rattle.hall_calls.specs.Remaking.{no_failure};
-ghost use Rattle.ledger_steps.specs.Posts.{MayCome, WaitsFor, effects_of, kind_for};
+ghost use Rattle.ledger_steps.specs.Posts.{MayCome, WaitsFor, effects_of, entries_of, kind_for};
 ghost use Rattle.posting.specs.BooksView.{IsReady, IsUnmoved, IsUsable};
 ghost use Rattle.ledger_steps.specs.Steps.{HasMarksLeft, IsDrawing, IsNewUnit, IsOutcome, MayGet};
-ghost use Rattle.ledger_steps.specs.Drawn.{AreDrawnRight, IsStock};
-ghost use Rattle.ledger_steps.specs.Levels.{intervals_of};
+ghost use Rattle.ledger_steps.specs.Drawn.{AreDrawnRight, IsStock, drawn_of};
+ghost use Rattle.ledger_steps.specs.declared.range.NumberRange.{NumberRange};
+ghost use Rattle.number_ranges.specs.Intervals.{is_buffered};
+ghost use Rattle.ledger_steps.specs.Levels.{intervals_of, level_in, present};
 ghost use Rattle.update_records.specs.Business.{numbers_of, tables_of};
 ghost use Rattle.update_records.specs.declared.records.MarkKind.TheVariants.{Again1, Again2};
 
@@ -85,6 +91,37 @@ impl Failure {
     }
 }
 
+/// A mark of a unit that is to be written, whether the unit's locks end with it, and what is answered then.
+#[derive(Drop)]
+struct Noted {
+    unit: UnitKey,
+    kind: MarkKind,
+    ends: bool,
+    reply: Reply,
+}
+
+/// What a commit records.
+#[derive(Drop)]
+enum Change {
+    Numbers(NewNumbers),
+    Unit(NewUnit),
+}
+
+/// Numbers that are recorded alone, under the unit that their session has open, with the levels of their intervals.
+#[derive(Drop)]
+struct NewNumbers {
+    unit: UnitKey,
+    numbers: Items<Num>,
+    levels: Items<StoredInterval>,
+}
+
+/// A unit with the levels of the intervals of its numbers.
+#[derive(Drop)]
+struct NewUnit {
+    unit: Unit,
+    levels: Items<StoredInterval>,
+}
+
 /// Posts a part of the unit that a worker has an order for, or records where it is refused. With the V1 part the unit's
 /// locks end, in the backup file and then in the table, and the order goes.
 pub(crate) fn post<T: LockStore, K: Keeper, D: Disk, L: Link>(
@@ -128,29 +165,160 @@ pub(crate) fn post<T: LockStore, K: Keeper, D: Disk, L: Link>(
     ensures cause { HasStoreCause (K.faults books.old.keeper) (K.faults books.new.keeper) (written_reply result) }
     ensures kept { KeepsStore K.held K.may_leave books.old.keeper books.new.keeper (written_reply result) }
 {
-    let Some(unit) = order_for(orders.as_slice(), books, worker, part) else {
-        return Written::Answered(Reply::Refused(Refusal::NoOrder));
+    let written = post_held(
+        alloc,
+        orders.as_slice(),
+        locks,
+        books,
+        worker,
+        part,
+        max_marks,
+    );
+    end_order(orders, worker, &written);
+    written
+}
+
+/// The order of a part that was tried goes.
+fn end_order(orders: &mut Vec<Option<UnitKey>>, worker: u8, written: &Written)
+    requires { length orders.old.items ≡ 256 }
+    ensures { orders.new.items ≡ orders_behind orders.old.items worker written.now }
+{
+    match written {
+        Written::Answered(Reply::Refused(_)) | Written::Failed(_) | Written::Unfiled => {}
+        Written::Answered(_) => orders[worker as usize] = None,
+    }
+}
+
+/// Posts the part that a worker has an order for. The order stays.
+fn post_held<T: LockStore, K: Keeper, D: Disk, L: Link>(
+    alloc: Global,
+    orders: &[Option<UnitKey>],
+    locks: &mut EnqServer<T, D, L>,
+    books: &mut Books<K>,
+    worker: u8,
+    part: u8,
+    max_marks: u32,
+) -> Written
+    requires usable { IsUsable K.held K.is_open books.old }
+    requires limited { max_marks ≤ 1048576 }
+    requires part { (part ≡ 1) ⊎ (part ≡ 2) }
+    requires filed { HasOpenLists D.tells D.reads D.may_leave books.old.ledger locks.old.file }
+    ensures act { (s : State) → s.told ≡ is_some (K.held books.old.keeper) → s.orders ≡ orders.now
+        → (nat_eq part 1 ≡ true → s.locks ≡ locks.old.table.entries)
+        → s.stored ≡ books.old.ledger → s.mark_limit ≡ max_marks → s.pending ≡ None → Admits s (post_of part worker)
+        → IsWritten s (post_of part worker)
+        (record s {
+          orders = orders_behind s.orders worker result;
+          locks = locks_posted part s.locks locks.new.table.entries;
+          stored = books.new.ledger;
+        })
+        result }
+    ensures serves { ServesOn L.applied L.faults L.refusals locks.old locks.new }
+    ensures table { OnFailure result (locks.new.table ≡ locks.old.table) }
+    ensures second { nat_eq part 1 ≡ false → locks.new ≡ locks.old }
+    ensures file { FilesAs D.tells D.reads D.may_leave D.faults books.new.ledger locks.old.file locks.new.file result }
+    ensures store { EndsAs K.held K.is_open K.may_leave K.faults books.old books.new result }
+{
+    match to_post(orders, books, worker, part, max_marks) {
+        Ok(unit) => post_unit(alloc, locks, books, unit, part),
+        Err(refusal) => Written::Answered(Reply::Refused(refusal)),
+    }
+}
+
+/// The unit whose part a worker may post now, or why there is none.
+fn to_post<K: Keeper>(
+    orders: &[Option<UnitKey>],
+    books: &Books<K>,
+    worker: u8,
+    part: u8,
+    max_marks: u32,
+) -> Result<UnitKey, Refusal>
+    ensures { result ≡ to_post part books.now.ledger orders.now max_marks worker }
+{
+    let Some(unit) = order_for(orders, books, worker, part) else {
+        return Err(Refusal::NoOrder);
     };
     if is_full(books, max_marks) {
-        return Written::Answered(Reply::Refused(Refusal::StoreFull(max_marks)));
+        return Err(Refusal::StoreFull(max_marks));
     }
+    Ok(unit)
+}
+
+/// Posts a part of a unit that waits for it.
+fn post_unit<T: LockStore, K: Keeper, D: Disk, L: Link>(
+    alloc: Global,
+    locks: &mut EnqServer<T, D, L>,
+    books: &mut Books<K>,
+    unit: UnitKey,
+    part: u8,
+) -> Written
+    requires usable { IsUsable K.held K.is_open books.old }
+    requires marks { HasMarksLeft books.old.ledger }
+    requires part { (part ≡ 1) ⊎ (part ≡ 2) }
+    requires waits { WaitsFor part books.old.ledger unit }
+    requires filed { HasOpenLists D.tells D.reads D.may_leave books.old.ledger locks.old.file }
+    ensures act { (s : State) (worker : ℕ) → s.told ≡ is_some (K.held books.old.keeper)
+        → (nat_eq part 1 ≡ true → s.locks ≡ locks.old.table.entries)
+        → s.stored ≡ books.old.ledger → s.pending ≡ None → Admits s (post_of part worker)
+        → claims.order_for part books.old.ledger s.orders worker ≡ Some unit
+        → nat_le s.mark_limit (length books.old.ledger.marks) ≡ false
+        → IsWritten s (post_of part worker)
+        (record s {
+          orders = orders_behind s.orders worker result;
+          locks = locks_posted part s.locks locks.new.table.entries;
+          stored = books.new.ledger;
+        })
+        result }
+    ensures serves { ServesOn L.applied L.faults L.refusals locks.old locks.new }
+    ensures table { OnFailure result (locks.new.table ≡ locks.old.table) }
+    ensures second { nat_eq part 1 ≡ false → locks.new ≡ locks.old }
+    ensures file { FilesAs D.tells D.reads D.may_leave D.faults books.new.ledger locks.old.file locks.new.file result }
+    ensures store { EndsAs K.held K.is_open K.may_leave K.faults books.old books.new result }
+{
     let (prepared, outcome) = match prepare(alloc, books, &unit, part) {
         Ok(ready) => ready,
         Err(KeepFault::NoMemory) => return Written::Answered(Reply::Refused(Refusal::NoMemory)),
         Err(KeepFault::Failed) => return Written::Failed(None),
     };
-    match books.write(prepared) {
-        Ok(()) => match end_locks(locks, &unit, part == 1) {
-            Ok(()) => {
-                orders[worker as usize] = None;
-                Written::Answered(posted(unit, part, outcome))
-            }
+    let noted = Noted {
+        unit,
+        kind: kind_for(part, outcome),
+        ends: part == 1,
+        reply: posted(unit, part, outcome),
+    };
+    note(locks, books, prepared, noted)
+}
+
+/// Writes the mark of a unit that was made ready. Then its locks end, where they are to end.
+fn note<T: LockStore, K: Keeper, D: Disk, L: Link>(
+    locks: &mut EnqServer<T, D, L>,
+    books: &mut Books<K>,
+    prepared: Prepared,
+    noted: Noted,
+) -> Written
+    requires usable { IsUsable K.held K.is_open books.old }
+    requires ready { IsReady K.held K.has_room books.old prepared }
+    requires step { prepared.step ≡ Note noted.unit noted.kind }
+    requires ends { EndsList noted.ends books.old.ledger (with_mark books.old.ledger noted.unit noted.kind) noted.unit }
+    requires answer { IsUnrefused (Answered noted.reply) }
+    requires filed { HasOpenLists D.tells D.reads D.may_leave books.old.ledger locks.old.file }
+    ensures outcome { IsNoted books.old.ledger books.new.ledger locks.old.table.entries locks.new.table.entries
+        noted.ends noted.unit noted.kind noted.reply result }
+    ensures serves { ServesOn L.applied L.faults L.refusals locks.old locks.new }
+    ensures table { OnFailure result (locks.new.table ≡ locks.old.table) }
+    ensures apart { noted.ends ≡ false → locks.new ≡ locks.old }
+    ensures file { FilesAs D.tells D.reads D.may_leave D.faults books.new.ledger locks.old.file locks.new.file result }
+    ensures store { EndsAs K.held K.is_open K.may_leave K.faults books.old books.new result }
+{
+    match write(books, prepared) {
+        Ok(()) => match end_locks(locks, &noted.unit, noted.ends) {
+            Ok(()) => Written::Answered(noted.reply),
             Err(Failed) => Written::Unfiled,
         },
-        Err(_) => {
-            let kind = kind_for(part, outcome);
-            Written::Failed(Some(Step::Note { unit, kind }))
-        }
+        Err(_) => Written::Failed(Some(Step::Note {
+            unit: noted.unit,
+            kind: noted.kind,
+        })),
     }
 }
 
@@ -164,19 +332,12 @@ fn end_locks<T: LockStore, D: Disk, L: Link>(
     requires usable { locks.old.file.failed ≡ false }
     ensures table { OnOk result
         (locks.new.table ≡ with_entries locks.old.table (locks_ended ends locks.old.table.entries unit.now)) }
-    ensures apart { ends ≡ false → locks.new.table ≡ locks.old.table }
-    ensures unshipped { ends ≡ false → locks.new.copy ≡ locks.old.copy }
     ensures kept { OnErr result (locks.new.table ≡ locks.old.table) }
-    ensures limit { locks.new.table.limit ≡ locks.old.table.limit }
-    ensures standing { locks.new.stands ≡ locks.old.stands }
+    ensures apart { ends ≡ false → locks.new ≡ locks.old }
+    ensures serves { ServesOn L.applied L.faults L.refusals locks.old locks.new }
     ensures file { FreesList D.tells D.reads D.may_leave D.faults ends unit.now locks.old.file locks.new.file result }
-    ensures follower { KeepsOn L.applied L.faults L.refusals locks.old.copy locks.new.copy }
-    ensures lost { IsLostWith locks.old.copy locks.new.copy locks.old.table locks.new.table }
 {
-    if ends {
-        locks.end_unit(unit)?;
-    }
-    Ok(())
+    if ends { locks.end_unit(unit) } else { Ok(()) }
 }
 
 /// Makes ready to post a part of a unit that waits for it.
@@ -339,44 +500,89 @@ fn record_commit<T: LockStore, K: Keeper, D: Disk, L: Link>(
           stored = books.new.ledger;
         })
         result }
-    ensures limit { locks.new.table.limit ≡ locks.old.table.limit }
-    ensures standing { locks.new.stands ≡ locks.old.stands }
+    ensures serves { ServesOn L.applied L.faults L.refusals locks.old locks.new }
     ensures file { FilesAs D.tells D.reads D.may_leave D.faults books.new.ledger locks.old.file locks.new.file result }
-    ensures follower { KeepsOn L.applied L.faults L.refusals locks.old.copy locks.new.copy }
-    ensures lost { IsLostWith locks.old.copy locks.new.copy locks.old.table locks.new.table }
     ensures table { OnFailure result (locks.new.table ≡ locks.old.table) }
     ensures sessions { OnFailure result (sessions.new ≡ sessions.old) }
     ensures store { EndsAs K.held K.is_open K.may_leave K.faults books.old books.new result }
 {
+    let session = match to_commit(sessions, books, name, parts, stock, max_marks) {
+        Ok(session) => session,
+        Err(reply) => return Written::Answered(reply),
+    };
+    let Ok(change) = change_of(alloc, ranges, locks, books, session, parts, stock) else {
+        return Written::Answered(Reply::Refused(Refusal::NoMemory));
+    };
+    match change {
+        Change::Numbers(drawn) => record_numbers(alloc, sessions, books, name, drawn),
+        Change::Unit(made) => record_unit(alloc, sessions, locks, books, name, made),
+    }
+}
+
+/// The session that commits, or what is answered where nothing is to be recorded.
+fn to_commit<'a, K: Keeper>(
+    sessions: &'a Sessions,
+    books: &Books<K>,
+    name: &Name,
+    parts: &Parts,
+    stock: &[Num],
+    max_marks: u32,
+) -> Result<&'a Session, Reply>
+    ensures session { IfOk result
+        (λ x. IsCommitting sessions.now books.now.ledger max_marks name.now parts.now stock.now x.now) }
+    ensures answer { IfErr result
+        (AnswersCommit sessions.now books.now.ledger max_marks name.now parts.now stock.now) }
+    ensures quiet { IfErr result TellsNoFault }
+{
     let session = match session_of(sessions, name) {
         Ok(session) => session,
-        Err(refusal) => return Written::Answered(Reply::Refused(refusal)),
+        Err(refusal) => return Err(Reply::Refused(refusal)),
     };
     let effects = effects_in(parts);
     let drawn = session.draws.as_slice().len() + stock.len();
     if drawn > DRAWS_LIMIT || effects > EFFECTS_LIMIT {
-        return Written::Answered(Reply::Refused(Refusal::UnitTooLarge));
+        return Err(Reply::Refused(Refusal::UnitTooLarge));
     }
     if effects == 0 && drawn == 0 {
-        return Written::Answered(Reply::Done);
+        return Err(Reply::Done);
     }
     if is_full(books, max_marks) {
-        return Written::Answered(Reply::Refused(Refusal::StoreFull(max_marks)));
+        return Err(Reply::Refused(Refusal::StoreFull(max_marks)));
     }
-    let Ok(numbers) = draws_and(alloc, session, stock) else {
-        return Written::Answered(Reply::Refused(Refusal::NoMemory));
-    };
-    let Ok(levels) = settled_rows(alloc, ranges, books, numbers.as_slice()) else {
-        return Written::Answered(Reply::Refused(Refusal::NoMemory));
-    };
-    if effects == 0 {
-        let key = unit_key(books.start(), session);
-        return record_numbers(alloc, sessions, books, name, key, numbers, levels);
+    Ok(session)
+}
+
+/// What a commit of the session records: the numbers that it has drawn and those of the stock, within its open unit
+/// where there are effects.
+fn change_of<T: LockStore, K: Keeper, D: Disk, L: Link>(
+    alloc: Global,
+    ranges: &Ranges,
+    locks: &EnqServer<T, D, L>,
+    books: &Books<K>,
+    session: &Session,
+    parts: &Parts,
+    stock: &[Num],
+) -> Result<Change, NoMemory>
+    requires fit { (r : NumberRange) → Contains ranges.now r → is_buffered r.interval ≡ false
+        → level_in books.now.ledger.levels r.interval + drawn_of (present books.now.ledger.levels r.interval)
+        (session.now.draws ++ stock.now) ≤ r.interval.to }
+    ensures { IfOk result
+        (IsChange books.now.ledger ranges.now locks.now.table session.now parts.now stock.now) }
+{
+    let numbers = draws_and(alloc, session, stock)?;
+    let levels = settled_rows(alloc, ranges, books, numbers.as_slice())?;
+    if effects_in(parts) == 0 {
+        return Ok(Change::Numbers(NewNumbers {
+            unit: unit_key(books.start(), session),
+            numbers: Items::from_vec(numbers),
+            levels: Items::from_vec(levels),
+        }));
     }
-    let Ok(unit) = unit_of(alloc, books.start(), locks, session, parts, numbers) else {
-        return Written::Answered(Reply::Refused(Refusal::NoMemory));
-    };
-    record_unit(alloc, sessions, locks, books, name, unit, levels)
+    let unit = unit_of(alloc, books.start(), locks, session, parts, numbers)?;
+    Ok(Change::Unit(NewUnit {
+        unit,
+        levels: Items::from_vec(levels),
+    }))
 }
 
 /// What a session has drawn, and behind it the numbers of a stock.
@@ -396,35 +602,66 @@ fn record_unit<T: LockStore, K: Keeper, D: Disk, L: Link>(
     locks: &mut EnqServer<T, D, L>,
     books: &mut Books<K>,
     name: &Name,
-    unit: Unit,
-    levels: Vec<StoredInterval>,
+    made: NewUnit,
 ) -> Written
     requires usable { IsUsable K.held K.is_open books.old }
     requires marks { HasMarksLeft books.old.ledger }
-    requires new { IsNewUnit books.old.ledger unit }
-    requires store { MayStore books.old.ledger levels.items unit.numbers }
+    requires fresh { IsNewUnit books.old.ledger made.unit }
+    requires store { MayStore books.old.ledger made.levels made.unit.numbers }
     requires young { AllByRecursion (IsYoung 262145) sessions.old }
-    requires commits { IsOfCommit books.old.ledger unit locks.old.table.entries }
+    requires commits { IsOfCommit books.old.ledger made.unit locks.old.table.entries }
     requires filed { HasOpenLists D.tells D.reads D.may_leave books.old.ledger locks.old.file }
     ensures outcome { RecordsUnit sessions.old sessions.new locks.old.table.entries locks.new.table.entries
         books.old.ledger books.new.ledger
-        name.now unit levels.items result }
-    ensures limit { locks.new.table.limit ≡ locks.old.table.limit }
-    ensures standing { locks.new.stands ≡ locks.old.stands }
+        name.now made.unit made.levels result }
+    ensures serves { ServesOn L.applied L.faults L.refusals locks.old locks.new }
     ensures file { FilesAs D.tells D.reads D.may_leave D.faults books.new.ledger locks.old.file locks.new.file result }
-    ensures follower { KeepsOn L.applied L.faults L.refusals locks.old.copy locks.new.copy }
-    ensures lost { IsLostWith locks.old.copy locks.new.copy locks.old.table locks.new.table }
     ensures table { OnFailure result (locks.new.table ≡ locks.old.table) }
     ensures sessions { OnFailure result (sessions.new ≡ sessions.old) }
     ensures store { EndsAs K.held K.is_open K.may_leave K.faults books.old books.new result }
 {
-    let Ok(prepared) = prepare_unit(alloc, books, &unit, levels.as_slice()) else {
-        return Written::Answered(Reply::Refused(Refusal::NoMemory));
+    match save(alloc, locks, books, &made) {
+        Ok(prepared) => record_saved(alloc, sessions, locks, books, name, made, prepared),
+        Err(fault) => unsaved(fault),
+    }
+}
+
+/// Makes ready to record a unit, and writes its list into the backup file.
+fn save<T: LockStore, K: Keeper, D: Disk, L: Link>(
+    alloc: Global,
+    locks: &mut EnqServer<T, D, L>,
+    books: &mut Books<K>,
+    made: &NewUnit,
+) -> Result<Prepared, WriteFault>
+    requires usable { IsUsable K.held K.is_open books.old }
+    requires marks { HasMarksLeft books.old.ledger }
+    requires fresh { IsNewUnit books.old.ledger made.now.unit }
+    requires store { MayStore books.old.ledger made.now.levels made.now.unit.numbers }
+    requires commits { IsOfCommit books.old.ledger made.now.unit locks.old.table.entries }
+    requires filed { HasOpenLists D.tells D.reads D.may_leave books.old.ledger locks.old.file }
+    ensures ready { IfOk result (λ p. IsReady K.held K.has_room books.new p) }
+    ensures step { IfOk result (λ p. p.step ≡ Record made.now.unit made.now.levels) }
+    ensures usable { IsUsable K.held K.is_open books.new }
+    ensures unmoved { IsUnmoved K.held K.may_leave K.faults books.old books.new }
+    ensures list { SavesList D.tells D.reads D.may_leave D.faults books.old.ledger made.now.unit made.now.levels
+        locks.old locks.new result }
+{
+    let Ok(prepared) = prepare_unit(alloc, books, &made.unit, made.levels.as_slice()) else {
+        return Err(WriteFault::NoMemory);
     };
-    match locks.save(alloc, &unit.key, &unit.user) {
-        Ok(_) => record_saved(alloc, sessions, locks, books, name, unit, levels, prepared),
-        Err(WriteFault::NoMemory) => Written::Answered(Reply::Refused(Refusal::NoMemory)),
-        Err(WriteFault::Failed) => Written::Unfiled,
+    match locks.save(alloc, &made.unit.key, &made.unit.user) {
+        Ok(_) => Ok(prepared),
+        Err(fault) => Err(fault),
+    }
+}
+
+/// How a call ends whose unit isn't written into the backup file.
+fn unsaved(fault: WriteFault) -> Written
+    ensures { result ≡ unsaved fault }
+{
+    match fault {
+        WriteFault::NoMemory => Written::Answered(Reply::Refused(Refusal::NoMemory)),
+        WriteFault::Failed => Written::Unfiled,
     }
 }
 
@@ -435,39 +672,35 @@ fn record_saved<T: LockStore, K: Keeper, D: Disk, L: Link>(
     locks: &mut EnqServer<T, D, L>,
     books: &mut Books<K>,
     name: &Name,
-    unit: Unit,
-    levels: Vec<StoredInterval>,
+    made: NewUnit,
     prepared: Prepared,
 ) -> Written
     requires usable { IsUsable K.held K.is_open books.old }
     requires ready { IsReady K.held K.has_room books.old prepared }
-    requires step { prepared.step ≡ Record unit levels.items }
+    requires step { prepared.step ≡ Record made.unit made.levels }
     requires young { AllByRecursion (IsYoung 262145) sessions.old }
     requires saved { IsSaved D.tells D.reads D.may_leave books.old.ledger
-        (with_intervals levels.items (with_unit books.old.ledger unit)) locks.old.file }
+        (with_intervals made.levels (with_unit books.old.ledger made.unit)) locks.old.file }
     ensures outcome { RecordsUnit sessions.old sessions.new locks.old.table.entries locks.new.table.entries
         books.old.ledger books.new.ledger
-        name.now unit levels.items result }
-    ensures limit { locks.new.table.limit ≡ locks.old.table.limit }
-    ensures standing { locks.new.stands ≡ locks.old.stands }
+        name.now made.unit made.levels result }
+    ensures serves { ServesOn L.applied L.faults L.refusals locks.old locks.new }
     ensures file { FilesAs D.tells D.reads D.may_leave D.faults books.new.ledger locks.old.file locks.new.file result }
     ensures answered { IsUnrefused result }
-    ensures follower { KeepsOn L.applied L.faults L.refusals locks.old.copy locks.new.copy }
-    ensures lost { IsLostWith locks.old.copy locks.new.copy locks.old.table locks.new.table }
     ensures table { OnFailure result (locks.new.table ≡ locks.old.table) }
     ensures sessions { OnFailure result (sessions.new ≡ sessions.old) }
     ensures store { EndsAs K.held K.is_open K.may_leave K.faults books.old books.new result }
 {
     match write(books, prepared) {
         Ok(()) => {
-            locks.flag(&unit.key);
+            locks.flag(&made.unit.key);
             sessions.begin_unit(alloc, name);
-            Written::Answered(Reply::Unit(unit.key))
+            Written::Answered(Reply::Unit(made.unit.key))
         }
-        Err(_) => {
-            let levels = Items::from_vec(levels);
-            Written::Failed(Some(Step::Record { unit, levels }))
-        }
+        Err(_) => Written::Failed(Some(Step::Record {
+            unit: made.unit,
+            levels: made.levels,
+        })),
     }
 }
 
@@ -477,29 +710,29 @@ fn record_numbers<K: Keeper>(
     sessions: &mut Sessions,
     books: &mut Books<K>,
     name: &Name,
-    unit: UnitKey,
-    numbers: Vec<Num>,
-    levels: Vec<StoredInterval>,
+    drawn: NewNumbers,
 ) -> Written
     requires usable { IsUsable K.held K.is_open books.old }
     requires marks { HasMarksLeft books.old.ledger }
-    requires drawing { IsDrawing books.old.ledger unit numbers.items }
-    requires store { MayStore books.old.ledger levels.items numbers.items }
-    ensures outcome { RecordsNumbers sessions.old sessions.new books.old.ledger books.new.ledger name.now unit
-        numbers.items levels.items result }
+    requires drawing { IsDrawing books.old.ledger drawn.unit drawn.numbers }
+    requires store { MayStore books.old.ledger drawn.levels drawn.numbers }
+    ensures outcome { RecordsNumbers sessions.old sessions.new books.old.ledger books.new.ledger name.now drawn.unit
+        drawn.numbers drawn.levels result }
     ensures sessions { OnFailure result (sessions.new ≡ sessions.old) }
     ensures store { EndsAs K.held K.is_open K.may_leave K.faults books.old books.new result }
 {
-    match write_numbers(alloc, books, &unit, numbers.as_slice(), levels.as_slice()) {
+    let numbers = drawn.numbers.as_slice();
+    let levels = drawn.levels.as_slice();
+    match write_numbers(alloc, books, &drawn.unit, numbers, levels) {
         Ok(()) => {
             sessions.settle_draws(alloc, name);
             Written::Answered(Reply::Done)
         }
         Err(KeepFault::NoMemory) => Written::Answered(Reply::Refused(Refusal::NoMemory)),
         Err(KeepFault::Failed) => Written::Failed(Some(Step::Draw {
-            unit,
-            numbers: Items::from_vec(numbers),
-            levels: Items::from_vec(levels),
+            unit: drawn.unit,
+            numbers: drawn.numbers,
+            levels: drawn.levels,
         })),
     }
 }
@@ -567,23 +800,46 @@ pub(crate) fn cancel<T: LockStore, K: Keeper, D: Disk, L: Link>(
     ensures cause { HasStoreCause (K.faults books.old.keeper) (K.faults books.new.keeper) (written_reply result) }
     ensures kept { KeepsStore K.held K.may_leave books.old.keeper books.new.keeper (written_reply result) }
 {
-    let status = match to_cancel(orders, books, &unit, max_marks) {
-        Ok(status) => status,
-        Err(refusal) => return Written::Answered(Reply::Refused(refusal)),
-    };
+    match to_cancel(orders, books, &unit, max_marks) {
+        Ok(status) => cancel_unit(alloc, locks, books, unit, status),
+        Err(refusal) => Written::Answered(Reply::Refused(refusal)),
+    }
+}
+
+/// Cancels a unit of such a status.
+fn cancel_unit<T: LockStore, K: Keeper, D: Disk, L: Link>(
+    alloc: Global,
+    locks: &mut EnqServer<T, D, L>,
+    books: &mut Books<K>,
+    unit: UnitKey,
+    status: Status,
+) -> Written
+    requires usable { IsUsable K.held K.is_open books.old }
+    requires marks { HasMarksLeft books.old.ledger }
+    requires status { status_of books.old.ledger.units books.old.ledger.marks unit ≡ Some status }
+    requires allowed { step.may_cancel status ≡ true }
+    requires filed { HasOpenLists D.tells D.reads D.may_leave books.old.ledger locks.old.file }
+    ensures act { (s : State) → s.locks ≡ locks.old.table.entries → s.stored ≡ books.old.ledger
+        → step.to_cancel books.old.ledger s.orders s.mark_limit unit ≡ Ok status
+        → Admits s (command.Cancel unit)
+        → IsWritten s (command.Cancel unit)
+        (record s { locks = locks.new.table.entries; stored = books.new.ledger })
+        result }
+    ensures serves { ServesOn L.applied L.faults L.refusals locks.old locks.new }
+    ensures table { OnFailure result (locks.new.table ≡ locks.old.table) }
+    ensures file { FilesAs D.tells D.reads D.may_leave D.faults books.new.ledger locks.old.file locks.new.file result }
+    ensures store { EndsAs K.held K.is_open K.may_leave K.faults books.old books.new result }
+{
     let Ok(prepared) = books.prepare_mark(alloc, &unit, MarkKind::Gone) else {
         return Written::Answered(Reply::Refused(Refusal::NoMemory));
     };
-    match books.write(prepared) {
-        Ok(()) => match end_locks(locks, &unit, is_open(status)) {
-            Ok(()) => Written::Answered(Reply::Unit(unit)),
-            Err(Failed) => Written::Unfiled,
-        },
-        Err(_) => Written::Failed(Some(Step::Note {
-            unit,
-            kind: MarkKind::Gone,
-        })),
-    }
+    let noted = Noted {
+        unit,
+        kind: MarkKind::Gone,
+        ends: is_open(status),
+        reply: Reply::Unit(unit),
+    };
+    note(locks, books, prepared, noted)
 }
 
 /// The status of a unit that can be cancelled, or why it can't be.
@@ -686,37 +942,59 @@ fn reopen<T: LockStore, K: Keeper, D: Disk, L: Link>(
         → IsWritten s (command.Resubmit unit)
         (record s { locks = locks.new.table.entries; stored = books.new.ledger })
         result }
-    ensures limit { locks.new.table.limit ≡ locks.old.table.limit }
-    ensures standing { locks.new.stands ≡ locks.old.stands }
-    ensures file { FilesAs D.tells D.reads D.may_leave D.faults books.new.ledger locks.old.file locks.new.file result }
-    ensures follower { KeepsOn L.applied L.faults L.refusals locks.old.copy locks.new.copy }
-    ensures lost { IsLostWith locks.old.copy locks.new.copy locks.old.table locks.new.table }
+    ensures serves { ServesOn L.applied L.faults L.refusals locks.old locks.new }
     ensures table { OnFailure result
         ((locks.new.table ≡ locks.old.table) ⊎ IsRegained books.old.ledger unit locks.old.table
         locks.new.table.entries) }
-    ensures ledger { OnStoreFailure result (books.new.ledger ≡ books.old.ledger) }
-    ensures usable { OnAnswer result (IsUsable K.held K.is_open books.new) }
-    ensures told { is_some (K.held books.new.keeper) ≡ is_some (K.held books.old.keeper) }
-    ensures left { LeavesWritten K.held K.may_leave books.new result }
-    ensures cause { HasStoreCause (K.faults books.old.keeper) (K.faults books.new.keeper) (written_reply result) }
-    ensures kept { KeepsStore K.held K.may_leave books.old.keeper books.new.keeper (written_reply result) }
+    ensures file { FilesAs D.tells D.reads D.may_leave D.faults books.new.ledger locks.old.file locks.new.file result }
+    ensures store { EndsAs K.held K.is_open K.may_leave K.faults books.old books.new result }
 {
-    let Ok(entries) = books.unit_locks(alloc, &unit) else {
-        return Written::Answered(Reply::Refused(Refusal::NoMemory));
-    };
     let Ok(prepared) = books.prepare_mark(alloc, &unit, MarkKind::Again1) else {
         return Written::Answered(Reply::Refused(Refusal::NoMemory));
     };
-    let owners = owners_of(&unit);
-    if let Err(fault) = locks.readmit(alloc, &owners, &unit, entries.as_slice()) {
-        return ungranted(fault);
+    match regain(alloc, locks, books, &unit) {
+        Ok(()) => note_again(books, prepared, unit, MarkKind::Again1),
+        Err(fault) => ungranted(fault),
     }
-    match books.write(prepared) {
+}
+
+/// The locks that were stored with a unit stand again, all or none, and the backup file has them.
+fn regain<T: LockStore, K: Keeper, D: Disk, L: Link>(
+    alloc: Global,
+    locks: &mut EnqServer<T, D, L>,
+    books: &Books<K>,
+    unit: &UnitKey,
+) -> Result<(), ServerFault>
+    requires stands { locks.old.stands ≡ true }
+    requires usable { locks.old.file.failed ≡ false }
+    requires stored { AllByRecursion HasGoodLocks books.now.ledger.units }
+    ensures again { Readmits D.tells D.reads D.may_leave D.faults (owners_of unit.now) unit.now
+        (entries_of books.now.ledger.units unit.now) locks.old locks.new result }
+    ensures serves { ServesOn L.applied L.faults L.refusals locks.old locks.new }
+{
+    let Ok(entries) = books.unit_locks(alloc, unit) else {
+        return Err(ServerFault::NoMemory);
+    };
+    let owners = owners_of(unit);
+    locks.readmit(alloc, &owners, unit, entries.as_slice())
+}
+
+/// Writes the mark of a unit whose refused part is tried again.
+fn note_again<K: Keeper>(
+    books: &mut Books<K>,
+    prepared: Prepared,
+    unit: UnitKey,
+    kind: MarkKind,
+) -> Written
+    requires usable { IsUsable K.held K.is_open books.old }
+    requires ready { IsReady K.held K.has_room books.old prepared }
+    requires step { prepared.step ≡ Note unit kind }
+    ensures outcome { IsMarked books.old.ledger books.new.ledger unit kind result }
+    ensures store { EndsAs K.held K.is_open K.may_leave K.faults books.old books.new result }
+{
+    match write(books, prepared) {
         Ok(()) => Written::Answered(Reply::Unit(unit)),
-        Err(_) => Written::Failed(Some(Step::Note {
-            unit,
-            kind: MarkKind::Again1,
-        })),
+        Err(_) => Written::Failed(Some(Step::Note { unit, kind })),
     }
 }
 
@@ -742,29 +1020,18 @@ fn repost<T: LockStore, K: Keeper, D: Disk, L: Link>(
     requires marks { HasMarksLeft books.old.ledger }
     requires follows { MayGet books.old.ledger unit Again2 }
     requires filed { HasOpenLists D.tells D.reads D.may_leave books.old.ledger locks.now.file }
-    ensures file { FilesAs D.tells D.reads D.may_leave D.faults books.new.ledger locks.now.file locks.now.file result }
     ensures act { (s : State) → s.locks ≡ locks.now.table.entries → s.stored ≡ books.old.ledger
         → step.to_resubmit books.old.ledger s.mark_limit unit ≡ Ok Status.Bad2 → Admits s (command.Resubmit unit)
         → IsWritten s (command.Resubmit unit)
         (record s { locks = locks.now.table.entries; stored = books.new.ledger })
         result }
-    ensures ledger { OnFailure result (books.new.ledger ≡ books.old.ledger) }
-    ensures usable { OnAnswer result (IsUsable K.held K.is_open books.new) }
-    ensures told { is_some (K.held books.new.keeper) ≡ is_some (K.held books.old.keeper) }
-    ensures left { LeavesWritten K.held K.may_leave books.new result }
-    ensures cause { HasStoreCause (K.faults books.old.keeper) (K.faults books.new.keeper) (written_reply result) }
-    ensures kept { KeepsStore K.held K.may_leave books.old.keeper books.new.keeper (written_reply result) }
+    ensures file { FilesAs D.tells D.reads D.may_leave D.faults books.new.ledger locks.now.file locks.now.file result }
+    ensures store { EndsAs K.held K.is_open K.may_leave K.faults books.old books.new result }
 {
     let Ok(prepared) = books.prepare_mark(alloc, &unit, MarkKind::Again2) else {
         return Written::Answered(Reply::Refused(Refusal::NoMemory));
     };
-    match books.write(prepared) {
-        Ok(()) => Written::Answered(Reply::Unit(unit)),
-        Err(_) => Written::Failed(Some(Step::Note {
-            unit,
-            kind: MarkKind::Again2,
-        })),
-    }
+    note_again(books, prepared, unit, MarkKind::Again2)
 }
 
 /// The status of a unit that can be tried again, or why it can't be.

@@ -4,9 +4,9 @@ ghost use Rattle.keeper_api.specs.Keeping.{HasFaultCause, Stays, UnlessFailed, O
 ghost use Rattle.keeper_api.specs.Rows.{IsPage};
 ghost use Rattle.keeper_api.specs.Batch.{IsBatch};
 
-use crate::calls::{begin, page_in, value_in};
+use crate::asks::{Ask, done_in, page_in, value_in};
+use crate::calls::answer;
 use crate::gate::Gate;
-use crate::statements::write_batch;
 use enq_base::{Failed, NoMemory};
 use keeper_api::{Bytes, Change, KeepFault, Keeper, Row};
 use sqlite::{Alter, Connection};
@@ -94,7 +94,7 @@ impl<S: Alter> Keeper for AdoptedKeeper<S> {
             return Err(self.gate.refused(KeepFault::Failed));
         }
         self.was_opened = true;
-        match begin(&mut self.connection) {
+        match done_in(answer(&mut self.connection, &Ask::Begin)) {
             Ok(()) => {
                 self.gate.is_open = true;
                 Ok(())
@@ -112,7 +112,8 @@ impl<S: Alter> Keeper for AdoptedKeeper<S> {
         ensures failed { OnFailed result
             (self.new ≡ record self.old { is_open = false; faults = one_more self.old.faults }) }
     {
-        match value_in(&mut self.connection, table, key) {
+        let told = answer(&mut self.connection, &Ask::Value { table, key });
+        match value_in(told) {
             Ok(value) => Ok(value),
             Err(fault) => Err(self.gate.refused(fault)),
         }
@@ -136,7 +137,13 @@ impl<S: Alter> Keeper for AdoptedKeeper<S> {
         ensures failed { OnFailed result
             (self.new ≡ record self.old { is_open = false; faults = one_more self.old.faults }) }
     {
-        match page_in(alloc, &mut self.connection, table, after, n) {
+        let ask = Ask::Rows {
+            alloc,
+            table,
+            after,
+            n,
+        };
+        match page_in(after, n, answer(&mut self.connection, &ask)) {
             Ok(page) => Ok(page),
             Err(fault) => Err(self.gate.refused(fault)),
         }
@@ -159,7 +166,8 @@ impl<S: Alter> Keeper for AdoptedKeeper<S> {
         ensures failed { OnErr result
             (self.new ≡ record self.old { is_open = false; faults = one_more self.old.faults }) }
     {
-        match write_batch(&mut self.connection, batch) {
+        let told = answer(&mut self.connection, &Ask::Write { batch });
+        match done_in(told) {
             Ok(()) => Ok(()),
             Err(_) => Err(self.gate.fail()),
         }

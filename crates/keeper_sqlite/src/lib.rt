@@ -2,7 +2,9 @@
 #![tactic(auto)]
 
 mod adopted_keeper;
+mod asks;
 mod calls;
+mod file_connection;
 mod gate;
 mod page;
 mod sqlite_keeper;

@@ -4,12 +4,11 @@ ghost use Rattle.keeper_api.specs.Keeping.{HasFaultCause, Stays, UnlessFailed, O
 ghost use Rattle.keeper_api.specs.Rows.{IsPage};
 ghost use Rattle.keeper_api.specs.Batch.{IsBatch};
 
-use crate::calls::{connect, disconnect, fault_of, page_in, value_in};
+use crate::asks::{Ask, done_in, page_in, value_in};
+use crate::file_connection::{FileConnection, ask_at, connect};
 use crate::gate::Gate;
-use crate::statements::write_batch;
 use enq_base::{Failed, NoMemory, Short};
 use keeper_api::{Bytes, Change, KeepFault, Keeper, Row};
-use sqlite::{Connection, File, FileStore};
 use std::alloc::Global;
 use std::marker::Model;
 
@@ -18,7 +17,7 @@ pub struct SqliteKeeper {
     rt: HostRuntime,
     path: Short,
     gate: Gate,
-    connection: Option<Connection<FileStore<File>>>,
+    connection: Option<FileConnection>,
 }
 
 impl Drop for SqliteKeeper {
@@ -38,17 +37,6 @@ impl Model for SqliteKeeper {
     ghost Value = { FileView };
 
     ghost view = { λ k. record { path = k.path; is_open = k.gate.is_open; faults = k.gate.faults } };
-}
-
-/// Opens or makes the file.
-fn opened(rt: &HostRuntime, path: &Short) -> Result<Connection<FileStore<File>>, KeepFault> {
-    let Ok(path) = str::from_utf8(path.bytes()) else {
-        return Err(KeepFault::Failed);
-    };
-    match Connection::open(rt, path) {
-        Ok(connection) => Ok(connection),
-        Err(error) => Err(fault_of(error)),
-    }
 }
 
 impl SqliteKeeper {
@@ -93,11 +81,11 @@ impl Keeper for SqliteKeeper {
         ensures wanting { OnNoMemory result (self.new ≡ record self.old { is_open = false }) }
     {
         // The old connection holds the lock of the file.
-        disconnect(&mut self.connection);
+        self.connection = None;
         self.gate.is_open = false;
-        let connection = opened(&self.rt, &self.path);
-        match connect(&mut self.connection, connection) {
-            Ok(()) => {
+        match connect(&self.rt, &self.path) {
+            Ok(connection) => {
+                self.connection = Some(connection);
                 self.gate.is_open = true;
                 Ok(())
             }
@@ -114,10 +102,8 @@ impl Keeper for SqliteKeeper {
         ensures failed { OnFailed result
             (self.new ≡ record self.old { is_open = false; faults = one_more self.old.faults }) }
     {
-        let Some(connection) = &mut self.connection else {
-            return Err(self.gate.refused(KeepFault::Failed));
-        };
-        match value_in(connection, table, key) {
+        let told = ask_at(&mut self.connection, &Ask::Value { table, key });
+        match value_in(told) {
             Ok(value) => Ok(value),
             Err(fault) => Err(self.gate.refused(fault)),
         }
@@ -141,10 +127,13 @@ impl Keeper for SqliteKeeper {
         ensures failed { OnFailed result
             (self.new ≡ record self.old { is_open = false; faults = one_more self.old.faults }) }
     {
-        let Some(connection) = &mut self.connection else {
-            return Err(self.gate.refused(KeepFault::Failed));
+        let ask = Ask::Rows {
+            alloc,
+            table,
+            after,
+            n,
         };
-        match page_in(alloc, connection, table, after, n) {
+        match page_in(after, n, ask_at(&mut self.connection, &ask)) {
             Ok(page) => Ok(page),
             Err(fault) => Err(self.gate.refused(fault)),
         }
@@ -167,10 +156,8 @@ impl Keeper for SqliteKeeper {
         ensures failed { OnErr result
             (self.new ≡ record self.old { is_open = false; faults = one_more self.old.faults }) }
     {
-        let Some(connection) = &mut self.connection else {
-            return Err(self.gate.fail());
-        };
-        match write_batch(connection, batch) {
+        let told = ask_at(&mut self.connection, &Ask::Write { batch });
+        match done_in(told) {
             Ok(()) => Ok(()),
             Err(_) => Err(self.gate.fail()),
         }

@@ -6,6 +6,7 @@ ghost use Rattle.sqlite.specs.Held.{state};
 ghost use Rattle.keeper_sqlite.specs.Texts.{get_text, page_text, put_text, delete_text};
 ghost use Rattle.keeper_sqlite.specs.Batches.{text_for, params_for, MakesAll, CommitsAll};
 
+use crate::asks::Told;
 use enq_base::Items;
 use keeper_api::{Change, Row};
 use sqlite::types::ValueRef;
@@ -55,16 +56,16 @@ fn row_with<S: Alter>(conn: &mut Connection<S>, table: u8, key: &[u8]) -> Result
 }
 
 /// The value of a row, where there is one.
-pub fn value_of<S: Alter>(
-    conn: &mut Connection<S>,
-    table: u8,
-    key: &[u8],
-) -> Result<Option<Vec<u8>>, Error> {
+pub fn value_of<S: Alter>(conn: &mut Connection<S>, table: u8, key: &[u8]) -> Result<Told, Error> {
     match row_with(conn, table, key) {
-        Ok(row) => Ok(Some(row.get(0)?)),
-        Err(Error::QueryReturnedNoRows) => Ok(None),
+        Ok(row) => first_in(&row),
+        Err(Error::QueryReturnedNoRows) => Ok(Told::Value(None)),
         Err(error) => Err(error),
     }
+}
+
+fn first_in(row: &sqlite::Row) -> Result<Told, Error> {
+    Ok(Told::Value(Some(Items::from_vec(row.get(0)?))))
 }
 
 fn rows_with<S: Alter>(
@@ -102,13 +103,17 @@ pub fn rows_behind<S: Alter>(
     table: u8,
     after: &[u8],
     n: u32,
-) -> Result<Vec<Row>, Error> {
+) -> Result<Told, Error> {
     let found = rows_with(conn, table, after, n)?;
+    rows_of(alloc, found.as_slice())
+}
+
+fn rows_of(alloc: Global, found: &[sqlite::Row]) -> Result<Told, Error> {
     let mut rows = Vec::with_capacity(alloc, found.len())?;
-    for row in found.iter() {
+    for row in found {
         rows.push(row_of(row)?)?;
     }
-    Ok(rows)
+    Ok(Told::Rows(rows))
 }
 
 fn put<'v, S: Alter>(

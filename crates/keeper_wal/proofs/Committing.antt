@@ -1,9 +1,8 @@
 -- What a batch that is added makes of a journal.
-use Rattle.std.proofs.Common.{◌≡◌, ◌⊎◌, ℕ, ◌+◌, ◌≤◌, Bool, true, false, List, [], ◌∷◌, ◌++◌, length, refl, sym, subst, ◌∙◌, arith, inl, inr}
-use Rattle.std.specs.Prelude.{IsTrue, IfSome, Err}
-use Rattle.enq_base.specs.Causes.{HasCause, one_more}
+use Rattle.std.proofs.Common.{◌≡◌, ◌⊎◌, ℕ, ◌≤◌, Bool, true, false, List, [], ◌∷◌, ◌++◌, length, refl, sym, subst, ◌∙◌, arith, inl, inr}
+use Rattle.std.specs.Prelude.{IsTrue, IfSome}
 use Rattle.gate_log.specs.Gates.{IsShut, IsAtRest}
-use Rattle.gate_log.proofs.Logs.{front-push, shut_stands}
+use Rattle.gate_log.proofs.lemmas.Logs.{front-push, shut_stands}
 use Rattle.keeper_api.specs.Batch.{changed}
 use Rattle.keeper_api.specs.Keeping.{IsBeforeOrAfter, AreBothLeft}
 use Rattle.keeper_api.specs.Rows.{Rows}
@@ -12,17 +11,9 @@ use Rattle.keeper_wal.specs.Journal.{Stands, IsFront, IsLegal, grammar}
 use Rattle.keeper_wal.specs.Spelling.{spelling}
 use Rattle.keeper_wal.specs.Wal.{WalView, told, if_told, only_rows, Leaves, IsOnHand, IsReady, IsOpen, HasRoom, text_of}
 
--- a fault of the keeper's own
-pub own_cause : {T E : Type 0} (e : E) (disk own now : ℕ) → now ≡ one_more own → own ≤ now → HasCause {T = T} (disk + own) (disk + now) (Err e)
-own_cause e disk own now is later = record { later = omega (arith, later); failed = omega (arith, is, later); quiet = tt }
-
 has_text : (batch : List Change) → 1 ≤ length (text_of batch) → (text_of batch ≡ 1 ∷ (spelling batch ++ 0 ∷ [])) × (1 ≤ length batch)
 has_text [] some = absurd (omega (arith, some))
 has_text (c ∷ cs) some = (refl, omega arith)
-
-pub has_none : (batch : List Change) → length (text_of batch) ≡ 0 → batch ≡ []
-has_none [] none = refl
-has_none (c ∷ cs) none = absurd (omega (arith, none))
 
 module _ {D : Type 0} (reads : D → List ℕ) (images : D → List ℕ → Type 0) (k : WalView D) (batch : List Change) (room : HasRoom k batch)
     (some : 1 ≤ length k.text) where

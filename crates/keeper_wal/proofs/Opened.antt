@@ -17,9 +17,6 @@ same old new (inr none) rows = (
   λ stands. subst (Stands old) (one_rows new grammar.first rows none.1 stands) none.0,
 )
 
-pub all_same : (old new : List ℕ → Type 0) → Follows (SameOrFirst grammar) old new → Follows SameRows old new
-all_same old new follows c left = let from = follows c left in (from.0, from.1, same from.0 c from.2)
-
 same_twice : (a b c : List ℕ) → SameRows a b → SameRows b c → SameRows a c
 same_twice a b c first second rows = (λ stands. (second rows).0 ((first rows).0 stands), λ stands. (first rows).1 ((second rows).1 stands))
 
@@ -29,9 +26,6 @@ remembered since old new is follows c left =
     let from = follows c left in
     let first = is from.0 from.1 in
     (first.0, first.1, same_twice first.0 from.0 c first.2 from.2)
-
-pub nothing_new : (images : List ℕ → Type 0) → Follows SameRows images images
-nothing_new images c left = (c, left, λ rows. (λ stands. stands, λ stands. stands))
 
 -- each image stands for rows where each did
 pub all_stand : (old new : List ℕ → Type 0) → Follows SameRows old new → AllStand old → AllStand new

@@ -1,7 +1,7 @@
 -- What a crash leaves of an open journal.
 use Rattle.std.proofs.Common.{◌≡◌, ℕ, Bool, true, false, List, sym, subst}
 use Rattle.std.specs.Prelude.{IsTrue}
-use Rattle.gate_log.proofs.Logs.{shut_stands, stands_once}
+use Rattle.gate_log.proofs.lemmas.Logs.{shut_stands, stands_once}
 use Rattle.keeper_api.specs.Rows.{Rows}
 use Rattle.keeper_wal.specs.Journal.{Stands, StandsForNoOther, AllStandFor, grammar}
 use Rattle.keeper_wal.specs.Opening.{IsOpened}

@@ -3,8 +3,9 @@ ghost use Rattle.keeper_wal.specs.Journal.{name, IsBad, IsLong};
 ghost use Rattle.keeper_wal.specs.Opening.{OnBad, IsRead};
 
 use crate::batches::{is_legal, make_batch};
-use crate::fault::{JournalFault, ReadFault};
+use crate::fault::JournalFault;
 use crate::reading::batch_of;
+use byte_fields::ReadFault;
 use row_tree::RowTree;
 use std::alloc::Global;
 

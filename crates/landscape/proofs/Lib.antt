@@ -4,4 +4,4 @@ mod EachSteps
 mod Widths
 mod Takings
 mod Whole
-pub mod Limits
+pub mod lemmas

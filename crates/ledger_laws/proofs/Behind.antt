@@ -9,7 +9,7 @@ use Rattle.enq_base.specs.Owners.{same_unit}
 use Rattle.enq_base.specs.declared.owner.UnitKey.{UnitKey}
 use Rattle.enq_base.specs.declared.unit.Status.{Status}
 use Rattle.enq_base.specs.declared.unit.Status.TheVariants.{Posted, Closed, Bad2 as BadSecond}
-use Rattle.update_records.proofs.Status.{one_unit, status_push}
+use Rattle.record_laws.proofs.Status.{one_unit, status_push}
 use Rattle.update_records.specs.Marks.{IsLegal, IsLegalAfter, given, has_no_v2, is_rec, may_follow, status_of}
 use Rattle.update_records.specs.declared.records.Mark.{Mark}
 use Rattle.update_records.specs.declared.records.MarkKind.{MarkKind}

@@ -1,8 +1,8 @@
 -- What holds of the books for which rows stand.
 use Rattle.std.proofs.Common.{◌≡◌, ◌⊎◌, inl, inr, [], refl, sym, subst}
 use Rattle.keeper_api.specs.Rows.{Rows}
-use Rattle.posting.proofs.HeldRows.{holds}
-use Rattle.posting.proofs.LedgerNumbers.{sound_numbers}
+use Rattle.posting.proofs.lemmas.HeldRows.{holds}
+use Rattle.posting.proofs.lemmas.LedgerNumbers.{sound_numbers}
 use Rattle.update_records.specs.Ledger.{IsLawful, Ledger, StandFor, no_ledger}
 use Rattle.ledger_laws.specs.Books.{AreBooksRight, HoldBooks}
 use Rattle.ledger_laws.proofs.Counts.{each_once}

@@ -1,7 +1,7 @@
 -- When two lists are one: lists that are numbered alike, and lists whose elements are named alike.
 use Rattle.std.proofs.Common.{◌≡◌, ℕ, zero, suc, ◌+◌, ◌≤◌, ⊎_elim, List, [], ◌∷◌, map, Contains, refl, sym, ap, subst, arith}
 use Rattle.std.specs.List.{range_with_len}
-use Rattle.store_reading.proofs.Elements.{contains_cases, contains_here, contains_map, contains_none, contains_there}
+use Rattle.store_reading.proofs.lemmas.Elements.{contains_cases, contains_here, contains_map, contains_none, contains_there}
 
 from_low : (a n y : ℕ) → Contains (range_with_len a n) y → a ≤ y
 from_low a zero y h = absurd (contains_none y h)

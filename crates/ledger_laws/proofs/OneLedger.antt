@@ -7,7 +7,7 @@ use Rattle.keeper_api.specs.Rows.{Rows}
 use Rattle.keeper_api.specs.declared.rows.Change.{Change}
 use Rattle.keeper_api.specs.declared.rows.Change.TheVariants.{Put, Del}
 use Rattle.keeper_api.specs.RowLaws.{value_in}
-use Rattle.module_effects.proofs.Tables.{exact_rows, rows_total}
+use Rattle.module_effects.proofs.lemmas.Tables.{exact_rows, rows_total}
 use Rattle.module_effects.specs.Rows.{RowName}
 use Rattle.update_records.specs.Ledger.{Ledger, IsLawful, StandFor, no_ledger, own, recorded, rows_of}
 use Rattle.update_records.specs.RecordRows.{Level}
@@ -16,8 +16,8 @@ use Rattle.update_records.specs.declared.records.Mark.{Mark}
 use Rattle.update_records.specs.declared.records.Unit.{Unit as UnitOfWork}
 use Rattle.update_records.specs.declared.stored.Record.{Record}
 use Rattle.update_records.specs.declared.stored.Record.TheVariants as rec
-use Rattle.update_records.proofs.TableLaws.{one_record}
-use Rattle.store_reading.proofs.Elements.{contains_map, of_map}
+use Rattle.update_records.proofs.lemmas.TableLaws.{one_record}
+use Rattle.store_reading.proofs.lemmas.Elements.{contains_map, of_map}
 use Rattle.store_laws.proofs.GoodTables.{level_of, mark_of, of_unit, start_of, table_in, told_mark, told_start, told_unit, unit_table}
 use Rattle.store_laws.proofs.KeysApart.{KeysApart, keys_of, one_unit_of, recorded_apart}
 use Rattle.store_laws.proofs.LedgerRecords.{level_record, start_record, told_fits, unit_law, IsToldBy}

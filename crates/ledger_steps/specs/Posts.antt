@@ -18,7 +18,7 @@ use Rattle.module_effects.specs.Spots.{row_at, with_spots}
 use Rattle.module_effects.specs.declared.spot.Spot.{Spot}
 use Rattle.module_effects.specs.declared.fault.EffectFault.TheVariants as effect_fault
 use Rattle.update_records.specs.Business.{IsRightMark, part_of, posted, tables_of}
-use Rattle.update_records.specs.Fields.{all_if}
+use Rattle.byte_fields.specs.Fields.{all_if}
 use Rattle.update_records.specs.Ledger.{Ledger}
 use Rattle.update_records.specs.Marks.{status_of, unit_at, v1_of, v2_of}
 use Rattle.update_records.specs.RecordRows.{row_name, row_left, mark_row, meta_row}

@@ -14,8 +14,8 @@ use Rattle.lock_entry.specs.Barring.{places_meet, modes_bar}
 use Rattle.lock_entry.specs.Names.{asked_of, name_of, same_name, same_place, same_asked, has_name}
 use Rattle.lock_entry.specs.Pairs.{in_pair, are_related}
 use Rattle.lock_entry.specs.Sound.{in_conflict}
-use Rattle.lock_entry.proofs.Naming.{bytes_eq-refl, bytes_eq-same}
-use Rattle.lock_entry.proofs.Lists.{list_any-weaken}
+use Rattle.lock_entry.proofs.lemmas.Naming.{bytes_eq-refl, bytes_eq-same}
+use Rattle.lock_entry.proofs.lemmas.Lists.{list_any-weaken}
 use Rattle.lock_index.specs.declared.members.NumberMap.{NumberMap}
 use Rattle.lock_index.specs.declared.search.Search.{Search}
 use Rattle.lock_index.specs.declared.search.Search.TheVariants.{Bars, Withstands, GivesWay, Against, Named}

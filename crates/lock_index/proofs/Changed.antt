@@ -8,7 +8,7 @@ use Rattle.lock_entry.specs.declared.entry.Entry.{Entry}
 use Rattle.lock_entry.specs.declared.entry.LockName.{LockName}
 use Rattle.lock_entry.specs.Names.{has_name, has_distinct_names, names_differ, same_name, name_of}
 use Rattle.lock_entry.specs.Freeing.{replace_first, lowered, freed, without}
-use Rattle.lock_entry.proofs.Naming.{same_name-same}
+use Rattle.lock_entry.proofs.lemmas.Naming.{same_name-same}
 use Rattle.lock_index.specs.Slots.{slot_at, live, on_some, IsFirst}
 use Rattle.lock_index.proofs.Live.{live-split, live-set}
 use Rattle.lock_index.proofs.Oldest.{IsOldest, position-oldest}

@@ -18,7 +18,7 @@ use Rattle.lock_entry.specs.Converting.{conversion, gives_way, sum_exceeds, turn
 use Rattle.lock_entry.specs.Names.{asked_of, count_at, has_distinct_names, has_name, name_of, same_place, stands}
 use Rattle.lock_entry.specs.Pairs.{in_pair}
 use Rattle.lock_entry.specs.Turning.{is_at, name_at, name_in, turned, turned_by, turned_entry, with_count_of}
-use Rattle.lock_entry.proofs.Naming.{bytes_eq-same, same_name-same, same_owner-same, same_owner-sym}
+use Rattle.lock_entry.proofs.lemmas.Naming.{bytes_eq-same, same_name-same, same_owner-same, same_owner-sym}
 use Rattle.lock_index.specs.Conversions.{exceeds_at}
 use Rattle.lock_index.specs.Searches.{yields}
 use Rattle.lock_index.specs.Slots.{on_some}

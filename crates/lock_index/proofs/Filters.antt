@@ -16,8 +16,8 @@ use Rattle.lock_entry.specs.Names.{asked_of, has_name, stands, same_place}
 use Rattle.lock_entry.specs.Converting.{is_optimistic}
 use Rattle.lock_entry.specs.Sound.{are_apart, has_count, stands_with, first_against}
 use Rattle.lock_entry.specs.Turning.{name_at}
-use Rattle.lock_entry.proofs.Naming.{same_owner-sym}
-use Rattle.lock_entry.proofs.Places.{position-Some, position-None, position-any}
+use Rattle.lock_entry.proofs.lemmas.Naming.{same_owner-sym}
+use Rattle.lock_entry.proofs.lemmas.Places.{position-Some, position-None, position-any}
 use Rattle.lock_index.specs.Slots.{on_some}
 use Rattle.lock_index.proofs.Oldest.{position-cons}
 

@@ -9,7 +9,7 @@ use Rattle.std.proofs.lemmas.List.Elements.{filter-append}
 use Rattle.std.proofs.lemmas.List.Sorted.{sum_by-IsPermutation}
 use Rattle.std.proofs.lemmas.List.Sums.{sum_by-cons}
 use Rattle.lock_entry.specs.declared.entry.Entry.{Entry}
-use Rattle.lock_entry.proofs.Lists.{count_by-none}
+use Rattle.lock_entry.proofs.lemmas.Lists.{count_by-none}
 use Rattle.lock_index.specs.Slots.{slot_at, live, on_some}
 use Rattle.lock_index.proofs.Changed.{any-none, none-before}
 use Rattle.lock_index.proofs.Live.{live-split, live-set}

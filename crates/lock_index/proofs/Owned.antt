@@ -18,7 +18,7 @@ use Rattle.mode_rules.specs.declared.Mode.TheVariants.{S, E, X, O}
 use Rattle.lock_entry.specs.declared.entry.Entry.{Entry}
 use Rattle.lock_entry.specs.Names.{is_of}
 use Rattle.lock_entry.specs.Freeing.{flagged}
-use Rattle.lock_entry.proofs.Lists.{count_by-none}
+use Rattle.lock_entry.proofs.lemmas.Lists.{count_by-none}
 use Rattle.lock_index.specs.declared.key.Key.{Key}
 use Rattle.lock_index.specs.declared.members.NumberMap.{NumberMap}
 use Rattle.lock_index.specs.declared.key.Key.TheVariants.{Optimistic}

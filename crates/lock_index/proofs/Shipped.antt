@@ -12,8 +12,8 @@ use Rattle.lock_entry.specs.declared.entry.Entry.{Entry}
 use Rattle.lock_entry.specs.declared.entry.LockName.{LockName}
 use Rattle.lock_entry.specs.Names.{has_distinct_names, has_name, is_of, name_of, names_differ, same_name, stands}
 use Rattle.lock_entry.specs.Freeing.{flagged, handed_over, without_optimistic}
-use Rattle.lock_entry.proofs.Lists.{all_pairs-append, all_pairs-filter, all_pairs-map}
-use Rattle.lock_entry.proofs.Naming.{same_name-same, same_name-sym}
+use Rattle.lock_entry.proofs.lemmas.Lists.{all_pairs-append, all_pairs-filter, all_pairs-map}
+use Rattle.lock_entry.proofs.lemmas.Naming.{same_name-same, same_name-sym}
 use Rattle.lock_index.specs.declared.key.Key.{Key}
 use Rattle.lock_index.specs.Keys.{has_key, same_key, owner_key, spot_key, stretch_key, optimistic_key}
 use Rattle.lock_index.specs.Slots.{live, IsFirst}

@@ -9,8 +9,8 @@ use Rattle.lock_entry.specs.declared.entry.LockName.{LockName}
 use Rattle.lock_entry.specs.Names.{has_name, has_distinct_names, name_of, names_differ, same_name, stands}
 use Rattle.lock_entry.specs.Freeing.{without}
 use Rattle.lock_entry.specs.Turning.{joined, made_exclusive, name_at, with_count_of}
-use Rattle.lock_entry.proofs.Lists.{all_pairs-filter, all_pairs-map}
-use Rattle.lock_entry.proofs.Naming.{same_name-refl, same_name-same, same_name-sym}
+use Rattle.lock_entry.proofs.lemmas.Lists.{all_pairs-filter, all_pairs-map}
+use Rattle.lock_entry.proofs.lemmas.Naming.{same_name-refl, same_name-same, same_name-sym}
 
 pub distinct-without : (n : LockName) (es : List Entry) → has_distinct_names es ≡ true → has_distinct_names (without es n) ≡ true
 distinct-without n es h = all_pairs-filter names_differ (λ e. not (has_name n e)) es h

@@ -1,4 +1,4 @@
-ghost use Rattle.std.specs.Prelude.{◌≡◌, IfErr, IfOk, IsTrue, OnErr, OnOk, false};
+ghost use Rattle.std.specs.Prelude.{◌≡◌, [], IfErr, IfOk, IsTrue, OnErr, OnOk, false};
 ghost use Rattle.lock_entry.specs.Freeing.{handed_over, without};
 ghost use Rattle.lock_entry.specs.Names.{has_distinct_names};
 ghost use Rattle.lock_index.specs.Slots.{live};
@@ -21,13 +21,29 @@ pub fn distinct_shelf(alloc: Global, entries: &[Entry]) -> Result<Shelf, LinkFau
     ensures twice { IfErr result (λ f. f ≡ fault.Failed → has_distinct_names entries.now ≡ false) }
 {
     let mut shelf = Shelf::new(alloc);
+    match put_distinct(alloc, &mut shelf, entries) {
+        Ok(()) => Ok(shelf),
+        Err(fault) => {
+            drop(shelf);
+            Err(fault)
+        }
+    }
+}
+
+/// Puts entries on an empty shelf, of which each has a name of its own.
+fn put_distinct(alloc: Global, shelf: &mut Shelf, entries: &[Entry]) -> Result<(), LinkFault>
+    requires { live shelf.old ≡ [] }
+    ensures entries { OnOk result (live shelf.new ≡ entries.now) }
+    ensures distinct { OnOk result (IsTrue (has_distinct_names entries.now)) }
+    ensures twice { IfErr result (λ f. f ≡ fault.Failed → has_distinct_names entries.now ≡ false) }
+{
     for entry in entries {
-        if stands(&shelf, &entry.name()) {
+        if stands(shelf, &entry.name()) {
             return Err(LinkFault::Failed);
         }
         shelf.push(alloc, entry)?;
     }
-    Ok(shelf)
+    Ok(())
 }
 
 /// Makes one change to a replica. One of an entry that isn't there changes nothing, `Put` excepted.

@@ -1,1 +1,14 @@
 pub mod Orders
+pub mod ConversionSound
+pub mod Conversions
+pub mod EachOnce
+pub mod Frees
+pub mod GrantSound
+pub mod Grants
+pub mod Loads
+pub mod OwnEntries
+pub mod Raising
+pub mod Readmits
+pub mod Related
+pub mod Sounds
+pub mod TurnTests

@@ -22,9 +22,9 @@ use Rattle.lock_entry.specs.Names.{all_pairs, asked_of, is_of, name_of}
 use Rattle.lock_laws.specs.Orders.{are_distinct, of_owners}
 use Rattle.lock_entry.specs.Pairs.{are_related, of_one_session}
 use Rattle.lock_entry.specs.Sound.{IsSound, are_apart, has_count}
-use Rattle.lock_entry.proofs.Lists.{all_pairs-append, all_pairs-filter, list_all-filter, list_all-true, list_all-weaken}
-use Rattle.lock_entry.proofs.Naming.{bytes_eq-refl, bytes_eq-same, same_name-sym, same_owner-same, same_owner-sym}
-use Rattle.lock_entry.proofs.Sounds.{sound-apart, sound-from}
+use Rattle.lock_entry.proofs.lemmas.Lists.{all_pairs-append, all_pairs-filter, list_all-filter, list_all-true, list_all-weaken}
+use Rattle.lock_entry.proofs.lemmas.Naming.{bytes_eq-refl, bytes_eq-same, same_name-sym, same_owner-same, same_owner-sym}
+use Rattle.lock_laws.proofs.Sounds.{sound-apart, sound-from}
 
 -- ---- two entries stand apart either way
 

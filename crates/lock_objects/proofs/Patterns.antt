@@ -10,8 +10,8 @@ use Rattle.std.proofs.lemmas.List.Folds.{list_all-append}
 use Rattle.std.proofs.lemmas.List.Sums.{sum_by-cons}
 use Rattle.enq_base.specs.Grammar.{is_pattern, is_text_byte}
 use Rattle.lock_entry.specs.Argument.{generic, is_plain_byte}
-use Rattle.lock_entry.proofs.Lists.{list_all-weaken, find-all, option_or-None}
-use Rattle.lock_entry.proofs.Naming.{bytes_eq-same}
+use Rattle.lock_entry.proofs.lemmas.Lists.{list_all-weaken, find-all, option_or-None}
+use Rattle.lock_entry.proofs.lemmas.Naming.{bytes_eq-same}
 use Rattle.lock_objects.specs.declared.field.Field.{Field}
 use Rattle.lock_objects.specs.declared.field.KeyTable.{KeyTable}
 use Rattle.lock_objects.specs.declared.field.ObjectFault.TheVariants as ObjectFault

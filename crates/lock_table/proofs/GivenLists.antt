@@ -12,7 +12,7 @@ use Rattle.lock_entry.specs.declared.entry.Entry.{Entry}
 use Rattle.lock_entry.specs.Names.{asked_of, name_of, named, has_name, is_of, stands}
 use Rattle.lock_entry.specs.Barring.{bars}
 use Rattle.lock_entry.specs.Granting.{first_bar, newcomers}
-use Rattle.lock_entry.proofs.Naming.{same_owner-same}
+use Rattle.lock_entry.proofs.lemmas.Naming.{same_owner-same}
 use Rattle.lock_table.proofs.HalfLists.{is_some-place}
 
 -- an owner's entry among those that are all the owner's

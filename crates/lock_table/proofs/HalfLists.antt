@@ -13,15 +13,15 @@ use Rattle.lock_entry.specs.declared.entry.LockName.{LockName}
 use Rattle.lock_entry.specs.declared.fault.AskFault.{AskFault}
 use Rattle.lock_entry.specs.declared.fault.AskFault.TheVariants as fault
 use Rattle.lock_entry.specs.Table.{Table, IsFaultOf}
-use Rattle.lock_entry.specs.Names.{asked_of, halves, same_name, has_name, has_distinct_names, stands, count_at, times, each_once}
-use Rattle.lock_entry.specs.Granting.{asked, readmitted, first_bar, new_entry, new_names, is_full, is_over, raised}
-use Rattle.lock_entry.proofs.Lists.{list_any-map}
-use Rattle.lock_entry.proofs.Naming.{same_name-refl}
-use Rattle.lock_entry.proofs.Places.{list_any-position, position-Some}
-use Rattle.lock_entry.proofs.Grants.{asked-Foreign, asked-Full, asked-Count, asked-Ok, readmitted-Foreign}
-use Rattle.lock_entry.proofs.GrantSound.{not_over-named, new_names-named}
-use Rattle.lock_entry.proofs.Raising.{one_more, raised-at, raised-none, raised-count_at}
-use Rattle.lock_entry.proofs.EachOnce.{each_once-any, each_once-push}
+use Rattle.lock_entry.specs.Names.{halves, same_name, has_name, has_distinct_names, stands, count_at, times, each_once}
+use Rattle.lock_entry.specs.Granting.{asked, first_bar, new_entry, new_names, is_full, is_over, raised}
+use Rattle.lock_entry.proofs.lemmas.Lists.{list_any-map}
+use Rattle.lock_entry.proofs.lemmas.Naming.{same_name-refl}
+use Rattle.lock_entry.proofs.lemmas.Places.{list_any-position, position-Some}
+use Rattle.lock_laws.proofs.Grants.{asked-Foreign, asked-Full, asked-Count, asked-Ok}
+use Rattle.lock_laws.proofs.GrantSound.{not_over-named, new_names-named}
+use Rattle.lock_laws.proofs.Raising.{one_more, raised-at, raised-none, raised-count_at}
+use Rattle.lock_laws.proofs.EachOnce.{each_once-any, each_once-push}
 use Rattle.lock_table.specs.declared.halves.Half.{Half}
 use Rattle.lock_table.specs.Halves.{half_at, names_of, fresh_names, capped_entry, raised_at, IsBar}
 
@@ -255,14 +255,6 @@ bar-asked t asker user rs (fault.Foreign e) h = asked-Foreign t asker user rs e 
 bar-asked t asker user rs (fault.Full used limit) h = absurd h
 bar-asked t asker user rs fault.Count h = absurd h
 bar-asked t asker user rs fault.Lost h = absurd h
-
-pub bar-readmitted : (t : Table) (asker : Asker) (given : List Entry) (f : AskFault) → IsBar (first_bar t.entries asker (map asked_of given)) f
-    → IsFaultOf (readmitted t asker given) f
-bar-readmitted t asker given fault.NoMemory h = tt
-bar-readmitted t asker given (fault.Foreign e) h = readmitted-Foreign t asker given e h
-bar-readmitted t asker given (fault.Full used limit) h = absurd h
-bar-readmitted t asker given fault.Count h = absurd h
-bar-readmitted t asker given fault.Lost h = absurd h
 
 -- what was planned is done
 pub granted_is : (t : Table) (asker : Asker) (user : List ℕ) (rs : List Request) (hs : List Half) (planned added new : List Entry)

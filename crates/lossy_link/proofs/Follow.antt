@@ -1,5 +1,5 @@
 -- What is sent over a wire that tells is what happens in a world.
-use Rattle.std.proofs.Common.{◌≡◌, ℕ, zero, suc, ◌+◌, ◌<◌, Bool, true, false, ◌&&◌, ◌⊎◌, nat_eq, List, [], ◌∷◌, ◌++◌, length, get_or, Option, Some, None, refl, sym, ap, ◌∙◌, subst, inl, inr, arith, append-nil, append_assoc, length-append}
+use Rattle.std.proofs.Common.{◌≡◌, ℕ, zero, suc, ◌+◌, ◌<◌, Bool, true, ◌&&◌, ◌⊎◌, nat_eq, List, [], ◌∷◌, ◌++◌, length, get_or, Option, Some, None, refl, sym, ap, ◌∙◌, subst, inl, inr, arith, append-nil, append_assoc, length-append}
 use Rattle.std.specs.Prelude.{Contains, IfSome, fold, slice_get}
 use Rattle.std.specs.List.{AllByRecursion}
 use Rattle.std.proofs.lemmas.Bool.{and_from, cond-true, eq-eqb, false≢true}
@@ -13,7 +13,7 @@ use Rattle.lossy_link.specs.declared.packet.Packet.{Packet}
 use Rattle.lossy_link.specs.declared.packet.Packet.TheVariants.{Begin, Op}
 use Rattle.lossy_link.specs.Packets.{Place, ack_of, answers, own_ack, taken, taken_all}
 use Rattle.lossy_link.specs.Wired.{Event, Begins, Ships, Delivers, Answers, World, first_world, begun, shipped, moved, delivered, heard, after_event, wired}
-use Rattle.lossy_link.specs.Wiring.{IsSent, IsUnused, Sender, counted, lost}
+use Rattle.lossy_link.specs.Wiring.{IsSent, Sender, counted, lost}
 use Rattle.lossy_link.specs.Runs.{IsAt, GoesOn, Follows}
 use Rattle.lossy_link.proofs.Sendings.{all_weaker}
 
@@ -124,18 +124,6 @@ module _ {W : Type 0} (place : W → Place) (may_bring : W → Packet → Type 0
   -- nothing was sent
   pub lost-follows : (old new : Sender W) (fault : LinkFault) → new ≡ lost fault old → Follows place may_bring may_answer old new
   lost-follows old new fault is = lost-after old old new fault is (rests old old refl refl (λ p b. b) (λ a b. b) (λ t. (t, refl)))
-
-  pub first-IsAt : (s : Sender W) → s.epoch ≡ 0 → s.attached ≡ false → IsUnused (place s.wire) (may_bring s.wire) (may_answer s.wire)
-      → IsAt place may_bring may_answer s (wired [])
-  first-IsAt s first none h =
-      record {
-        same_epoch = sym first;
-        stands = sym h.stands;
-        brings = λ p b. absurd (h.brings p b);
-        answers = λ a b. absurd (h.answers a b);
-        acknowledged = λ t. absurd (false≢true (sym none ∙ t));
-        shipped = λ t. absurd (false≢true (sym none ∙ t));
-      }
 
   -- the packet is sent in the world, and what comes to the replica comes in it too
   module _ (packet : Packet) (answer : Option Ack) (old new : W) (sent : IsSent place may_bring may_answer packet answer old new) (w : World)

@@ -35,12 +35,6 @@ numbered-contained ps number p =
     (λ _ h. got-contained ps (number - 1) p h)
 
 module _ (packet : Packet) (old : MemWireState) where
-  abbrev MayCome : Packet → Type 0
-  MayCome p = Contains old.sent p ⊎ (p ≡ packet)
-
-  abbrev now_sent : List Packet
-  now_sent = noted old packet
-
   just-known : (o : Option Packet) → ((p : Packet) → o ≡ Some p → Contains (noted old packet) p)
       → AllByRecursion (λ p. Contains old.sent p ⊎ (p ≡ packet)) (just o)
   just-known None h = tt

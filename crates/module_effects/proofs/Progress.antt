@@ -18,7 +18,7 @@ use Rattle.module_effects.specs.declared.fault.EffectFault.TheVariants.{Refused}
 use Rattle.module_effects.specs.declared.fault.EffectFault.TheVariants as fault
 use Rattle.module_effects.specs.declared.fault.DeedFault.{DeedFault}
 use Rattle.module_effects.specs.declared.fault.DeedFault.TheVariants as deed
-use Rattle.module_effects.proofs.Tables.{is_at-Decides, get-with_spot, with_row-with_row, with_row_swap, with_row_same}
+use Rattle.module_effects.proofs.lemmas.Tables.{is_at-Decides, get-with_spot, with_row-with_row, with_row_swap, with_row_same}
 
 abbrev pub Text : Type 0
 Text = Option (List ℕ)

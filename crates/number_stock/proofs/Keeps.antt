@@ -10,8 +10,8 @@ use native.Mathlib.Decide.{ℕ_discrete}
 use mathlib.Core.Option.{none}
 use Rattle.atomic_table.specs.Table.{State, Me, step, keeps, Allows, Splits, Joins}
 use Rattle.seat_sums.specs.Sums.{times, one_if}
-use Rattle.seat_sums.proofs.Totals.{total_set, total_at, total_two, total_whole, each_set, each_snoc, was_there, times_cons, times_push, times_append, below_next, one_if_le, one_if_true, one_if_below}
-use Rattle.seat_sums.proofs.Entries.{below_none, below_higher}
+use Rattle.seat_sums.proofs.lemmas.Totals.{total_set, total_at, total_two, total_whole, each_set, each_snoc, was_there, times_cons, times_push, times_append, below_next, one_if_le, one_if_true, one_if_below}
+use Rattle.seat_sums.proofs.lemmas.Entries.{below_none, below_higher}
 use Rattle.number_stock.specs.declared.hand.Hand.{Hand}
 use Rattle.number_stock.specs.Rule.{Fits, Kept, spent, drew, saw, raised, kept_of, given_of, leads, both_of, IsKnown, Draws, Looks, Raises, Learns}
 

@@ -120,6 +120,46 @@ both_of v w = record {
   right_leads = leads v w && leads w v;
 }
 
+-- what it has answered are tickets of its own
+abbrev pub OwnsAnswers : Hand → Type 0
+OwnsAnswers v = (t : ℕ) → times t v.answered ≤ times t v.tickets
+
+-- Two seats were joined into this one, the second without the right to raise. What it has learned of the limit since
+-- isn't told.
+pub record IsJoined (v w u : Hand) : Type 0 where
+  pub draws : u.draws ≡ v.draws + w.draws
+  pub tickets : u.tickets ≡ v.tickets ++ w.tickets
+  pub answered : u.answered ≡ v.answered ++ w.answered
+  pub raises : u.raises ≡ (v.raises || w.raises)
+  pub second : w.raises ≡ false
+  pub owns : OwnsAnswers v × OwnsAnswers w
+
+-- one of them again, with the limit that both knew
+abbrev pub parted : Hand → Hand → Hand
+parted v u = record {
+  draws = v.draws;
+  tickets = v.tickets;
+  answered = v.answered;
+  limit = u.limit;
+  looks = v.looks;
+  raises =
+      v.raises;
+  right_leads = true;
+}
+
+-- the seat was told of a limit
+abbrev pub heard : ℕ → Hand → Hand
+heard limit v = record {
+  draws = v.draws;
+  tickets = v.tickets;
+  answered = v.answered;
+  limit = max v.limit limit;
+  looks = v.looks;
+  raises =
+      v.raises;
+  right_leads = true;
+}
+
 -- the seat never had the ticket: all that it has had lie before it
 abbrev pub IsNew : ℕ → Hand → Type 0
 IsNew ticket v = (times ticket v.tickets ≡ 0) × All (λ t. t < ticket) v.tickets
@@ -148,3 +188,6 @@ module _ {S : Type 0} where
   abbrev pub Learns : ℕ → Step S → Me S Hand → ℕ → Me S Hand → Type 0
   Learns draws st m found w = (w ≡ m) × (w.0.draws ≤ draws) × IsDistinct w.0.tickets × IsDistinct w.0.answered
       × All (λ t. t < w.0.limit) w.0.answered × (w.0.right_leads ≡ true)
+
+  abbrev pub Owns : Step S → Me S Hand → ℕ → Me S Hand → Type 0
+  Owns st m found w = (w ≡ m) × OwnsAnswers w.0

@@ -2,6 +2,7 @@ ghost use Rattle.std.specs.Prelude.{◌≡◌, ◌+◌, ◌^◌, ◌<◌};
 
 use crate::answer::{Drawn, Dry};
 use crate::hand::{Cuts, Drawing, Draws, Glues, Hand, Learns, Looks, Portion, Raises, Told};
+use crate::parting::{Joined, Owns, Parts};
 use crate::seat::StockSeat;
 use atomic_table::{Seat, Table};
 use enq_base::NoMemory;
@@ -192,5 +193,67 @@ impl Stock {
             left: left + more,
             seat,
         }
+    }
+}
+
+impl Stock {
+    ghost use Rattle.number_stock.specs.Rule.{heard, parted, IsJoined, OwnsAnswers};
+    ghost use Rattle.number_stock.specs.Seats.{hand, IsSeatOf};
+
+    /// The seat is as it was, and is known to have answered none but tickets of its own. Takes no memory.
+    pub fn learn(&self, seat: &mut StockSeat)
+        requires own { IsSeatOf self.now seat.old }
+        ensures own { IsSeatOf self.now seat.new }
+        ensures same { hand seat.new ≡ hand seat.old }
+        ensures owns { OwnsAnswers (hand seat.new) }
+    {
+        self.table.shared.load::<Owns>(&mut seat.seat, NEXT_TICKET);
+    }
+
+    /// Takes apart again what was joined: the second seat gets back the draws, and the tickets and answers, which stand
+    /// last, that it had. Both know the limit of the joined one. Takes no memory.
+    pub fn part<N: Joined>(&self, whole: StockSeat, draws: u32) -> (StockSeat, StockSeat)
+        requires own { IsSeatOf self.now whole }
+        requires joined { IsJoined N.first N.second (hand whole) }
+        requires told { N.second.draws ≡ draws }
+        ensures own { IsSeatOf self.now result.0 × IsSeatOf self.now result.1 }
+        ensures parted { (hand result.0 ≡ parted N.first (hand whole))
+            × (hand result.1 ≡ parted N.second (hand whole)) }
+    {
+        let StockSeat { left, mut seat } = whole;
+        let given = self.table.shared.split_seat::<Parts<N>>(&mut seat);
+        (
+            StockSeat {
+                left: left - draws,
+                seat,
+            },
+            StockSeat {
+                left: draws,
+                seat: given,
+            },
+        )
+    }
+
+    /// The second seat knows as high a limit as the first one then, which is as it was: a ticket of it below that isn't
+    /// dry. Takes no memory.
+    pub fn tell(&self, from: StockSeat, to: StockSeat) -> (StockSeat, StockSeat)
+        requires own { IsSeatOf self.now from × IsSeatOf self.now to }
+        ensures own { IsSeatOf self.now result.0 × IsSeatOf self.now result.1 }
+        ensures told { (hand result.0 ≡ hand from) × (hand result.1 ≡ heard (hand from).limit (hand to)) }
+    {
+        let (kept, given) = self.split(from, 0);
+        let StockSeat { left, mut seat } = to;
+        let StockSeat {
+            left: more,
+            seat: other,
+        } = given;
+        self.glue::<Brand>(&mut seat, other);
+        (
+            kept,
+            StockSeat {
+                left: left + more,
+                seat,
+            },
+        )
     }
 }

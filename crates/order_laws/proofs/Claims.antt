@@ -6,10 +6,10 @@ use Rattle.enq_base.specs.Owners.{same_unit}
 use Rattle.enq_base.specs.declared.owner.UnitKey.{UnitKey}
 use Rattle.enq_base.specs.declared.unit.Status.{Status}
 use Rattle.enq_base.specs.declared.unit.Status.TheVariants.{Open, Posted, Closed}
-use Rattle.hall_model.proofs.ByCall.{OfEach, by_call, by_event, by_filing, by_stock}
-use Rattle.hall_model.proofs.NotedCalls.{by_noting, of_server}
-use Rattle.hall_model.proofs.OtherStatuses.{EndsFirst, apart_from_ended, marked_other, numbers_leave, of_has, status_in}
-use Rattle.hall_model.proofs.PartOrders.{held_for}
+use Rattle.model_laws.proofs.ByCall.{OfEach, by_call, by_event, by_filing, by_stock}
+use Rattle.model_laws.proofs.NotedCalls.{by_noting, of_server}
+use Rattle.model_laws.proofs.OtherStatuses.{EndsFirst, apart_from_ended, marked_other, numbers_leave, of_has, status_in}
+use Rattle.model_laws.proofs.PartOrders.{held_for}
 use Rattle.hall_model.specs.Calls.{Call, call_of}
 use Rattle.hall_model.specs.Devices.{found_by}
 use Rattle.hall_model.specs.History.{Served, judged, served, takes_flight, without_stock}

@@ -7,12 +7,12 @@ use Rattle.enq_base.specs.Owners.{same_unit}
 use Rattle.enq_base.specs.declared.owner.UnitKey.{UnitKey}
 use Rattle.enq_base.specs.declared.unit.Status.{Status}
 use Rattle.enq_base.specs.declared.unit.Status.TheVariants.{Open, Posted}
-use Rattle.update_records.proofs.Status.{given_same, one_unit}
+use Rattle.record_laws.proofs.Status.{given_same, one_unit}
 use Rattle.update_records.specs.Ledger.{Ledger}
 use Rattle.update_records.specs.Marks.{decides, draws_alone, given, has_no_v2, has_status, status_after, status_of, units_with, waiting, waiting_again}
 use Rattle.update_records.specs.declared.records.Mark.{Mark}
 use Rattle.update_records.specs.declared.records.Unit.{Unit as UnitOfWork}
-use Rattle.hall_model.proofs.OtherStatuses.{undecided}
+use Rattle.model_laws.proofs.OtherStatuses.{undecided}
 use Rattle.hall_model.specs.Kept.{IsKept}
 use Rattle.hall_model.specs.Orders.{first_unclaimed, is_claimed, waits_for}
 use Rattle.hall_model.specs.State.{State}

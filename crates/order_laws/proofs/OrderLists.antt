@@ -1,13 +1,11 @@
 -- Orders in their list, by the worker's number.
-use Rattle.std.proofs.Common.{◌≡◌, ◌≢◌, ℕ, zero, suc, ◌<◌, ◌≤◌, Bool, true, false, ◌||◌, List, [], ◌∷◌, length, set, replicate, refl, sym, ap, ◌∙◌, subst, arith}
+use Rattle.std.proofs.Common.{◌≡◌, ◌≢◌, ℕ, zero, suc, ◌<◌, Bool, true, false, ◌||◌, List, [], ◌∷◌, length, set, replicate, refl, sym, ap, ◌∙◌, subst, arith}
 use Rattle.std.specs.Prelude.{if◌then◌else◌, nat_eq, Option, Some, None}
-use Rattle.std.specs.Option.{option_and_then}
 use Rattle.std.proofs.lemmas.Bool.{eqb-true, or_parts}
 use Rattle.std.proofs.lemmas.Bool.Decides.{nat_tests}
-use Rattle.std.proofs.lemmas.Option.{slice_get_past}
 use Rattle.enq_base.specs.Owners.{same_unit}
 use Rattle.enq_base.specs.declared.owner.UnitKey.{UnitKey}
-use Rattle.update_records.proofs.Status.{flip}
+use Rattle.record_laws.proofs.Status.{flip}
 use Rattle.update_records.specs.Ledger.{Ledger}
 use Rattle.hall_model.specs.Kept.{AreOrders}
 use Rattle.hall_model.specs.Orders.{is_claimed, is_for, order_of}
@@ -47,9 +45,6 @@ pub none_of : (n i : ℕ) → order_of (replicate n None) i ≡ None
 none_of zero i = refl
 none_of (suc n) zero = refl
 none_of (suc n) (suc i) = none_of n i
-
-pub order_past : (orders : List (Option UnitKey)) (i : ℕ) → length orders ≤ i → order_of orders i ≡ None
-order_past orders i h = ap (option_and_then (λ (order : Option UnitKey). order)) (slice_get_past orders i h)
 
 -- ---- units that no worker has an order for
 

@@ -4,8 +4,8 @@ use Rattle.std.specs.Prelude.{if◌then◌else◌, nat_eq, Option, Some, None}
 use Rattle.enq_base.specs.declared.owner.UnitKey.{UnitKey}
 use Rattle.enq_base.specs.declared.refusal.Refusal.{Refusal}
 use Rattle.enq_base.specs.declared.refusal.Refusal.TheVariants as refusal
-use Rattle.hall_model.proofs.ByCall.{OfEach, by_call, by_event, by_stock}
-use Rattle.hall_model.proofs.NotedCalls.{by_noting}
+use Rattle.model_laws.proofs.ByCall.{OfEach, by_call, by_event, by_stock}
+use Rattle.model_laws.proofs.NotedCalls.{by_noting}
 use Rattle.hall_model.specs.Calls.{Call, LogsOn, OfSession, OfWorker, OfAdmin, Kills, FailsOver, Restarts, Attaches, Cancels, Resubmits, WorkerCall, Takes, Posts, Drops, call_of}
 use Rattle.hall_model.specs.History.{Served, judged, served, takes_flight, without_stock}
 use Rattle.hall_model.specs.Kept.{IsKept}

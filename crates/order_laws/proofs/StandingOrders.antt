@@ -9,11 +9,11 @@ use Rattle.enq_base.specs.declared.owner.UnitKey.{UnitKey}
 use Rattle.enq_base.specs.declared.refusal.Refusal.{Refusal}
 use Rattle.enq_base.specs.declared.unit.Status.{Status}
 use Rattle.enq_base.specs.declared.unit.Status.TheVariants.{Open, Posted, Bad, Closed, Bad2, Cancelled}
-use Rattle.hall_model.proofs.ByCall.{OfEach, by_call, by_event}
-use Rattle.hall_model.proofs.Cancels.{unclaimed}
-use Rattle.hall_model.proofs.NotedCalls.{by_noting}
-use Rattle.hall_model.proofs.OtherStatuses.{Ends, apart_by, apart_by_status, ends_with, marked_other, numbers_leave, recorded_other, status_in}
-use Rattle.hall_model.proofs.PartOrders.{held_for}
+use Rattle.model_laws.proofs.ByCall.{OfEach, by_call, by_event}
+use Rattle.model_laws.proofs.Cancels.{unclaimed}
+use Rattle.model_laws.proofs.NotedCalls.{by_noting}
+use Rattle.model_laws.proofs.OtherStatuses.{Ends, apart_by, apart_by_status, ends_with, marked_other, numbers_leave, recorded_other, status_in}
+use Rattle.model_laws.proofs.PartOrders.{held_for}
 use Rattle.hall_model.specs.Calls.{Call, OfWorker, Takes, call_of}
 use Rattle.hall_model.specs.History.{Served, judged, served, takes_flight}
 use Rattle.hall_model.specs.Kept.{AreOrders, IsSteady, OutsideDoubt}
@@ -36,7 +36,7 @@ use Rattle.ledger_steps.specs.Posts.{WaitsFor, kind_for, status_for}
 use Rattle.ledger_steps.specs.Steps.{waiting_for}
 use Rattle.number_ranges.specs.Intervals.{block_level, is_buffered, with_level}
 use Rattle.number_ranges.specs.declared.interval.Interval.{Interval}
-use Rattle.update_records.proofs.Status.{flip}
+use Rattle.record_laws.proofs.Status.{flip}
 use Rattle.update_records.specs.Growing.{with_mark}
 use Rattle.update_records.specs.Ledger.{Ledger}
 use Rattle.update_records.specs.Marks.{has_status, status_of, waiting, waiting_again}

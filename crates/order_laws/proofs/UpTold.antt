@@ -6,8 +6,8 @@ use Rattle.std.proofs.lemmas.List.{append-nil}
 use Rattle.enq_base.specs.declared.condition.Condition.{Condition}
 use Rattle.enq_base.specs.declared.condition.Condition.TheVariants as condition
 use Rattle.enq_base.specs.declared.refusal.Refusal.TheVariants as refusal
-use Rattle.hall_model.proofs.ByCall.{OfEach, by_call, by_restart}
-use Rattle.hall_model.proofs.NotedCalls.{by_noting, of_server}
+use Rattle.model_laws.proofs.ByCall.{OfEach, by_call, by_restart}
+use Rattle.model_laws.proofs.NotedCalls.{by_noting, of_server}
 use Rattle.hall_model.specs.Calls.{Call, OfAdmin, Restarts, call_of, restarts}
 use Rattle.hall_model.specs.Devices.{AllWell, Wanting, StoreFails, BackupFails, LinkFails, NotRemade, MayHappen, found_by}
 use Rattle.hall_model.specs.History.{Served, ends_in, judged, served, takes_flight}

@@ -6,8 +6,8 @@ use Rattle.enq_base.specs.declared.condition.Condition.TheVariants as condition
 use Rattle.enq_base.specs.declared.owner.UnitKey.{UnitKey}
 use Rattle.enq_base.specs.declared.refusal.Refusal.{Refusal}
 use Rattle.enq_base.specs.declared.refusal.Refusal.TheVariants as refusal
-use Rattle.hall_model.proofs.ByCall.{by_room}
-use Rattle.hall_model.proofs.NotedCalls.{by_noting, of_server}
+use Rattle.model_laws.proofs.ByCall.{by_room}
+use Rattle.model_laws.proofs.NotedCalls.{by_noting, of_server}
 use Rattle.hall_model.specs.Calls.{Call, OfWorker, WorkerCall, Takes, Posts, call_of}
 use Rattle.hall_model.specs.Devices.{DeviceOutcome, Event, AllWell, Wanting, StoreFails, BackupFails, LinkFails, NotRemade, IsPossible, MayHappen, MayLose, MayLoseIn, found_by}
 use Rattle.hall_model.specs.History.{IsStep, Served, ends_in, judged, losing, noted, served, step, takes_flight}

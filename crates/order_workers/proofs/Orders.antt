@@ -30,7 +30,7 @@ module _ {K : Type 0} (leads : K → Made → K → Type 0) where
       (made c look ∷ [], leads_one k l (made c look) h, Untaken (made c look) at is (λ i. idle i.1 i.2))
 
   pub take_idle : (w : ℕ) (part : Part) (k l : K) (c : Command) (look : Look) → c ≡ take_of part w → leads k (made c look) l
-      → is_idle look.reply ≡ true → look.is_up ≡ true → DidOrder leads w part k l Idle
+      → is_idle look.reply ≡ true → look.is_up ≡ true → DidOrder leads w part k l (Idle look.past)
   take_idle w part k l c look at h is up = (made c look, leads_one k l (made c look) h, (at, is, up))
 
   -- a take that gave an order, and what came of it
@@ -38,7 +38,7 @@ module _ {K : Type 0} (leads : K → Made → K → Type 0) where
       → is_order look.reply ≡ true → DidTaken leads w part l n o → DidOrder leads w part k n o
   taken_then w part k l n c look Done at h is d =
       (made c look, d.0, leads_more k l n _ _ (leads_one k l (made c look) h) d.1, (at, is), d.2, d.3)
-  taken_then w part k l n c look Idle at h is d = absurd d
+  taken_then w part k l n c look (Idle past) at h is d = absurd d
   taken_then w part k l n c look Refused at h is d =
       (made c look ∷ d.0, leads_more k l n _ _ (leads_one k l (made c look) h) d.1, d.2 (made c look) (at, is))
 
@@ -72,17 +72,20 @@ module _ {K : Type 0} (leads : K → Made → K → Type 0) where
   gone_done w part k l n h d =
       (h.0 ++ d.0 ∷ d.1 ∷ [], leads_more k l n _ _ h.1 d.2, Does h.0 part d.0 d.1 h.2 d.3 d.4 d.5)
 
-  pub gone_idle : (w : ℕ) (part next : Part) (k l n : K) → other part ≡ next → HasGone w part k l → DidOrder leads w part l n Idle → HasGone w next k n
-  gone_idle w part next k l n turn h d =
+  pub gone_idle : (w : ℕ) (part next : Part) (past : ℕ) (k l n : K) → other part ≡ next → HasGone w part k l → DidOrder leads w part l n (Idle past)
+      → HasGone w next k n
+  gone_idle w part next past k l n turn h d =
       subst (λ p. HasGone w p k n) turn (h.0 ++ d.0 ∷ [], leads_more k l n _ _ h.1 d.1, Turns h.0 part d.0 h.2 d.2)
 
   pub works_stopped : (w : ℕ) (part : Part) (k l n : K) → HasGone w part k l → DidOrder leads w part l n Refused → DidWork leads w false k n
   works_stopped w part k l n h d =
       (h.0 ++ d.0, leads_more k l n _ _ h.1 d.1, record { done = h.0; last = d.0; part = part; goes = h.2; ends = d.2; all = refl })
 
-  rested : (w : ℕ) (k l n : K) → HasGone w V2 k l → DidOrder leads w V2 l n Idle → DidWork leads w true k n
-  rested w k l n h d =
+  rested : (w past : ℕ) (k l n : K) → HasGone w V2 k l → DidOrder leads w V2 l n (Idle past) → DidWork leads w true k n
+  rested w past k l n h d =
       (h.0 ++ d.0 ∷ [], leads_more k l n _ _ h.1 d.1, record { goes = Turns h.0 V2 d.0 h.2 d.2; before = h.0; take = d.0; all = refl; idle = d.2 })
 
-  pub works_rested : (w : ℕ) (part : Part) (k l n : K) → part ≡ V2 → HasGone w part k l → DidOrder leads w part l n Idle → DidWork leads w true k n
-  works_rested w part k l n is h d = rested w k l n (subst (λ p. HasGone w p k l) is h) (subst (λ p. DidOrder leads w p l n Idle) is d)
+  pub works_rested : (w : ℕ) (part : Part) (past : ℕ) (k l n : K) → part ≡ V2 → HasGone w part k l → DidOrder leads w part l n (Idle past)
+      → DidWork leads w true k n
+  works_rested w part past k l n is h d =
+      rested w past k l n (subst (λ p. HasGone w p k l) is h) (subst (λ p. DidOrder leads w p l n (Idle past)) is d)

@@ -122,13 +122,13 @@ module _ {K : Type 0} (leads : K → Made → K → Type 0) where
   abbrev pub DidOrder : ℕ → Part → K → K → Order → Type 0
   DidOrder w part k l Done = (take : Made) × (post : Made) × Leads k (take ∷ post ∷ []) l × IsTaken w part take
       × IsPosted w part post × (post.is_up ≡ true)
-  DidOrder w part k l Idle = (take : Made) × Leads k (take ∷ []) l × IsIdle w part take
+  DidOrder w part k l (Idle past) = (take : Made) × Leads k (take ∷ []) l × IsIdle w part take
   DidOrder w part k l Refused = (last : List Made) × Leads k last l × Ends w part last
 
   -- the same behind its take
   abbrev pub DidTaken : ℕ → Part → K → K → Order → Type 0
   DidTaken w part k l Done = (post : Made) × Leads k (post ∷ []) l × IsPosted w part post × (post.is_up ≡ true)
-  DidTaken w part k l Idle = ⊥
+  DidTaken w part k l (Idle past) = ⊥
   DidTaken w part k l Refused = (last : List Made) × Leads k last l
       × ((take : Made) → IsTaken w part take → Ends w part (take ∷ last))
 

@@ -9,6 +9,8 @@ pub struct Look {
     pub reply: Reply,
     /// Whether the lock server was up behind the call.
     pub is_up: bool,
+    /// How long the history is behind the call.
+    pub past: u64,
 }
 
 /// Where a worker makes its calls.

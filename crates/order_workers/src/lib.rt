@@ -2,7 +2,9 @@
 #![tactic(auto)]
 
 mod desk;
+mod rest;
 mod worker;
 
 pub use desk::{Look, OrderDesk};
+pub use rest::{NoRest, Rest};
 pub use worker::{Part, do_orders};

@@ -2,14 +2,11 @@ ghost use Rattle.std.specs.Prelude.{◌≡◌, true};
 ghost use Rattle.order_workers.specs.Orders.{DidOrder, DidTaken, DidWork, is_of_worker, is_idle, is_order, is_refused, post_of, take_of};
 
 use crate::desk::OrderDesk;
+use crate::rest::Rest;
 use enq_base::Refusal;
 use hall_model::{Command, Reply};
 use std::sync::Wait;
 use std::sync::atomic::{AtomicU64, Ordering};
-use std::thread;
-
-// The longest rest of a worker without orders, in times that it yields the processor.
-const LONGEST_REST: u32 = 128;
 
 /// The parts of a unit.
 #[derive(Clone, Copy, Debug, PartialEq, Eq)]
@@ -23,8 +20,8 @@ pub enum Part {
 enum Order {
     /// It was done, and the server is up.
     Done,
-    /// There was no unit for one, and the server is up.
-    Idle,
+    /// There was no unit for one, and the server is up. The history was so long.
+    Idle(u64),
     /// The worker ends: the take or the order was refused, or the server isn't up.
     Refused,
 }
@@ -79,7 +76,7 @@ fn do_order<K: OrderDesk>(desk: &mut K, worker: u8, part: Part) -> Order
         return do_taken(desk, worker, part);
     }
     if is_idle(&look.reply) && look.is_up {
-        return Order::Idle;
+        return Order::Idle(look.past);
     }
     Order::Refused
 }
@@ -100,34 +97,15 @@ fn do_taken<K: OrderDesk>(desk: &mut K, worker: u8, part: Part) -> Order
     }
 }
 
-/// How often a worker without orders yields the processor before it looks again: twice as often with each look in a row
-/// that found none. A worker that takes turn after turn for nothing keeps those waiting who have work.
-#[derive(Drop)]
-struct Rest {
-    yields: u32,
-}
-
-impl Rest {
-    fn new() -> Rest {
-        Rest { yields: 1 }
-    }
-
-    /// Rests, and longer the next time.
-    fn rest(&mut self) {
-        for _ in 0..self.yields {
-            thread::yield_now();
-        }
-        self.yields = self.yields.saturating_mul(2).min(LONGEST_REST);
-    }
-}
-
 /// Does V1 orders until there is none, then V2 orders until there is none, and so on until no actor runs any more that
-/// could make another: `running` counts those. The server has to be up when it begins. It says whether it ends so, and
-/// not by a refusal or by a server that isn't up.
+/// could make another: `running` counts those. Each time that it found none of both it rests, until the history may be
+/// longer than it was when there was none of V1. The server has to be up when it begins. It says whether it ends so,
+/// and not by a refusal or by a server that isn't up.
 #[tactic(auto, using(crate::proofs::Orders::gone_nowhere))]
-pub fn do_orders<R: Wait, K: OrderDesk>(
+pub fn do_orders<R: Wait, K: OrderDesk, I: Rest>(
     rt: &R,
     desk: &mut K,
+    rest: &mut I,
     worker: u8,
     running: &AtomicU64,
 ) -> bool
@@ -135,20 +113,23 @@ pub fn do_orders<R: Wait, K: OrderDesk>(
 {
     let mut part = Part::V1;
     let mut is_last = running.load(Ordering::SeqCst) == 0;
-    let mut idle = Rest::new();
+    let mut known = 0;
     for _ in rt.forever() {
         match do_order(desk, worker, part) {
-            Order::Done => idle = Rest::new(),
+            Order::Done => {}
             Order::Refused => return false,
-            Order::Idle => match part {
-                Part::V1 => part = Part::V2,
+            Order::Idle(past) => match part {
+                Part::V1 => {
+                    part = Part::V2;
+                    known = past;
+                }
                 Part::V2 => {
                     if is_last {
                         return true;
                     }
                     is_last = running.load(Ordering::SeqCst) == 0;
                     part = Part::V1;
-                    idle.rest();
+                    rest.rest(known);
                 }
             },
         }

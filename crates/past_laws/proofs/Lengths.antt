@@ -8,7 +8,7 @@ use Rattle.enq_base.specs.declared.refusal.Refusal.{Refusal}
 use Rattle.enq_base.specs.declared.refusal.Refusal.TheVariants as refusal
 use Rattle.hall_laws.proofs.histories.NotedSteps.{AnswersFrom, answers_before}
 use Rattle.hall_laws.proofs.keeping.Unchanged.{served-past}
-use Rattle.hall_model.proofs.NotedCalls.{by_noting, full_or}
+use Rattle.model_laws.proofs.NotedCalls.{by_noting, full_or}
 use Rattle.hall_model.specs.Calls.{Call, call_of}
 use Rattle.hall_model.specs.Devices.{AllWell, Wanting, StoreFails, BackupFails, LinkFails, NotRemade, DeviceOutcome, IsPossible, MayHappen, found_by}
 use Rattle.hall_model.specs.History.{IsStep, Served, ends_in, is_unrecorded, judged, past_entry, served, step, takes_flight, with_entry}

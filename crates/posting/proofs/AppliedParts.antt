@@ -11,7 +11,7 @@ use Rattle.enq_base.specs.declared.owner.UnitKey.{UnitKey}
 use Rattle.enq_base.specs.declared.unit.Effect.{Effect}
 use Rattle.enq_base.specs.declared.unit.Reason.{Reason}
 use Rattle.keeper_api.specs.Rows.{Rows}
-use Rattle.module_effects.proofs.Tables.{is_at-Decides, same_row, same_row-Decides}
+use Rattle.module_effects.proofs.lemmas.Tables.{is_at-Decides, same_row, same_row-Decides}
 use Rattle.module_effects.specs.Effects.{applied}
 use Rattle.module_effects.specs.Rows.{RowName, Tables, row_of}
 use Rattle.module_effects.specs.Spots.{Agree, IsDoneOver, IsRefused, IsRefusedOver, covers, is_at, row_at, with_spots}
@@ -27,7 +27,7 @@ use Rattle.ledger_steps.specs.Posts.{AreRead, HasDistinctRows, HoldsTables, IsNo
 use Rattle.ledger_steps.specs.Steps.{IsOutcome, post_kind}
 use Rattle.ledger_steps.specs.declared.step.Outcome.{Outcome}
 use Rattle.ledger_steps.specs.declared.step.Outcome.TheVariants.{Done, Refused}
-use Rattle.posting.proofs.HeldRows.{holds}
+use Rattle.posting.proofs.lemmas.HeldRows.{holds}
 
 and_first : (a b : Bool) → (a && b) ≡ true → a ≡ true
 and_first true b h = refl

@@ -23,14 +23,14 @@ use Rattle.ledger_steps.specs.Posts.{HasDistinctRows, IsNote, note_changes, row_
 use Rattle.ledger_steps.specs.Intervals.{HasDistinctIntervals, MayStore, draw_changes, interval_rows, with_intervals}
 use Rattle.ledger_steps.specs.Steps.{IsDrawing, IsNewUnit, HasMarksLeft, IsSpelt, MayGet}
 use Rattle.update_records.specs.declared.stored.StoredInterval.{StoredInterval}
-use Rattle.update_records.proofs.Books.{unit_batch, unit_in, unit_written, mark_written, is_book_table, is_business_table}
-use Rattle.update_records.proofs.Apart.{unit_own, unit_changes, own_append, own_keys, distinct_append, none_distinct, closing_distinct, tables_apart, is_closing_table, at_number}
+use Rattle.record_laws.proofs.Books.{unit_batch, unit_in, unit_written, mark_written, is_book_table, is_business_table}
+use Rattle.record_laws.proofs.Apart.{unit_own, unit_changes, own_append, own_keys, distinct_append, none_distinct, closing_distinct, tables_apart, is_closing_table, at_number}
 use Rattle.posting.proofs.LawfulLedger.{draw_lawful, level_lawful, unit_lawful, note_lawful}
-use Rattle.posting.proofs.LevelRows.{levels_behind, levels_own, levels_written}
-use Rattle.update_records.proofs.Own.{AreOwn, own_changed}
+use Rattle.posting.proofs.lemmas.LevelRows.{levels_behind, levels_own, levels_written}
+use Rattle.record_laws.proofs.Own.{AreOwn, own_changed}
 use Rattle.posting.proofs.PostedRows.{rows_are, rows_distinct, rows_in, rows_own}
 use Rattle.posting.proofs.RegisterAgrees.{may_not_draw}
-use Rattle.update_records.proofs.Status.{none_of}
+use Rattle.record_laws.proofs.Status.{none_of}
 
 -- a ledger with a start number is lawful
 started_lawful : (ledger : Ledger) → 1 ≤ ledger.start → (ledger ≡ no_ledger) ⊎ IsLawful ledger → IsLawful ledger

@@ -17,15 +17,15 @@ use Rattle.update_records.specs.declared.records.Unit.{Unit as UnitOfWork}
 use Rattle.update_records.specs.Business.{numbers_of}
 use Rattle.update_records.specs.Ledger.{recorded}
 use Rattle.update_records.specs.Marks.{unit_at, has_no_v2, given, status_of, may_follow, draws_alone, has_status, is_rec, same_status, IsLegal, IsLegalAfter}
-use Rattle.store_reading.proofs.Gathers.{recorded_on}
-use Rattle.update_records.proofs.Status.{none_of, one_unit, status_push, unit_refl, NoneOf}
+use Rattle.store_reading.proofs.lemmas.Gathers.{recorded_on}
+use Rattle.record_laws.proofs.Status.{none_of, one_unit, status_push, unit_refl, NoneOf}
 use Rattle.posting.specs.Restoring.{AreFollowed, AreStandings, HasTurnsLeft, IsFollowed, MayBeNext}
 use Rattle.posting.specs.Turns.{turns_of}
 use Rattle.posting.specs.declared.restoring.Followed.{Followed}
 use Rattle.posting.specs.Standings.{Standings, standing_at, IsRegister, IsSmall}
 use Rattle.ledger_steps.specs.Errors.{told, error_of}
 use Rattle.posting.specs.declared.register.Standing.{Standing}
-use Rattle.ledger_steps.proofs.UnmarkedUnits.{none_among, none_recorded}
+use Rattle.record_laws.proofs.UnmarkedUnits.{none_among, none_recorded}
 use Rattle.posting.proofs.LawfulLedger.{recorded_push}
 use Rattle.posting.proofs.WaitingTurns.{last_drawn, one_each, turns_drawn, turns_first}
 use Rattle.posting.proofs.RegisterAgrees.{error_push, in_range, noted_error, noted_placed, noted_status, noted_turns, open_at, stands_at, turn_in, turn_known, turns_kept, within_get, Gave, Sets}

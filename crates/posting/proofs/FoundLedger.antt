@@ -68,7 +68,7 @@ last_start : (held : Option Rows) (before : Rows → Type 0) (raise : Bool) (led
 last_start None before raise ledger opened on is last h = tt
 last_start (Some rows) before raise ledger opened on is last h = (on, ledger, h.1, subst (λ (l : Ledger). l.start ≡ 4294967295) is last)
 
-any_fault : (now : Option Rows) (raise : Bool) → IfSome now (λ rows. IsOpeningFault raise rows StoreFault)
+pub any_fault : (now : Option Rows) (raise : Bool) → IfSome now (λ rows. IsOpeningFault raise rows StoreFault)
     × IfSome now (λ rows. IsOpeningFault raise rows NoMemory)
 any_fault None raise = (tt, tt)
 any_fault (Some rows) raise = (tt, tt)
@@ -82,7 +82,7 @@ raise_fault now held before raise ledger opened NoStart on is why rows h =
     subst (λ o. IfSome o (λ rows. IsOpeningFault raise rows NoStart)) (sym rows) (last_start held before raise ledger opened on is why h)
 raise_fault now held before raise ledger opened NoMemory on is why rows h = (any_fault now raise).1
 
-found_here : (held : Option Rows) (before : Rows → Type 0) (ledger : Ledger) → IfSome held (λ rows. before rows × StandFor rows ledger) → IfSome held before
+pub found_here : (held : Option Rows) (before : Rows → Type 0) (ledger : Ledger) → IfSome held (λ rows. before rows × StandFor rows ledger) → IfSome held before
 found_here None before ledger h = tt
 found_here (Some rows) before ledger h = h.0
 

@@ -11,8 +11,8 @@ use Rattle.update_records.specs.Business.{tables_of}
 use Rattle.update_records.specs.Growing.{with_start}
 use Rattle.update_records.specs.Ledger.{Ledger, IsLawful, IsMarkUnder, StandFor, map_rows, rows_of}
 use Rattle.update_records.specs.RecordRows.{mark_row, meta_row, unit_rows}
-use Rattle.update_records.proofs.Books.{meta_is, parts_of}
-use Rattle.update_records.proofs.Own.{own_changed}
+use Rattle.record_laws.proofs.Books.{meta_is, parts_of}
+use Rattle.record_laws.proofs.Own.{own_changed}
 use Rattle.posting.proofs.UsableBooks.{first_makes}
 
 raised_rows : (ledger : Ledger) (start : ℕ) → 1 ≤ ledger.start → 1 ≤ start

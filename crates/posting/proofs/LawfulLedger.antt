@@ -24,11 +24,11 @@ use Rattle.update_records.specs.Marks.{v1_of, v2_of, given, status_after, status
 use Rattle.ledger_steps.specs.Intervals.{MayStore, with_intervals, with_levels}
 use Rattle.ledger_steps.specs.Steps.{IsDrawing, IsNewUnit, MayGet, HasMarksLeft, IsSpelt}
 use Rattle.update_records.specs.declared.stored.StoredInterval.{StoredInterval}
-use Rattle.ledger_steps.proofs.CommittedNumbers.{draws_nothing, numbers_push, numbers_recorded, numbers_same}
+use Rattle.record_laws.proofs.CommittedNumbers.{draws_nothing, numbers_push, numbers_recorded, numbers_same}
 use Rattle.posting.proofs.RegisterAgrees.{may_not_draw}
-use Rattle.update_records.proofs.Books.{other_part, plain}
-use Rattle.update_records.proofs.Status.{NoneOf, none_of, unit_other, flip, legal_grows, legal_push, not_rec, status_grows, one_unit}
-use Rattle.ledger_steps.proofs.UnmarkedUnits.{not_there}
+use Rattle.record_laws.proofs.Books.{other_part, plain}
+use Rattle.record_laws.proofs.Status.{NoneOf, none_of, unit_other, flip, legal_grows, legal_push, not_rec, status_grows, one_unit}
+use Rattle.record_laws.proofs.UnmarkedUnits.{not_there}
 
 range_push : (a n : ℕ) → range_with_len a n ++ (a + n) ∷ [] ≡ range_with_len a (n + 1)
 range_push a zero = ap (λ k. k ∷ []) (omega arith)

@@ -1,6 +1,4 @@
 pub mod WaitingViews
-pub mod LedgerNumbers
-pub mod LevelRows
 pub mod RowOrder
 pub mod StoredIntervals
 pub mod WaitingTurns
@@ -9,9 +7,10 @@ pub mod UsableBooks
 pub mod LawfulLedger
 pub mod PostedRows
 pub mod BatchRows
-pub mod HeldRows
 pub mod FollowedMarks
 pub mod FoundLedger
-pub mod SettledDoubt
 pub mod LaterStart
+pub mod ReadyPlans
+pub mod WrittenBooks
 pub mod AppliedParts
+pub mod lemmas

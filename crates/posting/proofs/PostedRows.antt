@@ -10,14 +10,14 @@ use Rattle.keeper_api.specs.RowLaws.{once_swapped, InTables}
 use Rattle.module_effects.specs.Rows.{RowName, Tables}
 use Rattle.module_effects.specs.Spots.{row_at, with_spots}
 use Rattle.module_effects.specs.declared.spot.Spot.{Spot}
-use Rattle.module_effects.proofs.Tables.{same_row, same_row-Decides}
+use Rattle.module_effects.proofs.lemmas.Tables.{same_row, same_row-Decides}
 use Rattle.update_records.specs.Ledger.{Levels, map_rows, is_own}
 use Rattle.update_records.specs.RecordRows.{row_left}
 use Rattle.ledger_steps.specs.Posts.{HasDistinctRows, row_change, row_changes}
-use Rattle.update_records.proofs.Books.{is_business_table}
-use Rattle.update_records.proofs.Apart.{AreDistinct, IsApart, spots, none_distinct, not_same}
-use Rattle.update_records.proofs.Keyed.{business_left, left_spot, spot-Decides, unname, unname_name}
-use Rattle.update_records.proofs.Own.{AreOwn}
+use Rattle.record_laws.proofs.Books.{is_business_table}
+use Rattle.record_laws.proofs.Apart.{AreDistinct, IsApart, spots, none_distinct, not_same}
+use Rattle.record_laws.proofs.Keyed.{business_left, left_spot, spot-Decides, unname, unname_name}
+use Rattle.record_laws.proofs.Own.{AreOwn}
 
 -- a change may be made before changes of other rows
 past : (c : Change) (ds : List Change) (rows : Rows) → IsApart (spot_of c) ds → changed ds (changed_once c rows) ≡ changed_once c (changed ds rows)

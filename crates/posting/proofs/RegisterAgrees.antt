@@ -20,9 +20,9 @@ use Rattle.ledger_steps.specs.Errors.{told, error_after, error_of}
 use Rattle.std.proofs.lemmas.Bool.{false≢true}
 use Rattle.enq_base.specs.declared.unit.Num.{Num as Number}
 use Rattle.update_records.specs.Business.{numbers_of}
-use Rattle.ledger_steps.proofs.CommittedNumbers.{draws_nothing, numbers_push, numbers_recorded, numbers_same}
+use Rattle.record_laws.proofs.CommittedNumbers.{draws_nothing, numbers_push, numbers_recorded, numbers_same}
 use Rattle.posting.specs.declared.register.Standing.{Standing}
-use Rattle.update_records.proofs.Status.{NoneOf, none_of, one_unit, status_push, status_grows, unit_other, unit_new, given_same, not_alone, not_rec}
+use Rattle.record_laws.proofs.Status.{NoneOf, none_of, one_unit, status_push, status_grows, unit_other, unit_new, given_same, not_alone, not_rec}
 use Rattle.posting.specs.Turns.{last_turn, turns_of}
 use Rattle.posting.proofs.WaitingTurns.{cleared, last_drawn, last_push, one_each, turns_drawn, turns_first, turns_grow, turns_push}
 

@@ -12,15 +12,15 @@ use Rattle.std.specs.declared.cmp.Ordering.{Ordering}
 use Rattle.std.specs.declared.cmp.Ordering.TheVariants.{Less, Equal, Greater}
 use Rattle.std.proofs.lemmas.Bool.Decides.{Decides-and, Decides-like, same_from_decides}
 use Rattle.std.proofs.lemmas.Slice.Eq.{bytes_eq-Decides}
-use Rattle.module_effects.proofs.Tables.{rows_total, same_row, same_row-Decides}
+use Rattle.module_effects.proofs.lemmas.Tables.{rows_total, same_row, same_row-Decides}
 use Rattle.module_effects.specs.Rows.{RowName, row_cmp}
-use Rattle.store_reading.proofs.TextOrder.{name_cmp}
-use Rattle.update_records.proofs.Keyed.{unname, unname_name}
+use Rattle.store_reading.proofs.lemmas.TextOrder.{name_cmp}
+use Rattle.record_laws.proofs.Keyed.{unname, unname_name}
 use Rattle.update_records.specs.Intervals.{entry_of, level_of, levels_of, named}
 use Rattle.update_records.specs.RecordRows.{Level, row_name}
 use Rattle.update_records.specs.declared.stored.StoredInterval.{StoredInterval}
 use Rattle.ledger_steps.specs.Intervals.{AreInOrder, in_row_order, interval_of_entry, is_before, is_called, key_cmp, keyed}
-use Rattle.ledger_steps.proofs.RowNames.{Bytes, exact_bytes, first_called, key-Decides}
+use Rattle.draw_laws.proofs.RowNames.{Bytes, exact_bytes, first_called, key-Decides}
 
 -- how the code compares two names
 pub keys_compared : (a b : RowName) → ordering_then (ordering_then (nat_cmp (length a.0) (length b.0)) (slice_cmp nat_cmp a.0 b.0))

@@ -10,13 +10,13 @@ use Rattle.std.specs.Ordering.{is_eq, is_gt, nat_cmp}
 use Rattle.std.specs.declared.cmp.Ordering.{Ordering}
 use Rattle.std.specs.declared.cmp.Ordering.TheVariants.{Less, Equal, Greater}
 use Rattle.std.proofs.lemmas.Bool.{eqb-true}
-use Rattle.module_effects.proofs.Tables.{exact_rows, rows_total}
+use Rattle.module_effects.proofs.lemmas.Tables.{exact_rows, rows_total}
 use Rattle.module_effects.specs.Rows.{RowName}
 use Rattle.update_records.specs.Intervals.{level_of, levels_of, named}
 use Rattle.update_records.specs.Ledger.{Levels}
 use Rattle.update_records.specs.RecordRows.{Level, row_name}
 use Rattle.update_records.specs.declared.stored.StoredInterval.{StoredInterval}
-use Rattle.ledger_steps.proofs.RowNames.{called_row, exact_bytes}
+use Rattle.draw_laws.proofs.RowNames.{called_row, exact_bytes}
 use Rattle.posting.proofs.RowOrder.{first_below, in_order, less_of, level_called, rest_below}
 use Rattle.ledger_steps.specs.Intervals.{AreInOrder, if_called, in_row_order, is_before, is_called, is_past, key_cmp, keyed, with_levels}
 use Rattle.ledger_steps.specs.Steps.{at_place}

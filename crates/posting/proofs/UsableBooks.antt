@@ -12,7 +12,7 @@ use Rattle.update_records.specs.Growing.{with_start}
 use Rattle.update_records.specs.Ledger.{Ledger, no_ledger, IsLawful, IsMarkUnder, IsRightLevel, StandFor}
 use Rattle.update_records.specs.Grammar.{IsUnit}
 use Rattle.update_records.specs.RecordRows.{meta_row}
-use Rattle.update_records.proofs.Own.{own_changed}
+use Rattle.record_laws.proofs.Own.{own_changed}
 
 -- the ledger of the first start
 first_lawful : IsLawful (with_start no_ledger 1)

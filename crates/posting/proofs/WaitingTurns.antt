@@ -11,7 +11,7 @@ use Rattle.update_records.specs.declared.records.MarkKind.{MarkKind}
 use Rattle.update_records.specs.declared.records.MarkKind.TheVariants.{Num, Rec, V1, Bad1, Again1, V2, Bad2, Again2, Gone}
 use Rattle.update_records.specs.declared.records.Unit.{Unit as UnitOfWork}
 use Rattle.update_records.specs.Marks.{has_no_v2, given, draws_alone, decides, has_status, units_with}
-use Rattle.update_records.proofs.Status.{NoneOf, flip, one_unit, unit_refl, v2_other}
+use Rattle.record_laws.proofs.Status.{NoneOf, flip, one_unit, unit_refl, v2_other}
 use Rattle.posting.specs.Turns.{last_turn, turns_of}
 
 -- whether a mark gives its unit this status

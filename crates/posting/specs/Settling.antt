@@ -9,6 +9,7 @@ use Rattle.update_records.specs.declared.records.Unit.{Unit as UnitOfWork}
 use Rattle.posting.specs.Opening.{CountsFault, OnBad}
 use Rattle.ledger_steps.specs.Steps.{after_step}
 use Rattle.posting.specs.declared.opening.BooksFault.{BooksFault}
+use Rattle.posting.specs.declared.opening.BooksFault.TheVariants.{NoMemory}
 use Rattle.ledger_steps.specs.declared.step.Step.{Step}
 use Rattle.ledger_steps.specs.declared.step.Step.TheVariants.{Start, Record, Note, Draw, Level}
 use Rattle.posting.specs.declared.settling.SettleFault.{SettleFault}
@@ -35,6 +36,11 @@ pub record IsOther (old : Ledger) (change : Option Step) (ledger : Ledger) : Typ
 -- the rows stand for this ledger, which is another than these two
 abbrev pub StandForOther : Rows → Ledger → Option Step → Ledger → Type 0
 StandForOther rows old change ledger = StandFor rows ledger × IsOther old change ledger
+
+-- why no ledger was found that was looked for: want of memory, or one was found that is neither
+abbrev pub IsUnlike : Ledger → Option Step → Ledger → SettleFault → Type 0
+IsUnlike old change read (Books fault) = fault ≡ NoMemory
+IsUnlike old change read (Other ledger) = (ledger ≡ read) × IsOther old change read
 
 -- ---- faults
 

@@ -6,11 +6,11 @@ use Rattle.std.specs.Option.{option_map, option_and_then}
 use Rattle.enq_base.specs.declared.owner.UnitKey.{UnitKey}
 use Rattle.enq_base.specs.declared.unit.Status.TheVariants.{Open, Posted}
 use Rattle.update_records.specs.Business.{numbers_of}
-use Rattle.update_records.specs.Ids.{id_of, same_id}
+use Rattle.enq_base.specs.Ids.{id_of, same_id}
 use Rattle.update_records.specs.declared.records.Mark.{Mark}
 use Rattle.update_records.specs.declared.records.Unit.{Unit as UnitOfWork}
 use Rattle.update_records.specs.Marks.{status_of, unit_at}
-use Rattle.update_records.specs.declared.unit_id.UnitId.{UnitId}
+use Rattle.enq_base.specs.declared.unit_id.UnitId.{UnitId}
 use Rattle.posting.specs.Turns.{last_turn, turns_of}
 use Rattle.posting.specs.declared.register.Standing.{Standing}
 use Rattle.ledger_steps.specs.Errors.{error_of}

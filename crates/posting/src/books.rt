@@ -27,10 +27,10 @@ ghost use Rattle.ledger_steps.specs.Views.{open_locks, views_of};
 ghost use Rattle.ledger_steps.specs.declared.step.Step.TheVariants.{Record, Note, Start, Draw, Level};
 
 use crate::batch::{draw_batch, level_batch, mark_behind, note_batch, start_batch, unit_batch};
-use crate::opening::{BooksFault, open_ledger, restored};
+use crate::opening::{BooksFault, open_register};
 use crate::prepared::Prepared;
 use crate::register::Register;
-use crate::settling::{Reread, SettleFault, Unlike, settled};
+use crate::settling::{Reread, SettleFault, found_anew};
 use crate::spots::{apply_to_store, read_text};
 use crate::viewing;
 use enq_base::{
@@ -92,12 +92,9 @@ impl<K: Keeper> Books<K> {
         ensures cause { IfErr result (λ e. CountsFault e.0 (K.faults keeper) (K.faults e.1)) }
     {
         let mut keeper = keeper;
-        let stored = match open_ledger(alloc, &mut keeper) {
-            Ok(stored) => stored,
+        let register = match open_register(alloc, &mut keeper) {
+            Ok(register) => register,
             Err(fault) => return Err((fault, keeper)),
-        };
-        let Ok(register) = restored(alloc, stored) else {
-            return Err((BooksFault::NoMemory, keeper));
         };
         let mut books = Books { register, keeper };
         if !raise {
@@ -132,12 +129,13 @@ impl<K: Keeper> Books<K> {
         ensures cause { IfErr result
             (λ fault. CountsFault fault (K.faults self.old.keeper) (K.faults self.new.keeper)) }
     {
-        let stored = open_ledger(alloc, &mut self.keeper)?;
-        let Ok(register) = restored(alloc, stored) else {
-            return Err(BooksFault::NoMemory);
-        };
-        self.register = register;
-        Ok(())
+        match open_register(alloc, &mut self.keeper) {
+            Ok(register) => {
+                self.register = register;
+                Ok(())
+            }
+            Err(fault) => Err(fault),
+        }
     }
 
     /// Reads the store anew after a commit that failed, and tells what it has: the ledger as it was, or the one with
@@ -171,20 +169,11 @@ impl<K: Keeper> Books<K> {
         ensures cause { IfErr result
             (λ fault. CountsSettling fault (K.faults self.old.keeper) (K.faults self.new.keeper)) }
     {
-        let stored = match open_ledger(alloc, &mut self.keeper) {
-            Ok(stored) => stored,
+        let register = match open_register(alloc, &mut self.keeper) {
+            Ok(register) => register,
             Err(fault) => return Err(SettleFault::Books(fault)),
         };
-        let Ok(register) = restored(alloc, stored) else {
-            return Err(SettleFault::Books(BooksFault::NoMemory));
-        };
-        let Ok(found) = settled(alloc, &self.register, change, &register) else {
-            return Err(SettleFault::Books(BooksFault::NoMemory));
-        };
-        let Some(taken) = found else {
-            return Err(SettleFault::Other(Unlike { register }));
-        };
-        Ok(Reread { register, taken })
+        found_anew(alloc, &self.register, change, register)
     }
 
     /// Takes what was found for the ledger.
@@ -379,8 +368,16 @@ impl<K: Keeper> Books<K> {
         ensures usable { IsUsable K.held K.is_open self.new }
         ensures unmoved { IsUnmoved K.held K.may_leave K.faults self.old self.new }
     {
-        let batch = unit_batch(alloc, self.start(), self.marks(), &unit, levels)?;
-        let levels = Items::from_vec(Vec::from_slice(alloc, levels)?);
+        let Ok(batch) = unit_batch(alloc, self.start(), self.marks(), &unit, levels) else {
+            drop(unit);
+            return Err(NoMemory);
+        };
+        let Ok(levels) = Vec::from_slice(alloc, levels) else {
+            drop(unit);
+            drop(batch);
+            return Err(NoMemory);
+        };
+        let levels = Items::from_vec(levels);
         self.prepare(alloc, batch, Step::Record { unit, levels })
     }
 
@@ -559,12 +556,37 @@ impl<K: Keeper> Books<K> {
         ensures usable { IsUsable K.held K.is_open self.new }
         ensures unmoved { IsUnmoved K.held K.may_leave K.faults self.old self.new }
     {
-        self.register.make_room(interval_count(&step))?;
-        self.keeper.room(alloc, batch.as_slice())?;
-        Ok(Prepared {
-            batch: Items::from_vec(batch),
-            step,
-        })
+        match self.make_room(alloc, batch.as_slice(), interval_count(&step)) {
+            Ok(()) => Ok(Prepared {
+                batch: Items::from_vec(batch),
+                step,
+            }),
+            Err(_) => {
+                drop(batch);
+                drop(step);
+                Err(NoMemory)
+            }
+        }
+    }
+
+    /// Takes the memory for a batch that puts so many intervals. Nothing changes in the store.
+    fn make_room(
+        &mut self,
+        alloc: Global,
+        batch: &[Change],
+        intervals: usize,
+    ) -> Result<(), NoMemory>
+        requires usable { IsUsable K.held K.is_open self.old }
+        requires batch { IsBatch batch.now }
+        ensures kept { OnOk result (K.has_room self.new.keeper batch.now) }
+        ensures space { OnOk result (1 ≤ self.new.room) }
+        ensures spare { OnOk result (intervals ≤ self.new.spare) }
+        ensures usable { IsUsable K.held K.is_open self.new }
+        ensures unmoved { IsUnmoved K.held K.may_leave K.faults self.old self.new }
+    {
+        self.register.make_room(intervals)?;
+        self.keeper.room(alloc, batch)?;
+        Ok(())
     }
 
     /// Writes the next start number.

@@ -43,7 +43,7 @@ fn opening_fault(fault: ReadingFault) -> BooksFault
 }
 
 /// Opens a keeper, and reads the ledger of its rows.
-pub fn open_ledger<K: Keeper>(alloc: Global, keeper: &mut K) -> Result<StoredLedger, BooksFault>
+fn open_ledger<K: Keeper>(alloc: Global, keeper: &mut K) -> Result<StoredLedger, BooksFault>
     ensures opened { OnOk result (K.is_open keeper.new) }
     ensures stands { IfOk result
         (λ stored. IfSome (K.held keeper.new)
@@ -66,8 +66,33 @@ pub fn open_ledger<K: Keeper>(alloc: Global, keeper: &mut K) -> Result<StoredLed
     }
 }
 
+/// Opens a keeper, and makes the register of its rows.
+pub fn open_register<K: Keeper>(alloc: Global, keeper: &mut K) -> Result<Register, BooksFault>
+    ensures opened { OnOk result (K.is_open keeper.new) }
+    ensures stands { IfOk result
+        (λ register. IfSome (K.held keeper.new)
+        (λ rows. K.may_leave keeper.old rows × StandFor rows register.ledger)) }
+    ensures sound { IfOk result (λ register. IsSound register.ledger) }
+    ensures counts { OnOk result (K.faults keeper.new ≡ K.faults keeper.old) }
+    ensures told { is_some (K.held keeper.new) ≡ is_some (K.held keeper.old) }
+    ensures crash { IsWithin (K.may_leave keeper.new) (K.may_leave keeper.old) }
+    ensures fault { IfErr result (λ fault. IfSome (K.held keeper.new) (λ rows. IsOpeningFault false rows fault)) }
+    ensures untold_fault { IfErr result (MayBeOpeningFault false) }
+    ensures found { IfErr result (λ fault. OnBad fault (IfSome (K.held keeper.new) (K.may_leave keeper.old))) }
+    ensures cause { IfErr result (λ fault. CountsFault fault (K.faults keeper.old) (K.faults keeper.new)) }
+{
+    let stored = match open_ledger(alloc, keeper) {
+        Ok(stored) => stored,
+        Err(fault) => return Err(fault),
+    };
+    match restored(alloc, stored) {
+        Ok(register) => Ok(register),
+        Err(_) => Err(BooksFault::NoMemory),
+    }
+}
+
 /// The register of a ledger that a store may stand for.
-pub fn restored(alloc: Global, stored: StoredLedger) -> Result<Register, NoMemory>
+fn restored(alloc: Global, stored: StoredLedger) -> Result<Register, NoMemory>
     requires { IsSound (ledger_of stored) }
     ensures { IfOk result (λ register. register.ledger ≡ ledger_of stored) }
 {

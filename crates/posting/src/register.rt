@@ -23,13 +23,13 @@ ghost use Rattle.update_records.specs.RecordRows.{Level};
 
 use crate::interval_list::{IntervalList, put_all};
 use crate::restoring::{Followed, count_numbers, follow_all, interval_list};
-use enq_base::{Items, Name, NoMemory, Num, Reason, Status, UnitKey};
+use enq_base::{Items, Name, NoMemory, Num, Reason, Status, UnitId, UnitKey, id_of};
 use ledger_steps::Step;
 use std::alloc::Global;
 use std::collections::HashMap;
 use std::marker::Model;
 use turn_list::Turns;
-use update_records::{Mark, MarkKind, StoredInterval, Unit, UnitId, id_of};
+use update_records::{Mark, MarkKind, StoredInterval, Unit};
 
 /// The place of a unit in the order of recording, the turn of the last mark that gave it a status, the status, and
 /// where that mark tells of one the refusal: the effect's number from 1 on, and the reason.

@@ -16,11 +16,11 @@ use crate::register::{
     Standing, error_after, is_open, is_posted, pass_turn, set_standing, standing_of, status_after,
     take_turn,
 };
-use enq_base::{NoMemory, Status};
+use enq_base::{NoMemory, Status, UnitId};
 use std::alloc::Global;
 use std::collections::HashMap;
 use turn_list::Turns;
-use update_records::{Mark, MarkKind, StoredInterval, Unit, UnitId};
+use update_records::{Mark, MarkKind, StoredInterval, Unit};
 
 /// What the marks so far make of the units: each one's standing, the turns in which units wait for their V1 part and
 /// for their V2 part, how many units were recorded, and how many marks there were.

@@ -1,7 +1,7 @@
-ghost use Rattle.std.specs.Prelude.{◌≡◌, ◌≢◌, ◌↔◌, ◌+◌, ◌++◌, ◌∷◌, [], length, IsTrue, IfNone, IfOk, IfSome, Some};
+ghost use Rattle.std.specs.Prelude.{◌≡◌, ◌≢◌, ◌↔◌, ◌+◌, ◌++◌, ◌∷◌, [], length, IsTrue, IfErr, IfNone, IfOk, IfSome, Some};
 ghost use Rattle.std.specs.Option.{option_copied};
 ghost use Rattle.ledger_steps.specs.Intervals.{in_row_order, with_levels};
-ghost use Rattle.posting.specs.Settling.{IsOther, IsSettled, mark_in, marks_after, start_after, units_after};
+ghost use Rattle.posting.specs.Settling.{IsOther, IsSettled, IsUnlike, mark_in, marks_after, start_after, units_after};
 ghost use Rattle.ledger_steps.specs.Steps.{after_step, intervals_in};
 ghost use Rattle.ledger_steps.specs.Views.{open_locks};
 
@@ -97,9 +97,31 @@ impl Reread {
     }
 }
 
+/// What a register that was read anew says of a change.
+pub fn found_anew(
+    alloc: Global,
+    old: &Register,
+    change: Option<&Step>,
+    register: Register,
+) -> Result<Reread, SettleFault>
+    ensures settled { IfOk result
+        (λ found. IsSettled old.now.ledger (option_copied change.entry) found.taken found.ledger) }
+    ensures ledger { IfOk result (λ found. found.ledger ≡ register.ledger) }
+    ensures unlike { IfErr result (IsUnlike old.now.ledger (option_copied change.entry) register.ledger) }
+{
+    match settled(alloc, old, change, &register) {
+        Ok(Some(taken)) => Ok(Reread { register, taken }),
+        Ok(None) => Err(SettleFault::Other(Unlike { register })),
+        Err(_) => {
+            drop(register);
+            Err(SettleFault::Books(BooksFault::NoMemory))
+        }
+    }
+}
+
 /// Whether a change was made, by the register as it was and the one that was read, or nothing where that is neither as
 /// it was nor with the change. Each record is looked at twice at most.
-pub fn settled(
+fn settled(
     alloc: Global,
     old: &Register,
     change: Option<&Step>,

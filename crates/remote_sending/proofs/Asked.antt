@@ -68,12 +68,6 @@ goes_further (Some x) None c h k = absurd h
 goes_further (Some x) (Some y) None h k = absurd k
 goes_further (Some x) (Some y) (Some z) h k = (h.0 ++ k.0, sym (append_assoc x h.0 k.0) ∙ ap (λ w. w ++ k.0) h.1 ∙ k.1)
 
-pub rose_more : (n m a b c : ℕ) → RoseBy n a b → RoseBy m b c → RoseBy (n + m) a c
-rose_more n m a b c h k = omega (arith, h, k)
-
-pub missed_some : (n m a b c : ℕ) (o : CallOutcome) → RoseBy n a b → HasMissed m (Some o) b c → RoseBy 0 a c
-missed_some n m a b c o h k = omega (arith, h, k)
-
 pub missed_none : (n a b c : ℕ) (o : Option CallOutcome) → o ≡ None → RoseBy n a b → HasMissed 1 o b c → RoseBy (n + 1) a c
 missed_none n a b c None is h k = omega (arith, h, k)
 missed_none n a b c (Some o) is h k = absurd cc

@@ -66,9 +66,6 @@ keeper_is_send NoMemory h = tt
 pub rises_from : (b : Bool) (first before now : ℕ) → before ≡ first → RisesIf b before now → RisesIf b first now
 rises_from b first before now same h = subst (λ n. RisesIf b n now) same h
 
-pub rises_on : (b : Bool) (before now last : ℕ) → last ≡ now → RisesIf b before now → RisesIf b before last
-rises_on b before now last same h = subst (λ n. RisesIf b before n) (sym same) h
-
 pub no_bad_row : (why : TrfcWhy) (P : ℕ → ℕ → Type 0) → IsSendEnd why → OnBadRow why P
 no_bad_row Done P h = tt
 no_bad_row BadWords P h = tt

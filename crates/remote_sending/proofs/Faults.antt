@@ -8,7 +8,7 @@ use Rattle.keeper_api.specs.declared.fault.KeepFault.{KeepFault}
 use Rattle.keeper_api.specs.declared.fault.KeepFault.TheVariants as keep
 use Rattle.keeper_api.specs.declared.rows.Change.{Change}
 use Rattle.keeper_api.specs.declared.rows.Row.{Row}
-use Rattle.remote_target.specs.TableRows.{rows_in}
+use Rattle.table_reading.specs.Tables.{rows_in}
 use Rattle.remote_target.specs.declared.call.CallOutcome.{CallOutcome}
 use Rattle.remote_sending.specs.declared.fault.SendFault.{SendFault}
 use Rattle.remote_sending.specs.declared.fault.SendFault.TheVariants as fault

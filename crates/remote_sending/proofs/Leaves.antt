@@ -18,19 +18,6 @@ use Rattle.remote_sending.specs.Growing.{AllStand, IsAsked, IsGrown, IsWith, Was
 use Rattle.remote_sending.proofs.Grown.{with_grown}
 use Rattle.remote_sending.proofs.Spelled.{stays_good}
 
-pub only_left : (held : Option Rows) (old new : Rows → Type 0) → IfSome held (λ rows. IsOnly rows old) → IsWithin new old
-    → IfSome held (λ rows. (left : Rows) → new left → left ≡ rows)
-only_left None old new only within = tt
-only_left (Some rows) old new only within = λ left h. only.alone left (within left h)
-
--- what holds of each map that may be left holds of the one that is held
-pub at_held : (Q : Rows → Rows → Type 0) (held now : Option Rows) (may : Rows → Type 0) → IfSome held (λ rows. (left : Rows) → may left → Q rows left)
-    → IfSome now may
-    → IfSome held (λ rows. IfSome now (Q rows))
-at_held Q None now may each there = tt
-at_held Q (Some rows) None may each there = tt
-at_held Q (Some rows) (Some e) may each there = each e there
-
 -- ---- a call is stored
 
 stored_row : (rows : Rows) (tid text : List ℕ) (o : Option CallOutcome) → value_at (with_call tid text o rows) 0 tid ≡ Some (outbox_value o text)
@@ -74,12 +61,6 @@ here_stands held mid tid there same on found =
         → IfSome held (λ rows. is_some (value_at rows 0 tid) ≡ true)
     of_held None tid there on found = tt
     of_held (Some rows) tid there on found = sym found ∙ on
-
-pub there_by : (held : Option Rows) (tid key : List ℕ) (v : Option (List ℕ)) (b : Bool) → key ≡ tid → b ≡ is_some v
-    → IfSome held (λ rows. v ≡ value_at rows 0 key)
-    → IfSome held (λ rows. b ≡ is_some (value_at rows 0 tid))
-there_by None tid key v b same is found = tt
-there_by (Some rows) tid key v b same is found = is ∙ ap is_some (found ∙ ap (value_at rows 0) same)
 
 pub stored_stands : (mid new : Option Rows) (tid text : List ℕ) → new ≡ option_map (with_call tid text None) mid
     → IfSome new (λ rows. is_some (value_at rows 0 tid) ≡ true)

@@ -5,7 +5,7 @@ use Rattle.std.proofs.lemmas.List.{at_drop_all, at_drop_more, take_more}
 use Rattle.std.proofs.lemmas.List.Elements.{filter_map-append}
 use Rattle.keeper_api.specs.declared.rows.Row.{Row}
 use Rattle.keeper_api.specs.Rows.{Rows}
-use Rattle.remote_target.specs.TableRows.{rows_in}
+use Rattle.table_reading.specs.Tables.{rows_in}
 use Rattle.remote_sending.specs.declared.outbox.OutboxCall.{OutboxCall}
 use Rattle.remote_sending.specs.Outbox.{call_in, first_bad, first_bad_from, system_call, system_calls}
 use Rattle.remote_sending.specs.Growing.{AreCallsOf}
@@ -72,9 +72,6 @@ one_more_call rows i row calls o low is found s =
 
 pub none_pushed : (items : List OutboxCall) (o : Option OutboxCall) → o ≡ None → items ≡ items ++ cons_option o []
 none_pushed items o is = subst (λ p. items ≡ items ++ cons_option p []) (sym is) (sym (append-nil items))
-
-pub some_pushed : (items : List OutboxCall) (o : Option OutboxCall) (call : OutboxCall) → o ≡ Some call → items ++ call ∷ [] ≡ items ++ cons_option o []
-some_pushed items o call is = ap (λ p. items ++ cons_option p []) (sym is)
 
 pub all_calls : (rows : List Row) (i : ℕ) (calls : List OutboxCall) → length rows ≤ i → calls ≡ filter_map system_call (take i rows)
     → calls ≡ filter_map system_call rows

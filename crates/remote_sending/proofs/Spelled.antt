@@ -13,7 +13,7 @@ use Rattle.enq_base.specs.declared.unit.Reason.TheVariants.{Duplicate, Missing, 
 use Rattle.enq_base.specs.Grammar.{is_key, is_key_byte, is_text}
 use Rattle.keeper_api.specs.declared.rows.Row.{Row}
 use Rattle.keeper_api.specs.Rows.{Rows, RiseFrom, is_below, value_at}
-use Rattle.remote_target.specs.TableRows.{rows_in}
+use Rattle.table_reading.specs.Tables.{rows_in}
 use Rattle.remote_target.specs.Rows.{outcome_coded, outcome_codes, plain_outcome, reason_byte, reason_coded}
 use Rattle.remote_target.specs.declared.call.CallOutcome.{CallOutcome}
 use Rattle.remote_target.specs.declared.call.CallOutcome.TheVariants.{Done, BadText, Refused}
@@ -135,9 +135,6 @@ first_is x y xs ys h = cc
 
 rest_is : {A : Type 0} (x y : A) (xs ys : List A) → x ∷ xs ≡ y ∷ ys → xs ≡ ys
 rest_is x y xs ys h = cc
-
-same_call : (x y : OutboxCall) → Some x ≡ Some y → x ≡ y
-same_call x y h = cc
 
 pub spelled_calls : (rows : List Row) (calls : List OutboxCall) → Spell rows calls → filter_map call_in rows ≡ calls
 spelled_calls [] [] h = refl

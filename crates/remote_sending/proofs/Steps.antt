@@ -1,5 +1,5 @@
 -- One call of an outbox is sent, among the others.
-use Rattle.std.proofs.Common.{◌≡◌, ℕ, zero, suc, ◌+◌, ◌*◌, ◌<◌, ◌≤◌, Bool, true, false, cond, List, [], ◌∷◌, ◌++◌, drop, get_or, length, map, is_none, is_some, Option, Some, None, option_map, IfSome, refl, sym, ap, subst, ◌∙◌, append_assoc, append-nil, arith}
+use Rattle.std.proofs.Common.{◌≡◌, ℕ, zero, suc, ◌+◌, ◌*◌, ◌<◌, ◌≤◌, Bool, true, cond, List, [], ◌∷◌, ◌++◌, drop, get_or, length, map, is_none, is_some, Option, Some, None, option_map, IfSome, refl, sym, ap, subst, ◌∙◌, append_assoc, append-nil, arith}
 use Rattle.std.specs.List.{AllByRecursion}
 use Rattle.std.specs.Io.KnownBytes.{Appends}
 use Rattle.std.proofs.lemmas.List.{at_drop_more}
@@ -16,14 +16,9 @@ use Rattle.remote_sending.specs.Report.{call_line, call_lines, counted, counts_o
 use Rattle.remote_sending.specs.Sends.{IsAllSent, IsStopped, IsStoppedAt}
 use Rattle.remote_sending.proofs.Grown.{StaysExecuted, asked_grown, grown_itself, grown_more}
 use Rattle.remote_sending.proofs.Spelled.{calls_are, none_bad, stored_among, value_of_call}
-use Rattle.remote_sending.proofs.Lines.{appends_both, counted_more, first_more, first_part, line_of_open, line_of_settled, lines_more}
+use Rattle.remote_sending.proofs.Lines.{appends_both, counted_more, first_more, first_part, line_of_open, lines_more}
 
 -- ---- a call with an outcome
-
-pub settled_line : (found : Rows) (call : OutboxCall) (w : Option (List ℕ)) → is_none call.outcome ≡ false
-    → is_none call.outcome ≡ is_none (outcome_at found call.tid) → Appends w w []
-    → Appends w w (call_lines found (call_with call.tid call.text call.outcome ∷ []))
-settled_line found call w settled same nothing = subst (Appends w w) (sym (line_of_settled found call.tid call.text call.outcome (sym same ∙ settled))) nothing
 
 pub settled_left : (told : Option (List OutboxCall)) (runs : Option (List Execution)) (found : Rows) (calls : List OutboxCall) (held : Option Rows)
     (may : Rows → Type 0) → IfSome held (λ rows. IsOnly rows may)
@@ -178,12 +173,6 @@ pub rows_before : (calls : List OutboxCall) (i : ℕ) (call : OutboxCall) (count
 rows_before calls i call counts first held was runs old new low is s told found h =
     at_place told runs found held (s.sent ++ drop i calls) (s.sent ++ call ∷ drop (i + 1) calls) (ap (s.sent ++◌) (rest_at calls i call low is))
     (s.rows told found h)
-
-spelled_of : (told : Option (List OutboxCall)) (runs : Option (List Execution)) (found : Rows) (held : Option Rows) (calls : List OutboxCall)
-    → IfSome held (λ rows. IsUnderWay told runs found rows calls)
-    → IfSome held (λ rows. AreCallsOf rows calls)
-spelled_of told runs found None calls h = tt
-spelled_of told runs found (Some rows) calls h = h.spelled
 
 -- that rows spell the calls alone is enough
 pub spelled_so_far : (calls : List OutboxCall) (i : ℕ) (counts : Counts) (first held : Option Rows) (was runs : Option (List Execution))

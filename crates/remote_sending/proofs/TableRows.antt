@@ -14,7 +14,7 @@ use Rattle.std.specs.FinMap.Entries.{below_all, by_order}
 use Rattle.keeper_api.specs.declared.rows.Row.{Row}
 use Rattle.keeper_api.specs.Rows.{Spot, spot_cmp, Rows, is_below, is_behind, row_of, RiseFrom, value_at}
 use Rattle.keeper_api.specs.RowLaws.{same_spot, spots_total}
-use Rattle.remote_target.specs.TableRows.{rows_in}
+use Rattle.table_reading.specs.Tables.{rows_in}
 
 abbrev Entries : Type 0
 Entries = List (Spot × List ℕ)

@@ -4,7 +4,7 @@ use Rattle.std.specs.Prelude.{map}
 use Rattle.std.specs.List.{AllByRecursion}
 use Rattle.std.specs.FinMap.{get}
 use Rattle.keeper_api.specs.Rows.{Rows, Spot, value_at}
-use Rattle.remote_target.specs.TableRows.{rows_in}
+use Rattle.table_reading.specs.Tables.{rows_in}
 use Rattle.remote_target.specs.Runs.{Execution, executed_as}
 use Rattle.remote_target.specs.declared.call.CallOutcome.{CallOutcome}
 use Rattle.remote_sending.specs.declared.outbox.OutboxCall.{OutboxCall}

@@ -11,7 +11,7 @@ use Rattle.keeper_api.specs.declared.rows.Change.TheVariants.{Put}
 use Rattle.keeper_api.specs.declared.rows.Row.{Row}
 use Rattle.keeper_api.specs.Rows.{Rows, value_at}
 use Rattle.remote_target.specs.Rows.{outcome_codes, outcome_coded}
-use Rattle.remote_target.specs.TableRows.{rows_in}
+use Rattle.table_reading.specs.Tables.{rows_in}
 use Rattle.remote_target.specs.declared.call.CallOutcome.{CallOutcome}
 use Rattle.remote_sending.specs.declared.outbox.OutboxCall.{OutboxCall}
 

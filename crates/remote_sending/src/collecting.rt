@@ -11,8 +11,9 @@ ghost use Rattle.remote_target.specs.Runs.{Execution};
 use crate::outbox::{OutboxCall, store};
 use enq_base::{Key, NoMemory};
 use keeper_api::{KeepFault, Keeper, Row};
-use remote_target::{read_table, text_if};
+use remote_target::text_if;
 use std::alloc::Global;
+use table_reading::read_table;
 
 // The business rows of the sending system.
 const BUSINESS: u8 = 6;

@@ -10,8 +10,9 @@ ghost use Rattle.remote_sending.specs.Sends.{IsOutboxEnd, IsRowsEnd, OnBadRow, R
 use crate::fault::{SendFault, of_outbox};
 use enq_base::{Failed, Items, Key, NoMemory, Text};
 use keeper_api::{Change, KeepFault, Keeper, Row};
-use remote_target::{CallOutcome, outcome_coded, outcome_codes, read_table, text_if};
+use remote_target::{CallOutcome, outcome_coded, outcome_codes, text_if};
 use std::alloc::Global;
+use table_reading::read_table;
 
 /// A call in the outbox; one without an outcome is open.
 #[derive(Drop)]

@@ -10,7 +10,7 @@ use Rattle.module_effects.specs.Spots.{Agree, IsDone, IsRefused, row_at}
 use Rattle.module_effects.specs.declared.fault.EffectFault.{EffectFault}
 use Rattle.module_effects.specs.declared.fault.EffectFault.TheVariants as effect_fault
 use Rattle.module_effects.specs.declared.spot.Spot.{Spot}
-use Rattle.module_effects.proofs.Tables.{get-with_row, same_row-Decides}
+use Rattle.module_effects.proofs.lemmas.Tables.{get-with_row, same_row-Decides}
 use Rattle.remote_target.specs.declared.call.CallOutcome.{CallOutcome}
 use Rattle.remote_target.specs.declared.call.CallOutcome.TheVariants.{Done, Refused}
 use Rattle.keeper_api.specs.Rows.{Rows, value_at}

@@ -12,9 +12,9 @@ use Rattle.keeper_api.specs.declared.rows.Row.{Row}
 use Rattle.keeper_api.specs.Rows.{Spot, spot_cmp, Rows, is_below, is_behind, row_of, RiseFrom, value_at}
 use Rattle.keeper_api.specs.RowLaws.{same_spot}
 use Rattle.remote_target.specs.Reading.{value_if}
-use Rattle.remote_target.specs.TableRows.{rows_in}
+use Rattle.table_reading.specs.Tables.{rows_in}
 use Rattle.remote_target.proofs.Executions.{same_bytes, is_same}
-use Rattle.remote_target.proofs.Pages.{first_true, lower, not_below_itself, not_both, off}
+use Rattle.table_reading.proofs.lemmas.Pages.{first_true, lower, not_below_itself, not_both, off}
 use Rattle.remote_target.proofs.Stands.{same_spot-Decides}
 
 -- the value of the first row with this key

@@ -6,7 +6,6 @@ mod Batches
 mod Stands
 mod Applies
 mod Calling
-mod Pages
 mod Found
 mod Placed
 mod Parts

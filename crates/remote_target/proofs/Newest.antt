@@ -20,10 +20,10 @@ use Rattle.remote_target.specs.Executed.{call_in, executed_in, inserted, outcome
 use Rattle.remote_target.specs.Reading.{place_in}
 use Rattle.remote_target.specs.Rows.{StandFor, call_value, changes_at, changes_if, changes_of, outcome_bytes, value_from}
 use Rattle.remote_target.specs.Runs.{Call, Execution, Ran, executed_as, execution, ran, ran_if}
-use Rattle.remote_target.specs.TableRows.{rows_in}
+use Rattle.table_reading.specs.Tables.{rows_in}
 use Rattle.remote_target.proofs.Executions.{is_same, same_bytes}
 use Rattle.remote_target.proofs.Found.{found, not_found, value_found}
-use Rattle.remote_target.proofs.Pages.{below_trans, not_below_itself, not_both, off, rows_rise}
+use Rattle.table_reading.proofs.lemmas.Pages.{below_trans, not_below_itself, not_both, off, rows_rise}
 use Rattle.remote_target.proofs.Placed.{all_placed}
 use Rattle.remote_target.proofs.Stands.{call_at_key, swapped, told_outcome}
 

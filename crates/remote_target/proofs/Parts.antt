@@ -12,7 +12,7 @@ use Rattle.remote_target.specs.declared.call.CallOutcome.TheVariants.{Done, BadT
 use Rattle.remote_target.specs.Executed.{call_in, outcome_or_done}
 use Rattle.remote_target.specs.Reading.{IsSpelled, is_call, place_in}
 use Rattle.remote_target.specs.Rows.{call_value, outcome_bytes, outcome_coded, outcome_codes, outcome_in, plain_outcome, reason_byte, reason_coded}
-use Rattle.remote_target.proofs.Pages.{first_true, second_true}
+use Rattle.table_reading.proofs.lemmas.Pages.{first_true, second_true}
 
 -- ---- two bytes of an outcome
 

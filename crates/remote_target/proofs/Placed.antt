@@ -10,7 +10,7 @@ use Rattle.remote_target.specs.Rows.{call_value, value_from}
 use Rattle.remote_target.specs.Runs.{Execution}
 use Rattle.remote_target.proofs.Executions.{is_same, same_bytes}
 use Rattle.remote_target.proofs.Found.{found, not_found}
-use Rattle.remote_target.proofs.Pages.{not_both}
+use Rattle.table_reading.proofs.lemmas.Pages.{not_both}
 
 swapped_or : (a b c : Bool) → (a || (b || c)) ≡ (b || (a || c))
 swapped_or true true c = refl

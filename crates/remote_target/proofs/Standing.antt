@@ -11,11 +11,11 @@ use Rattle.remote_target.specs.Executed.{call_in, executed_in, placed}
 use Rattle.remote_target.specs.Reading.{AreSpelled, IsSpelled, at_place, bad_place, bad_place_in, count_in, first_bad_call, has_place, is_call, is_call_behind, is_count_row, is_counting, is_number, is_text_row, is_within, one_on, place_in, stored_count, value_if}
 use Rattle.remote_target.specs.Rows.{IsCount, StandFor, count_key, row_key, value_from}
 use Rattle.remote_target.specs.Runs.{Ran}
-use Rattle.remote_target.specs.TableRows.{rows_in}
+use Rattle.table_reading.specs.Tables.{rows_in}
 use Rattle.remote_target.specs.Targets.{HasCalls, HasExecuted, HasRun, Show, TargetView}
 use Rattle.remote_target.specs.declared.fault.TargetFault.{TargetFault}
 use Rattle.remote_target.proofs.Found.{found, same_number, value_by_test, value_found}
-use Rattle.remote_target.proofs.Pages.{first_true, rows_rise, second_true}
+use Rattle.table_reading.proofs.lemmas.Pages.{first_true, rows_rise, second_true}
 use Rattle.remote_target.proofs.Parts.{row_is_call}
 use Rattle.remote_target.proofs.Placed.{Apart, IsCallRow, Within, all_placed, found_placed, length_placed, placed_rise, values_are}
 use Rattle.remote_target.proofs.Texts.{none_more, passed, tables_of, texts_are}

@@ -17,7 +17,7 @@ use Rattle.keeper_api.specs.Rows.{Rows, Spot, spot_cmp, value_at}
 use Rattle.keeper_api.specs.declared.rows.Change.TheVariants as change
 use Rattle.module_effects.specs.Effects.{row_after}
 use Rattle.module_effects.specs.Rows.{RowName, Tables, row_of}
-use Rattle.module_effects.proofs.Tables.{get-with_row, same_row, same_row-Decides}
+use Rattle.module_effects.proofs.lemmas.Tables.{get-with_row, same_row, same_row-Decides}
 use Rattle.remote_target.specs.declared.call.CallOutcome.{CallOutcome}
 use Rattle.remote_target.specs.declared.call.CallOutcome.TheVariants.{Done, BadText, Refused}
 use Rattle.remote_target.specs.Calls.{effect_of, tables_by, tables_in}

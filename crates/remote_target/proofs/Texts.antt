@@ -8,11 +8,11 @@ use Rattle.std.specs.FinMap.{empty, get, get-empty}
 use Rattle.enq_base.specs.Grammar.{is_key, is_name, is_text}
 use Rattle.keeper_api.specs.declared.rows.Row.{Row}
 use Rattle.module_effects.specs.Rows.{RowName, Tables, row_cmp, with_row}
-use Rattle.module_effects.proofs.Tables.{get-with_row, same_row}
+use Rattle.module_effects.proofs.lemmas.Tables.{get-with_row, same_row}
 use Rattle.remote_target.specs.Reading.{is_row_key, is_text_row}
 use Rattle.remote_target.specs.Rows.{row_key}
 use Rattle.remote_target.proofs.Found.{found}
-use Rattle.remote_target.proofs.Pages.{first_true}
+use Rattle.table_reading.proofs.lemmas.Pages.{first_true}
 use Rattle.remote_target.proofs.Stands.{in_table, row_key-same}
 
 -- ---- no row is passed over

@@ -7,7 +7,7 @@ use Rattle.remote_target.specs.declared.call.CallOutcome.TheVariants.{Done}
 use Rattle.remote_target.specs.Reading.{place_in}
 use Rattle.remote_target.specs.Rows.{outcome_in}
 use Rattle.remote_target.specs.Runs.{Execution}
-use Rattle.remote_target.specs.TableRows.{rows_in}
+use Rattle.table_reading.specs.Tables.{rows_in}
 
 -- a good row of table 0 has an outcome
 abbrev pub outcome_or_done : Option CallOutcome → CallOutcome

@@ -3,7 +3,6 @@ pub mod Runs
 pub mod Once
 pub mod Rows
 pub mod Targets
-pub mod TableRows
 pub mod Reading
 pub mod Executed
 pub mod Carrying

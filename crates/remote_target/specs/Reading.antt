@@ -9,7 +9,7 @@ use Rattle.enq_base.specs.Grammar.{is_key, is_name, is_text}
 use Rattle.keeper_api.specs.declared.rows.Row.{Row}
 use Rattle.keeper_api.specs.Rows.{Rows}
 use Rattle.remote_target.specs.Rows.{IsCount, count_key, outcome_in}
-use Rattle.remote_target.specs.TableRows.{rows_in}
+use Rattle.table_reading.specs.Tables.{rows_in}
 use Rattle.remote_target.specs.declared.fault.TargetFault.{TargetFault}
 use Rattle.remote_target.specs.declared.fault.TargetFault.TheVariants.{StoreFault, BadRow, Full, NoMemory}
 

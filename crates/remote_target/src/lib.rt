@@ -10,7 +10,6 @@ mod laws;
 mod mem_carrier;
 mod reading;
 mod rows;
-mod table_rows;
 mod target;
 
 pub use call::{CallAnswer, CallOutcome};
@@ -21,5 +20,4 @@ pub use io_edge::Fate;
 pub use laws::{changes_make_the_rows_after_a_call, each_call_is_executed_once};
 pub use mem_carrier::MemCarrier;
 pub use rows::{outcome_coded, outcome_codes};
-pub use table_rows::read_table;
 pub use target::Target;

@@ -8,17 +8,17 @@ ghost use Rattle.remote_target.specs.Reading as reading;
 ghost use Rattle.remote_target.specs.Reading.{AreAllSpelled, AreSpelled, IsCheckFault, IsSpelled, MayOpen, OnBadRow};
 ghost use Rattle.remote_target.specs.Reading.{bad_place, bad_place_in};
 ghost use Rattle.remote_target.specs.Rows.{IsCount};
-ghost use Rattle.remote_target.specs.TableRows.{rows_in};
+ghost use Rattle.table_reading.specs.Tables.{rows_in};
 ghost use Rattle.remote_target.specs.Targets.{HasCalls, HasTargetCause, UnlessStoreFault};
 
 use crate::fault::TargetFault;
 use crate::rows::{CALLS, COUNT, COUNT_KEY, LIMIT, TEXTS, outcome_in};
-use crate::table_rows::read_table;
 use byteorder::{BigEndian, ByteOrder};
 use enq_base::{Key, NoMemory, read_name};
 use keeper_api::{Keeper, Row};
 use std::alloc::Global;
 use std::collections::HashSet;
+use table_reading::read_table;
 
 fn are_text_bytes(bytes: &[u8]) -> bool
     ensures { result ≡ list_all is_text_byte bytes.now }

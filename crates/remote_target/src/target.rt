@@ -6,7 +6,7 @@ ghost use Rattle.keeper_api.specs.Rows.{Rows};
 ghost use Rattle.remote_target.specs.Executed.{executed_in};
 ghost use Rattle.remote_target.specs.Reading.{MayOpen, OnBadRow, bad_place_in};
 ghost use Rattle.remote_target.specs.Rows.{changes_of};
-ghost use Rattle.remote_target.specs.TableRows.{rows_in};
+ghost use Rattle.table_reading.specs.Tables.{rows_in};
 ghost use Rattle.remote_target.specs.Runs.{Ran, executed_as, ran};
 ghost use Rattle.remote_target.specs.Targets.{HasExecuted, HasRun, HasTargetCause, IsFull, IsTargetCause, MayRead};
 ghost use Rattle.remote_target.specs.Targets.{MayRefuse, OnRefused, Show, UnlessStoreFault};

@@ -6,7 +6,7 @@ use Rattle.std.proofs.lemmas.Option.{none-some, same_Some}
 use Rattle.lock_entry.specs.declared.entry.Entry.{Entry}
 use Rattle.lock_entry.specs.declared.entry.LockName.{LockName}
 use Rattle.lock_entry.specs.Names.{has_name, name_of, stands, all_pairs, names_differ, has_distinct_names}
-use Rattle.lock_entry.proofs.Naming.{same_name-same}
+use Rattle.lock_entry.proofs.lemmas.Naming.{same_name-same}
 
 -- no entry has the name of one before it
 abbrev pub AreDistinct : List Entry → Type 0

@@ -7,10 +7,10 @@ use Rattle.lock_entry.specs.declared.entry.Entry.{Entry}
 use Rattle.lock_entry.specs.declared.entry.LockName.{LockName}
 use Rattle.lock_entry.specs.Names.{same_name, name_of, stands, all_pairs, names_differ, each_once, times}
 use Rattle.lock_entry.specs.Granting.{new_names, new_entry, raised, granted}
-use Rattle.lock_entry.proofs.Naming.{same_name-same, same_name-sym}
-use Rattle.lock_entry.proofs.Lists.{all_pairs-append, all_pairs-map}
-use Rattle.lock_entry.proofs.EachOnce.{list_all-each_once, all_pairs-each_once}
-use Rattle.replica_link.proofs.Drops.{filter_filter, filter_agree, everywhere, all_weaker}
+use Rattle.lock_entry.proofs.lemmas.Naming.{same_name-same, same_name-sym}
+use Rattle.lock_entry.proofs.lemmas.Lists.{all_pairs-append, all_pairs-map}
+use Rattle.lock_laws.proofs.EachOnce.{list_all-each_once, all_pairs-each_once}
+use Rattle.replica_link.proofs.lemmas.Drops.{filter_filter, filter_agree, everywhere, all_weaker}
 
 abbrev pub is_in : LockName → List LockName → Bool
 is_in n ns = list_any (same_name n) ns

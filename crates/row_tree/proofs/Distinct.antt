@@ -12,13 +12,6 @@ AreNew seen changes = IsDistinct is_same_spot (map spot_of changes) × AllByRecu
 abbrev pub AreDistinct : List Change → Type 0
 AreDistinct changes = IsDistinct is_same_spot (map spot_of changes)
 
-pub none_seen : (seen : Spot → Bool) → ((s : Spot) → seen s ≡ false) → (changes : List Change) → AllByRecursion (λ s. seen s ≡ false) (map spot_of changes)
-none_seen seen none [] = tt
-none_seen seen none (c ∷ changes) = (none (spot_of c), none_seen seen none changes)
-
-pub starts : (seen : Spot → Bool) → ((s : Spot) → seen s ≡ false) → (changes : List Change) → AreNew seen changes ↔ AreDistinct changes
-starts seen none changes = (λ h. h.0, λ d. (d, none_seen seen none changes))
-
 module _ (seen now : Spot → Bool) (at : Spot) (sets : (s : Spot) → now s ≡ cond (is_same_spot at s) true (seen s)) where
   both_false : (a b : Bool) → cond a true b ≡ false → (a ≡ false) × (b ≡ false)
   both_false true b h = absurd cc
@@ -49,13 +42,6 @@ goes_on seen now batch rest c after is sets new same = (
   unseen : (b : Bool) → true ≡ not b → b ≡ false
   unseen true h = cc
   unseen false h = refl
-
-pub found : (seen : Spot → Bool) (batch rest : List Change) (c : Change) (after : List Change) → rest ≡ c ∷ after → false ≡ not (seen (spot_of c))
-    → AreNew seen rest ↔ AreDistinct batch → IsTrue false ↔ AreDistinct batch
-found seen batch rest c after is old same = (
-  λ h. absurd cc,
-  λ d. let h = (subst (AreNew seen) is (same.1 d)).1.0 in let no = old ∙ ap not h in absurd cc,
-)
 
 pub ends : (seen : Spot → Bool) (batch rest : List Change) → rest ≡ [] → AreNew seen rest ↔ AreDistinct batch → IsTrue true ↔ AreDistinct batch
 unfolding IsDistinct

@@ -6,13 +6,13 @@ use Rattle.std.specs.List.{AllByRecursion}
 use Rattle.std.specs.List.Sorted.{IsStrictlySortedBy}
 use Rattle.std.specs.Map.{keys_of}
 use Rattle.std.specs.Ordering.{eq_by_cmp, is_eq, is_lt}
-use Rattle.std.specs.Cmp.{eq_by_cmp_equiv, tied_itself}
+use Rattle.std.specs.Cmp.{eq_by_cmp_equiv}
 use Rattle.std.specs.declared.cmp.Ordering.TheVariants.{Less}
 use Rattle.std.specs.FinMap.{get, insert, remove, find, is_sorted, get-insert, get-remove, same_map}
 use Rattle.std.specs.FinMap.Entries.{below_all}
 use Rattle.keeper_api.specs.Rows.{Spot, spot_cmp}
 use Rattle.keeper_api.specs.RowLaws.{spots_total, exact_spots, same_spot}
-use Rattle.sorted_rows.proofs.Views.{view_get}
+use Rattle.sorted_rows.proofs.lemmas.Views.{view_get}
 use Rattle.row_tree.specs.Keys.{spot, key_cmp}
 use Rattle.row_tree.specs.Places.{Entry, Place, with_value, held, rows_of, AreInOrder, place_at}
 use Rattle.row_tree.specs.declared.row_key.RowKey.{RowKey}
@@ -103,17 +103,6 @@ module _ (old new : List Place) (ordered_old : AreInOrder old) (ordered : AreInO
 
   pub removed_rows : SetsPlace old new key None → rows_of new ≡ remove (rows_of old) (spot key)
   removed_rows sets = same_map spots_total exact_spots _ _ (λ q. get_set None sets q ∙ sym (get-remove spots_total (rows_of old) (spot key) q))
-
--- a place that comes is there, and the others stay
-pub place_there : (old new : List Place) (key : RowKey) (v : Option (List ℕ)) → SetsPlace old new key (Some v) → IsTrue (is_some (place_at new (spot key)))
-place_there old new key v sets = ap is_some (sets (spot key)) ∙ ap (λ r. is_some (cond (is_eq r) (Some v) (place_at old (spot key))))
-    (tied_itself spots_total (spot key))
-
-pub place_stays : (old new : List Place) (key : RowKey) (v : Option (List ℕ)) → SetsPlace old new key (Some v) → (at : Spot)
-    → IsTrue (is_some (place_at old at)) → IsTrue (is_some (place_at new at))
-place_stays old new key v sets at there =
-    ap is_some (sets at)
-    ∙ elim (eq_by_cmp spot_cmp (spot key) at) as (λ b. IsTrue (is_some (cond b (Some v) (place_at old at)))) [ true ↦ refl | false ↦ there ]
 
 pub other_stays : (old new : List Place) (key : RowKey) → SetsPlace old new key None → (at : Spot) → (at ≡ spot key → ⊥) → IsTrue (is_some (place_at old at))
     → IsTrue (is_some (place_at new at))

@@ -11,9 +11,9 @@ use Rattle.std.specs.declared.ops.Bound.{Bound}
 use Rattle.std.specs.declared.ops.Bound.TheVariants.{Excluded}
 use Rattle.keeper_api.specs.Rows.{Rows, Spot, is_behind, is_below, row_of, page_of, IsPage}
 use Rattle.keeper_api.specs.declared.rows.Row.{Row}
-use Rattle.sorted_rows.proofs.Places.{first_true, second_true}
-use Rattle.sorted_rows.proofs.Rise.{is_page}
-use Rattle.sorted_rows.proofs.Views.{view_page}
+use Rattle.sorted_rows.proofs.lemmas.Places.{first_true, second_true}
+use Rattle.sorted_rows.proofs.lemmas.Rise.{is_page}
+use Rattle.sorted_rows.proofs.lemmas.Views.{view_page}
 use Rattle.row_tree.specs.Keys.{spot, key_at, key_cmp}
 use Rattle.row_tree.specs.Places.{Entry, Place, with_value, held, behind, rows_of, AreInOrder}
 use Rattle.row_tree.proofs.Held.{sorted_held}

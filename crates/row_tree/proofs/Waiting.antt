@@ -6,7 +6,7 @@ use Rattle.std.specs.Ordering.{is_eq}
 use Rattle.std.specs.Cmp.{tied_itself}
 use Rattle.std.specs.FinMap.{empty}
 use Rattle.sorted_rows.specs.Views.{RowsView}
-use Rattle.sorted_rows.proofs.Views.{view_empty}
+use Rattle.sorted_rows.proofs.lemmas.Views.{view_empty}
 use Rattle.keeper_api.specs.Batch.{changed, changed_once, spot_of, is_same_spot}
 use Rattle.keeper_api.specs.Rows.{Rows, Spot}
 use Rattle.keeper_api.specs.RowLaws.{spots_total}

@@ -4,7 +4,7 @@ use Rattle.std.specs.Prelude.{Option}
 use Rattle.std.specs.Io.KnownBytes.{Appends}
 use Rattle.enq_base.specs.Causes.{HasCause}
 use Rattle.io_edge.specs.Known.{AppendsFirst}
-use Rattle.io_edge.proofs.Knowns.{appends_more, appends_none}
+use Rattle.io_edge.proofs.lemmas.Knowns.{appends_more, appends_none}
 use Rattle.run_report.specs.Report.{HasPut}
 
 -- the first bytes of a list begin a longer one too

@@ -6,7 +6,7 @@ use Rattle.std.specs.Io.KnownBytes.{Appends}
 use Rattle.enq_base.specs.Causes.{Rose}
 use Rattle.hall_model.specs.State.{State}
 use Rattle.hall_model.specs.declared.command.PastEntry.{PastEntry}
-use Rattle.io_edge.proofs.Knowns.{appends_more, appends_none}
+use Rattle.io_edge.proofs.lemmas.Knowns.{appends_more, appends_none}
 use Rattle.script_actors.specs.declared.actor.Said.{Said}
 use Rattle.script_actors.specs.declared.line.NumberedLine.{NumberedLine}
 use Rattle.script_runner.specs.Lines.{line_kind}

@@ -6,6 +6,7 @@ use Rattle.enq_base.specs.declared.refusal.Refusal.{Refusal}
 use Rattle.enq_base.specs.declared.refusal.Refusal.TheVariants as refusal
 use Rattle.enq_base.specs.declared.unit.Num.{Num}
 use Rattle.hall_model.specs.Calls.{Call, OfSession, Commits, call_of}
+use Rattle.hall_model.specs.State.{State, opened}
 use Rattle.hall_model.specs.Stocks.{IsStockIn, MayCall}
 use Rattle.hall_model.specs.declared.command.Command.{Command}
 use Rattle.hall_model.specs.declared.command.Reply.{Reply}
@@ -14,33 +15,37 @@ use Rattle.hall_model.specs.declared.command.Who.{Who}
 use Rattle.lock_objects.specs.Objects.{Object}
 use Rattle.script_lang.specs.declared.script_line.ScriptLine.{ScriptLine}
 use Rattle.script_lang.specs.declared.script_line.ScriptLine.TheVariants as line
-use Rattle.script_runner.proofs.Makings.{command_may}
+use Rattle.script_runner.proofs.lemmas.Makings.{command_may}
 use Rattle.script_runner.specs.Lines.{Calls, Declines, Changes, line_kind, settled}
 use Rattle.script_runner.specs.Preparing.{HasRoomFor, IsPrepared, MayEnter}
 use Rattle.script_runner.specs.Sides.{SidesView}
-use Rattle.script_runner.specs.World.{world}
+use Rattle.script_runner.specs.World.{setting}
 use Rattle.script_runner.specs.declared.monitor.LineKind.TheVariants as kind
 use Rattle.script_runner.specs.declared.preparing.Prepared.{Prepared}
-use Rattle.script_actors.specs.Actors.{AddsDone, AddsPart, Deeds, DeskView, DoesFirst, DoesLine, DoesLines, DoneAs, HasNoStock, TakesLine, acts, called_as, deeds, followed, is_stop, keeps_side, lines_of_actor, no_deeds, own_meaning, refused_as, saying, unseen, with_answer, with_asked}
+use Rattle.script_actors.specs.Actors.{AddsDone, AddsPart, Deeds, DeskView, DoesFirst, DoesLine, DoesLines, DoneAs, HasNoStock, TakesLine, acts, called_as, deeds, followed, is_stop, keeps_side, lines_of_actor, no_deeds, own_meaning, refused_as, saying, with_answer, with_asked}
 use Rattle.script_actors.specs.Doers.{is_done_by}
 use Rattle.script_actors.specs.declared.actor.Said.{Said}
 use Rattle.script_actors.specs.declared.line.NumberedLine.{NumberedLine}
+use Rattle.update_records.specs.Ledger.{no_ledger}
 
 -- ---- a call, and what follows it
 
--- without intervals there is no stock
-no_stock_unseen : (stock : List Num) → IsStockIn unseen stock → stock ≡ []
-no_stock_unseen [] h = refl
-no_stock_unseen (n ∷ stock) h = absurd (h.reserved.0)
+-- a state without intervals, in which there is no stock
+abbrev bare : State
+bare = opened 0 0 [] true true no_ledger
 
-no_stock : (call : Call) → MayCall unseen call → HasNoStock call
-no_stock (OfSession session (Commits parts stock)) h = no_stock_unseen stock h
+no_stock_bare : (stock : List Num) → IsStockIn bare stock → stock ≡ []
+no_stock_bare [] h = refl
+no_stock_bare (n ∷ stock) h = absurd (h.reserved.0)
+
+no_stock : (call : Call) → MayCall bare call → HasNoStock call
+no_stock (OfSession session (Commits parts stock)) h = no_stock_bare stock h
 no_stock _ h = tt
 
 -- a line's call has no numbers of a stock
 pub call_without_stock : (objects : List Object) (l : NumberedLine) (sides : List Private) (c : Command) → own_meaning objects sides l ≡ Calls c
     → HasNoStock (call_of c)
-call_without_stock objects l sides c is = no_stock (call_of c) (command_may (world objects unseen sides) l.line c unseen is)
+call_without_stock objects l sides c is = no_stock (call_of c) (command_may (setting objects sides) l.line c bare is)
 
 -- whatever a line is prepared as, there is the room that it wants
 pub room_any : (l : ScriptLine) (made other : Prepared) (sides : SidesView) → HasRoomFor l (Ok made) sides → HasRoomFor l (Ok other) sides

@@ -6,8 +6,6 @@ use Rattle.enq_base.specs.declared.refusal.Refusal.{Refusal}
 use Rattle.enq_base.specs.declared.refusal.Refusal.TheVariants as refusal
 use Rattle.hall_model.specs.Calls.{Call, OfSession, SessionCall, Commits}
 use Rattle.hall_model.specs.History.{is_unrecorded}
-use Rattle.hall_model.specs.State.{State, opened}
-use Rattle.update_records.specs.Ledger.{no_ledger}
 use Rattle.hall_model.specs.declared.command.Command.{Command}
 use Rattle.hall_model.specs.declared.command.PastEntry.{PastEntry}
 use Rattle.hall_model.specs.declared.command.Reply.{Reply}
@@ -19,7 +17,7 @@ use Rattle.script_lang.specs.declared.script_line.ScriptLine.{ScriptLine}
 use Rattle.script_lang.specs.declared.script_line.ScriptLine.TheVariants as line
 use Rattle.script_runner.specs.Lines.{Calls, Declines, Changes, Meaning, meaning, settled}
 use Rattle.script_runner.specs.Sides.{side_of}
-use Rattle.script_runner.specs.World.{world}
+use Rattle.script_runner.specs.World.{setting}
 use Rattle.script_actors.specs.Doers.{is_done_by}
 use Rattle.script_actors.specs.Texts.{reply_text}
 use Rattle.script_actors.specs.declared.actor.Done.{Done}
@@ -126,13 +124,8 @@ acts d l r (Declines x) = deeds d.sides d.desk (d.said ++ saying l.number (reply
 acts d l r (Changes sides) = deeds sides d.desk (d.said ++ saying l.number reply.Done ∷ []) false
 acts d l r m = d
 
--- A state for the meaning of an actor's lines: none of them looks at the server but by a call, so that their meaning is
--- the same whatever state that has.
-abbrev pub unseen : State
-unseen = opened 0 0 [] true true no_ledger
-
 abbrev pub own_meaning : List Object → List Private → NumberedLine → Meaning
-own_meaning objects sides l = meaning (world objects unseen sides) l.line
+own_meaning objects sides l = meaning (setting objects sides) l.line
 
 -- one line, with what its call is answered, if it comes to one; an actor that was stopped does no more
 abbrev pub does : List Object → Deeds → NumberedLine → Reply → Deeds

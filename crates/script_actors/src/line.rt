@@ -2,7 +2,7 @@ ghost use Rattle.std.specs.Prelude.{◌≡◌};
 ghost use Rattle.script_actors.specs.Doers.{doer_of, is_done_by, is_same};
 
 use hall_model::Who;
-use script_lang::ScriptLine;
+use script_lang::{ScriptLine, session_of};
 
 /// A line of a script, with its number.
 #[derive(Drop)]
@@ -41,23 +41,10 @@ pub fn doer_of(line: &ScriptLine) -> Doer
         | ScriptLine::Attach
         | ScriptLine::Cancel { .. }
         | ScriptLine::Resubmit { .. } => Doer::Actor(Who::Admin),
-        ScriptLine::Logon { session, .. }
-        | ScriptLine::Logoff { session }
-        | ScriptLine::DeqAll { session }
-        | ScriptLine::Flush { session }
-        | ScriptLine::Reset { session }
-        | ScriptLine::Commit { session }
-        | ScriptLine::Rollback { session }
-        | ScriptLine::Enq { session, .. }
-        | ScriptLine::Deq { session, .. }
-        | ScriptLine::Collect { session, .. }
-        | ScriptLine::Convert { session, .. }
-        | ScriptLine::Num { session, .. }
-        | ScriptLine::Read { session, .. }
-        | ScriptLine::Put { session, .. }
-        | ScriptLine::Ins { session, .. }
-        | ScriptLine::Del { session, .. }
-        | ScriptLine::Add { session, .. } => Doer::Actor(Who::Session(*session)),
+        _ => match session_of(line) {
+            Some(session) => Doer::Actor(Who::Session(session)),
+            None => Doer::Nobody,
+        },
     }
 }
 

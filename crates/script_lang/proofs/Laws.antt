@@ -7,7 +7,7 @@ use Rattle.script_lang.specs.Spelling.{IsReading}
 use Rattle.script_lang.specs.declared.read_fault.ReadFault.{ReadFault}
 use Rattle.script_lang.specs.declared.read_fault.ReadFault.TheVariants as fault
 use Rattle.script_lang.specs.declared.script_line.ScriptLine.{ScriptLine}
-use Rattle.script_lang.proofs.Again.{line_again}
+use Rattle.script_lang.proofs.lemmas.Again.{line_again}
 use Rattle.script_lang.proofs.Spelled.{line_if}
 
 found_at : (o : Option ScriptLine) (l : ScriptLine) (P : ScriptLine → Type 0) → IfSome o P → o ≡ Some l → P l

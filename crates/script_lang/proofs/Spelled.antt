@@ -11,7 +11,7 @@ use Rattle.enq_base.specs.Grammar.{is_name, is_key_byte}
 use Rattle.enq_base.specs.Number.{◌>>=◌, count_of, unit_key_of, IsUnitKey}
 use Rattle.enq_base.specs.Text.{◌␣◌, unit_text}
 use Rattle.enq_base.specs.declared.owner.UnitKey.{UnitKey}
-use Rattle.enq_base.proofs.Numbers.{count_if, unit_key_if}
+use Rattle.enq_base.proofs.lemmas.Numbers.{count_if, unit_key_if}
 use Rattle.mode_rules.specs.Modes.{mode_text}
 use Rattle.script_lang.specs.Parts.{is_raw, is_rest, is_nr, is_blank, IsName, IsRaw, IsValue, AreValues, IsPart, IsWorker}
 use Rattle.script_lang.specs.Reading.{act_line, admin_line, effect_line, key_and, line_of, number_line, object_and_values, request_of, row_line, session_line, update_line, value_of, values_in, values_of, verb_line, with_values, worker_line, worker_of}

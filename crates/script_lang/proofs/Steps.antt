@@ -7,7 +7,7 @@ use Rattle.std.proofs.lemmas.Bool.{cond_both}
 use Rattle.std.proofs.lemmas.Slice.Eq.{bytes_eq-Decides}
 use Rattle.enq_base.specs.Cut.{cut}
 use Rattle.enq_base.specs.Number.{◌>>=◌}
-use Rattle.enq_base.proofs.Cuts.{IsCut, cut_takes}
+use Rattle.enq_base.proofs.lemmas.Cuts.{IsCut, cut_takes}
 use Rattle.script_lang.specs.Reading.{passing}
 use Rattle.script_lang.specs.Words.{named}
 

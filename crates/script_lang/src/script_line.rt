@@ -1,3 +1,6 @@
+ghost use Rattle.std.specs.Prelude.{◌≡◌};
+ghost use Rattle.script_lang.specs.Sessions.{session_of};
+
 use enq_base::{Items, Name, Scope, UnitKey};
 use mode_rules::Mode;
 
@@ -162,4 +165,30 @@ pub enum ScriptLine {
     Snro,
     /// `? AUDIT`
     Audit,
+}
+
+/// The session of the line.
+pub fn session_of(line: &ScriptLine) -> Option<Name>
+    ensures { result ≡ session_of line.now }
+{
+    match line {
+        ScriptLine::Logon { session, .. }
+        | ScriptLine::Logoff { session }
+        | ScriptLine::DeqAll { session }
+        | ScriptLine::Flush { session }
+        | ScriptLine::Reset { session }
+        | ScriptLine::Commit { session }
+        | ScriptLine::Rollback { session }
+        | ScriptLine::Enq { session, .. }
+        | ScriptLine::Deq { session, .. }
+        | ScriptLine::Collect { session, .. }
+        | ScriptLine::Convert { session, .. }
+        | ScriptLine::Num { session, .. }
+        | ScriptLine::Read { session, .. }
+        | ScriptLine::Put { session, .. }
+        | ScriptLine::Ins { session, .. }
+        | ScriptLine::Del { session, .. }
+        | ScriptLine::Add { session, .. } => Some(*session),
+        _ => None,
+    }
 }

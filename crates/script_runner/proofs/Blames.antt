@@ -14,7 +14,7 @@ use Rattle.script_runner.specs.Replay.{Replays, Seen, IsEnd}
 use Rattle.script_runner.specs.Run.{LineOutcome, NoRoom, Called, Turn, Progress, begun, next, moved, after_turn, said, line_does}
 use Rattle.script_runner.specs.World.{World}
 use Rattle.script_runner.proofs.Doubts.{run_stops}
-use Rattle.script_runner.proofs.MadeCalls.{run_counts}
+use Rattle.script_runner.proofs.lemmas.MadeCalls.{run_counts}
 use Rattle.script_runner.proofs.Outcomes.{IsFine, line_fine}
 use Rattle.script_runner.proofs.Wholes.{lines_in, run_on, first_line, told, known_whole, begins, count_lines, some_tail}
 

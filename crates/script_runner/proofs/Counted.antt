@@ -29,10 +29,6 @@ rose_from a b c h r = omega arith
 pub rose_on : (a b c : ℕ) → Rose a b → b ≤ c → Rose a c
 rose_on a b c r h = omega arith
 
-or_none : (b : Bool) → (b || false) ≡ b
-or_none true = refl
-or_none false = refl
-
 -- the count over more lines
 counted_on : (a b : Bool) (f g h : ℕ) → HasCounted a f g → HasCounted b g h → HasCounted (a || b) f h
 counted_on true true f g h j k = (omega (arith, j.0, k.0), rose_on f g h j.1 k.0)

@@ -4,14 +4,14 @@ use Rattle.std.specs.List.{find}
 use Rattle.std.specs.Map.{lookup, remove_entry, set_value, values_of}
 use Rattle.std.specs.Option.{option_copied, option_map, option_map_or}
 use Rattle.std.specs.Borrow.{Bor}
-use Rattle.std.specs.Prelude.{◌≤◌, Result, Ok, Err, is_some, OnOk}
+use Rattle.std.specs.Prelude.{◌≤◌, Result, Ok, Err, OnOk}
 use Rattle.std.specs.Str.{bytes_eq}
 use Rattle.std.proofs.lemmas.Bool.{cases_Bool}
 use Rattle.std.proofs.lemmas.List.{map-append}
 use Rattle.dialogue_session.specs.Private.{DialogueView, Private, fresh}
 use Rattle.indexmap.specs.IndexMap.{IndexMap, get, insert_entry}
 use Rattle.hall_calls.specs.Named.{AreNamed}
-use Rattle.hall_calls.proofs.NamedValues.{added_by_name, are_named_added, are_named_changed, changed_by_name, found_by_name, name_eq, taken_by_name, unchanged_by_name}
+use Rattle.hall_calls.proofs.lemmas.NamedValues.{added_by_name, are_named_added, are_named_changed, changed_by_name, found_by_name, name_eq, taken_by_name, unchanged_by_name}
 use Rattle.lock_entry.specs.Freeing.{replace_first}
 use Rattle.script_runner.specs.Sides.{is_side_of, side_of, with_new_side, with_side, without_side}
 
@@ -31,10 +31,6 @@ is_owned n d = bytes_eq d.side.session n
 pub borrowed : (o : Option (Bor DialogueView)) → option_map (λ d. d.now.side) o ≡ option_map side (option_copied o)
 borrowed None = refl
 borrowed (Some d) = refl
-
-pub is_some-mapped : {X Y : Type 0} (f : X → Y) (o : Option X) → is_some o ≡ is_some (option_map f o)
-is_some-mapped f None = refl
-is_some-mapped f (Some x) = refl
 
 found : (n : List ℕ) (ds : List DialogueView) → option_map side (find (is_owned n) ds) ≡ side_of (map side ds) n
 found n [] = refl

@@ -13,7 +13,7 @@ use Rattle.enq_base.specs.declared.condition.Condition.{Condition}
 use Rattle.enq_base.specs.declared.condition.Condition.TheVariants.{Up, NoServer, Doubt}
 use Rattle.enq_base.specs.declared.refusal.Refusal.{Refusal}
 use Rattle.enq_base.specs.declared.refusal.Refusal.TheVariants as refusal
-use Rattle.hall_model.proofs.ByCall.{by_stock}
+use Rattle.model_laws.proofs.ByCall.{by_stock}
 use Rattle.hall_laws.proofs.keeping.Unchanged.{Becomes, step_becomes, step_begins}
 use Rattle.hall_model.specs.Calls.{call_of}
 use Rattle.hall_model.specs.declared.command.Command.{Command}
@@ -34,9 +34,9 @@ use Rattle.script_runner.specs.Faults.{answer_at, is_unsound, tells_other}
 use Rattle.script_runner.specs.Lines.{Meaning, Silent, Shows, Calls, Declines, Changes, line_in, meaning, settled}
 use Rattle.script_runner.specs.Replay.{HasBadCause, HasDoubtCause, IsDoubted, IsDoubtedBy, IsFoundBad, MeetsBad, Replays, Seen, doubt_of}
 use Rattle.script_runner.specs.Run.{AreAllowed, CallMayHave, LineMayHave, LineOutcome, MayHave, NoRoom, Called, Turn, Turned, Progress, after_turn, answered, begun, does, file_fails, next, run, said, store_fails}
-use Rattle.script_runner.specs.World.{World, world}
+use Rattle.script_runner.specs.World.{World, setting_of, world}
 use Rattle.script_runner.proofs.Counted.{all_counted, file_fails_in, store_fails_in}
-use Rattle.script_runner.proofs.MadeCalls.{file_lines, store_lines}
+use Rattle.script_runner.proofs.lemmas.MadeCalls.{file_lines, store_lines}
 use Rattle.script_runner.proofs.TurnLemmas.{answered-world}
 
 or_with : (a b : Bool) → b ≡ true → (a || b) ≡ true
@@ -363,7 +363,7 @@ said_goes : (w : World) (n : ℕ) (lists : Bool) (known : Option ScriptLine) (ou
     → LineGoes outcome w (said w n known outcome)
 said_goes w n lists known NoRoom may goes = stays_so _ _ w.hall w.hall refl
 said_goes w n lists None (Called d) may goes = quiet_goes d w.hall w.hall may refl
-said_goes w n lists (Some l) (Called d) may goes = does_goes w n l d (meaning w l) may goes
+said_goes w n lists (Some l) (Called d) may goes = does_goes w n l d (meaning (setting_of w) l) may goes
 
 pub stopped : (p : Progress) (t : Turn) (o : Option Why) → p.stop ≡ o → (after_turn o p t).stop ≡ None → o ≡ None
 stopped p t None e h = refl

@@ -26,7 +26,7 @@ use Rattle.script_runner.specs.declared.effects.Verb.TheVariants as verb
 use Rattle.script_runner.specs.Lines.{Meaning, Silent, Shows, Calls, Declines, Changes, asking, collecting, effect_with, effecting, key_with, line_in, meaning, of_session, registering, requesting, settled, unless_refused}
 use Rattle.script_runner.specs.Run.{LineOutcome, NoRoom, Called, Turn, Turned, Progress, after_turn, does, next, said}
 use Rattle.script_runner.specs.Sides.{AreLoggedOn, container_of, is_side_of, parts_of, side_of, variables_of, with_new_side, with_side, without_side}
-use Rattle.script_runner.specs.World.{World, world}
+use Rattle.script_runner.specs.World.{World, setting_of, world}
 use Rattle.script_runner.proofs.TurnLemmas.{answered-world}
 
 -- ---- lists of sides
@@ -131,7 +131,7 @@ room_logged w l true why sides h = tt
 room_logged w l false why sides h = h
 
 effect_logged : (w : World) (l : ScriptLine) (s : List ℕ) (part : ℕ) (v : Verb) (table key text : List ℕ) → AreLoggedOn w.hall.sessions w.sides
-    → MeansLogged w l (effecting w s part v table key text)
+    → MeansLogged w l (effecting (setting_of w) s part v table key text)
 effect_logged w l s part v table key text h =
     session_logged w l s _ (unless_logged w l (effect_with (variables_of w.sides s) v table key text) (registering w.sides s part)
     (λ e. room_logged w l (nat_le 200 (effects_in (parts_of w.sides s))) refusal.UnitTooLarge (with_side s (with_effect part e) w.sides)
@@ -141,7 +141,7 @@ entered : (r : Reply) (s : List ℕ) (before after : List Session) → OnDone r 
 entered reply.Done s before after h = h.entered
 entered _ s before after h = tt
 
-meaning_logged : (w : World) (l : ScriptLine) → AreLoggedOn w.hall.sessions w.sides → MeansLogged w l (meaning w l)
+meaning_logged : (w : World) (l : ScriptLine) → AreLoggedOn w.hall.sessions w.sides → MeansLogged w l (meaning (setting_of w) l)
 meaning_logged w (line.Logon s user) h =
     λ d n. settled_logged (line.Logon s user) _ w.hall.sessions _ w.sides (λ m off. step_keeps d w.hall n (command.Logon s user) m refl)
     (entered _ _ _ _ (step_enters d w.hall n s user)) h
@@ -256,7 +256,7 @@ said_logged : (w : World) (n : ℕ) (known : Option ScriptLine) (outcome : LineO
     → LeavesLogged (said w n known outcome)
 said_logged w n known NoRoom h = h
 said_logged w n None (Called d) h = h
-said_logged w n (Some l) (Called d) h = does_logged w n l d (meaning w l) h (meaning_logged w l h)
+said_logged w n (Some l) (Called d) h = does_logged w n l d (meaning (setting_of w) l) h (meaning_logged w l h)
 
 next_logged : (p : Progress) (t : Turn) → AreLoggedOn p.world.hall.sessions p.world.sides → AreLoggedOn (next p t).world.hall.sessions (next p t).world.sides
 next_logged p t h =

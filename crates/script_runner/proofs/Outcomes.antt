@@ -11,7 +11,7 @@ use Rattle.script_runner.specs.declared.runner.Why.TheVariants.{BadLine, NoMemor
 use Rattle.script_runner.specs.Lines.{Meaning, Silent, Shows, Calls, Declines, Changes, line_in, meaning}
 use Rattle.script_runner.specs.Run.{CallMayHave, LineOutcome, MayHave, NoRoom, Called, answered, does, done, said, file_fails, line_does, store_fails}
 use Rattle.script_runner.specs.Whole.{IsCalm}
-use Rattle.script_runner.specs.World.{World}
+use Rattle.script_runner.specs.World.{World, setting_of}
 use Rattle.script_runner.proofs.Doubts.{is_unmade, unmade}
 
 -- a run that goes on, or ends for want of memory
@@ -32,7 +32,7 @@ does_fine w n l d (Changes sides) = inl refl
 said_fine : (w : World) (n : ℕ) (known : Option ScriptLine) (outcome : LineOutcome) → IsTrue (is_some known) → IsFine (said w n known outcome).stop
 said_fine w n known NoRoom h = inr refl
 said_fine w n None (Called call) h = cc
-said_fine w n (Some l) (Called o) h = does_fine w n l o (meaning w l)
+said_fine w n (Some l) (Called o) h = does_fine w n l o (meaning (setting_of w) l)
 
 pub line_fine : (w : World) (n : ℕ) (bytes : List ℕ) (outcome : LineOutcome) → IsTrue (is_some (line_in bytes)) → IsFine (line_does w n bytes outcome).stop
 line_fine w n bytes outcome h = said_fine w n (line_in bytes) outcome h
@@ -77,9 +77,9 @@ wanting_may w n l g lost (Changes sides) goes = refl
 
 event_may : (w : World) (n : ℕ) (l : ScriptLine) (e : Event) (g : Reading) (lost : Bool)
     → (done w n l (record { event = e; reading = g; lost = lost })).stop ≡ None
-    → CallMayHave w (record { event = e; reading = g; lost = lost }) (meaning w l) → CallMayHave w (calmed_by e g lost) (meaning w l)
+    → CallMayHave w (record { event = e; reading = g; lost = lost }) (meaning (setting_of w) l) → CallMayHave w (calmed_by e g lost) (meaning (setting_of w) l)
 event_may w n l AllWell g lost goes h = h
-event_may w n l Wanting g lost goes h = wanting_may w n l g lost (meaning w l) goes
+event_may w n l Wanting g lost goes h = wanting_may w n l g lost (meaning (setting_of w) l) goes
 event_may w n l StoreFails g lost goes h = h
 event_may w n l BackupFails g lost goes h = h
 event_may w n l LinkFails g lost goes h = h
@@ -105,7 +105,7 @@ event_well : (w : World) (n : ℕ) (l : ScriptLine) (e : Event) (g : Reading) (l
     → (done w n l (record { event = e; reading = g; lost = lost })).stop ≡ None
     → done w n l (record { event = e; reading = g; lost = lost }) ≡ done w n l (calmed_by e g lost)
 event_well w n l AllWell g lost h = refl
-event_well w n l Wanting g lost h = wanting_stops w n l g lost (meaning w l) h
+event_well w n l Wanting g lost h = wanting_stops w n l g lost (meaning (setting_of w) l) h
 event_well w n l StoreFails g lost h = refl
 event_well w n l BackupFails g lost h = refl
 event_well w n l LinkFails g lost h = refl

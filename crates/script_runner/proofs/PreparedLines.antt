@@ -17,14 +17,14 @@ use Rattle.script_runner.specs.Lines.{Calls, grows, meaning}
 use Rattle.script_runner.specs.Preparing.{HasRoomFor, IsPrepared, MayEnter}
 use Rattle.script_runner.specs.Sides.{AreLoggedOn, SidesView, side_of}
 use Rattle.script_runner.specs.Turns.{IsDone}
-use Rattle.script_runner.specs.World.{DeviceView, World, world}
+use Rattle.script_runner.specs.World.{DeviceView, World, setting_of, world}
 use Rattle.script_runner.specs.declared.preparing.Prepared.{Prepared}
 use Rattle.script_runner.proofs.LoggedSides.{no_side}
 use Rattle.script_runner.proofs.TurnLemmas.{declined, wanting}
 
 -- a line that is refused before any call
 pub refused_line : {a : DeviceView} (w : World) (sides : List Private) (n : ℕ) (l : ScriptLine) (r : Refusal)
-    → IsPrepared (meaning w l) (grows l) w.sides sides (Err r) → IsDone w (world w.objects w.hall sides) a a n l (reply.Refused r)
+    → IsPrepared (meaning (setting_of w) l) (grows l) w.sides sides (Err r) → IsDone w (world w.objects w.hall sides) a a n l (reply.Refused r)
 refused_line {a} w sides n l refusal.NoMemory h =
     subst (λ xs. IsDone w (world w.objects w.hall xs) a a n l (reply.Refused refusal.NoMemory)) (sym h.1) (wanting w n l h.0)
 refused_line {a} w sides n l r h =
@@ -35,7 +35,7 @@ same_call a b e = cc
 
 -- a session that was logged on had no private side
 pub may_enter : (w : World) (t : State) (n : ℕ) (l : ScriptLine) (c : Command) (r : Reply) (made : Prepared) (sides : SidesView)
-    → AreLoggedOn w.hall.sessions w.sides → meaning w l ≡ Calls c → IsStep w.hall t n c r → HasRoomFor l (Ok made) sides → sides.items ≡ w.sides
+    → AreLoggedOn w.hall.sessions w.sides → meaning (setting_of w) l ≡ Calls c → IsStep w.hall t n c r → HasRoomFor l (Ok made) sides → sides.items ≡ w.sides
     → MayEnter l r sides
 may_enter w t n (line.Logon s user) c reply.Done made sides logged is step room same =
     let logon : IsStep w.hall t n (command.Logon s user) reply.Done = subst (λ x. IsStep w.hall t n x reply.Done)

@@ -14,7 +14,7 @@ use Rattle.script_runner.specs.World.{World}
 use Rattle.script_runner.specs.Replay.{Replays, Seen, HasBadCause, IsEnd, IsReadToEnd, MeetsBad}
 use Rattle.hall_calls.specs.Leaving.{HasCounted}
 use Rattle.script_runner.proofs.Counted.{all_counted, file_fails_in, store_fails_in}
-use Rattle.script_runner.proofs.MadeCalls.{file_lines, run_counts, store_lines}
+use Rattle.script_runner.proofs.lemmas.MadeCalls.{file_lines, run_counts, store_lines}
 use Rattle.script_runner.proofs.Doubts.{MadeOrBad, found_met, or_left, or_right, run_made, run_stays_or_fails, run_stops, stays_filed, stays_or_found, stays_stored, stopped, unmade_in}
 use Rattle.enq_base.specs.Causes.{Rose}
 use Rattle.enq_base.specs.declared.condition.Bad.{Bad}

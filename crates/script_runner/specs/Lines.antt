@@ -47,7 +47,7 @@ use Rattle.script_runner.specs.declared.monitor.LineKind.{LineKind}
 use Rattle.script_runner.specs.declared.monitor.LineKind.TheVariants as kind
 use Rattle.script_runner.specs.Sides.{container_of, parts_of, side_of, variables_of, with_new_side, with_side}
 use Rattle.script_runner.specs.Sides.{without_side}
-use Rattle.script_runner.specs.World.{World}
+use Rattle.script_runner.specs.World.{Setting}
 
 -- the line of these bytes; none is a bad line
 unfoldable pub line_in : List ℕ → Option ScriptLine
@@ -222,17 +222,17 @@ abbrev pub collecting : List Private → List ℕ → List Request → Meaning
 collecting sides s requests = unless_refused (collected sides s requests) Changes
 
 -- the line of a session that asks for something at a lock object
-abbrev pub with_asked : World → List ℕ → List ℕ → Mode → List RawValue → (List Asked → Meaning) → Meaning
+abbrev pub with_asked : Setting → List ℕ → List ℕ → Mode → List RawValue → (List Asked → Meaning) → Meaning
 with_asked w s object m values next =
     of_session w.sides s (unless_refused (asking (variables_of w.sides s) w.objects object m values) next)
 
 -- the same in requests, for the owners that its scope names
-abbrev pub with_requested : World → List ℕ → List ℕ → Mode → Scope → List RawValue → (List Request → Meaning) → Meaning
+abbrev pub with_requested : Setting → List ℕ → List ℕ → Mode → Scope → List RawValue → (List Request → Meaning) → Meaning
 with_requested w s object m scope values next =
     of_session w.sides s (unless_refused (requesting (variables_of w.sides s) w.objects object m scope values) next)
 
 -- the line of a session that registers an effect
-abbrev pub effecting : World → List ℕ → ℕ → Verb → List ℕ → List ℕ → List ℕ → Meaning
+abbrev pub effecting : Setting → List ℕ → ℕ → Verb → List ℕ → List ℕ → List ℕ → Meaning
 effecting w s part v table key text =
     of_session w.sides s
     (unless_refused (effect_with (variables_of w.sides s) v table key text) (registering w.sides s part))
@@ -242,15 +242,15 @@ abbrev pub key_with : List Variable → List ℕ → Result (List ℕ) Refusal
 key_with variables key = and_next (filled variables key) key_in
 
 -- the line of a session that reads a row
-abbrev pub reading : World → List ℕ → List ℕ → List ℕ → Meaning
+abbrev pub reading : Setting → List ℕ → List ℕ → List ℕ → Meaning
 reading w s table key =
     of_session w.sides s (unless_refused (key_with (variables_of w.sides s) key) (λ k. Calls (command.Read s table k)))
 
 -- the line of a session that draws a number
-abbrev pub numbering : World → List ℕ → List ℕ → List ℕ → Meaning
+abbrev pub numbering : Setting → List ℕ → List ℕ → List ℕ → Meaning
 numbering w s object nr = of_session w.sides s (Calls (command.Number s object nr))
 
-abbrev pub meaning : World → ScriptLine → Meaning
+abbrev pub meaning : Setting → ScriptLine → Meaning
 meaning w line.Blank = Silent
 meaning w line.Sm12 = Shows monitor.Sm12
 meaning w line.Sm13 = Shows monitor.Sm13

@@ -9,7 +9,7 @@ use Rattle.script_lang.specs.declared.script_line.ScriptLine.{ScriptLine}
 use Rattle.script_runner.specs.declared.runner.Why.{Why}
 use Rattle.script_runner.specs.Lines.{Calls, Meaning, line_in, meaning}
 use Rattle.script_runner.specs.Run.{Called, LineOutcome, NoRoom, Progress, Turn, next}
-use Rattle.script_runner.specs.World.{World}
+use Rattle.script_runner.specs.World.{World, setting_of}
 
 -- a call as the history has it, with what the devices did in it
 abbrev pub made_as : DeviceOutcome → State → ℕ → Command → Made
@@ -29,7 +29,7 @@ made_by w number outcome _ = []
 abbrev pub made_in_line : World → ℕ → Option ScriptLine → LineOutcome → List Made
 made_in_line w number known NoRoom = []
 made_in_line w number None (Called outcome) = []
-made_in_line w number (Some l) (Called outcome) = made_by w number outcome (meaning w l)
+made_in_line w number (Some l) (Called outcome) = made_by w number outcome (meaning (setting_of w) l)
 
 -- none once the run has ended
 abbrev pub made_unless_ended : Option Why → Progress → Turn → List Made

@@ -1,11 +1,10 @@
 ghost use Rattle.std.specs.Prelude.{◌≡◌, ◌⊎◌, ◌≤◌, [], List, OnOk, false, true};
-ghost use Rattle.hall_model.specs.State.{State};
 ghost use Rattle.lock_objects.specs.Objects.{Object};
 ghost use Rattle.script_lang.specs.declared.script_line.ScriptLine.TheVariants as line;
 ghost use Rattle.script_runner.specs.Lines.{Calls, effect_line, grows, line_kind, meaning, numbering, reading, settled};
 ghost use Rattle.script_runner.specs.Preparing.{HasRoomFor, IsPrepared, MayEnter, has_part, is_other_effect_line, is_other_lock_line, is_request_line, is_sessionless_line, is_text_line};
 ghost use Rattle.script_runner.specs.Sides.{variable_room};
-ghost use Rattle.script_runner.specs.World.{World, world};
+ghost use Rattle.script_runner.specs.World.{Setting, setting};
 
 use crate::effects::{Verb, effect_with, key_with};
 use crate::monitor::LineKind;
@@ -37,8 +36,7 @@ pub fn prepare(
 ) -> Result<Prepared, Refusal>
     requires part { has_part line.now ≡ true }
     requires replied { line_kind line.now ≡ LineKind.Replied }
-    ensures prepared { (hall : State)
-        → IsPrepared (meaning (world objects.now hall sides.old.items) line.now) (grows line.now) sides.old.items
+    ensures prepared { IsPrepared (meaning (setting objects.now sides.old.items) line.now) (grows line.now) sides.old.items
         sides.new.items result }
     ensures room { HasRoomFor line.now result sides.new }
 {
@@ -77,7 +75,7 @@ pub fn prepare(
 /// The call of a line that names no session: it is the same whatever the private sides are.
 fn sessionless_call(line: &ScriptLine) -> Command
     requires { is_sessionless_line line.now ≡ true }
-    ensures { (w : World) → meaning w line.now ≡ Calls result }
+    ensures { (w : Setting) → meaning w line.now ≡ Calls result }
 {
     match line {
         ScriptLine::Take1 { worker } => Command::Take1 { worker: *worker },
@@ -103,8 +101,7 @@ fn prepare_request(
     sides: &Sides,
 ) -> Result<Prepared, Refusal>
     requires { is_request_line line.now ≡ true }
-    ensures { (hall : State)
-        → IsPrepared (meaning (world objects.now hall sides.now.items) line.now) (grows line.now) sides.now.items
+    ensures { IsPrepared (meaning (setting objects.now sides.now.items) line.now) (grows line.now) sides.now.items
         sides.now.items result }
 {
     match line {
@@ -144,8 +141,7 @@ fn prepare_other_locks(
     sides: &mut Sides,
 ) -> Result<Prepared, Refusal>
     requires { is_other_lock_line line.now ≡ true }
-    ensures { (hall : State)
-        → IsPrepared (meaning (world objects.now hall sides.old.items) line.now) (grows line.now) sides.old.items
+    ensures { IsPrepared (meaning (setting objects.now sides.old.items) line.now) (grows line.now) sides.old.items
         sides.new.items result }
 {
     match line {
@@ -173,8 +169,8 @@ fn prepare_other_locks(
 /// A line that puts a text into a row.
 fn prepare_text(alloc: Global, line: &ScriptLine, sides: &mut Sides) -> Result<Prepared, Refusal>
     requires { is_text_line line.now ≡ true }
-    ensures { (objects : List Object) (hall : State)
-        → IsPrepared (meaning (world objects hall sides.old.items) line.now) (grows line.now) sides.old.items
+    ensures { (objects : List Object)
+        → IsPrepared (meaning (setting objects sides.old.items) line.now) (grows line.now) sides.old.items
         sides.new.items result }
 {
     match line {
@@ -209,8 +205,8 @@ fn prepare_other_effect(
     sides: &mut Sides,
 ) -> Result<Prepared, Refusal>
     requires { is_other_effect_line line.now ≡ true }
-    ensures { (objects : List Object) (hall : State)
-        → IsPrepared (meaning (world objects hall sides.old.items) line.now) (grows line.now) sides.old.items
+    ensures { (objects : List Object)
+        → IsPrepared (meaning (setting objects sides.old.items) line.now) (grows line.now) sides.old.items
         sides.new.items result }
 {
     match line {
@@ -239,8 +235,8 @@ fn prepare_other_effect(
 
 /// A logon, with the memory for a private side.
 fn log_on(sides: &mut Sides, session: Name, user: Name) -> Result<Prepared, Refusal>
-    ensures prepared { (objects : List Object) (hall : State)
-        → IsPrepared (meaning (world objects hall sides.old.items) (line.Logon session user)) true sides.old.items
+    ensures prepared { (objects : List Object)
+        → IsPrepared (meaning (setting objects sides.old.items) (line.Logon session user)) true sides.old.items
         sides.new.items result }
     ensures room { HasRoomFor (line.Logon session user) result sides.new }
 {
@@ -252,8 +248,8 @@ fn log_on(sides: &mut Sides, session: Name, user: Name) -> Result<Prepared, Refu
 
 /// A logoff.
 fn log_off(sides: &Sides, session: Name) -> Result<Prepared, Refusal>
-    ensures { (objects : List Object) (hall : State)
-        → IsPrepared (meaning (world objects hall sides.now.items) (line.Logoff session)) false sides.now.items
+    ensures { (objects : List Object)
+        → IsPrepared (meaning (setting objects sides.now.items) (line.Logoff session)) false sides.now.items
         sides.now.items result }
 {
     if !sides.has_side(&session) {
@@ -264,8 +260,8 @@ fn log_off(sides: &Sides, session: Name) -> Result<Prepared, Refusal>
 
 /// A call that frees all locks of a session.
 fn free_all(sides: &Sides, session: Name) -> Result<Prepared, Refusal>
-    ensures { (objects : List Object) (hall : State)
-        → IsPrepared (meaning (world objects hall sides.now.items) (line.DeqAll session)) false sides.now.items
+    ensures { (objects : List Object)
+        → IsPrepared (meaning (setting objects sides.now.items) (line.DeqAll session)) false sides.now.items
         sides.now.items result }
 {
     if !sides.has_side(&session) {
@@ -276,8 +272,8 @@ fn free_all(sides: &Sides, session: Name) -> Result<Prepared, Refusal>
 
 /// A rollback.
 fn roll_back(sides: &Sides, session: Name) -> Result<Prepared, Refusal>
-    ensures { (objects : List Object) (hall : State)
-        → IsPrepared (meaning (world objects hall sides.now.items) (line.Rollback session)) false sides.now.items
+    ensures { (objects : List Object)
+        → IsPrepared (meaning (setting objects sides.now.items) (line.Rollback session)) false sides.now.items
         sides.now.items result }
 {
     if !sides.has_side(&session) {
@@ -288,8 +284,8 @@ fn roll_back(sides: &Sides, session: Name) -> Result<Prepared, Refusal>
 
 /// A call for all that a session has collected.
 fn flush(alloc: Global, sides: &Sides, session: Name) -> Result<Prepared, Refusal>
-    ensures { (objects : List Object) (hall : State)
-        → IsPrepared (meaning (world objects hall sides.now.items) (line.Flush session)) true sides.now.items
+    ensures { (objects : List Object)
+        → IsPrepared (meaning (setting objects sides.now.items) (line.Flush session)) true sides.now.items
         sides.now.items result }
 {
     if !sides.has_side(&session) {
@@ -304,8 +300,8 @@ fn flush(alloc: Global, sides: &Sides, session: Name) -> Result<Prepared, Refusa
 
 /// A commit of the effects that a session has registered.
 fn commit(alloc: Global, sides: &Sides, session: Name) -> Result<Prepared, Refusal>
-    ensures { (objects : List Object) (hall : State)
-        → IsPrepared (meaning (world objects hall sides.now.items) (line.Commit session)) true sides.now.items
+    ensures { (objects : List Object)
+        → IsPrepared (meaning (setting objects sides.now.items) (line.Commit session)) true sides.now.items
         sides.now.items result }
 {
     if !sides.has_side(&session) {
@@ -323,8 +319,8 @@ fn commit(alloc: Global, sides: &Sides, session: Name) -> Result<Prepared, Refus
 
 /// A call for a number of an interval, with the memory for the variable that it is for.
 fn draw(sides: &mut Sides, session: Name, object: Name, nr: [u8; 2]) -> Result<Prepared, Refusal>
-    ensures prepared { (objects : List Object) (hall : State)
-        → IsPrepared (numbering (world objects hall sides.old.items) session object nr) true sides.old.items
+    ensures prepared { (objects : List Object)
+        → IsPrepared (numbering (setting objects sides.old.items) session object nr) true sides.old.items
         sides.new.items result }
     ensures room { OnOk result (1 ≤ variable_room sides.new session) }
 {
@@ -349,8 +345,8 @@ fn read(
     table: Name,
     key: &[u8],
 ) -> Result<Prepared, Refusal>
-    ensures prepared { (objects : List Object) (hall : State)
-        → IsPrepared (reading (world objects hall sides.old.items) session table key.now) true sides.old.items
+    ensures prepared { (objects : List Object)
+        → IsPrepared (reading (setting objects sides.old.items) session table key.now) true sides.old.items
         sides.new.items result }
     ensures room { OnOk result (1 ≤ variable_room sides.new session) }
 {
@@ -373,8 +369,8 @@ fn read(
 
 /// Empties a session's container.
 fn empty(sides: &mut Sides, session: Name) -> Result<Prepared, Refusal>
-    ensures { (objects : List Object) (hall : State)
-        → IsPrepared (meaning (world objects hall sides.old.items) (line.Reset session)) false sides.old.items
+    ensures { (objects : List Object)
+        → IsPrepared (meaning (setting objects sides.old.items) (line.Reset session)) false sides.old.items
         sides.new.items result }
 {
     if !sides.has_side(&session) {
@@ -395,8 +391,7 @@ fn enqueue(
     scope: Scope,
     values: &[RawValue],
 ) -> Result<Prepared, Refusal>
-    ensures { (hall : State)
-        → IsPrepared (meaning (world objects.now hall sides.now.items)
+    ensures { IsPrepared (meaning (setting objects.now sides.now.items)
         (line.Enq session object.now mode scope values.now)) true sides.now.items sides.now.items result }
 {
     let Some(side) = sides.side_of(&session) else {
@@ -422,8 +417,7 @@ fn dequeue(
     scope: Scope,
     values: &[RawValue],
 ) -> Result<Prepared, Refusal>
-    ensures { (hall : State)
-        → IsPrepared (meaning (world objects.now hall sides.now.items)
+    ensures { IsPrepared (meaning (setting objects.now sides.now.items)
         (line.Deq session object.now mode scope values.now)) true sides.now.items sides.now.items result }
 {
     let Some(side) = sides.side_of(&session) else {
@@ -449,8 +443,7 @@ fn collect(
     scope: Scope,
     values: &[RawValue],
 ) -> Result<Prepared, Refusal>
-    ensures { (hall : State)
-        → IsPrepared (meaning (world objects.now hall sides.old.items)
+    ensures { IsPrepared (meaning (setting objects.now sides.old.items)
         (line.Collect session object.now mode scope values.now)) true sides.old.items sides.new.items result }
 {
     let Some(side) = sides.side_of(&session) else {
@@ -475,8 +468,7 @@ fn convert(
     object: &Name,
     values: &[RawValue],
 ) -> Result<Prepared, Refusal>
-    ensures { (hall : State)
-        → IsPrepared (meaning (world objects.now hall sides.now.items) (line.Convert session object.now values.now))
+    ensures { IsPrepared (meaning (setting objects.now sides.now.items) (line.Convert session object.now values.now))
         true sides.now.items sides.now.items result }
 {
     let Some(side) = sides.side_of(&session) else {
@@ -504,8 +496,8 @@ fn effect(
 ) -> Result<Prepared, Refusal>
     requires part { (part ≡ 1) ⊎ (part ≡ 2) }
     requires nothing { verb ≡ Verb.Del → text.now ≡ [] }
-    ensures { (objects : List Object) (hall : State)
-        → IsPrepared (meaning (world objects hall sides.old.items)
+    ensures { (objects : List Object)
+        → IsPrepared (meaning (setting objects sides.old.items)
         (effect_line verb session part table key.now text.now)) true sides.old.items sides.new.items result }
 {
     let Some(side) = sides.side_of(&session) else {

@@ -11,7 +11,7 @@ use Rattle.keeper_api.specs.RowLaws.{spots_total}
 use Rattle.keeper_api.specs.declared.rows.Row.{Row}
 use Rattle.sorted_rows.specs.Places.{Entry, entry_in, entries_in, AreSorted}
 use Rattle.sorted_rows.specs.Tables.{entries_from}
-use Rattle.sorted_rows.proofs.Places.{first_true, second_true}
+use Rattle.sorted_rows.proofs.lemmas.Places.{first_true, second_true}
 
 -- ---- spots of two tables
 

@@ -67,16 +67,6 @@ pub room_kept : (m n : ℕ) (changes : List Change) (old new : List (Vec Row Glo
 room_kept m n [] old new kept room = tt
 room_kept m n (change ∷ changes) old new kept room = (kept (spot_of change).0 room.0, room_kept m n changes old new kept room.1)
 
-pub room_front : (n : ℕ) (changes : List Change) (last : Change) (tables : List (Vec Row Global)) → HasRoom n (changes ++ last ∷ []) tables
-    → HasRoom n changes tables
-room_front n [] last tables room = tt
-room_front n (change ∷ changes) last tables room = (room.0, room_front n changes last tables room.1)
-
-pub room_last : (n : ℕ) (changes : List Change) (last : Change) (tables : List (Vec Row Global)) → HasRoom n (changes ++ last ∷ []) tables
-    → HasPlace n (spot_of last).0 tables
-room_last n [] last tables room = room.0
-room_last n (change ∷ changes) last tables room = room_last n changes last tables room.1
-
 pub room_more : (n : ℕ) (changes : List Change) (last : Change) (tables : List (Vec Row Global)) → HasRoom n changes tables → HasPlace n (spot_of last).0 tables
     → HasRoom n (changes ++ last ∷ []) tables
 room_more n [] last tables room place = (place, tt)

@@ -1,5 +1,5 @@
 -- What a search by halves finds, and the rows behind it.
-use Rattle.std.proofs.Common.{Result, Ok, Err, IfOk, Vec, Global, ◌≡◌, ◌⊎◌, ◌&&◌, IsTrue, inl, inr, ℕ, suc, zero, ◌<◌, ◌≤◌, Bool, true, false, cond, List, [], ◌∷◌, map, length, drop, get_or, nat_eq, refl, sym, ap, ◌∙◌, subst, arith}
+use Rattle.std.proofs.Common.{◌≡◌, ◌⊎◌, ◌&&◌, IsTrue, inl, inr, ℕ, suc, zero, ◌<◌, ◌≤◌, Bool, true, false, cond, List, [], ◌∷◌, map, length, drop, get_or, nat_eq, refl, sym, ap, ◌∙◌, subst, arith}
 use Rattle.std.specs.List.{filter}
 use Rattle.std.specs.List.Sorted.{IsPartitionedBy, IsPartitionPoint}
 use Rattle.std.specs.Ordering.{nat_cmp, is_lt, is_eq, ordering_then, ordering_reverse}
@@ -15,7 +15,7 @@ use Rattle.keeper_api.specs.declared.rows.Row.{Row}
 use Rattle.sorted_rows.specs.Places.{Entry, entry_in, entries_in, AreSorted, next, place_in, end_of}
 use Rattle.sorted_rows.specs.declared.table.Place.{Place}
 use Rattle.sorted_rows.specs.declared.table.Place.TheVariants.{At, Before}
-use Rattle.sorted_rows.proofs.Places.{first_true, second_true, less_of, below_too, entries-drop, rows_again}
+use Rattle.sorted_rows.proofs.lemmas.Places.{first_true, second_true, less_of, below_too, entries-drop, rows_again}
 
 -- in one table the keys alone are compared
 pub in_table : (table : ℕ) (a b : List ℕ) → spot_cmp (table, a) (table, b) ≡ slice_cmp nat_cmp a b
@@ -152,7 +152,3 @@ pub placed : (p : Place) (key : List ℕ) (slice items : List Row) → slice ≡
     → (table : ℕ) → AreSorted (entries_in table items) → p ≡ place_in (table, key) (entries_in table items)
 placed p key slice items same found table sorted =
     subst (λ rows. p ≡ place_in (table, key) (entries_in table rows)) same (found table (subst (λ rows. AreSorted (entries_in table rows)) (sym same) sorted))
-
-pub copied : {E : Type 0} (r : Result (Vec Row Global) E) (xs ys : List Row) → IfOk r (λ copy. copy.items ≡ xs) → xs ≡ ys → IfOk r (λ copy. copy.items ≡ ys)
-copied (Ok copy) xs ys is same = is ∙ same
-copied (Err e) xs ys is same = tt

@@ -14,8 +14,8 @@ use Rattle.store_reading.specs.Rules.{marks_in}
 use Rattle.store_reading.specs.Stores.{has_none, is_bare, rule_fault, store_fault}
 use Rattle.store_reading.specs.Told.{records_in, SpellAll, SpellEach}
 use Rattle.store_reading.specs.declared.rules.Place.{Place}
-use Rattle.store_reading.proofs.Elements.{contains_here}
-use Rattle.store_reading.proofs.Followings.{tables_follow}
+use Rattle.store_reading.proofs.lemmas.Elements.{contains_here}
+use Rattle.store_reading.proofs.lemmas.Followings.{tables_follow}
 use Rattle.store_laws.proofs.GoodBusiness.{business_rows_are, no_difference}
 use Rattle.store_laws.proofs.GoodLevels.{levels_right}
 use Rattle.store_laws.proofs.GoodMarks.{marks_right, numbers_right, posts_right, start_right}
@@ -23,7 +23,7 @@ use Rattle.store_laws.proofs.GoodRecords.{have_effects, mark_table}
 use Rattle.store_laws.proofs.GoodTables.{are_records, AreRecordsOf}
 use Rattle.store_laws.proofs.GoodUnits.{marks_back, no_place, units_right}
 use Rattle.store_laws.proofs.LedgerRows.{none_held, value_there}
-use Rattle.store_reading.proofs.Members.{record_stands}
+use Rattle.store_reading.proofs.lemmas.Members.{record_stands}
 
 -- ---- a store that nobody has opened
 

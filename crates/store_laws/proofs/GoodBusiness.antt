@@ -8,24 +8,24 @@ use Rattle.keeper_api.specs.declared.rows.Row.{Row}
 use Rattle.keeper_api.specs.Batch.{spot_of}
 use Rattle.keeper_api.specs.Rows.{Rows, RiseFrom}
 use Rattle.keeper_api.specs.RowLaws.{value_in}
-use Rattle.lock_entry.proofs.Naming.{bytes_eq-refl, bytes_eq-same}
+use Rattle.lock_entry.proofs.lemmas.Naming.{bytes_eq-refl, bytes_eq-same}
 use Rattle.update_records.specs.Business.{tables_of}
 use Rattle.update_records.specs.Ledger.{Ledger, book_rows, has_bytes, map_rows, own, rows_of, with_map}
 use Rattle.update_records.specs.RecordRows.{level_value, row_name}
 use Rattle.update_records.specs.Spelling.{Spells, record_row}
 use Rattle.update_records.specs.declared.stored.Record.{Record}
 use Rattle.update_records.specs.declared.stored.Record.TheVariants as rec
-use Rattle.update_records.proofs.Books.{books_in, is_book_table}
-use Rattle.update_records.proofs.Keyed.{get_map}
-use Rattle.update_records.proofs.Own.{get_own}
+use Rattle.record_laws.proofs.Books.{books_in, is_book_table}
+use Rattle.record_laws.proofs.Keyed.{get_map}
+use Rattle.record_laws.proofs.Own.{get_own}
 use Rattle.store_reading.specs.Posts.{difference_from, is_business, rows_for}
-use Rattle.store_reading.specs.Tables.{rows_in}
+use Rattle.table_reading.specs.Tables.{rows_in}
 use Rattle.store_reading.specs.Told.{SpellEach}
-use Rattle.store_reading.proofs.Elements.{contains_here, contains_there}
+use Rattle.store_reading.proofs.lemmas.Elements.{contains_here, contains_there}
 use Rattle.store_laws.proofs.InOrder.{one_list, Rises}
 use Rattle.store_laws.proofs.LedgerRows.{past, some_bytes, value_here}
-use Rattle.store_reading.proofs.Members.{get_in_table, value_of}
-use Rattle.store_reading.proofs.Pages.{rows_rise}
+use Rattle.store_reading.proofs.lemmas.Members.{get_in_table, value_of}
+use Rattle.table_reading.proofs.lemmas.Pages.{rows_rise}
 
 -- ---- rows in the order of their keys
 

@@ -12,17 +12,17 @@ use Rattle.update_records.specs.Marks.{has_no_v2, is_empty_part, unit_at}
 use Rattle.update_records.specs.Spelling.{header_of}
 use Rattle.update_records.specs.declared.records.Unit.{Unit as UnitOfWork}
 use Rattle.update_records.specs.declared.stored.Record.{Record}
-use Rattle.update_records.proofs.Status.{one_unit, unit_refl}
+use Rattle.record_laws.proofs.Status.{one_unit, unit_refl}
 use Rattle.store_reading.specs.Intervals.{numbers_after, numbers_at, numbers_told}
 use Rattle.store_reading.specs.Rules.{has_second, tells_second}
 use Rattle.store_reading.specs.Told.{records_in}
 use Rattle.store_reading.specs.Units.{counts_after, counts_at, no_counts, told}
 use Rattle.store_reading.specs.declared.counts.Counts.{Counts}
-use Rattle.store_reading.proofs.Elements.{contains_cases, contains_here, contains_none, contains_there}
+use Rattle.store_reading.proofs.lemmas.Elements.{contains_cases, contains_here, contains_none, contains_there}
 use Rattle.store_laws.proofs.GoodRecords.{keys_apart}
 use Rattle.store_laws.proofs.GoodTables.{header_in, lock_is, of_unit, side, step_is, table_in, told_unit, unit_cases, AreRecordsOf}
 use Rattle.store_laws.proofs.KeysApart.{found_unit, unit_found}
-use Rattle.store_reading.proofs.Shelved.{any_contained}
+use Rattle.store_reading.proofs.lemmas.Shelved.{any_contained}
 
 -- ---- what one of several records tells
 

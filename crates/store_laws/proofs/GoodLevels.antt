@@ -6,7 +6,7 @@ use Rattle.std.specs.FinMap.{get}
 use Rattle.std.specs.Str.{bytes_eq}
 use Rattle.std.proofs.lemmas.Bool.{and_from, le-leb}
 use Rattle.std.proofs.lemmas.List.Elements.{recursion_from_All}
-use Rattle.lock_entry.proofs.Naming.{bytes_eq-refl}
+use Rattle.lock_entry.proofs.lemmas.Naming.{bytes_eq-refl}
 use Rattle.enq_base.specs.declared.owner.UnitKey.{UnitKey}
 use Rattle.enq_base.specs.declared.unit.Num.{Num as Number}
 use Rattle.module_effects.specs.Rows.{RowName}
@@ -27,7 +27,7 @@ use Rattle.store_laws.proofs.GoodRecords.{mark_table}
 use Rattle.store_laws.proofs.GoodTables.{level_of, AreRecordsOf}
 use Rattle.store_laws.proofs.GoodUnits.{no_place, none_breaks}
 use Rattle.store_laws.proofs.LedgerRecords.{level_record, mark_records}
-use Rattle.store_reading.proofs.Shelved.{any_contained}
+use Rattle.store_reading.proofs.lemmas.Shelved.{any_contained}
 
 -- ---- numbers
 

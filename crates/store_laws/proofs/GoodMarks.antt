@@ -27,13 +27,13 @@ use Rattle.store_reading.specs.Posts.{effects_of, is_done, is_refused, is_right_
 use Rattle.store_reading.specs.Rules.{has_meta, has_number, has_second, is_right_mark, mark_fault, marks_in, meta_fault, number_fault}
 use Rattle.store_reading.specs.Stores.{start_in}
 use Rattle.store_reading.specs.Told.{records_in}
-use Rattle.store_reading.proofs.Followings.{HaveEffects, one_follows}
+use Rattle.store_reading.proofs.lemmas.Followings.{HaveEffects, one_follows}
 use Rattle.store_laws.proofs.GoodHeaders.{second_told}
 use Rattle.store_laws.proofs.GoodRecords.{have_effects, mark_table, start_table}
 use Rattle.store_laws.proofs.GoodTables.{AreRecordsOf}
 use Rattle.store_laws.proofs.LedgerRecords.{mark_records, seqs, start_record}
-use Rattle.store_reading.proofs.Legal.{none_wrong}
-use Rattle.store_reading.proofs.Statuses.{marks_push}
+use Rattle.store_reading.proofs.lemmas.Legal.{none_wrong}
+use Rattle.store_reading.proofs.lemmas.Statuses.{marks_push}
 
 -- ---- the start number and the numbers of the marks
 

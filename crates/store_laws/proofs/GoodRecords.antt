@@ -12,16 +12,16 @@ use Rattle.update_records.specs.declared.records.Mark.{Mark}
 use Rattle.update_records.specs.declared.records.Unit.{Unit as UnitOfWork}
 use Rattle.update_records.specs.declared.stored.Record.{Record}
 use Rattle.update_records.specs.declared.stored.Record.TheVariants as rec
-use Rattle.update_records.proofs.Status.{one_unit, unit_refl}
+use Rattle.record_laws.proofs.Status.{one_unit, unit_refl}
 use Rattle.store_reading.specs.Posts.{effect_in, effects_of}
 use Rattle.store_reading.specs.Told.{records_in}
-use Rattle.store_reading.proofs.Elements.{contains_here, contains_none, of_map}
-use Rattle.store_reading.proofs.Followings.{HaveEffects}
+use Rattle.store_reading.proofs.lemmas.Elements.{contains_here, contains_none, of_map}
+use Rattle.store_reading.proofs.lemmas.Followings.{HaveEffects}
 use Rattle.store_laws.proofs.GoodTables.{first_in, key_in, lock_is, locks_in, locks_rise, mark_of, of_unit, records_of_marks_rise, second_in, side, start_of, step_is, step_part, steps_rise, table_in, told_mark, told_start, told_unit, unit_cases, AreRecordsOf, HasPart}
 use Rattle.store_laws.proofs.InOrder.{Rises, contains_filter, of_filter, one_list, rises_filter}
 use Rattle.store_laws.proofs.KeysApart.{KeysApart, found_unit, keys_of, one_unit_of, recorded_apart, unit_found}
 use Rattle.store_laws.proofs.LedgerRecords.{mark_records, marks_rise, only, start_record, unit_law}
-use Rattle.store_reading.proofs.Legal.{first_true, second_true}
+use Rattle.store_reading.proofs.lemmas.Legal.{first_true, second_true}
 
 pub keys_apart : (ledger : Ledger) → IsLawful ledger → KeysApart (keys_of ledger.units)
 keys_apart ledger law = subst KeysApart (sym law.recorded) (recorded_apart ledger.units [] ledger.marks law.legal)

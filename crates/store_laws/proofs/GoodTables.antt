@@ -17,16 +17,16 @@ use Rattle.update_records.specs.declared.records.Mark.{Mark}
 use Rattle.update_records.specs.declared.records.Unit.{Unit as UnitOfWork}
 use Rattle.update_records.specs.declared.stored.Record.{Record}
 use Rattle.update_records.specs.declared.stored.Record.TheVariants as rec
-use Rattle.update_records.proofs.Books.{is_unit_table, unit_in}
-use Rattle.update_records.proofs.UnitRecords.{unit_is}
-use Rattle.store_reading.specs.Tables.{rows_in}
+use Rattle.record_laws.proofs.Books.{is_unit_table, unit_in}
+use Rattle.update_records.proofs.lemmas.UnitRecords.{unit_is}
+use Rattle.table_reading.specs.Tables.{rows_in}
 use Rattle.store_reading.specs.Told.{records_in, SpellAll, SpellEach}
-use Rattle.store_reading.proofs.Elements.{all_contained, contains_cases, contains_flat, contains_here, contains_map, contains_none, contains_there, of_flat, of_map}
+use Rattle.store_reading.proofs.lemmas.Elements.{all_contained, contains_cases, contains_flat, contains_here, contains_map, contains_none, contains_there, of_flat, of_map}
 use Rattle.store_laws.proofs.InOrder.{Rises, below_behind, bytes_below}
 use Rattle.store_laws.proofs.LedgerRecords.{mark_key, mark_records, only, start_record, IsBusinessOf, IsLevelOf, IsToldBy}
 use Rattle.store_laws.proofs.LedgerRows.{contained_told, told_contained}
-use Rattle.store_reading.proofs.Members.{table_of}
-use Rattle.store_reading.proofs.Pages.{rows_rise}
+use Rattle.store_reading.proofs.lemmas.Members.{table_of}
+use Rattle.table_reading.proofs.lemmas.Pages.{rows_rise}
 
 -- ---- records and their tables
 

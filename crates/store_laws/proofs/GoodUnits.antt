@@ -21,22 +21,22 @@ use Rattle.update_records.specs.declared.records.MarkKind.TheVariants.{Num, Rec,
 use Rattle.update_records.specs.declared.records.Unit.{Unit as UnitOfWork}
 use Rattle.update_records.specs.declared.stored.Record.{Record}
 use Rattle.update_records.specs.declared.stored.Record.TheVariants as rec
-use Rattle.update_records.proofs.Books.{is_unit_table}
+use Rattle.record_laws.proofs.Books.{is_unit_table}
 use Rattle.store_reading.specs.First.{first_wrong, AreRight}
 use Rattle.store_reading.specs.Rules.{marks_in}
 use Rattle.store_reading.specs.Told.{records_in}
 use Rattle.store_reading.specs.Units.{counts_at, differ, effects_in, has_distinct_locks, has_few, has_part, has_parts, has_row, has_rows, is_counted, is_named_for, is_recorded_header, is_right_unit, is_row, is_whole, names_in, unit_fault}
 use Rattle.store_reading.specs.declared.counts.Counts.{Counts}
 use Rattle.store_reading.specs.declared.rules.Place.{Place}
-use Rattle.store_reading.proofs.BooksStand.{first_recorded, key_recorded, keys_after}
-use Rattle.store_reading.proofs.Elements.{contains_cases, contains_here, contains_map, contains_none, contains_there, of_map}
+use Rattle.store_reading.proofs.lemmas.BooksStand.{first_recorded, key_recorded, keys_after}
+use Rattle.store_reading.proofs.lemmas.Elements.{contains_cases, contains_here, contains_map, contains_none, contains_there, of_map}
 use Rattle.store_laws.proofs.GoodHeaders.{counts_are, counts_for, header_told}
 use Rattle.store_laws.proofs.GoodRecords.{is_lock, lock_table, mark_table, same_part}
 use Rattle.store_laws.proofs.GoodTables.{first_in, lock_is, locks_in, of_unit, second_in, side, step_is, table_in, told_unit, unit_cases, AreRecordsOf, HasPart}
 use Rattle.store_laws.proofs.KeysApart.{keys_of}
 use Rattle.store_laws.proofs.LedgerRecords.{mark_records, unit_law}
-use Rattle.store_reading.proofs.Legal.{none_wrong}
-use Rattle.store_reading.proofs.Shelved.{any_contained}
+use Rattle.store_reading.proofs.lemmas.Legal.{none_wrong}
+use Rattle.store_reading.proofs.lemmas.Shelved.{any_contained}
 
 -- ---- rules of one record
 

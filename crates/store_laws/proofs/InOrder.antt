@@ -11,8 +11,8 @@ use Rattle.std.specs.declared.cmp.Ordering.TheVariants.{Less, Equal, Greater}
 use Rattle.byteorder.specs.Endian.{big_bytes}
 use Rattle.byteorder.specs.Numbers.{big_from-bytes, big_from-cons}
 use Rattle.keeper_api.specs.Rows.{is_below}
-use Rattle.store_reading.proofs.Elements.{contains_cases, contains_here, contains_none, contains_there}
-use Rattle.store_reading.proofs.Pages.{below_trans, not_below_itself}
+use Rattle.store_reading.proofs.lemmas.Elements.{contains_cases, contains_here, contains_none, contains_there}
+use Rattle.table_reading.proofs.lemmas.Pages.{below_trans, not_below_itself}
 
 -- ---- keys that rise
 

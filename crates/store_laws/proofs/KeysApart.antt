@@ -9,9 +9,9 @@ use Rattle.update_records.specs.declared.records.MarkKind.TheVariants.{Num, Rec,
 use Rattle.update_records.specs.declared.records.Unit.{Unit as UnitOfWork}
 use Rattle.update_records.specs.Ledger.{recorded}
 use Rattle.update_records.specs.Marks.{draws_alone, has_no_v2, is_rec, may_follow, status_of, unit_at, IsLegalAfter}
-use Rattle.update_records.proofs.Status.{NoneOf, none_of, not_rec, one_unit, unit_refl}
-use Rattle.store_reading.proofs.BooksStand.{first_recorded, keys_after}
-use Rattle.store_reading.proofs.Elements.{contains_cases, contains_here, contains_map, contains_none, contains_there}
+use Rattle.record_laws.proofs.Status.{NoneOf, none_of, not_rec, one_unit, unit_refl}
+use Rattle.store_reading.proofs.lemmas.BooksStand.{first_recorded, keys_after}
+use Rattle.store_reading.proofs.lemmas.Elements.{contains_cases, contains_here, contains_map, contains_none, contains_there}
 
 -- ---- keys of the recorded units
 

@@ -19,15 +19,15 @@ use Rattle.update_records.specs.declared.records.Mark.{Mark}
 use Rattle.update_records.specs.declared.records.Unit.{Unit as UnitOfWork}
 use Rattle.update_records.specs.declared.stored.Record.{Record}
 use Rattle.update_records.specs.declared.stored.Record.TheVariants as rec
-use Rattle.update_records.proofs.Apart.{tables_apart}
-use Rattle.update_records.proofs.Books.{is_mark_table, is_meta_table, is_unit_table, marks_and_meta, meta_is, unit_in, units_and_marks, units_and_meta}
-use Rattle.update_records.proofs.Distinct.{AllApart, AreDistinct, IsApart, all_append, distinct_append, none_distinct, not_same, spots, unit_distinct, units_apart}
-use Rattle.update_records.proofs.UnitRecords.{kind_fits, unit_fits, unit_is}
-use Rattle.store_reading.proofs.Elements.{all_contained, contains_cases, contains_map, contains_none, each_contained, of_flat, of_map}
+use Rattle.record_laws.proofs.Apart.{tables_apart}
+use Rattle.record_laws.proofs.Books.{is_mark_table, is_meta_table, is_unit_table, marks_and_meta, meta_is, unit_in, units_and_marks, units_and_meta}
+use Rattle.update_records.proofs.lemmas.Distinct.{AllApart, AreDistinct, IsApart, all_append, distinct_append, none_distinct, not_same, spots, unit_distinct, units_apart}
+use Rattle.update_records.proofs.lemmas.UnitRecords.{kind_fits, unit_fits, unit_is}
+use Rattle.store_reading.proofs.lemmas.Elements.{all_contained, contains_cases, contains_map, contains_none, each_contained, of_flat, of_map}
 use Rattle.store_laws.proofs.InOrder.{Rises, bytes_below, rises_above}
 use Rattle.store_laws.proofs.KeysApart.{KeysApart, keys_of, recorded_apart}
-use Rattle.store_reading.proofs.Pages.{not_below_itself}
-use Rattle.store_laws.proofs.Texts.{IsRow, business_fits}
+use Rattle.table_reading.proofs.lemmas.Pages.{not_below_itself}
+use Rattle.update_records.proofs.lemmas.BusinessTexts.{IsRow, business_fits}
 
 -- ---- the records
 

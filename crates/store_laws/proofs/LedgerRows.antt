@@ -14,7 +14,7 @@ use Rattle.keeper_api.specs.declared.rows.Row.{Row}
 use Rattle.keeper_api.specs.Batch.{spot_of, changed, changed_once, is_same_spot}
 use Rattle.keeper_api.specs.Rows.{Spot, spot_cmp, Rows, RiseFrom, is_below}
 use Rattle.keeper_api.specs.RowLaws.{get_once, same_spot, value_in, InTables}
-use Rattle.lock_entry.proofs.Naming.{bytes_eq-refl, bytes_eq-same}
+use Rattle.lock_entry.proofs.lemmas.Naming.{bytes_eq-refl, bytes_eq-same}
 use Rattle.module_effects.specs.Rows.{RowName, row_cmp}
 use Rattle.update_records.specs.Business.{tables_of}
 use Rattle.update_records.specs.Ledger.{Ledger, IsGood, IsLawful, StandFor, no_ledger, book_rows, has_bytes, map_rows, own, rows_of, with_map}
@@ -22,18 +22,18 @@ use Rattle.update_records.specs.RecordRows.{level_value, row_name}
 use Rattle.update_records.specs.Spelling.{IsRecord, Spells, record_row}
 use Rattle.update_records.specs.declared.stored.Record.{Record}
 use Rattle.update_records.specs.declared.stored.Record.TheVariants as rec
-use Rattle.update_records.proofs.Books.{books_in, is_book_table}
-use Rattle.update_records.proofs.Distinct.{AreDistinct, IsApart, not_same, spots}
-use Rattle.update_records.proofs.Keyed.{get_business, get_map, is_named, spot-Decides, unname, unname_name}
-use Rattle.update_records.proofs.Own.{get_own}
-use Rattle.update_records.proofs.TableLaws.{one_record}
-use Rattle.store_reading.specs.Tables.{rows_in}
+use Rattle.record_laws.proofs.Books.{books_in, is_book_table}
+use Rattle.update_records.proofs.lemmas.Distinct.{AreDistinct, IsApart, not_same, spots}
+use Rattle.record_laws.proofs.Keyed.{get_business, get_map, is_named, spot-Decides, unname, unname_name}
+use Rattle.record_laws.proofs.Own.{get_own}
+use Rattle.update_records.proofs.lemmas.TableLaws.{one_record}
+use Rattle.table_reading.specs.Tables.{rows_in}
 use Rattle.store_reading.specs.Told.{records_in, IsFirstBad, IsFirstBadRow, IsSpelled, SpellAll}
-use Rattle.store_reading.proofs.Elements.{contains_cases, contains_here, contains_map, contains_none, contains_there, of_map}
+use Rattle.store_reading.proofs.lemmas.Elements.{contains_cases, contains_here, contains_map, contains_none, contains_there, of_map}
 use Rattle.store_laws.proofs.LedgerRecords.{book_distinct, book_is, book_records, level_record, told_fits, IsToldBy}
-use Rattle.store_reading.proofs.Members.{get_in_table, grammar_of, record_stands, row_is_told, value_of}
-use Rattle.store_reading.proofs.Pages.{below_trans, not_below_itself, rows_rise}
-use Rattle.store_reading.proofs.Shelved.{named_here, named_spot, or_else}
+use Rattle.store_reading.proofs.lemmas.Members.{get_in_table, grammar_of, record_stands, row_is_told, value_of}
+use Rattle.table_reading.proofs.lemmas.Pages.{below_trans, not_below_itself, rows_rise}
+use Rattle.store_reading.proofs.lemmas.Shelved.{named_here, named_spot, or_else}
 
 -- ---- what stands after changes
 

@@ -1,5 +1,4 @@
 pub mod InOrder
-pub mod Texts
 pub mod KeysApart
 pub mod LedgerRecords
 pub mod LedgerRows

@@ -8,10 +8,10 @@ use Rattle.update_records.specs.Ledger.{no_ledger, own, rows_of}
 use Rattle.update_records.specs.declared.stored.Record.{Record}
 use Rattle.store_reading.specs.Stores.{has_none, is_bare}
 use Rattle.store_reading.specs.Told.{records_in, SpellAll}
-use Rattle.store_reading.proofs.Elements.{contains_none}
-use Rattle.store_reading.proofs.Legal.{first_true, second_true}
-use Rattle.store_reading.proofs.Members.{row_is_told}
-use Rattle.store_reading.proofs.Shelved.{shelved_rows}
+use Rattle.store_reading.proofs.lemmas.Elements.{contains_none}
+use Rattle.store_reading.proofs.lemmas.Legal.{first_true, second_true}
+use Rattle.store_reading.proofs.lemmas.Members.{row_is_told}
+use Rattle.store_reading.proofs.lemmas.Shelved.{shelved_rows}
 
 none_has : (records : List Record) → has_none records ≡ true → records ≡ []
 none_has [] h = refl

@@ -9,7 +9,7 @@ use Rattle.keeper_api.specs.Keeping.{HasFaultCause, Stays}
 use Rattle.keeper_api.specs.Rows.{Rows, RiseFrom}
 use Rattle.update_records.specs.declared.stored.Record.{Record}
 use Rattle.store_reading.specs.Faults.{reading_fault, HasReadingCause, MayBeFault, OnBad, OnFailed, UnlessFailed}
-use Rattle.store_reading.specs.Tables.{rows_in}
+use Rattle.table_reading.specs.Tables.{rows_in}
 use Rattle.store_reading.specs.Told.{IsFirstBad, IsTableRead, SpellEach}
 use Rattle.store_reading.specs.declared.fault.ReadingFault.{ReadingFault}
 use Rattle.store_reading.specs.declared.fault.ReadingFault.TheVariants.{Failed, Bad, NoMemory}

@@ -18,12 +18,12 @@ use Rattle.store_reading.specs.Stores.{is_bare, ledger_in, levels_in, rule_fault
 use Rattle.store_reading.specs.Told.{records_in, SpellAll}
 use Rattle.store_reading.specs.declared.rules.Place.{Place}
 use Rattle.store_reading.proofs.Bare.{bare}
-use Rattle.store_reading.proofs.BooksStand.{told_ledger, told_rows, AreUnits, books_agree, books_told, mark_booked, meta_booked, unit_booked}
-use Rattle.store_reading.proofs.Followings.{tables_follow}
-use Rattle.store_reading.proofs.Legal.{all_right, first_none}
+use Rattle.store_reading.proofs.lemmas.BooksStand.{told_ledger, told_rows, AreUnits, books_agree, books_told, mark_booked, meta_booked, unit_booked}
+use Rattle.store_reading.proofs.lemmas.Followings.{tables_follow}
+use Rattle.store_reading.proofs.lemmas.Legal.{all_right, first_none}
 use Rattle.store_reading.proofs.LevelsStand.{level_mapped, levels_agree}
-use Rattle.store_reading.proofs.Members.{row_is_told}
-use Rattle.store_reading.proofs.Shelved.{Agrees, AreShelved, IsBooked, IsMapped, shelved_rows}
+use Rattle.store_reading.proofs.lemmas.Members.{row_is_told}
+use Rattle.store_reading.proofs.lemmas.Shelved.{Agrees, AreShelved, IsBooked, IsMapped, shelved_rows}
 use Rattle.store_reading.proofs.TablesStand.{business_mapped, tables_agree}
 
 -- ---- what it says that no rule is broken

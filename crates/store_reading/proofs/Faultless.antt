@@ -15,7 +15,7 @@ use Rattle.store_reading.specs.Stores.{rule_fault, start_in, unit_in, units_in}
 use Rattle.store_reading.specs.Told.{AreRead, IsTableRead, records_in}
 use Rattle.store_reading.specs.Units.{is_counted, is_recorded, is_recorded_header, is_right_unit, unit_fault}
 use Rattle.store_reading.specs.declared.rules.Place.{Place}
-use Rattle.store_reading.proofs.Legal.{all_right, first_none, no_wrong_unit}
+use Rattle.store_reading.proofs.lemmas.Legal.{all_right, first_none, no_wrong_unit}
 use Rattle.store_reading.proofs.Rising.{In, contains_in, in_contains, in_all, read_in, read_rise}
 use Rattle.store_reading.proofs.UnitFacts.{AreWhole, first_is, header_back, lock_back, module_back, second_is, step_back, unit_there, IsOfUnit}
 

@@ -25,7 +25,7 @@ use Rattle.store_reading.proofs.Heads.{Head, header_with}
 use Rattle.store_reading.proofs.Places.{entry_at}
 use Rattle.store_reading.proofs.Rising.{AreIn, In, in_all, table_of}
 use Rattle.store_reading.proofs.UnitFacts.{AreWhole, recorded_head, unit_at_key, unit_read, unit_whole}
-use Rattle.update_records.proofs.Status.{one_unit}
+use Rattle.record_laws.proofs.Status.{one_unit}
 
 effect_here : (b : Bool) (e : Effect) (rest : List Effect) → IsEffect e → AllByRecursion IsEffect rest
     → AllByRecursion IsEffect ((if b then e ∷ [] else []) ++ rest)

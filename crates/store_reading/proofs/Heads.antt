@@ -7,7 +7,7 @@ use Rattle.enq_base.specs.Owners.{same_unit}
 use Rattle.enq_base.specs.declared.owner.UnitKey.{UnitKey}
 use Rattle.enq_base.specs.declared.unit.Num.{Num as Number}
 use Rattle.update_records.specs.RecordRows.{unit_bytes}
-use Rattle.update_records.proofs.Status.{one_unit, unit_refl}
+use Rattle.record_laws.proofs.Status.{one_unit, unit_refl}
 use Rattle.update_records.specs.declared.stored.Record.{Record}
 use Rattle.update_records.specs.declared.stored.Record.TheVariants as rec
 use Rattle.store_reading.specs.Intervals.{numbers_after, numbers_at}

@@ -14,7 +14,7 @@ use Rattle.store_reading.specs.Stores.{has_none, is_bare, rule_fault, start_in}
 use Rattle.store_reading.specs.Told.{records_in}
 use Rattle.store_reading.specs.Units.{is_counted, is_recorded_header, is_right_unit, unit_fault}
 use Rattle.store_reading.specs.declared.rules.Place.{Place}
-use Rattle.store_reading.proofs.Members.{no_true}
+use Rattle.store_reading.proofs.lemmas.Members.{no_true}
 
 abbrev pub IsInTables : Option Place → Type 0
 IsInTables place = IfSome place (λ p. (p.table < 8) × (1 ≤ p.row))

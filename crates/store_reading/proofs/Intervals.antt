@@ -7,9 +7,9 @@ use Rattle.std.specs.Str.{bytes_eq}
 use Rattle.std.proofs.lemmas.Bool.{and_parts, or_cases}
 use Rattle.std.proofs.lemmas.List.Elements.{All-from_recursion}
 use Rattle.enq_base.specs.declared.unit.Num.{Num as Number}
-use Rattle.lock_entry.proofs.Naming.{bytes_eq-same}
+use Rattle.lock_entry.proofs.lemmas.Naming.{bytes_eq-same}
 use Rattle.module_effects.specs.Rows.{RowName, row_cmp}
-use Rattle.module_effects.proofs.Tables.{rows_total, same_row, same_row-Decides}
+use Rattle.module_effects.proofs.lemmas.Tables.{rows_total, same_row, same_row-Decides}
 use Rattle.update_records.specs.Business.{interval_of}
 use Rattle.update_records.specs.Ledger.{IsRightLevel, LevelsAgree}
 use Rattle.update_records.specs.RecordRows.{Level}

@@ -11,7 +11,7 @@ use Rattle.module_effects.specs.Rows.{Tables, row_of, with_row}
 use Rattle.module_effects.specs.Spots.{covers, is_at, row_at, with_spots, Agree, IsDone, IsRefused}
 use Rattle.module_effects.specs.declared.fault.EffectFault.{EffectFault}
 use Rattle.module_effects.specs.declared.spot.Spot.{Spot}
-use Rattle.module_effects.proofs.Tables.{is_at-Decides}
+use Rattle.module_effects.proofs.lemmas.Tables.{is_at-Decides}
 use Rattle.store_reading.specs.Posting.{spot_for, AreTexts}
 use Rattle.store_reading.specs.declared.text_id.TextId.{TextId}
 

@@ -18,7 +18,7 @@ use Rattle.update_records.specs.declared.records.MarkKind.TheVariants.{Rec}
 use Rattle.update_records.specs.declared.records.Unit.{Unit as UnitOfWork}
 use Rattle.update_records.specs.declared.stored.Record.{Record}
 use Rattle.update_records.specs.declared.stored.Record.TheVariants as rec
-use Rattle.update_records.proofs.Status.{unit_refl}
+use Rattle.record_laws.proofs.Status.{unit_refl}
 use Rattle.store_reading.specs.First.{AreRight as EachRight}
 use Rattle.store_reading.specs.Intervals.{committed, is_right_level, numbers_at, numbers_by}
 use Rattle.store_reading.specs.Lawful.{IsRightRow}
@@ -33,7 +33,7 @@ use Rattle.store_reading.proofs.Faultless.{are_whole, breaks_none, first_part, s
 use Rattle.store_reading.proofs.Fits.{unit_fits}
 use Rattle.store_reading.proofs.Heads.{head_or_none}
 use Rattle.store_reading.proofs.Intervals.{levels_agree}
-use Rattle.store_reading.proofs.Legal.{all_marks, all_right, first_none, legal_from, no_wrong_unit, numbered, under_from}
+use Rattle.store_reading.proofs.lemmas.Legal.{all_marks, all_right, first_none, legal_from, no_wrong_unit, numbered, under_from}
 use Rattle.store_reading.proofs.Levels.{right_rows}
 use Rattle.store_reading.proofs.Posted.{posts_right}
 use Rattle.store_reading.proofs.Rising.{AreIn, In, all_weaker, in_any, read_in, table_of}

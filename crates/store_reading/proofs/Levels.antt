@@ -3,7 +3,7 @@ use Rattle.std.proofs.Common.{◌≡◌, ℕ, ◌+◌, ◌-◌, ◌≤◌, Bool,
 use Rattle.std.specs.List.{All, AllByRecursion, IsDistinct, list_all, range_with_len}
 use Rattle.std.proofs.lemmas.Bool.{leb-true}
 use Rattle.std.proofs.lemmas.List.Elements.{All-cons, All-from_recursion, All-head, All-tail}
-use Rattle.lock_entry.proofs.Naming.{bytes_eq-same}
+use Rattle.lock_entry.proofs.lemmas.Naming.{bytes_eq-same}
 use Rattle.enq_base.specs.declared.unit.Num.{Num as Number}
 use Rattle.update_records.specs.Business.{numbers_from}
 use Rattle.update_records.specs.Ledger.{AreDrawn, IsRightLevel}
@@ -14,7 +14,7 @@ use Rattle.update_records.specs.declared.stored.Record.TheVariants as rec
 use Rattle.store_reading.specs.First.{AreRight}
 use Rattle.store_reading.specs.Intervals.{are_apart, are_bounds, are_drawn, is_right_level}
 use Rattle.store_reading.specs.Lawful.{level_in, IsRightRow}
-use Rattle.store_reading.proofs.Legal.{first_true, second_true}
+use Rattle.store_reading.proofs.lemmas.Legal.{first_true, second_true}
 
 wrong_of : (b : Bool) → not b ≡ true → b ≡ false
 wrong_of true h = cc

@@ -5,7 +5,7 @@ use Rattle.keeper_api.specs.Batch.{spot_of}
 use Rattle.keeper_api.specs.Rows.{Rows}
 use Rattle.keeper_api.specs.RowLaws.{value_in}
 use Rattle.module_effects.specs.Rows.{RowName, row_cmp}
-use Rattle.module_effects.proofs.Tables.{rows_total, same_row, same_row-Decides}
+use Rattle.module_effects.proofs.lemmas.Tables.{rows_total, same_row, same_row-Decides}
 use Rattle.update_records.specs.Ledger.{own}
 use Rattle.update_records.specs.RecordRows.{Level, level_row, level_value, row_name}
 use Rattle.update_records.specs.Spelling.{record_row}
@@ -14,9 +14,9 @@ use Rattle.update_records.specs.declared.stored.Record.TheVariants as rec
 use Rattle.store_reading.specs.Lawful.{level_in}
 use Rattle.store_reading.specs.Stores.{level_entry, levels_in}
 use Rattle.store_reading.specs.Told.{records_in, SpellAll}
-use Rattle.store_reading.proofs.Elements.{contains_cases, contains_here, contains_none, contains_there}
-use Rattle.store_reading.proofs.Members.{record_stands}
-use Rattle.store_reading.proofs.Shelved.{AgreesMap, IsMapped}
+use Rattle.store_reading.proofs.lemmas.Elements.{contains_cases, contains_here, contains_none, contains_there}
+use Rattle.store_reading.proofs.lemmas.Members.{record_stands}
+use Rattle.store_reading.proofs.lemmas.Shelved.{AgreesMap, IsMapped}
 
 -- the row of a level record
 record IsLevelRow (records : List Record) (name : RowName) (level : Level) : Type 0 where

@@ -18,7 +18,7 @@ use Rattle.store_reading.specs.Posts.{effects_of}
 use Rattle.store_reading.specs.Stores.{entry_in}
 use Rattle.store_reading.specs.Units.{has_row, has_rows, is_row}
 use Rattle.store_reading.proofs.Rising.{AreIn, In, IsAbove, Rise, all_filter, any_in, below_behind, filter_in, in_all, in_filter, key_of, number_rises, table_of}
-use Rattle.update_records.proofs.Status.{one_unit}
+use Rattle.record_laws.proofs.Status.{one_unit}
 
 -- ---- numbers
 

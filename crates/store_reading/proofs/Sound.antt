@@ -5,7 +5,7 @@ use Rattle.enq_base.specs.declared.owner.UnitKey.{UnitKey}
 use Rattle.keeper_api.specs.Rows.{Rows}
 use Rattle.update_records.specs.Ledger.{StandFor}
 use Rattle.update_records.specs.declared.stored.Record.{Record}
-use Rattle.update_records.proofs.Status.{unit_refl}
+use Rattle.record_laws.proofs.Status.{unit_refl}
 use Rattle.store_reading.specs.Faults.{OnBad}
 use Rattle.store_reading.specs.Good.{IsBadPlace, IsSound, ledger_of}
 use Rattle.store_reading.specs.Stores.{is_bare, is_header, ledger_in, rule_fault, store_fault}
@@ -15,7 +15,7 @@ use Rattle.store_reading.specs.declared.fault.ReadingFault.{ReadingFault}
 use Rattle.store_reading.specs.declared.fault.ReadingFault.TheVariants.{Failed, Bad, NoMemory}
 use Rattle.store_reading.specs.declared.ledger.StoredLedger.{StoredLedger}
 use Rattle.store_reading.proofs.Bare.{bare_table}
-use Rattle.store_reading.proofs.BooksStand.{AreUnits}
+use Rattle.store_reading.proofs.lemmas.BooksStand.{AreUnits}
 use Rattle.store_reading.proofs.Exact.{ledger_bare, stand_for}
 use Rattle.store_reading.proofs.Faultless.{are_whole, breaks_none, each_stands, first_part, headers_have, locks_have, modules_have, second_part, steps_have}
 use Rattle.store_reading.proofs.Heads.{HasHead, header_with}

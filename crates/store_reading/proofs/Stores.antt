@@ -8,7 +8,7 @@ use Rattle.keeper_api.specs.Rows.{Rows}
 use Rattle.update_records.specs.Spelling.{Spells}
 use Rattle.update_records.specs.declared.stored.Record.{Record}
 use Rattle.store_reading.specs.Faults.{OnBad, IsReadingFault}
-use Rattle.store_reading.specs.Tables.{rows_in}
+use Rattle.table_reading.specs.Tables.{rows_in}
 use Rattle.store_reading.specs.Told.{AreRead, AreReadBelow, IsSpelled, IsFirstBad, IsFirstBadRow, IsTableRead, SpellAll, SpellBelow, SpellEach}
 use Rattle.store_reading.specs.declared.fault.ReadingFault.{ReadingFault}
 use Rattle.store_reading.specs.declared.fault.ReadingFault.TheVariants.{Failed, Bad, NoMemory}

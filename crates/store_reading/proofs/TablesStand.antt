@@ -5,21 +5,21 @@ use Rattle.std.specs.Str.{bytes_eq}
 use Rattle.std.specs.FinMap.{empty, get, get-empty}
 use Rattle.keeper_api.specs.declared.rows.Row.{Row}
 use Rattle.keeper_api.specs.Rows.{Spot, spot_cmp, Rows}
-use Rattle.lock_entry.proofs.Naming.{bytes_eq-same}
+use Rattle.lock_entry.proofs.lemmas.Naming.{bytes_eq-same}
 use Rattle.module_effects.specs.Rows.{RowName, Tables}
 use Rattle.update_records.specs.Ledger.{has_bytes, own, with_map}
 use Rattle.update_records.specs.RecordRows.{row_name}
 use Rattle.update_records.specs.Spelling.{Spells}
 use Rattle.update_records.specs.declared.stored.Record.{Record}
 use Rattle.update_records.specs.declared.stored.Record.TheVariants as rec
-use Rattle.update_records.proofs.Keyed.{get_map, is_named, unname, unname_name}
-use Rattle.update_records.proofs.Own.{get_own}
+use Rattle.record_laws.proofs.Keyed.{get_map, is_named, unname, unname_name}
+use Rattle.record_laws.proofs.Own.{get_own}
 use Rattle.store_reading.specs.Posts.{difference_from, is_business, rows_for}
-use Rattle.store_reading.specs.Tables.{rows_in}
+use Rattle.table_reading.specs.Tables.{rows_in}
 use Rattle.store_reading.specs.Told.{records_in, SpellAll, SpellEach}
-use Rattle.store_reading.proofs.Legal.{first_true, second_true}
-use Rattle.store_reading.proofs.Members.{get_in_table, record_stands, value_of}
-use Rattle.store_reading.proofs.Shelved.{AgreesMap, IsMapped, named_here, named_spot, or_else}
+use Rattle.store_reading.proofs.lemmas.Legal.{first_true, second_true}
+use Rattle.store_reading.proofs.lemmas.Members.{get_in_table, record_stands, value_of}
+use Rattle.store_reading.proofs.lemmas.Shelved.{AgreesMap, IsMapped, named_here, named_spot, or_else}
 
 -- ---- the rows that stand for business tables
 

@@ -14,14 +14,14 @@ use Rattle.keeper_api.specs.Rows.{Spot, spot_cmp, is_behind, row_of}
 use Rattle.keeper_api.specs.RowLaws.{spots_total, exact_spots, same_spot}
 use Rattle.module_effects.specs.Rows.{Tables}
 use Rattle.update_records.specs.Ledger.{with_map}
-use Rattle.update_records.proofs.Keyed.{is_named, unname, unname_name}
+use Rattle.record_laws.proofs.Keyed.{is_named, unname, unname_name}
 use Rattle.store_reading.specs.Ids.{text_cmp, text_id, text_name}
 use Rattle.store_reading.specs.Posting.{text_row, AreTexts}
 use Rattle.store_reading.specs.Posts.{difference_from, is_business, rows_for}
 use Rattle.update_records.specs.declared.stored.Record.{Record}
 use Rattle.store_reading.specs.declared.rules.Place.{Place}
 use Rattle.store_reading.specs.declared.text_id.TextId.{TextId}
-use Rattle.store_reading.proofs.Shelved.{named_here, named_spot}
+use Rattle.store_reading.proofs.lemmas.Shelved.{named_here, named_spot}
 use Rattle.store_reading.proofs.TablesStand.{get_alone}
 
 both_T : (a b : Bool) → T a → T b → T (a && b)

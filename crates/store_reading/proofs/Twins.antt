@@ -1,5 +1,5 @@
 -- The units of which two locks have one name, once one more name is seen.
-use Rattle.std.proofs.Common.{◌≡◌, ℕ, nat_eq, ◌+◌, ◌<◌, length, take, get_or, if◌then◌else◌, Bool, true, false, not, cond, ◌&&◌, ◌||◌, List, [], ◌∷◌, ◌++◌, refl, sym, ap, ◌∙◌}
+use Rattle.std.proofs.Common.{◌≡◌, ℕ, ◌+◌, ◌<◌, length, take, get_or, if◌then◌else◌, Bool, true, false, not, cond, ◌&&◌, ◌||◌, List, [], ◌∷◌, ◌++◌, refl, sym, ap, ◌∙◌}
 use Rattle.std.specs.HashSet.{HashSet, contains}
 use Rattle.std.specs.List.{filter, flat_map, list_all, list_any}
 use Rattle.std.specs.Str.{bytes_eq}
@@ -13,45 +13,23 @@ use Rattle.enq_base.specs.declared.owner.UnitKey.{UnitKey}
 use Rattle.lock_entry.specs.Names.{all_pairs, named, same_asked, same_name}
 use Rattle.lock_entry.specs.declared.entry.Asked.{Asked}
 use Rattle.lock_entry.specs.declared.entry.LockName.{LockName}
-use Rattle.mode_rules.specs.Modes.{same_mode}
-use Rattle.mode_rules.specs.declared.Mode.{Mode}
-use Rattle.mode_rules.specs.declared.Mode.TheVariants.{S, E, X, O}
-use Rattle.update_records.specs.RecordRows.{mode_number}
+use Rattle.mode_rules.specs.declared.Mode.TheVariants.{S, X}
+use Rattle.mode_rules.proofs.lemmas.ModeNumbers.{numbers_tell}
 use Rattle.store_reading.specs.Ids.{lock_id, same_lock}
-use Rattle.update_records.specs.Ids.{id_of, same_id}
+use Rattle.enq_base.specs.Ids.{id_of, same_id}
 use Rattle.store_reading.specs.Standings.{AreNames, AreTwins}
 use Rattle.update_records.specs.declared.stored.Record.{Record}
 use Rattle.update_records.specs.declared.stored.Record.TheVariants as rec
 use Rattle.store_reading.specs.Units.{are_distinct, differ, is_counted, is_named_for, names_in}
 use Rattle.store_reading.specs.declared.lock_id.LockId.{LockId}
-use Rattle.update_records.specs.declared.unit_id.UnitId.{UnitId}
-use Rattle.update_records.proofs.Status.{one_unit}
-
--- ---- modes by their numbers
-
-modes_is : (a b : Mode) → nat_eq (mode_number a) (mode_number b) ≡ same_mode a b
-modes_is S S = refl
-modes_is S E = refl
-modes_is S X = refl
-modes_is S O = refl
-modes_is E S = refl
-modes_is E E = refl
-modes_is E X = refl
-modes_is E O = refl
-modes_is X S = refl
-modes_is X E = refl
-modes_is X X = refl
-modes_is X O = refl
-modes_is O S = refl
-modes_is O E = refl
-modes_is O X = refl
-modes_is O O = refl
+use Rattle.enq_base.specs.declared.unit_id.UnitId.{UnitId}
+use Rattle.record_laws.proofs.Status.{one_unit}
 
 abbrev name_for : UnitKey → Asked → LockName
 name_for key asked = named (Upd key) asked
 
 pub locks_is : (u v : UnitKey) (a b : Asked) → same_lock (lock_id u a) (lock_id v b) ≡ same_name (name_for u a) (name_for v b)
-locks_is u v a b = ap (λ m. same_unit u v && ((bytes_eq a.table b.table && bytes_eq a.pattern b.pattern) && m)) (modes_is a.mode b.mode)
+locks_is u v a b = ap (λ m. same_unit u v && ((bytes_eq a.table b.table && bytes_eq a.pattern b.pattern) && m)) (numbers_tell a.mode b.mode)
 
 -- ---- lists with one more
 

@@ -16,7 +16,7 @@ use Rattle.update_records.specs.declared.records.MarkKind.TheVariants.{Rec}
 use Rattle.update_records.specs.declared.records.Unit.{Unit as UnitOfWork}
 use Rattle.update_records.specs.declared.stored.Record.{Record}
 use Rattle.update_records.specs.declared.stored.Record.TheVariants as rec
-use Rattle.update_records.proofs.Status.{one_unit, unit_refl}
+use Rattle.record_laws.proofs.Status.{one_unit, unit_refl}
 use Rattle.store_reading.specs.Posts.{effects_of}
 use Rattle.store_reading.specs.Rules.{marks_in}
 use Rattle.store_reading.specs.Stores.{entry_in, unit_in, user_at}

@@ -5,12 +5,12 @@ use Rattle.std.specs.HashSet.{HashSet, contains}
 use Rattle.std.specs.List.{list_all, range_with_len}
 use Rattle.enq_base.specs.declared.owner.UnitKey.{UnitKey}
 use Rattle.update_records.specs.declared.stored.Record.{Record}
-use Rattle.update_records.specs.Ids.{id_of, same_id}
+use Rattle.enq_base.specs.Ids.{id_of, same_id}
 use Rattle.store_reading.specs.Standings.{lists_part, lists_parts, lists_rows, looks_whole, AreRows, IsIndex}
 use Rattle.store_reading.specs.Units.{counts_at, has_distinct_locks, has_few, has_part, has_parts, has_row, has_rows, is_whole}
 use Rattle.store_reading.specs.declared.counts.Counts.{Counts}
 use Rattle.store_reading.specs.declared.row_id.RowId.{RowId}
-use Rattle.update_records.specs.declared.unit_id.UnitId.{UnitId}
+use Rattle.enq_base.specs.declared.unit_id.UnitId.{UnitId}
 
 rows_same : {S : Type 0} (rows : HashSet RowId S) (records : List Record) → AreRows rows records → (key : UnitKey) (part n : ℕ)
     → lists_rows rows key part n ≡ has_rows records key part n

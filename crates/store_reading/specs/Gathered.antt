@@ -6,11 +6,11 @@ use Rattle.std.specs.List.{find, flat_map}
 use Rattle.std.specs.Option.{option_map, option_map_or}
 use Rattle.enq_base.specs.declared.owner.UnitKey.{UnitKey}
 use Rattle.lock_entry.specs.declared.entry.Entry.{Entry}
-use Rattle.update_records.specs.Ids.{id_of, same_id}
+use Rattle.enq_base.specs.Ids.{id_of, same_id}
 use Rattle.update_records.specs.Marks.{is_rec}
 use Rattle.update_records.specs.declared.stored.Record.{Record}
 use Rattle.update_records.specs.declared.stored.Record.TheVariants as rec
-use Rattle.update_records.specs.declared.unit_id.UnitId.{UnitId}
+use Rattle.enq_base.specs.declared.unit_id.UnitId.{UnitId}
 use Rattle.store_reading.specs.Posting.{AreParts}
 use Rattle.store_reading.specs.Standings.{ArePlaces}
 use Rattle.store_reading.specs.declared.units.UnitsTold.{UnitsTold}

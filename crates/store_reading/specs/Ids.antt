@@ -6,9 +6,10 @@ use Rattle.std.specs.Str.{bytes_eq}
 use Rattle.std.specs.declared.cmp.Ordering.{Ordering}
 use Rattle.enq_base.specs.declared.owner.UnitKey.{UnitKey}
 use Rattle.lock_entry.specs.declared.entry.Asked.{Asked}
+use Rattle.mode_rules.specs.Modes.{mode_number}
 use Rattle.module_effects.specs.Rows.{RowName}
-use Rattle.update_records.specs.Ids.{id_of, same_id}
-use Rattle.update_records.specs.RecordRows.{mode_number, row_name}
+use Rattle.enq_base.specs.Ids.{id_of, same_id}
+use Rattle.update_records.specs.RecordRows.{row_name}
 use Rattle.update_records.specs.declared.stored.Record.{Record}
 use Rattle.update_records.specs.declared.stored.Record.TheVariants as rec
 use Rattle.store_reading.specs.declared.interval_id.IntervalId.{IntervalId}

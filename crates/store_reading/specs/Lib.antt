@@ -1,4 +1,3 @@
-pub mod Tables
 pub mod Told
 pub mod Faults
 pub mod Ids

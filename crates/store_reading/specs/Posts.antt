@@ -20,7 +20,7 @@ use Rattle.update_records.specs.declared.records.MarkKind.TheVariants.{V1, Bad1,
 use Rattle.update_records.specs.declared.stored.Record.{Record}
 use Rattle.update_records.specs.declared.stored.Record.TheVariants as rec
 use Rattle.store_reading.specs.First.{first_wrong, ◌else_at◌}
-use Rattle.store_reading.specs.Tables.{rows_in}
+use Rattle.table_reading.specs.Tables.{rows_in}
 use Rattle.store_reading.specs.declared.rules.Place.{Place}
 
 -- ---- what the parts give

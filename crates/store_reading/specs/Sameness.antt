@@ -4,17 +4,10 @@ use Rattle.std.specs.Cmp.{nat_eq_equiv, on_equiv, on_total, partial_equiv_from_e
 use Rattle.std.specs.Cmp.Lexicographic.{nat_list_cmp_total, nat_list_eq_equiv}
 use Rattle.std.specs.Ordering.{as_partial_cmp}
 use Rattle.store_reading.specs.Ids.{same_interval, same_lock, same_part, same_text, text_cmp, text_name}
-use Rattle.update_records.specs.Ids.{same_id}
+use Rattle.enq_base.specs.Ids.{ids_equiv}
 use Rattle.store_reading.specs.declared.interval_id.IntervalId.{IntervalId}
 use Rattle.store_reading.specs.declared.lock_id.LockId.{LockId}
 use Rattle.store_reading.specs.declared.part_id.PartId.{PartId}
-use Rattle.update_records.specs.declared.unit_id.UnitId.{UnitId}
-
-pub ids_equiv : IsEquivalence same_id
-ids_equiv =
-    and_equiv (and_equiv (on_equiv (λ (a : UnitId). a.start) nat_eq_equiv)
-    (on_equiv (λ (a : UnitId). a.session) nat_eq_equiv))
-    (on_equiv (λ (a : UnitId). a.luw) nat_eq_equiv)
 
 pub locks_equiv : IsEquivalence same_lock
 locks_equiv =

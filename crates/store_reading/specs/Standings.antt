@@ -18,14 +18,14 @@ use Rattle.update_records.specs.declared.stored.Record.{Record}
 use Rattle.update_records.specs.declared.stored.Record.TheVariants as rec
 use Rattle.store_reading.specs.Intervals.{has_level, numbers_at}
 use Rattle.store_reading.specs.Ids.{interval_id, lock_id, same_interval, same_lock, row_id, same_row}
-use Rattle.update_records.specs.Ids.{id_of, same_id}
+use Rattle.enq_base.specs.Ids.{id_of, same_id}
 use Rattle.store_reading.specs.Rules.{has_second, marks_in, status_in}
 use Rattle.store_reading.specs.Units.{are_distinct, counts_at, has_few, has_row, is_recorded, names_in, no_counts}
 use Rattle.store_reading.specs.declared.counts.Counts.{Counts}
 use Rattle.store_reading.specs.declared.interval_id.IntervalId.{IntervalId}
 use Rattle.store_reading.specs.declared.lock_id.LockId.{LockId}
 use Rattle.store_reading.specs.declared.row_id.RowId.{RowId}
-use Rattle.update_records.specs.declared.unit_id.UnitId.{UnitId}
+use Rattle.enq_base.specs.declared.unit_id.UnitId.{UnitId}
 
 -- the units that have a V2 part, by their headers
 abbrev pub AreSecond : {S : Type 0} → HashSet UnitId S → List Record → Type 0

@@ -5,7 +5,7 @@ use Rattle.keeper_api.specs.declared.rows.Row.{Row}
 use Rattle.keeper_api.specs.Rows.{Rows, RiseFrom}
 use Rattle.update_records.specs.Spelling.{Spells}
 use Rattle.update_records.specs.declared.stored.Record.{Record}
-use Rattle.store_reading.specs.Tables.{rows_in}
+use Rattle.table_reading.specs.Tables.{rows_in}
 
 -- the rows of a table spell these records, in this order
 abbrev pub SpellEach : ℕ → List Row → List Record → Type 0

@@ -4,10 +4,10 @@ ghost use Rattle.store_reading.specs.Standings.{counts_for, AreCounts};
 ghost use Rattle.store_reading.specs.Units.{counts_at, effects_in, is_counted, no_counts, told};
 ghost use Rattle.update_records.specs.declared.stored.Record.{Record};
 
-use enq_base::{NoMemory, UnitKey};
+use enq_base::{NoMemory, UnitId, UnitKey, id_of};
 use std::alloc::Global;
 use std::collections::HashMap;
-use update_records::{Record, UnitId, id_of};
+use update_records::Record;
 
 /// What a header counts of its unit.
 #[derive(Clone, Copy, Debug, PartialEq, Eq)]

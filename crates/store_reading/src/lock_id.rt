@@ -1,10 +1,8 @@
 ghost use Rattle.std.specs.Prelude.{◌≡◌};
 ghost use Rattle.store_reading.specs.Ids.{lock_id};
-ghost use Rattle.update_records.specs.RecordRows.{mode_number};
 
-use enq_base::{ARGUMENT_BYTES, Name, Pattern, ShortBytes, UnitKey};
-use lock_entry::Mode;
-use update_records::{UnitId, id_of};
+use enq_base::{ARGUMENT_BYTES, Name, Pattern, ShortBytes, UnitId, UnitKey, id_of};
+use mode_rules::{Mode, mode_number};
 
 /// The name of a lock of a unit.
 #[derive(Clone, Copy, Debug, Hash)]
@@ -35,17 +33,6 @@ impl Eq for LockId {
     ghost use Rattle.store_reading.specs.Sameness.{locks_equiv};
 
     ghost laws = { locks_equiv };
-}
-
-fn mode_number(mode: Mode) -> u8
-    ensures { result ≡ mode_number mode }
-{
-    match mode {
-        Mode::S => 1,
-        Mode::E => 2,
-        Mode::X => 3,
-        Mode::O => 0,
-    }
 }
 
 pub fn lock_id(unit: &UnitKey, table: &Name, mode: Mode, pattern: &Pattern) -> LockId

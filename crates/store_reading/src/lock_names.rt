@@ -3,19 +3,19 @@ ghost use Rattle.std.specs.HashSet.{contains};
 ghost use Rattle.std.specs.List.{flat_map};
 ghost use Rattle.lock_entry.specs.declared.entry.LockName.{LockName};
 ghost use Rattle.store_reading.specs.Ids.{same_lock};
-ghost use Rattle.update_records.specs.Ids.{same_id};
+ghost use Rattle.enq_base.specs.Ids.{same_id};
 ghost use Rattle.store_reading.specs.Standings.{AreCounts, AreNames, AreTwins};
 ghost use Rattle.store_reading.specs.Units.{names_in};
 ghost use Rattle.store_reading.specs.declared.lock_id.LockId.{LockId};
-ghost use Rattle.update_records.specs.declared.unit_id.UnitId.{UnitId};
+ghost use Rattle.enq_base.specs.declared.unit_id.UnitId.{UnitId};
 ghost use Rattle.update_records.specs.declared.stored.Record.{Record};
 
 use crate::counts::{Counts, is_counted};
 use crate::lock_id::{LockId, lock_id};
-use enq_base::NoMemory;
+use enq_base::{NoMemory, UnitId};
 use std::alloc::Global;
 use std::collections::{HashMap, HashSet};
-use update_records::{Record, UnitId};
+use update_records::Record;
 
 /// Notes a name, and its unit where the name came before.
 fn add_name(

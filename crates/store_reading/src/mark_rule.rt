@@ -3,17 +3,17 @@ ghost use Rattle.std.specs.HashMap.{get};
 ghost use Rattle.std.specs.HashSet.{contains};
 ghost use Rattle.enq_base.specs.Owners.{same_unit};
 ghost use Rattle.enq_base.specs.declared.owner.UnitKey.{UnitKey};
-ghost use Rattle.update_records.specs.Ids.{id_of, same_id};
+ghost use Rattle.enq_base.specs.Ids.{id_of, same_id};
 ghost use Rattle.store_reading.specs.Rules.{is_right_mark, mark_fault, may_mark, tells_second};
 ghost use Rattle.store_reading.specs.Standings.{AreSecond, AreStatuses};
 ghost use Rattle.update_records.specs.Marks.{given, may_follow};
 ghost use Rattle.update_records.specs.declared.stored.Record.{Record};
 
 use crate::rules::Place;
-use enq_base::{NoMemory, Status, UnitKey};
+use enq_base::{NoMemory, Status, UnitId, UnitKey, id_of};
 use std::alloc::Global;
 use std::collections::{HashMap, HashSet};
-use update_records::{Mark, MarkKind, Record, UnitId, id_of, tables};
+use update_records::{Mark, MarkKind, Record, tables};
 
 fn given(no_v2: bool, kind: &MarkKind, before: Option<Status>) -> Option<Status>
     ensures { result ≡ given no_v2 kind.now before }

@@ -3,17 +3,17 @@ ghost use Rattle.module_effects.specs.Rows.{RowName};
 ghost use Rattle.std.specs.HashMap.{get};
 ghost use Rattle.std.specs.List.{slice_get};
 ghost use Rattle.enq_base.specs.declared.owner.UnitKey.{UnitKey};
-ghost use Rattle.update_records.specs.Ids.{id_of, same_id};
+ghost use Rattle.enq_base.specs.Ids.{id_of, same_id};
 ghost use Rattle.store_reading.specs.Intervals.{committed, numbers_at, numbers_by, numbers_told};
 ghost use Rattle.store_reading.specs.Standings.{numbers_for, numbers_in_header, numbers_there, AreNumbers, ArePlaces};
 ghost use Rattle.update_records.specs.declared.stored.Record.{Record};
 ghost use Rattle.update_records.specs.Business.{is_from};
 
 use crate::interval_id::{IntervalId, interval_id};
-use enq_base::{Name, NoMemory, Num, UnitKey};
+use enq_base::{Name, NoMemory, Num, UnitId, UnitKey, id_of};
 use std::alloc::Global;
 use std::collections::HashMap;
-use update_records::{MarkKind, Record, UnitId, id_of};
+use update_records::{MarkKind, Record};
 
 fn add_number(
     alloc: Global,

@@ -1,8 +1,7 @@
 ghost use Rattle.std.specs.Prelude.{◌≡◌};
 ghost use Rattle.store_reading.specs.Ids.{part_id};
 
-use enq_base::UnitKey;
-use update_records::{UnitId, id_of};
+use enq_base::{UnitId, UnitKey, id_of};
 
 /// A part of a unit.
 #[derive(Clone, Copy, Debug, Hash)]

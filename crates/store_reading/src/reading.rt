@@ -1,16 +1,16 @@
 ghost use Rattle.std.specs.Prelude.{◌≡◌, ◌≤◌, ◌<◌, IfSome, IfOk, IfErr, is_some};
 ghost use Rattle.keeper_api.specs.Keeping.{IsWithin, Stays};
 ghost use Rattle.store_reading.specs.Faults.{reading_fault, HasReadingCause, IsReadingFault, MayBeFault, OnBad, OnFailed, UnlessFailed};
-ghost use Rattle.store_reading.specs.Tables.{rows_in};
+ghost use Rattle.table_reading.specs.Tables.{rows_in};
 ghost use Rattle.store_reading.specs.Told.{records_in, AreRead, IsFirstBad, IsTableRead, SpellAll, SpellEach};
 
 use crate::fault::ReadingFault;
-use crate::tables::read_table;
 use enq_base::Items;
 use keeper_api::{KeepFault, Keeper, Row};
 use std::alloc::Global;
 use std::marker::Model;
-use update_records::{Record, RowFault, decode_row};
+use table_reading::read_table;
+use update_records::{ReadFault, Record, decode_row};
 
 /// The records of tables 0 to 7, those of each table in the order of the keys of their rows.
 #[derive(Drop)]
@@ -58,8 +58,8 @@ fn decode_rows(alloc: Global, table: u8, rows: &[Row]) -> Result<Vec<Record>, Re
     for row in rows {
         match decode_row(alloc, row, table) {
             Ok(read) => records.push(read)?,
-            Err(RowFault::NoMemory) => return Err(ReadingFault::NoMemory),
-            Err(RowFault::Bad) => {
+            Err(ReadFault::NoMemory) => return Err(ReadingFault::NoMemory),
+            Err(ReadFault::Bad) => {
                 let row = records.len() as u64 + 1;
                 return Err(ReadingFault::Bad { table, row });
             }

@@ -2,16 +2,16 @@ ghost use Rattle.std.specs.Prelude.{◌≡◌, ℕ, ◌||◌, ◌&&◌, List, On
 ghost use Rattle.std.specs.HashSet.{contains};
 ghost use Rattle.enq_base.specs.declared.owner.UnitKey.{UnitKey};
 ghost use Rattle.store_reading.specs.Ids.{row_in, row_id, same_row};
-ghost use Rattle.update_records.specs.Ids.{id_of, same_id};
+ghost use Rattle.enq_base.specs.Ids.{id_of, same_id};
 ghost use Rattle.store_reading.specs.Standings.{lists_part, lists_row, lists_rows, AreRecorded, AreRows};
 ghost use Rattle.store_reading.specs.Units.{is_row, records_unit};
 ghost use Rattle.update_records.specs.declared.stored.Record.{Record};
 
 use crate::row_id::{RowId, row_id};
-use enq_base::{NoMemory, UnitKey};
+use enq_base::{NoMemory, UnitId, UnitKey, id_of};
 use std::alloc::Global;
 use std::collections::HashSet;
-use update_records::{MarkKind, Record, UnitId, id_of};
+use update_records::{MarkKind, Record};
 
 fn row_of(stored: &Record) -> Option<RowId>
     ensures { result ≡ row_in stored.now }

@@ -9,10 +9,10 @@ use crate::lock_names::twins_of;
 use crate::row_id::RowId;
 use crate::rules::Place;
 use crate::unit_rows::{has_part, has_rows, recorded_units, rows_of};
-use enq_base::{NoMemory, UnitKey};
+use enq_base::{NoMemory, UnitId, UnitKey, id_of};
 use std::alloc::Global;
 use std::collections::{HashMap, HashSet};
-use update_records::{MarkKind, Record, UnitId, id_of, tables};
+use update_records::{MarkKind, Record, tables};
 
 const MOST_EFFECTS: u32 = 200;
 

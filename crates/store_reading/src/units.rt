@@ -11,18 +11,18 @@ ghost use Rattle.store_reading.specs.Standings.{ArePlaces};
 ghost use Rattle.store_reading.specs.Stores.{entry_in, is_header, unit_in, units_in, user_at};
 ghost use Rattle.store_reading.specs.Told.{records_in};
 ghost use Rattle.store_reading.specs.Units.{is_recorded};
-ghost use Rattle.update_records.specs.Ids.{id_of, same_id};
+ghost use Rattle.enq_base.specs.Ids.{id_of, same_id};
 ghost use Rattle.update_records.specs.declared.stored.Record.{Record};
 
 use crate::numbers::{numbers_there, place_of, places_of};
 use crate::part_id::PartId;
 use crate::parts::{effects_for, parts_of};
 use crate::reading::StoredRecords;
-use enq_base::{Effect, Items, Name, NoMemory, Num, Owner, Parts, UnitKey};
+use enq_base::{Effect, Items, Name, NoMemory, Num, Owner, Parts, UnitId, UnitKey, id_of};
 use lock_entry::Entry;
 use std::alloc::Global;
 use std::collections::HashMap;
-use update_records::{Mark, MarkKind, Record, Unit, UnitId, id_of, tables};
+use update_records::{Mark, MarkKind, Record, Unit, tables};
 
 /// What the rows of the units tell, by the keys of the units.
 #[derive(Drop)]

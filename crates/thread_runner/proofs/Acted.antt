@@ -1,5 +1,5 @@
 -- What all actors have done, from their threads to the last look.
-use Rattle.std.proofs.Common.{◌≡◌, inl, inr, ℕ, Bool, true, false, List, [], ◌∷◌, ◌++◌, refl, sym, ap, ◌∙◌, subst, arith}
+use Rattle.std.proofs.Common.{◌≡◌, inl, inr, ℕ, Bool, true, false, List, [], ◌∷◌, ◌++◌, reverse, refl, sym, ap, ◌∙◌, subst, arith}
 use Rattle.std.proofs.lemmas.Bool.Decides.{nat_tests}
 use Rattle.std.proofs.Math.Logic.{∥∥₁_map₂}
 use Rattle.std.specs.Prelude.{◌||◌, map, nat_eq, IsTrue}
@@ -18,16 +18,18 @@ use Rattle.script_actors.specs.Doers.{is_same}
 use Rattle.script_actors.specs.declared.line.NumberedLine.{NumberedLine}
 use Rattle.actor_threads.specs.Last.{looked}
 use Rattle.actor_threads.specs.declared.actor.Deed.{Deed}
+use Rattle.gauges.specs.declared.board.GaugePass.{GaugePass}
 use Rattle.caller_laws.specs.Callers.{AreAmong, AreDistinct, AreTheirs}
 use Rattle.caller_laws.specs.Doing.{Did, IsThread, LeadsAlone, Looked, Thread, entries_of}
 use Rattle.turn_desks.specs.Led.{Counts, IsLed}
 use Rattle.turn_lock.specs.declared.view.View.{View}
 use Rattle.turn_lock.specs.Rule.{own_entries}
 use Rattle.thread_runner.specs.Acting.{AreSmall, HasActed, HasWorker}
-use Rattle.thread_runner.specs.Hiring.{AreDone, AreKept, HasGathered, callers_in}
+use Rattle.thread_runner.specs.Hiring.{AreDone, AreKept, HasGathered, callers_in, glance_of}
 use Rattle.thread_runner.specs.Looking.{LooksLast, stood}
 use Rattle.thread_runner.proofs.Done.{done_by, led_theirs}
 use Rattle.thread_runner.proofs.Looks.{Goes, OthersStay, alone, done_behind}
+use Rattle.thread_runner.proofs.Shown.{PassesSaw, seen_by, seen_then}
 use Rattle.thread_runner.proofs.Worked.{NoneLaw, RestsLaw, leaves_none}
 
 -- ---- what the laws of callers say
@@ -100,10 +102,11 @@ module _ {S : Type 0} (past : S → List PastEntry) (each : EachLaw past) (all_a
     subst (λ (x : State). AreAmong callers x.past) (sym n.1) h.1,
   )
 
-  pub acted_by : (s t : State) (at_s at_t : Counts) (v : View PastEntry) (deeds now : List Deed) → IsLed told tells linked first before s at_s
-      → IsLed told tells linked first before t at_t → v.seen ≡ s.past → IsPermutation s.past (own_entries v) → LooksLast s t deeds now
-      → HasGathered past objects lines callers v deeds → HasActed objects lines callers t now
-  acted_by s t at_s at_t v deeds now led_s led_t seen own looks g =
+  pub acted_by : (s t : State) (at_s at_t : Counts) (v : View PastEntry) (deeds now : List Deed) (passes : List GaugePass)
+      → IsLed told tells linked first before s at_s → IsLed told tells linked first before t at_t → v.seen ≡ s.past
+      → IsPermutation s.past (own_entries v) → LooksLast s t deeds now → reverse (map glance_of deeds) ≡ passes
+      → HasGathered past objects lines callers v deeds → PassesSaw first s passes → HasActed objects lines callers first t now
+  acted_by s t at_s at_t v deeds now passes led_s led_t seen own looks glances g saw =
       let theirs : AreTheirs t.past = led_theirs told tells linked first before t at_t led_t in
       let all = done_then s t deeds now theirs looks (done_at s v deeds (led_theirs told tells linked first before s at_s led_s) seen own g) in
       record {
@@ -112,6 +115,7 @@ module _ {S : Type 0} (past : S → List PastEntry) (each : EachLaw past) (all_a
         worked =
             leaves_none rests none_waits objects lines told tells linked first before s t at_s at_t callers deeds now fresh none led_s led_t theirs all.1 all.0
             some small looks;
+        looked = seen_then first s t deeds now looks (seen_by first s deeds passes glances saw);
       }
 
   abbrev LedTo : State → Counts → Type 0
@@ -120,11 +124,20 @@ module _ {S : Type 0} (past : S → List PastEntry) (each : EachLaw past) (all_a
   both : (s t : State) (at_s at_t : Counts) → ∥ LedTo s at_s ∥₁ → ∥ LedTo t at_t ∥₁ → ∥ LedTo s at_s × LedTo t at_t ∥₁
   both s t at_s at_t a b = ∥∥₁_map₂ a b (λ x y. (x, y))
 
-  pub acted_merely : (s t : State) (at_s at_t : Counts) (v : View PastEntry) (deeds now : List Deed) → ∥ LedTo s at_s ∥₁ → ∥ LedTo t at_t ∥₁ → v.seen ≡ s.past
-      → IsPermutation s.past (own_entries v) → LooksLast s t deeds now → ∥ HasGathered past objects lines callers v deeds ∥₁
-      → ∥ HasActed objects lines callers t now ∥₁
-  acted_merely s t at_s at_t v deeds now a b seen own looks h =
-      ∥∥₁_map₂ h (both s t at_s at_t a b) (λ g l. acted_by s t at_s at_t v deeds now l.0 l.1 seen own looks g)
+  abbrev Gathered : State → View PastEntry → List Deed → List GaugePass → Type 0
+  Gathered s v deeds passes = HasGathered past objects lines callers v deeds × PassesSaw first s passes
+
+  joined : (s : State) (v : View PastEntry) (deeds : List Deed) (passes : List GaugePass) → ∥ HasGathered past objects lines callers v deeds ∥₁
+      → ∥ PassesSaw first s passes ∥₁ → ∥ Gathered s v deeds passes ∥₁
+  joined s v deeds passes a b = ∥∥₁_map₂ a b (λ x y. (x, y))
+
+  pub acted_merely : (s t : State) (at_s at_t : Counts) (v : View PastEntry) (deeds now : List Deed) (passes : List GaugePass) → ∥ LedTo s at_s ∥₁
+      → ∥ LedTo t at_t ∥₁ → v.seen ≡ s.past → IsPermutation s.past (own_entries v) → LooksLast s t deeds now
+      → reverse (map glance_of deeds) ≡ passes → ∥ HasGathered past objects lines callers v deeds ∥₁ → ∥ PassesSaw first s passes ∥₁
+      → ∥ HasActed objects lines callers first t now ∥₁
+  acted_merely s t at_s at_t v deeds now passes a b seen own looks glances h saw =
+      ∥∥₁_map₂ (joined s v deeds passes h saw) (both s t at_s at_t a b)
+      (λ g l. acted_by s t at_s at_t v deeds now passes l.0 l.1 seen own looks glances g.0 g.1)
 
 -- where no call was made nothing changed
 pub unbegun : (told tells linked : Bool) (first : State) (before : Counts) (s : State) (now : Counts) → IsLed told tells linked first before s now → s.past ≡ []

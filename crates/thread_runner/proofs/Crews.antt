@@ -20,12 +20,6 @@ use Rattle.thread_runner.specs.Hiring.{AreHired, IsHired}
 pub one_more : {X : Type 0} (xs : List X) (i : ℕ) (x : X) → i < length xs → x ≡ get_or xs i x → take (i + 1) xs ≡ take i xs ++ x ∷ []
 one_more xs i x lt is = take_more xs i x lt ∙ ap (λ y. take i xs ++ y ∷ []) (sym is)
 
-pub take_all : {X : Type 0} (xs : List X) (i : ℕ) → length xs ≤ i → take i xs ≡ xs
-take_all [] zero le = refl
-take_all [] (suc i) le = refl
-take_all (x ∷ xs) zero le = absurd (omega (arith, le))
-take_all (x ∷ xs) (suc i) le = ap (λ l. x ∷ l) (take_all xs i (omega (arith, le)))
-
 module _ {N S R G : Type 0} {n : Names N} {g : Ghosts S PastEntry} where
   hired_last : (ws : List Who) (actors : List (Actor N S R G n g)) (w : Who) (a : Actor N S R G n g) → AreHired ws actors → IsHired w a
       → AreHired (ws ++ w ∷ []) (actors ++ a ∷ [])
@@ -39,9 +33,6 @@ module _ {N S R G : Type 0} {n : Names N} {g : Ghosts S PastEntry} where
   hired_more ws i actors now w a lt is h k e =
       subst (AreHired (take (i + 1) ws)) (sym e)
       (subst (λ l. AreHired l (actors ++ a ∷ [])) (sym (one_more ws i w lt is)) (hired_last (take i ws) actors w a h k))
-
-  pub hired_whole : (ws : List Who) (i : ℕ) (actors : List (Actor N S R G n g)) → length ws ≤ i → AreHired (take i ws) actors → AreHired ws actors
-  hired_whole ws i actors le h = subst (λ l. AreHired l actors) (take_all ws i le) h
 
   pub hired_length : (ws : List Who) (actors : List (Actor N S R G n g)) → AreHired ws actors → length actors ≡ length ws
   hired_length [] actors h = ap length h

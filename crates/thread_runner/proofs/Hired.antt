@@ -14,6 +14,7 @@ use Rattle.actor_threads.specs.declared.actor.Actor.{Actor}
 use Rattle.actor_threads.specs.declared.actor.Deed.{Deed}
 use Rattle.actor_threads.specs.Working.{AreDeeds, HasWorked, IsDeedOf, entries_in, known_to, left_by}
 use Rattle.caller_laws.specs.Doing.{DidAs, IsThread, Thread, entries_of}
+use Rattle.gauges.specs.Boards.{seen}
 use Rattle.turn_desks.specs.Parts.{IsPart}
 use Rattle.turn_desks.specs.declared.turn_desk.LockName.{Ghosts as Names}
 use Rattle.turn_lock.specs.declared.history.History.{Ghosts}
@@ -93,7 +94,7 @@ module _ {N S R G : Type 0} {n : Names N} {g : Ghosts S PastEntry} where
     )
 
     left_same : (d : Deed) (y : Actor N S R G n g) → IsDeedOf y d → left_of d ≡ left_by y
-    left_same d y k = λ i. record { said = k.said i; rests = k.rests i }
+    left_same d y k = λ i. record { said = k.said i; rests = k.rests i; looks = seen (k.glanced i) }
 
     pub kept_by : (xs ys : List (Actor N S R G n g)) (log : List PastEntry) (deeds : List Deed) → AllWorked xs ys → AllByRecursion (SeenIn log) ys
         → AreDeeds ys deeds → AreKept log (threads_by xs ys) (reverse deeds)

@@ -7,7 +7,7 @@ pub mod Looks
 pub mod Worked
 pub mod Written
 pub mod Runs
-pub mod Resting
 pub mod Acted
 pub mod Refilled
 pub mod Stood
+pub mod Shown

@@ -69,8 +69,8 @@ FileLaw = (told tells linked : Bool) (first s : State) (before now : Counts) (k 
     → doubt_of first ≡ None → IsDoubted s k refusal.BackupFault → Rose before.file now.file
 
 module _ (objects : List Object) (lines : List NumberedLine) (workers : ℕ) (s t : State) (old new : Output) where
-  not_blamed : (why : Why) → wants_none why ≡ true → (HaveDone objects lines workers t old new why → ⊥) → ∥ DoesScript objects lines workers s t old new why ∥₁
-      → ⊥
+  not_blamed : (why : Why) → wants_none why ≡ true → (HaveDone objects lines workers s t old new why → ⊥)
+      → ∥ DoesScript objects lines workers s t old new why ∥₁ → ⊥
   not_blamed why on never h = ∥∥₁_elim h none_prop go
     where
       go : DoesScript objects lines workers s t old new why → ⊥

@@ -21,10 +21,10 @@ use Rattle.caller_laws.specs.Doing.{Did, DidLines, nothing_asked}
 use Rattle.thread_report.specs.Answers.{answers_in, answers_of}
 use Rattle.thread_report.specs.Writing.{AllSaid, HadMemory, IsWritten, found_full, is_worker}
 use Rattle.thread_report.specs.Writing.{IsReported as WasReported}
-use Rattle.thread_runner.specs.Acting.{HasActed}
+use Rattle.thread_runner.specs.Acting.{HasActed, HaveSeen}
 use Rattle.thread_runner.specs.Hiring.{DidDeed, left_of}
 use Rattle.thread_runner.specs.Looking.{LeavesNone}
-use Rattle.thread_runner.specs.Threads.{AllLinesDone, AreAllDone, Deeds, HaveDone, IsEndOfRun, IsReported, all_answers, output}
+use Rattle.thread_runner.specs.Threads.{AllLinesDone, AreAllDone, Deeds, HaveDone, HaveLooked, IsEndOfRun, IsReported, all_answers, output}
 use Rattle.thread_runner.proofs.Ends.{ended}
 use Rattle.thread_runner.proofs.Stopped.{all_lines_done}
 
@@ -52,6 +52,12 @@ module _ (objects : List Object) (lines : List NumberedLine) (s : State) where
   abbrev deeds_by : (ds : List DeedOf) → AllDid ds → Deeds objects lines s.past (who_in ds)
   deeds_by [] h = tt
   deeds_by (d ∷ ds) h = (record { left = left_of d; full_at = d.full_at; did = h.0.did }, deeds_by ds h.1)
+
+  -- what they saw
+  looked_by : (first : State) (ds : List DeedOf) (h : AllDid ds) → HaveSeen first s ds
+      → HaveLooked objects lines s.past first s (who_in ds) (deeds_by ds h)
+  looked_by first [] h saw = tt
+  looked_by first (d ∷ ds) h saw = (saw.0, looked_by first ds h.1 saw.1)
 
   -- their answers are the same, in another order
   same_answers : (ds : List DeedOf) (h : AllDid ds) → IsPermutation (all_answers objects lines s.past (who_in ds) (deeds_by ds h)) (answers_in lines ds)
@@ -165,15 +171,18 @@ module _ (objects : List Object) (lines : List NumberedLine) (s : State) where
     end_by NoStart w = told NoStart w
 
 -- what was done and written
-pub have_done : (objects : List Object) (lines : List NumberedLine) (workers : ℕ) (s : State) (ds : List DeedOf) (old new : Option (List ℕ)) (f n : ℕ)
-    (why : Why)
-    → length s.past ≤ 262144 → IsWritten lines s ds old new f n why → HasActed objects lines (threads_of lines workers) s ds
-    → HaveDone objects lines workers s (output old f) (output new n) why
-have_done objects lines workers s ds old new f n why within written acted =
+pub have_done : (objects : List Object) (lines : List NumberedLine) (workers : ℕ) (first s : State) (ds : List DeedOf) (old new : Option (List ℕ))
+    (f n : ℕ) (why : Why)
+    → length s.past ≤ 262144 → IsWritten lines s ds old new f n why → HasActed objects lines (threads_of lines workers) first s ds
+    → HaveDone objects lines workers first s (output old f) (output new n) why
+have_done objects lines workers first s ds old new f n why within written acted =
     let who : who_in ds ≡ threads_of lines workers = acted.done.who in
     let by = subst
-    (λ (ws : List Who). (did : Deeds objects lines s.past ws) × IsEndOfRun objects lines s (all_answers objects lines s.past ws did) (output old f)
-    (output new n) why)
-    who
-    (deeds_by objects lines s ds acted.done.did, end_by objects lines s workers ds who acted.done.did acted.worked within old new f n why written) in
-    record { callers = acted.among; did = by.0; end = by.1 }
+    (λ (ws : List Who). (did : Deeds objects lines s.past ws) × HaveLooked objects lines s.past first s ws did
+    × IsEndOfRun objects lines s (all_answers objects lines s.past ws did) (output old f) (output new n) why)
+    who (
+      deeds_by objects lines s ds acted.done.did,
+      looked_by objects lines s first ds acted.done.did acted.looked,
+      end_by objects lines s workers ds who acted.done.did acted.worked within old new f n why written,
+    ) in
+    record { callers = acted.among; did = by.0; looked = by.1; end = by.2 }

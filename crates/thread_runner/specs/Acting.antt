@@ -11,7 +11,8 @@ use Rattle.script_runner.specs.declared.runner.Why.TheVariants.{NoMemory}
 use Rattle.actor_threads.specs.declared.actor.Deed.{Deed}
 use Rattle.caller_laws.specs.Callers.{AreAmong}
 use Rattle.thread_report.specs.Writing.{is_worker}
-use Rattle.thread_runner.specs.Hiring.{AreDone}
+use Rattle.turn_desks.specs.Watching.{HasShown}
+use Rattle.thread_runner.specs.Hiring.{AreDone, looks_of}
 use Rattle.thread_runner.specs.Looking.{LeavesNone}
 use Rattle.thread_runner.specs.Threads.{HaveDone, Output}
 
@@ -27,12 +28,17 @@ IsSmall w = Unit {0}
 abbrev pub AreSmall : List Who → Type 0
 AreSmall callers = AllByRecursion IsSmall callers
 
--- all these callers did their work, and these are their deeds
-pub record HasActed (objects : List Object) (lines : List NumberedLine) (callers : List Who) (s : State)
+-- what each actor saw at the gauges was shown on the way from the first state to this one
+abbrev pub HaveSeen : State → State → List Deed → Type 0
+HaveSeen first s deeds = AllByRecursion (λ (d : Deed). HasShown first s (looks_of d)) deeds
+
+-- all these callers did their work from a first state on, and these are their deeds
+pub record HasActed (objects : List Object) (lines : List NumberedLine) (callers : List Who) (first s : State)
     (deeds : List Deed) : Type 0 where
   pub among : AreAmong callers s.past
   pub done : AreDone objects lines callers s.past deeds
   pub worked : LeavesNone s deeds
+  pub looked : HaveSeen first s deeds
 
 -- memory was wanting before any call
 pub record IsUnbegun (s t : State) (old new : Output) (why : Why) : Type 0 where
@@ -42,4 +48,4 @@ pub record IsUnbegun (s t : State) (old new : Output) (why : Why) : Type 0 where
 
 abbrev pub DoesScript : List Object → List NumberedLine → ℕ → State → State → Output → Output → Why → Type 0
 DoesScript objects lines workers s t old new why = IsUnbegun s t old new why
-    ⊎ HaveDone objects lines workers t old new why
+    ⊎ HaveDone objects lines workers s t old new why

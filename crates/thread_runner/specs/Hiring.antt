@@ -9,6 +9,9 @@ use Rattle.script_actors.specs.declared.line.NumberedLine.{NumberedLine}
 use Rattle.actor_threads.specs.declared.actor.Actor.{Actor}
 use Rattle.actor_threads.specs.declared.actor.Deed.{Deed}
 use Rattle.caller_laws.specs.Doing.{Did, IsThread, Left, Thread, entries_of}
+use Rattle.enq_base.specs.declared.condition.Readings.{Readings}
+use Rattle.gauges.specs.Boards.{seen}
+use Rattle.gauges.specs.declared.board.GaugePass.{GaugePass}
 use Rattle.turn_desks.specs.declared.turn_desk.LockName.{Ghosts as Names}
 use Rattle.turn_lock.specs.declared.history.History.{Ghosts}
 use Rattle.turn_lock.specs.declared.view.View.{View}
@@ -32,8 +35,15 @@ module _ {N S R G : Type 0} {n : Names N} {g : Ghosts S PastEntry} where
 
 -- ---- behind it, at the lock
 
+-- what an actor looked at the gauges with, and what it saw there
+abbrev pub glance_of : Deed → GaugePass
+glance_of d = d.glanced.value
+
+abbrev pub looks_of : Deed → List Readings
+looks_of d = seen (glance_of d)
+
 abbrev pub left_of : Deed → Left
-left_of d = record { said = d.said; rests = d.rests }
+left_of d = record { said = d.said; rests = d.rests; looks = looks_of d }
 
 -- where an actor found the history full, it is as long as it may be
 abbrev pub IsLong : List PastEntry → Deed → Type 0

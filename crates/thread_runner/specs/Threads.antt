@@ -27,6 +27,7 @@ use Rattle.thread_report.specs.Answers.{AreInOrder, answers_of}
 use Rattle.whole_script.specs.Reading.{IsRead, IsReadingEnd}
 use Rattle.caller_laws.specs.Callers.{AreAmong, actors_of, threads_of, view_by}
 use Rattle.caller_laws.specs.Doing.{Did, Left, nothing_asked}
+use Rattle.turn_desks.specs.Watching.{HasShown}
 
 -- ---- who did what
 
@@ -40,6 +41,15 @@ pub record Deed (objects : List Object) (lines : List NumberedLine) (past : List
 -- what each of these did
 abbrev pub Deeds : List Object → List NumberedLine → List PastEntry → List Who → Type 0
 Deeds objects lines past callers = AllByRecursion (Deed objects lines past) callers
+
+-- What each of these saw of the counts of the server, while it rested, was shown one behind the other on the way from
+-- the first state to this one, each behind so many of its calls.
+abbrev pub HaveLooked :
+    (objects : List Object) (lines : List NumberedLine) (past : List PastEntry) → State → State → (callers : List Who)
+    → Deeds objects lines past callers → Type 0
+HaveLooked objects lines past first s [] all = Unit {0}
+HaveLooked objects lines past first s (w ∷ ws) all = HasShown first s all.0.left.looks
+    × HaveLooked objects lines past first s ws all.1
 
 -- All of an actor's lines were done: its calls are those that they come to, one behind the other, with the replies of
 -- the history, and of those that come to no call these are the answers.
@@ -119,11 +129,12 @@ IsEndOfRun objects lines s all old new NoMemory = BeginsReport s old new
 IsEndOfRun objects lines s all old new LogFull = IsReported lines s all old new × (length s.past ≡ 262144)
 IsEndOfRun objects lines s all old new why = ⊥
 
--- what threads have done with these lines, and how it ended
-pub record HaveDone (objects : List Object) (lines : List NumberedLine) (workers : ℕ) (s : State) (old new : Output)
-    (why : Why) : Type 0 where
+-- what threads have done with these lines from a first state on, and how it ended
+pub record HaveDone (objects : List Object) (lines : List NumberedLine) (workers : ℕ) (first s : State)
+    (old new : Output) (why : Why) : Type 0 where
   pub callers : AreAmong (threads_of lines workers) s.past
   pub did : Deeds objects lines s.past (threads_of lines workers)
+  pub looked : HaveLooked objects lines s.past first s (threads_of lines workers) did
   pub end : IsEndOfRun objects lines s (all_answers objects lines s.past (threads_of lines workers) did) old new why
 
 -- The script wasn't read to its end, or memory was wanting before its first call: no call was made, and nothing was
@@ -139,18 +150,19 @@ pub record EndsReading (before after : State) (old new : Seen) (why : Why) : Typ
 -- The script was read, and done by threads. The calls of each session and of the administrator are those that its own
 -- lines make of its private side, in order, with the replies of the history; each worker's are those of its loop; and
 -- there are no others.
-pub record EndsRun (objects : List Object) (workers : ℕ) (after : State) (old new : Seen) (why : Why) : Type 0 where
+pub record EndsRun (objects : List Object) (workers : ℕ) (before after : State) (old new : Seen)
+    (why : Why) : Type 0 where
   pub bytes : List ℕ
   pub read : Consumes old.left new.left bytes
   pub lines : List NumberedLine
   pub known : IsRead bytes new.left lines
   pub quiet : new.source_faults ≡ old.source_faults
-  pub done : HaveDone objects lines workers after (output old.written old.sink_faults)
+  pub done : HaveDone objects lines workers before after (output old.written old.sink_faults)
       (output new.written new.sink_faults) why
 
 abbrev pub RunsThreads : List Object → ℕ → State → State → Seen → Seen → Why → Type 0
 RunsThreads objects workers before after old new why =
-    EndsReading before after old new why ⊎ EndsRun objects workers after old new why
+    EndsReading before after old new why ⊎ EndsRun objects workers before after old new why
 
 -- the script was done to its end, or memory was wanting, or the history is full
 abbrev pub EndsWhole : Why → Type 0

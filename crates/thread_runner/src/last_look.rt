@@ -8,7 +8,7 @@ use bk_disk::Disk;
 use hall_model::Who;
 use keeper_api::Keeper;
 use lock_entry::LockStore;
-use order_workers::do_orders;
+use order_workers::{NoRest, do_orders};
 use replica_link::Link;
 use std::alloc::Global;
 use std::sync::Wait;
@@ -65,12 +65,13 @@ fn look_once<R: Wait, J: Origin, T: LockStore, K: Keeper, D: Disk, L: Link>(
         unreachable!()
     };
     let running = AtomicU64::new(0);
+    let mut rest = NoRest;
     let mut desk = LastDesk {
         alloc,
         served,
         full_at: deed.full_at,
     };
-    deed.rests = do_orders(rt, &mut desk, worker, &running);
+    deed.rests = do_orders(rt, &mut desk, &mut rest, worker, &running);
     deed.full_at = desk.full_at;
     desk.served
 }

@@ -1,16 +1,19 @@
-ghost use Rattle.std.specs.Prelude.{◌≡◌, ◌≤◌, ◌<◌, ◌+◌, [], ℕ, List, Some, length, is_some, true, vec_capacity, IfErr, IfOk, IsTrue};
+ghost use Rattle.std.specs.Prelude.{◌≡◌, ◌≤◌, ◌<◌, ◌+◌, ◌∷◌, [], ℕ, List, Some, length, map, reverse, is_some, true, vec_capacity, IfErr, IfOk, IsTrue};
 ghost use Rattle.std.specs.List.{AllByRecursion};
 ghost use Rattle.caller_laws.specs.Callers.{AreDistinct, threads_of};
 ghost use Rattle.enq_base.specs.Causes.{Rose};
 ghost use Rattle.enq_base.specs.declared.condition.Condition.TheVariants.{Up};
+ghost use Rattle.gauges.specs.Boards.{latest, told, IsReaderOf, IsWriterOf};
+ghost use Rattle.hall_model.specs.Views.{readings_of};
 ghost use Rattle.order_laws.specs.Behind.{IsFresh, NoneHasOrder};
 ghost use Rattle.script_runner.specs.Preparing.{has_part};
 ghost use Rattle.script_runner.specs.Replay.{seen};
 ghost use Rattle.thread_runner.specs.Acting.{AreSmall, DoesScript, HasActed, HasWorker};
-ghost use Rattle.thread_runner.specs.Hiring.{HasGathered, IsLong};
+ghost use Rattle.thread_runner.specs.Hiring.{HasGathered, IsLong, glance_of};
 ghost use Rattle.thread_runner.specs.Threads.{EndsWhole, RunsThreads, output};
 ghost use Rattle.turn_desks.specs.Asking.{table_of};
 ghost use Rattle.turn_desks.specs.Led.{IsLed, counts_of};
+ghost use Rattle.turn_desks.specs.Watching.{IsReaderAt, board_of};
 ghost use Rattle.turn_lock.specs.Passes.{known, IsPassOf};
 ghost use Rattle.whole_script.specs.Lines.{names_in};
 ghost use Rattle.whole_script.specs.Reading.{BlamesFirst, IsWholeScript};
@@ -22,6 +25,7 @@ use actor_threads::{Actor, Deed, gather, work_all};
 use bk_disk::Disk;
 use caller_laws::{callers_are_distinct, history_is_of_callers, worker_goes_on};
 use doubt_laws::doubts_have_causes;
+use gauges::{GaugePass, GaugeWriter, Gauges};
 use hall::Hall;
 use hall_model::Who;
 use io_edge::{Sink, Source};
@@ -38,7 +42,7 @@ use std::sync::Wait;
 use std::sync::atomic::AtomicU64;
 use std::thread::Threads;
 use thread_report::write_run;
-use turn_desks::{Gate, LockName, Origin, ServedHall, Serving};
+use turn_desks::{Gate, LockName, Origin, ServedHall, Serving, ShownHall};
 use turn_lock::{Pass, TurnLock};
 use whole_script::{Script, read_script};
 
@@ -236,7 +240,7 @@ fn act_all<
     requires workers { (1 ≤ workers) × (workers ≤ 16) }
     ensures none { IfErr result (λ s. ∥ s.hall.state ≡ served.hall.state ∥₁) }
     ensures acted { IfOk result (λ r. ∥ HasActed objects.now script.now.lines.items
-        (threads_of script.now.lines.items workers) r.0.hall.state r.1.items ∥₁) }
+        (threads_of script.now.lines.items workers) served.hall.state r.0.hall.state r.1.items ∥₁) }
 {
     callers_are_distinct();
     match callers_of(alloc, script.names.as_slice(), workers) {
@@ -245,7 +249,8 @@ fn act_all<
     }
 }
 
-/// Has an actor of each of these callers do its work, and then one worker look once more.
+/// Has an actor of each of these callers do its work, and then one worker look once more. Gauges show what is counted
+/// of the hall.
 fn act_as<
     J: Origin + Send + Sync,
     R: Threads + Wait + Sync,
@@ -271,29 +276,81 @@ fn act_as<
     requires small { AreSmall callers.now }
     requires parts { AllByRecursion (λ l. has_part l.line ≡ true) script.now.lines.items }
     ensures none { IfErr result (λ s. ∥ s.hall.state ≡ served.hall.state ∥₁) }
-    ensures acted { IfOk result (λ r. ∥ HasActed objects.now script.now.lines.items callers.now r.0.hall.state
-        r.1.items ∥₁) }
+    ensures acted { IfOk result (λ r. ∥ HasActed objects.now script.now.lines.items callers.now served.hall.state
+        r.0.hall.state r.1.items ∥₁) }
 {
-    history_is_of_callers::<ServedHall<J, T, K, D, L>>();
+    match Gauges::new(alloc, served.readings()) {
+        Ok((gauges, writer, glance)) => act_shown::<Brand, J, R, T, K, D, L, G>(
+            rt, alloc, gate, script, served, &gauges, writer, glance, objects, callers,
+        ),
+        Err(_) => Err(served),
+    }
+}
+
+/// The same where these gauges show the hall.
+fn act_shown<
+    'g,
+    M: LockName + Send + Sync,
+    J: Origin + Send + Sync,
+    R: Threads + Wait + Sync,
+    T: LockStore + Send,
+    K: Keeper + Send,
+    D: Disk + Send,
+    L: Link + Send,
+    G: Gate + Sync,
+>(
+    rt: &R,
+    alloc: Global,
+    gate: &G,
+    script: &Script,
+    served: ServedHall<J, T, K, D, L>,
+    gauges: &'g Gauges,
+    writer: GaugeWriter,
+    glance: GaugePass,
+    objects: &[LockObject],
+    callers: &[Who],
+) -> Result<(ServedHall<J, T, K, D, L>, Vec<Deed>), ServedHall<J, T, K, D, L>>
+    requires board { board_of gauges.now ≡ M.board }
+    requires writes { IsWriterOf gauges.now writer }
+    requires looks { IsReaderOf gauges.now glance }
+    requires shows { latest writer ≡ readings_of served.hall.state }
+    requires shown { told writer ≡ readings_of served.hall.state ∷ [] }
+    requires fresh { IsFresh J.first }
+    requires first { served.hall.state ≡ J.first }
+    requires none { served.hall.state.past ≡ [] }
+    requires distinct { AreDistinct callers.now }
+    requires worker { HasWorker callers.now }
+    requires small { AreSmall callers.now }
+    requires parts { AllByRecursion (λ l. has_part l.line ≡ true) script.now.lines.items }
+    ensures none { IfErr result (λ s. ∥ s.hall.state ≡ served.hall.state ∥₁) }
+    ensures acted { IfOk result (λ r. ∥ HasActed objects.now script.now.lines.items callers.now served.hall.state
+        r.0.hall.state r.1.items ∥₁) }
+{
+    history_is_of_callers::<ShownHall<'g, M, J, T, K, D, L>>();
     worker_goes_on();
     workers_rest();
     let Ok(parts) = u32::try_from(callers.len() + 1) else {
         return Err(served);
     };
-    match TurnLock::new(alloc, served, parts) {
+    let shown = ShownHall::<M, J, T, K, D, L>::new(served, gauges, writer);
+    match TurnLock::new(alloc, shown, parts) {
         Ok((lock, pass)) => {
-            match act_in_turn::<Brand, ServedHall<J, T, K, D, L>, R, G>(
-                rt, alloc, gate, &lock, pass, callers, script, objects,
+            match act_in_turn::<Brand, ShownHall<'g, M, J, T, K, D, L>, R, G>(
+                rt, alloc, gate, &lock, pass, gauges, glance, callers, script, objects,
             ) {
-                Ok((pass, mut deeds)) => {
-                    let served = lock.close(pass);
+                Ok((pass, mut deeds, glances)) => {
+                    let shown = lock.close(pass);
+                    let served = shown.into_served(glances);
                     let served = look_last(rt, alloc, served, deeds.as_mut_slice());
                     Ok((served, deeds))
                 }
-                Err(pass) => Err(lock.close(pass)),
+                Err(pass) => Err(lock.close(pass).into_hidden()),
             }
         }
-        Err(served) => Err(served),
+        Err(shown) => {
+            drop(glance);
+            Err(shown.into_hidden())
+        }
     }
 }
 
@@ -311,12 +368,16 @@ fn act_in_turn<
     gate: &'a G,
     lock: &'a TurnLock<S>,
     pass: Pass<S>,
+    gauges: &'a Gauges,
+    glance: GaugePass,
     callers: &[Who],
     script: &Script,
     objects: &[LockObject],
-) -> Result<(Pass<S>, Vec<Deed>), Pass<S>>
+) -> Result<(Pass<S>, Vec<Deed>, Vec<GaugePass>), Pass<S>>
     requires lock { table_of lock.now ≡ N.table }
+    requires board { board_of gauges.now ≡ N.board }
     requires own { IsPassOf lock.now pass }
+    requires looks { IsReaderOf gauges.now glance }
     requires whole { (known pass).parts ≡ length callers.now + 1 }
     requires fresh { (known pass).own ≡ [] }
     requires some { 0 < length callers.now }
@@ -327,11 +388,17 @@ fn act_in_turn<
     ensures gathered { IfOk result (λ r. ∥ HasGathered S.past objects.now script.now.lines.items callers.now (known r.0)
         r.1.items ∥₁) }
     ensures long { IfOk result (λ r. AllByRecursion (IsLong (known r.0).seen) r.1.items) }
+    ensures glances { IfOk result (λ r. reverse (map glance_of r.1.items) ≡ r.2.items) }
+    ensures readers { IfOk result (λ r. AllByRecursion (IsReaderAt N.board) r.2.items) }
 {
-    let Ok(actors) = Vec::with_capacity(alloc, callers.len()) else {
+    let count = callers.len();
+    let Ok(actors) = Vec::with_capacity(alloc, count) else {
         return Err(pass);
     };
-    let Ok(deeds) = Vec::with_capacity(alloc, callers.len()) else {
+    let Ok(deeds) = Vec::with_capacity(alloc, count) else {
+        return Err(pass);
+    };
+    let Ok(glances) = Vec::with_capacity(alloc, count) else {
         return Err(pass);
     };
     Ok(work_in_turn::<N, S, R, G>(
@@ -340,10 +407,12 @@ fn act_in_turn<
         gate,
         lock,
         pass,
+        gauges,
+        glance,
         callers,
         script,
         objects,
-        (actors, deeds),
+        (actors, deeds, glances),
     ))
 }
 
@@ -360,33 +429,40 @@ fn work_in_turn<
     gate: &'a G,
     lock: &'a TurnLock<S>,
     pass: Pass<S>,
+    gauges: &'a Gauges,
+    glance: GaugePass,
     callers: &[Who],
     script: &Script,
     objects: &[LockObject],
-    rooms: (Vec<Actor<'a, N, S, R, G>>, Vec<Deed>),
-) -> (Pass<S>, Vec<Deed>)
+    rooms: (Vec<Actor<'a, N, S, R, G>>, Vec<Deed>, Vec<GaugePass>),
+) -> (Pass<S>, Vec<Deed>, Vec<GaugePass>)
     requires lock { table_of lock.now ≡ N.table }
+    requires board { board_of gauges.now ≡ N.board }
     requires own { IsPassOf lock.now pass }
+    requires looks { IsReaderOf gauges.now glance }
     requires whole { (known pass).parts ≡ length callers.now + 1 }
     requires fresh { (known pass).own ≡ [] }
     requires some { 0 < length callers.now }
     requires parts { AllByRecursion (λ l. has_part l.line ≡ true) script.now.lines.items }
-    requires none { (rooms.0.items ≡ []) × (rooms.1.items ≡ []) }
-    requires room { (length callers.now ≤ vec_capacity rooms.0) × (length callers.now ≤ vec_capacity rooms.1) }
+    requires none { (rooms.0.items ≡ []) × (rooms.1.items ≡ []) × (rooms.2.items ≡ []) }
+    requires room { (length callers.now ≤ vec_capacity rooms.0) × (length callers.now ≤ vec_capacity rooms.1)
+        × (length callers.now ≤ vec_capacity rooms.2) }
     ensures own { IsPassOf lock.now result.0 }
     ensures whole { (known result.0).parts ≡ length callers.now + 1 }
     ensures gathered { ∥ HasGathered S.past objects.now script.now.lines.items callers.now (known result.0)
         result.1.items ∥₁ }
     ensures long { AllByRecursion (IsLong (known result.0).seen) result.1.items }
+    ensures glances { reverse (map glance_of result.1.items) ≡ result.2.items }
+    ensures readers { AllByRecursion (IsReaderAt N.board) result.2.items }
 {
-    let (actors, deeds) = rooms;
-    let (pass, mut actors) = hire_all(rt, alloc, gate, lock, pass, callers, actors);
+    let (actors, deeds, glances) = rooms;
+    let (pass, mut actors) = hire_all(rt, alloc, gate, lock, pass, gauges, glance, callers, actors);
     let running = AtomicU64::new(running_of(callers));
     let lines = script.lines.as_slice();
     work_all(rt, alloc, actors.as_mut_slice(), lines, objects, &running);
-    let (pass, mut deeds) = gather(lock, pass, actors, deeds);
+    let (pass, mut deeds, glances) = gather(lock, pass, actors, deeds, glances);
     deeds.as_mut_slice().reverse();
-    (pass, deeds)
+    (pass, deeds, glances)
 }
 
 /// How many of them have lines: the sessions and the administrator.

@@ -5,7 +5,7 @@ use script_runner::Why;
 use std::test::*;
 use turn_desks::HoldGate;
 
-const ORDER: &[u8] = b"A LOGON MILLER
+pub(crate) const ORDER: &[u8] = b"A LOGON MILLER
 A NUM ZORDNR 01 N
 A ENQ EZORDER E 2 MANDT=100 ORDNR=$N
 A V1 INS VBAK $N MILLER 2026-07-01
@@ -17,7 +17,7 @@ A COMMIT
 ";
 
 // The one worker finds a unit behind the COMMIT alone, so that its calls come last.
-const ORDERED: &[u8] = b"1 A 1 OK
+pub(crate) const ORDERED: &[u8] = b"1 A 1 OK
 2 A 2 OK 1 -
 3 A 3 OK
 4 A 9 OK 1.1.1

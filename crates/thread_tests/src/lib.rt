@@ -1,4 +1,5 @@
-//! Runs of scripts by threads: actors that wait for one another, many of them, devices that fail on the way.
+//! Runs of scripts by threads: actors that wait for one another, many of them, devices that fail on the way, and what a
+//! worker sees at the gauges.
 #![tactic(auto)]
 
 #[cfg(test)]
@@ -15,3 +16,5 @@ mod halls;
 mod runs;
 #[cfg(test)]
 mod servers;
+#[cfg(test)]
+mod watching;

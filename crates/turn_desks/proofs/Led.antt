@@ -19,13 +19,13 @@ use Rattle.hall_model.specs.declared.command.Reply.TheVariants as reply
 use Rattle.enq_base.specs.declared.refusal.Refusal.TheVariants as refusal
 use Rattle.hall_laws.proofs.keeping.Unchanged.{served-past}
 use Rattle.hall_laws.proofs.histories.NotedSteps.{AnswersFrom, IsTold, answers_before, told-answers}
-use Rattle.hall_calls.proofs.verdicts.Replies.{step_counts, step_file_counts, unnoted_same}
+use Rattle.hall_calls.proofs.lemmas.Replies.{step_counts, step_file_counts, unnoted_same}
 use Rattle.script_actors.specs.Actors.{DeskCall, HasNoStock, HasNoStockIn, desk_call, with_call}
 use Rattle.script_runner.specs.Faults.{NoneUnsound, NoneUnsoundReplica, NoneUnsoundStore}
 use Rattle.script_runner.specs.Counts.{CountsCalls, file_fails_in_call, store_fails_in_call}
 use Rattle.turn_desks.specs.Led.{Counts, IsLed}
 use Rattle.script_runner.specs.Replicas.{CountsLinkEach, GoesOnLinked, HasLinked, LinkCounts, follows_behind}
-use Rattle.script_runner.proofs.Kept.{same_counts}
+use Rattle.script_runner.proofs.lemmas.Kept.{same_counts}
 
 session_may : (s : State) (call : SessionCall) → HasNoStockIn call → SessionMayCall s call
 session_may s (Commits parts stock) h = subst (IsStockIn s) (sym h) (no_stock_in s)
@@ -58,7 +58,7 @@ unrecorded_file : (r : Reply) (f g : ℕ) → is_unrecorded r ≡ true → HasFi
 unrecorded_file (reply.Refused refusal.BackupFault) f g off h = cc
 unrecorded_file _ f g off h = h
 
-answers_more : (s : State) (ms : List Made) (m : Made) → AnswersFrom s ms → IsModelAnswer (state_after s ms) m → AnswersFrom s (ms ++ m ∷ [])
+pub answers_more : (s : State) (ms : List Made) (m : Made) → AnswersFrom s ms → IsModelAnswer (state_after s ms) m → AnswersFrom s (ms ++ m ∷ [])
 answers_more s [] m h k = (k, tt)
 answers_more s (x ∷ ms) m h k = (h.0, answers_more (recalled s x) ms m h.1 k)
 

@@ -15,7 +15,7 @@ use Rattle.script_actors.specs.Actors.{DeskCall, desk_call, full_after, is_full,
 use Rattle.order_laws.specs.Behind.{up_after}
 use Rattle.turn_desks.specs.Asking.{Asks, IsAsked}
 use Rattle.turn_desks.specs.Parts.{IsPart}
-use Rattle.turn_desks.proofs.Parts.{part_turned}
+use Rattle.turn_desks.proofs.lemmas.Parts.{part_turned}
 
 module _ {S : Type 0} (past : S → List PastEntry) where
   -- the entries of a pass stand in order in what it has seen

@@ -9,7 +9,7 @@ use Rattle.hall_model.specs.State.{State}
 use Rattle.hall_model.specs.declared.command.Command.{Command}
 use Rattle.hall_model.specs.declared.command.PastEntry.{PastEntry}
 use Rattle.hall_model.specs.declared.command.Reply.{Reply}
-use Rattle.hall_calls.proofs.verdicts.Replies.{unnoted_same}
+use Rattle.hall_calls.proofs.lemmas.Replies.{unnoted_same}
 use Rattle.order_laws.specs.Behind.{is_up, up_after}
 
 -- the history tells whether the server is up

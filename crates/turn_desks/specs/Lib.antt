@@ -1,3 +1,4 @@
 pub mod Parts
 pub mod Led
 pub mod Asking
+pub mod Watching

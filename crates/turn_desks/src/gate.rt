@@ -1,3 +1,4 @@
+use enq_base::Readings;
 use hall_model::Who;
 use std::sync::atomic::{AtomicBool, Ordering};
 use std::thread;
@@ -16,6 +17,9 @@ pub trait Gate {
 
     /// After it.
     fn after(&self, who: &Who, call: u64);
+
+    /// After each look of a worker that rests, with what it gave.
+    fn look(&self, who: &Who, now: &Readings);
 }
 
 /// A gate that is open.
@@ -26,6 +30,8 @@ impl Gate for NoGate {
     fn before(&self, _who: &Who, _call: u64) {}
 
     fn after(&self, _who: &Who, _call: u64) {}
+
+    fn look(&self, _who: &Who, _now: &Readings) {}
 }
 
 /// A call that a gate holds.
@@ -97,4 +103,6 @@ impl Gate for HoldGate {
     }
 
     fn after(&self, _who: &Who, _call: u64) {}
+
+    fn look(&self, _who: &Who, _now: &Readings) {}
 }

@@ -3,6 +3,7 @@ ghost use Rattle.enq_base.specs.declared.condition.Condition.TheVariants.{Up};
 ghost use Rattle.hall_model.specs.State.{State};
 ghost use Rattle.hall_model.specs.Calls.{call_of};
 ghost use Rattle.hall_model.specs.History.{IsStep};
+ghost use Rattle.hall_model.specs.Views.{readings_of};
 ghost use mathlib.Core.List.{IsPrefix};
 ghost use Rattle.script_actors.specs.Actors.{HasNoStock, desk_call, is_full, with_call};
 ghost use Rattle.order_laws.specs.Behind.{is_post, is_up, up_after};
@@ -11,7 +12,7 @@ ghost use Rattle.turn_desks.specs.Asking.{Asks};
 ghost use Rattle.turn_desks.specs.Led.{Counts, IsLed, counts_of};
 
 use bk_disk::Disk;
-use enq_base::Condition;
+use enq_base::{Condition, Readings};
 use hall::Hall;
 use hall_model::{Command, PastEntry};
 use keeper_api::Keeper;
@@ -36,10 +37,11 @@ pub trait Origin {
 }
 
 impl Origin for Brand {
-    ghost use Rattle.std.specs.Prelude.{true};
-    ghost use Rattle.script_actors.specs.Actors.{unseen};
+    ghost use Rattle.std.specs.Prelude.{[], true};
+    ghost use Rattle.hall_model.specs.State.{opened};
+    ghost use Rattle.update_records.specs.Ledger.{no_ledger};
 
-    ghost first = { unseen };
+    ghost first = { opened 0 0 [] true true no_ledger };
 
     ghost counts = { record { store = 0; file = 0; link = record { faults = 0; refusals = 0 } } };
 
@@ -58,7 +60,8 @@ pub trait Serving: History<Entry = PastEntry> {
         ensures grows { IsPrefix (Self.past self.old) (Self.past self.new) }
         ensures up { result.is_up ≡ up_after (Self.past self.new) }
         ensures full { is_full result.reply ≡ true → 262144 ≤ length (Self.past self.new) }
-        ensures posts { (is_post (call_of command) && is_idle result.reply) ≡ false };
+        ensures posts { (is_post (call_of command) && is_idle result.reply) ≡ false }
+        ensures length { result.past ≡ length (Self.past self.new) };
 }
 
 /// The hall, to which calls led from the state that it was opened with.
@@ -97,6 +100,13 @@ impl<J: Origin, T: LockStore, K: Keeper, D: Disk, L: Link> ServedHall<J, T, K, D
         }
     }
 
+    /// What is counted of the hall.
+    pub fn readings(&self) -> Readings
+        ensures { result ≡ readings_of self.now.hall.state }
+    {
+        self.hall.readings()
+    }
+
     /// Gives the hall back, and tells what led to it.
     pub fn into_hall(self) -> Hall<T, K, D, L>
         ensures hall { result ≡ self.hall }
@@ -119,13 +129,15 @@ impl<J: Origin, T: LockStore, K: Keeper, D: Disk, L: Link> Serving for ServedHal
         ensures up { result.is_up ≡ up_after self.new.hall.state.past }
         ensures full { is_full result.reply ≡ true → 262144 ≤ length self.new.hall.state.past }
         ensures posts { (is_post (call_of command) && is_idle result.reply) ≡ false }
+        ensures length { result.past ≡ length self.new.hall.state.past }
         ensures step { IsStep self.old.hall.state self.new.hall.state line command result.reply }
     {
         histories_end();
         posts_are_not_idle();
         let reply = self.hall.serve(alloc, line, command);
         let is_up = is_up(self.hall.condition());
-        Look { reply, is_up }
+        let past = self.hall.past().len() as u64;
+        Look { reply, is_up, past }
     }
 }
 

@@ -18,13 +18,17 @@ use std::marker::{Brand, PhantomData};
 use std::sync::Wait;
 use turn_lock::{Pass, TurnLock};
 
-/// Which lock the desks of a run's actors belong to. One call of a program picks it.
+/// Which lock the desks of a run's actors belong to, and which gauges they look at. One call of a program picks it.
 pub trait LockName {
     ghost table: { TableId };
+
+    ghost board: { TableId };
 }
 
 impl LockName for Brand {
     ghost table = { record { words = 0; slots = 0; views_name = 0; atom = 0; block = 0; offset = 0; slot_names = [] } };
+
+    ghost board = { record { words = 0; slots = 0; views_name = 0; atom = 0; block = 0; offset = 0; slot_names = [] } };
 }
 
 /// What a desk notes of its calls.

@@ -7,9 +7,6 @@ use Rattle.enq_base.specs.declared.owner.UnitKey.{UnitKey}
 use Rattle.turn_list.specs.Turns.{waiting_in}
 use Rattle.turn_list.specs.Counts.{before, waits}
 
-Turn : Type 0
-Turn = Option UnitKey
-
 pub before_all : (turns : List (Option UnitKey)) → before turns (length turns) ≡ length (waiting_in turns)
 before_all turns = ap (λ ts. length (waiting_in ts)) (take_all (length turns) turns (omega arith))
 

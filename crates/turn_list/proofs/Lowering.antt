@@ -131,14 +131,6 @@ lowered_none turns counts turn unit level e none was = record {
   pick l b h (inr other) = was.done l b (omega arith)
   pick l b h (inl same) = subst (λ x. IsBlockCounted (set turns turn None) counts x b) (sym same) (here b)
 
--- at the start no level is done, and at the end each
-pub none_lowered : (turns : List (Option UnitKey)) (counts : List ℕ) (turn : ℕ) → IsCounted turns counts → IsLowered turns turn counts 0
-none_lowered turns counts turn was = record {
-  len = was.0;
-  done = λ l b h. let no : ⊥ = omega arith in absurd no;
-  left = λ l b h. was.1 l b;
-}
-
 pub all_lowered : (turns : List (Option UnitKey)) (counts : List ℕ) (turn : ℕ) → length turns ≤ 1048576
     → IsLowered turns turn counts 21 → IsCounted (set turns turn None) counts
 all_lowered turns counts turn few was = (was.len ∙ sym (length-set turns turn None), λ l b. pick l b (cases_lt l 21)) where

@@ -4,16 +4,16 @@ use Rattle.std.specs.List.{remove}
 use Rattle.std.specs.List.Sorted.{IsPermutation}
 use Rattle.std.proofs.lemmas.List.Sorted.{IsPermutation-refl, IsPermutation-sym, IsPermutation-trans, IsPermutation-cons, IsPermutation-map, IsPermutation-remove, sum_by-IsPermutation}
 use Rattle.std.proofs.lemmas.Bool.Decides.{nat_tests}
-use Rattle.std.proofs.lemmas.Option.{none-some, slice_get_within}
+use Rattle.std.proofs.lemmas.Option.{none-some}
 use Rattle.std.proofs.lemmas.List.Elements.{All-append}
 use mathlib.Core.List.{IsPrefix}
 use Rattle.seat_sums.specs.Sums.{times, one_if}
 use Rattle.seat_sums.specs.Entries.{entry_of, entries_at}
-use Rattle.seat_sums.proofs.Entries.{entries_append, entries_longer, same_there}
+use Rattle.seat_sums.proofs.lemmas.Entries.{entries_append, entries_longer}
 use Rattle.turn_lock.specs.Rule.{numbers, places_from, own_entries, Stands, longer_of, shorter_of, both_of, opener}
 use Rattle.turn_lock.specs.declared.view.View.{View}
-use Rattle.seat_sums.proofs.Beginnings.{whole_is_front, front_of_front, front_is_short}
-use Rattle.seat_sums.proofs.Totals.{times_cons}
+use Rattle.seat_sums.proofs.lemmas.Beginnings.{whole_is_front, front_of_front, front_is_short}
+use Rattle.seat_sums.proofs.lemmas.Totals.{times_cons}
 use Rattle.turn_lock.proofs.Places.{numbers_below, numbers_times}
 
 -- a number that stands in the list stands at some index
@@ -136,23 +136,6 @@ module _ {E : Type 0} where
   own_stands v log all p =
       let le = front_is_short v.seen log p in
       entries_stand log v.own (λ k d lt. let h = all k d lt in omega arith) ∙ ap (map Some) (entries_longer v.seen log v.own p all)
-
-  still_there : (front log : List E) (k : ℕ) (x : E) → IsPrefix front log → slice_get front k ≡ Some x → slice_get log k ≡ Some x
-  still_there front log k x p there = same_there front log k p (slice_get_within front k x there) ∙ there
-
-  stay_there : (front log : List E) (ks : List ℕ) (xs : List E) → IsPrefix front log → map (slice_get front) ks ≡ map Some xs
-      → map (slice_get log) ks ≡ map Some xs
-  stay_there front log [] xs p h = h
-  stay_there front log (k ∷ ks) [] p h = absurd (cc (h))
-  stay_there front log (k ∷ ks) (x ∷ xs) p h =
-      let here : slice_get front k ≡ Some x = cc (h) in
-      let later : map (slice_get front) ks ≡ map Some xs = cc (h) in
-      let first = still_there front log k x p here in
-      let others = stay_there front log ks xs p later in
-      λ i. first i ∷ others i
-
-  pub stands_longer : (v : View E) (front log : List E) → IsPrefix front log → Stands front v → Stands log v
-  stands_longer v front log p h = stay_there front log v.own (own_entries v) p h
 
   longer_begins_if : (xs ys : List E) (b : Bool) → IsPrefix (if b then xs else ys) (if b then ys else xs) → IsPrefix xs (if b then ys else xs)
       × IsPrefix ys (if b then ys else xs)

@@ -14,15 +14,15 @@ use prog.Atomic.{either}
 use Rattle.atomic_table.specs.Table.{State, step, keeps, takes, gives, put_back, rest, Allows, Splits, Joins, opening, Final, Seen}
 use Rattle.atomic_table.proofs.Lists.{set_again}
 use Rattle.seat_sums.specs.Sums.{times, one_if}
-use Rattle.seat_sums.proofs.Totals.{total_set, total_at, total_whole, total_only, total_lt, each_set, each_snoc, was_there, times_append, below_next, one_if_le, one_if_below, below_one_if}
+use Rattle.seat_sums.proofs.lemmas.Totals.{total_set, total_at, total_whole, total_only, total_lt, each_set, each_snoc, was_there, times_append, below_next, one_if_le, one_if_below, below_one_if}
 use Rattle.turn_lock.specs.declared.view.View.{View}
 use Rattle.turn_lock.specs.declared.view.Turn.{Turn}
 use Rattle.turn_lock.specs.declared.view.Turn.TheVariants.{Rests, Waits, Holds}
 use Rattle.turn_lock.specs.Rule.{has_ticket, ticket_of, is_holding, numbers, TurnFits, Fits, IsHome, IsOut, Kept, opener, spent, waits, took, gave, called, own_entries, Stands, kept_of, given_of, longer_of, both_of, SeatState, Tickets, Looks, Gives, Learns}
-use Rattle.seat_sums.proofs.Beginnings.{whole_is_front, front_of_front, fronts_agree, front_is_all, front_is_short}
+use Rattle.seat_sums.proofs.lemmas.Beginnings.{whole_is_front, front_of_front, fronts_agree, front_is_all, front_is_short}
 use Rattle.turn_lock.proofs.Entries.{each_number, whole_own, own_stands}
 use Rattle.std.specs.List.Sorted.{IsPermutation}
-use Rattle.seat_sums.proofs.Entries.{below_none, below_higher}
+use Rattle.seat_sums.proofs.lemmas.Entries.{below_none, below_higher}
 use Rattle.turn_lock.proofs.Places.{numbers_times, numbers_below, stands_below}
 
 -- what a view counts for

@@ -2,8 +2,8 @@
 use Rattle.std.proofs.Common.{◌≡◌, ℕ, zero, suc, ◌+◌, ◌<◌, ◌≤◌, ◌==◌, ltb, Bool, true, false, List, [], ◌∷◌, length, get_or, All, arith, refl, ap, sym, subst}
 use Rattle.std.proofs.lemmas.Bool.Decides.{nat_tests}
 use Rattle.seat_sums.specs.Sums.{times, one_if}
-use Rattle.seat_sums.proofs.Entries.{below_none}
-use Rattle.seat_sums.proofs.Totals.{times_cons, below_next}
+use Rattle.seat_sums.proofs.lemmas.Entries.{below_none}
+use Rattle.seat_sums.proofs.lemmas.Totals.{times_cons, below_next}
 use Rattle.turn_lock.specs.Rule.{numbers}
 
 pub numbers_times : (k first n : ℕ) → one_if (ltb k first) + times k (numbers first n) ≡ one_if (ltb k (first + n))

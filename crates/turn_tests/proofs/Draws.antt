@@ -5,7 +5,7 @@ use mathlib.Core.Logic.{dite}
 use mathlib.Core.List.{map-append}
 use native.Mathlib.Decide.{dec_le}
 use Rattle.seat_sums.specs.Sums.{times, one_if, IsDistinct}
-use Rattle.seat_sums.proofs.Totals.{times_cons}
+use Rattle.seat_sums.proofs.lemmas.Totals.{times_cons}
 
 times_moved : (base k : ℕ) (xs : List ℕ) → times (base + k) (map (λ t. base + t) xs) ≡ times k xs
 times_moved base k [] = refl

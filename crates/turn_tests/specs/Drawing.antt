@@ -18,3 +18,9 @@ numbers_of stock seat = map (λ t. base_of stock + t) (hand seat).answered
 -- the seat was answered these numbers more
 abbrev pub Drew : Stock → StockSeat → StockSeat → List ℕ → Type 0
 Drew stock before after numbers = IsSeatOf stock after × (numbers_of stock after ≡ numbers_of stock before ++ numbers)
+
+-- the seat has the draws, the tickets and the answers that it had before
+pub record HasBack (before after : StockSeat) : Type 0 where
+  pub draws : (hand after).draws ≡ (hand before).draws
+  pub tickets : (hand after).tickets ≡ (hand before).tickets
+  pub answered : (hand after).answered ≡ (hand before).answered

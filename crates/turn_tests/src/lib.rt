@@ -15,6 +15,8 @@ mod opened;
 #[cfg(test)]
 mod pair;
 #[cfg(test)]
+mod parting;
+#[cfg(test)]
 mod readings;
 #[cfg(test)]
 mod rising;

@@ -2,6 +2,7 @@ use crate::actors::note_by_actors;
 use crate::held::draw_under_turn;
 use crate::opened::opened_number;
 use crate::pair::note_both;
+use crate::parting::{left_when_parted, number_once_told};
 use crate::readings::readings_of;
 use crate::rising::readings_rise;
 use enq_base::Readings;
@@ -56,6 +57,31 @@ fn a_dry_draw_is_answered_once_the_limit_is_raised(rt: HostRuntime) {
     assert!(rt; stock.draw(&mut seat).is_ok_and(|d| d.number() == 2));
     assert!(rt; stock.draw(&mut seat).is_err_and(|d| d.ticket() == 2));
     assert!(rt; seat.left() == 0);
+}
+
+// How many draws a stock has, how many of them the second seat gets, how many each of the two uses, and what they have
+// left then.
+const SHARES: [(u32, u32, (u32, u32), (u32, u32)); 5] = [
+    (9, 4, (2, 3), (3, 1)),
+    (9, 9, (0, 9), (0, 0)),
+    (5, 0, (5, 0), (0, 0)),
+    (2, 1, (0, 0), (1, 1)),
+    (12, 6, (6, 5), (0, 1)),
+];
+
+#[test]
+fn seats_that_were_joined_are_parted_again(rt: HostRuntime) {
+    for (draws, given, used, left) in SHARES {
+        assert!(rt;
+            left_when_parted(rt.alloc(), draws, given, used) == Some(left),
+            "{draws}"
+        );
+    }
+}
+
+#[test]
+fn a_seat_that_is_told_of_the_limit_is_answered(rt: HostRuntime) {
+    assert!(rt; number_once_told(rt.alloc(), 7) == Some(7));
 }
 
 fn are_whole(readings: &[Readings]) -> bool {

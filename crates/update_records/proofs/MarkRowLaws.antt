@@ -14,9 +14,9 @@ use Rattle.update_records.specs.declared.stored.Record.TheVariants as rec
 use Rattle.update_records.specs.Grammar.{IsWord, IsUnitKey}
 use Rattle.update_records.specs.RecordRows.{unit_bytes, kind_number, reason_number, mark_tail}
 use Rattle.update_records.specs.Spelling.{IsRecord, record_row, AreNumbers, HasFields}
-use Rattle.update_records.specs.Fields.{◌>>=◌, ◌&◌, ◌giving◌}
+use Rattle.byte_fields.specs.Fields.{◌>>=◌, ◌&◌, ◌giving◌}
 use Rattle.update_records.specs.Reading.{byte_at, unit_at, nums_at, reason_of, refusal_at, bare_kind, kind_at, mark_key, mark_value, mark_at}
-use Rattle.update_records.proofs.FieldLaws.{IsBytes, some_is, bind_some, Takes, IsField, IsWhole, is_then, is_both, is_giving, is_whole, IsCode, is_code, code_first}
+use Rattle.byte_fields.proofs.lemmas.FieldLaws.{IsBytes, some_is, bind_some, Takes, IsField, IsWhole, is_then, is_both, is_giving, is_whole, IsCode, is_code, code_first}
 use Rattle.update_records.proofs.RowLaws.{is_byte, is_32, is_64, is_unit, row_takes, row_again}
 use Rattle.update_records.proofs.UnitRowLaws.{is_nums}
 use Rattle.update_records.proofs.StepRowLaws.{is_choice}

@@ -4,11 +4,11 @@ use Rattle.keeper_api.specs.Batch.{spot_of}
 use Rattle.keeper_api.specs.Rows.{Spot}
 use Rattle.update_records.specs.declared.stored.Record.{Record}
 use Rattle.update_records.specs.declared.stored.Record.TheVariants as rec
-use Rattle.update_records.specs.Fields.{◌>>=◌}
+use Rattle.byte_fields.specs.Fields.{◌>>=◌}
 use Rattle.update_records.specs.Spelling.{IsRecord, record_row}
 use Rattle.update_records.specs.Places.{Place, OfStart, OfUnit, OfPart, OfStep, OfMark, OfLevel, OfBusiness, OfLock, place_of}
 use Rattle.update_records.specs.Reading.{unit_key, module_key, step_key, mark_key, level_key, business_key, lock_key}
-use Rattle.update_records.proofs.FieldLaws.{some_is}
+use Rattle.byte_fields.proofs.lemmas.FieldLaws.{some_is}
 use Rattle.update_records.proofs.RowLaws.{is_level_key, is_business_key}
 use Rattle.update_records.proofs.UnitRowLaws.{is_unit_key, is_module_key, is_lock_key}
 use Rattle.update_records.proofs.StepRowLaws.{is_step_key, step_key-value}

@@ -12,9 +12,9 @@ use Rattle.update_records.specs.declared.stored.Record.TheVariants as rec
 use Rattle.update_records.specs.Grammar.{IsUnitKey, IsNr}
 use Rattle.update_records.specs.RecordRows.{short, row_name, unit_bytes, level_value, flag}
 use Rattle.update_records.specs.Spelling.{IsRecord, record_row, IsPart}
-use Rattle.update_records.specs.Fields.{◌>>=◌, all_if, bytes_at, number_at}
+use Rattle.byte_fields.specs.Fields.{◌>>=◌, all_if, bytes_at, number_at}
 use Rattle.update_records.specs.Reading.{byte_at, short_at, name_at, key_at, pattern_at, unit_at, nr_at, part_at, meta_key, meta_value, meta_at, flag_of, level_key, level_tail, level_at, business_key, business_at}
-use Rattle.update_records.proofs.FieldLaws.{IsBytes, some_is, bind_some, IsField, IsWhole, is_then, is_both, is_giving, is_tested, is_whole, is_all, is_bytes, wide16, wide32, wide64, is_number, IsCode, is_code, code_first}
+use Rattle.byte_fields.proofs.lemmas.FieldLaws.{IsBytes, some_is, bind_some, IsField, IsWhole, is_then, is_both, is_giving, is_tested, is_whole, is_all, is_bytes, wide16, wide32, wide64, is_number, IsCode, is_code, code_first}
 
 -- ---- fields of every table
 

@@ -19,9 +19,9 @@ use Rattle.update_records.specs.declared.stored.Record.TheVariants as rec
 use Rattle.update_records.specs.Grammar.{IsUnitKey, IsEffect, IsDeed}
 use Rattle.update_records.specs.RecordRows.{short, unit_bytes, verb, text_bytes, operand}
 use Rattle.update_records.specs.Spelling.{IsRecord, record_row, IsPart, IsPlace}
-use Rattle.update_records.specs.Fields.{Field, ◌then◌, ◌&◌, ◌giving◌, bytes_at, number_at}
+use Rattle.byte_fields.specs.Fields.{Field, ◌then◌, ◌&◌, ◌giving◌, bytes_at, number_at}
 use Rattle.update_records.specs.Reading.{byte_at, name_at, key_at, text_at, signed_at, deed_at, step_key, step_tail, step_at}
-use Rattle.update_records.proofs.FieldLaws.{IsBytes, some_is, Takes, IsField, IsWhole, is_then, is_both, is_giving, is_tested, is_whole, is_bytes}
+use Rattle.byte_fields.proofs.lemmas.FieldLaws.{IsBytes, some_is, Takes, IsField, IsWhole, is_then, is_both, is_giving, is_tested, is_whole, is_bytes}
 use Rattle.update_records.proofs.RowLaws.{IsName, both_true, is_byte, is_name_field, is_key_field, is_16, is_64, is_unit, is_part, row_takes, row_again}
 use Rattle.update_records.proofs.UnitRowLaws.{is_place}
 

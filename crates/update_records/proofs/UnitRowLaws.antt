@@ -10,16 +10,17 @@ use Rattle.keeper_api.specs.declared.rows.Change.TheVariants.{Put as PutRow}
 use Rattle.enq_base.specs.Grammar.{is_pattern}
 use Rattle.enq_base.specs.declared.owner.UnitKey.{UnitKey}
 use Rattle.enq_base.specs.declared.unit.Num.{Num as Number}
+use Rattle.mode_rules.specs.Modes.{mode_number, mode_of}
 use Rattle.mode_rules.specs.declared.Mode.{Mode}
 use Rattle.mode_rules.specs.declared.Mode.TheVariants.{S, E, X, O}
 use Rattle.update_records.specs.declared.stored.Record.{Record}
 use Rattle.update_records.specs.declared.stored.Record.TheVariants as rec
 use Rattle.update_records.specs.Grammar.{IsUnitKey, IsNumber, is_optimistic}
-use Rattle.update_records.specs.RecordRows.{short, unit_bytes, number_bytes, numbers_bytes, header_value, mode_number, lock_value}
+use Rattle.update_records.specs.RecordRows.{short, unit_bytes, number_bytes, numbers_bytes, header_value, lock_value}
 use Rattle.update_records.specs.Spelling.{IsRecord, record_row, IsPart, IsPlace, AreNumbers}
-use Rattle.update_records.specs.Fields.{Field, ◌if_it◌, number_at, many}
-use Rattle.update_records.specs.Reading.{num_at, nums_at, unit_key, header_tail, header_at, module_key, module_tail, module_at, lock_key, mode_of, count_at, lock_tail, lock_at}
-use Rattle.update_records.proofs.FieldLaws.{IsBytes, IsField, IsWhole, is_then, is_both, is_giving, is_tested, is_whole, is_many, IsCode, is_code, code_first}
+use Rattle.byte_fields.specs.Fields.{Field, ◌if_it◌, number_at, many}
+use Rattle.update_records.specs.Reading.{num_at, nums_at, unit_key, header_tail, header_at, module_key, module_tail, module_at, lock_key, count_at, lock_tail, lock_at}
+use Rattle.byte_fields.proofs.lemmas.FieldLaws.{IsBytes, IsField, IsWhole, is_then, is_both, is_giving, is_tested, is_whole, is_many, IsCode, is_code, code_first}
 use Rattle.update_records.proofs.RowLaws.{IsName, both_true, is_name_field, is_pattern_field, is_16, is_32, is_64, is_unit, is_nr, is_part, row_takes, row_again}
 
 -- ---- numbers

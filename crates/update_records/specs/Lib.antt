@@ -5,9 +5,7 @@ pub mod Grammar
 pub mod Ledger
 pub mod Growing
 pub mod Codes
-pub mod Fields
 pub mod Reading
 pub mod Spelling
 pub mod Places
-pub mod Ids
 pub mod Intervals

@@ -11,14 +11,14 @@ use Rattle.enq_base.specs.declared.unit.Num.{Num as Number}
 use Rattle.enq_base.specs.declared.unit.Reason.{Reason}
 use Rattle.enq_base.specs.declared.unit.Reason.TheVariants.{Duplicate, Missing, NotNumber, Overflow}
 use Rattle.mode_rules.specs.declared.Mode.{Mode}
-use Rattle.mode_rules.specs.declared.Mode.TheVariants.{S, E, X}
+use Rattle.mode_rules.specs.Modes.{mode_of}
 use Rattle.update_records.specs.declared.records.MarkKind.{MarkKind}
 use Rattle.update_records.specs.declared.records.MarkKind.TheVariants.{Num, Rec, V1, Bad1, Again1, V2, Bad2, Again2}
 use Rattle.update_records.specs.declared.records.MarkKind.TheVariants.{Gone}
 use Rattle.update_records.specs.declared.stored.Record.{Record}
 use Rattle.update_records.specs.declared.stored.Record.TheVariants as rec
-use Rattle.update_records.specs.Fields.{◌>>=◌, Field, ◌then◌, ◌&◌, ◌giving◌, ◌if_it◌, whole, all_if, bytes_at}
-use Rattle.update_records.specs.Fields.{number_at, code_at, many}
+use Rattle.byte_fields.specs.Fields.{◌>>=◌, Field, ◌then◌, ◌&◌, ◌giving◌, ◌if_it◌, whole, all_if, bytes_at}
+use Rattle.byte_fields.specs.Fields.{number_at, code_at, many}
 
 -- ---- fields
 
@@ -206,9 +206,6 @@ mark_at key value = do
 
 unfoldable pub lock_key : List ℕ → Option (UnitKey × ℕ)
 lock_key = whole (unit_at & (number_at w32 if_it nat_le 1))
-
-abbrev pub mode_of : ℕ → Option Mode
-mode_of b = if b == 1 then Some S else (if b == 2 then Some E else (if b == 3 then Some X else None))
 
 unfoldable pub count_at : Field ℕ
 count_at = number_at w16 if_it λ n. nat_le 1 n && nat_le n 9999

@@ -14,7 +14,7 @@ use Rattle.enq_base.specs.declared.unit.Reason.{Reason}
 use Rattle.enq_base.specs.declared.unit.Reason.TheVariants.{Duplicate, Missing, NotNumber, Overflow}
 use Rattle.lock_entry.specs.declared.entry.Entry.{Entry}
 use Rattle.mode_rules.specs.declared.Mode.{Mode}
-use Rattle.mode_rules.specs.declared.Mode.TheVariants.{S, E, X, O}
+use Rattle.mode_rules.specs.Modes.{mode_number}
 use Rattle.module_effects.specs.Rows.{RowName}
 use Rattle.update_records.specs.declared.records.Mark.{Mark}
 use Rattle.update_records.specs.declared.records.MarkKind.{MarkKind}
@@ -87,13 +87,6 @@ step_rows key part index (effect ∷ effects) = step_row key part index effect �
 abbrev pub part_rows : UnitKey → ℕ → List Effect → List Change
 part_rows key part [] = []
 part_rows key part (effect ∷ effects) = module_row key part (effect ∷ effects) ∷ step_rows key part 1 (effect ∷ effects)
-
--- an optimistic lock has none
-abbrev pub mode_number : Mode → ℕ
-mode_number S = 1
-mode_number E = 2
-mode_number X = 3
-mode_number O = 0
 
 abbrev pub lock_value : List ℕ → Mode → ℕ → List ℕ → List ℕ
 lock_value table mode count pattern = short table ++ mode_number mode ∷ big_bytes 2 count ++ short pattern

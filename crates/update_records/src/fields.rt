@@ -1,71 +1,27 @@
-ghost use Rattle.std.specs.Prelude.{◌≡◌, length, IfErr};
-ghost use Rattle.update_records.specs.declared.fault.RowFault.TheVariants.{Bad};
-ghost use Rattle.std.specs.Int.{w16, w32, w64};
+ghost use Rattle.std.specs.Prelude.{◌≡◌, IfErr};
 ghost use Rattle.std.specs.List.{list_all};
+ghost use Rattle.byte_fields.specs.Fields.{Gives, all_if};
+ghost use Rattle.byte_fields.specs.declared.fault.ReadFault.TheVariants.{Bad};
 ghost use Rattle.enq_base.specs.Grammar.{is_digit, is_text};
-ghost use Rattle.update_records.specs.Fields.{Gives, all_if, bytes_at, number_at};
 ghost use Rattle.update_records.specs.Reading.{byte_at, short_at, name_at, key_at, pattern_at, unit_at, nr_at, part_at};
 
-use crate::fault::RowFault;
-use byteorder::{BigEndian, ByteOrder};
+use byte_fields::{ReadFault, bytes_at, u32_at};
 use enq_base::{Key, Name, Pattern, Text, TextFault, UnitKey, read_name};
 use std::alloc::Global;
 
-/// So many bytes, and the bytes behind them.
-#[tactic(auto, unfolding(crate::specs::Fields::bytes_at))]
-pub fn bytes_at(bytes: &[u8], len: usize) -> Result<(&[u8], &[u8]), RowFault>
-    ensures gives { Gives (λ x. (x.0.now, x.1.now)) result (bytes_at len bytes.now) }
-    ensures bad { IfErr result (λ fault. fault ≡ Bad) }
-{
-    if bytes.len() < len {
-        return Err(RowFault::Bad);
-    }
-    Ok(bytes.split_at(len))
-}
-
-/// The number in the first two bytes.
-#[tactic(auto, using(crate::proofs::BigEndian::number_of_2), unfolding(crate::specs::Fields::bytes_at, crate::specs::Fields::number_at))]
-pub fn u16_at(bytes: &[u8]) -> Result<(u16, &[u8]), RowFault>
-    ensures gives { Gives (λ x. (x.0, x.1.now)) result (number_at w16 bytes.now) }
-    ensures bad { IfErr result (λ fault. fault ≡ Bad) }
-{
-    let (front, rest) = bytes_at(bytes, 2)?;
-    Ok((BigEndian::read_u16(front), rest))
-}
-
-/// The number in the first four bytes.
-#[tactic(auto, using(crate::proofs::BigEndian::number_of_4), unfolding(crate::specs::Fields::bytes_at, crate::specs::Fields::number_at))]
-pub fn u32_at(bytes: &[u8]) -> Result<(u32, &[u8]), RowFault>
-    ensures gives { Gives (λ x. (x.0, x.1.now)) result (number_at w32 bytes.now) }
-    ensures bad { IfErr result (λ fault. fault ≡ Bad) }
-{
-    let (front, rest) = bytes_at(bytes, 4)?;
-    Ok((BigEndian::read_u32(front), rest))
-}
-
-/// The number in the first eight bytes.
-#[tactic(auto, using(crate::proofs::BigEndian::number_of_8), unfolding(crate::specs::Fields::bytes_at, crate::specs::Fields::number_at))]
-pub fn u64_at(bytes: &[u8]) -> Result<(u64, &[u8]), RowFault>
-    ensures gives { Gives (λ x. (x.0, x.1.now)) result (number_at w64 bytes.now) }
-    ensures bad { IfErr result (λ fault. fault ≡ Bad) }
-{
-    let (front, rest) = bytes_at(bytes, 8)?;
-    Ok((BigEndian::read_u64(front), rest))
-}
-
 #[tactic(auto, unfolding(crate::specs::Reading::byte_at))]
-pub fn byte_at(bytes: &[u8]) -> Result<(u8, &[u8]), RowFault>
+pub fn byte_at(bytes: &[u8]) -> Result<(u8, &[u8]), ReadFault>
     ensures gives { Gives (λ x. (x.0, x.1.now)) result (byte_at bytes.now) }
     ensures bad { IfErr result (λ fault. fault ≡ Bad) }
 {
     let [byte, rest @ ..] = bytes else {
-        return Err(RowFault::Bad);
+        return Err(ReadFault::Bad);
     };
     Ok((*byte, rest))
 }
 
 #[tactic(auto, unfolding(crate::specs::Reading::short_at))]
-fn short_at(bytes: &[u8]) -> Result<(&[u8], &[u8]), RowFault>
+fn short_at(bytes: &[u8]) -> Result<(&[u8], &[u8]), ReadFault>
     ensures gives { Gives (λ x. (x.0.now, x.1.now)) result (short_at bytes.now) }
     ensures bad { IfErr result (λ fault. fault ≡ Bad) }
 {
@@ -74,43 +30,43 @@ fn short_at(bytes: &[u8]) -> Result<(&[u8], &[u8]), RowFault>
 }
 
 #[tactic(auto, unfolding(crate::specs::Reading::name_at))]
-pub fn name_at(bytes: &[u8]) -> Result<(Name, &[u8]), RowFault>
+pub fn name_at(bytes: &[u8]) -> Result<(Name, &[u8]), ReadFault>
     ensures gives { Gives (λ x. (x.0, x.1.now)) result (name_at bytes.now) }
     ensures bad { IfErr result (λ fault. fault ≡ Bad) }
 {
     let (text, rest) = short_at(bytes)?;
     match read_name(text) {
         Some(name) => Ok((name, rest)),
-        None => Err(RowFault::Bad),
+        None => Err(ReadFault::Bad),
     }
 }
 
 #[tactic(auto, unfolding(crate::specs::Reading::key_at))]
-pub fn key_at(bytes: &[u8]) -> Result<(Key, &[u8]), RowFault>
+pub fn key_at(bytes: &[u8]) -> Result<(Key, &[u8]), ReadFault>
     ensures gives { Gives (λ x. (x.0, x.1.now)) result (key_at bytes.now) }
     ensures bad { IfErr result (λ fault. fault ≡ Bad) }
 {
     let (text, rest) = short_at(bytes)?;
     match Key::new(text) {
         Some(key) => Ok((key, rest)),
-        None => Err(RowFault::Bad),
+        None => Err(ReadFault::Bad),
     }
 }
 
 #[tactic(auto, unfolding(crate::specs::Reading::pattern_at))]
-pub fn pattern_at(bytes: &[u8]) -> Result<(Pattern, &[u8]), RowFault>
+pub fn pattern_at(bytes: &[u8]) -> Result<(Pattern, &[u8]), ReadFault>
     ensures gives { Gives (λ x. (x.0, x.1.now)) result (pattern_at bytes.now) }
     ensures bad { IfErr result (λ fault. fault ≡ Bad) }
 {
     let (text, rest) = short_at(bytes)?;
     match Pattern::new(text) {
         Some(pattern) => Ok((pattern, rest)),
-        None => Err(RowFault::Bad),
+        None => Err(ReadFault::Bad),
     }
 }
 
 #[tactic(auto, unfolding(crate::specs::Reading::unit_at))]
-pub fn unit_at(bytes: &[u8]) -> Result<(UnitKey, &[u8]), RowFault>
+pub fn unit_at(bytes: &[u8]) -> Result<(UnitKey, &[u8]), ReadFault>
     ensures gives { Gives (λ x. (x.0, x.1.now)) result (unit_at bytes.now) }
     ensures bad { IfErr result (λ fault. fault ≡ Bad) }
 {
@@ -140,8 +96,8 @@ fn are_digits(bytes: &[u8]) -> bool
 }
 
 /// The two digits of an interval.
-#[tactic(auto, unfolding(crate::specs::Fields::bytes_at, crate::specs::Reading::nr_at))]
-pub fn nr_at(bytes: &[u8]) -> Result<([u8; 2], &[u8]), RowFault>
+#[tactic(auto, unfolding(byte_fields::specs::Fields::bytes_at, crate::specs::Reading::nr_at))]
+pub fn nr_at(bytes: &[u8]) -> Result<([u8; 2], &[u8]), ReadFault>
     ensures gives { Gives (λ x. (x.0, x.1.now)) result (nr_at bytes.now) }
     ensures bad { IfErr result (λ fault. fault ≡ Bad) }
 {
@@ -149,13 +105,13 @@ pub fn nr_at(bytes: &[u8]) -> Result<([u8; 2], &[u8]), RowFault>
     if are_digits(digits) {
         Ok(([digits[0], digits[1]], rest))
     } else {
-        Err(RowFault::Bad)
+        Err(ReadFault::Bad)
     }
 }
 
 /// Part 1 or 2.
 #[tactic(auto, unfolding(crate::specs::Reading::part_at))]
-pub fn part_at(bytes: &[u8]) -> Result<(u8, &[u8]), RowFault>
+pub fn part_at(bytes: &[u8]) -> Result<(u8, &[u8]), ReadFault>
     ensures gives { Gives (λ x. (x.0, x.1.now)) result (part_at bytes.now) }
     ensures bad { IfErr result (λ fault. fault ≡ Bad) }
 {
@@ -163,18 +119,18 @@ pub fn part_at(bytes: &[u8]) -> Result<(u8, &[u8]), RowFault>
     if part >= 1 && part <= 2 {
         Ok((part, rest))
     } else {
-        Err(RowFault::Bad)
+        Err(ReadFault::Bad)
     }
 }
 
 /// All of the bytes, as a text.
-pub fn text_of(alloc: Global, bytes: &[u8]) -> Result<Text, RowFault>
+pub fn text_of(alloc: Global, bytes: &[u8]) -> Result<Text, ReadFault>
     ensures { Gives (λ x. x) result (all_if is_text bytes.now) }
 {
     match Text::new(alloc, bytes) {
         Ok(text) => Ok(text),
-        Err(TextFault::NoMemory) => Err(RowFault::NoMemory),
-        Err(TextFault::Length) => Err(RowFault::Bad),
-        Err(TextFault::Byte) => Err(RowFault::Bad),
+        Err(TextFault::NoMemory) => Err(ReadFault::NoMemory),
+        Err(TextFault::Length) => Err(ReadFault::Bad),
+        Err(TextFault::Byte) => Err(ReadFault::Bad),
     }
 }

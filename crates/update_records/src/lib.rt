@@ -4,7 +4,6 @@
 mod business;
 mod bytes;
 mod decode;
-mod fault;
 mod fields;
 mod laws;
 mod levels;
@@ -17,19 +16,17 @@ mod records;
 mod step_rows;
 mod stored;
 pub mod tables;
-mod unit_id;
 mod unit_rows;
 mod units;
 mod view;
 
 pub use business::encode_business;
+pub use byte_fields::ReadFault;
 pub use decode::decode_row;
-pub use fault::RowFault;
 pub use laws::{rows_tell_records, units_are_records};
 pub use levels::encode_level;
 pub use marks::{encode_mark, encode_meta};
 pub use records::{Mark, MarkKind, Unit};
 pub use stored::{Interval, Record, StoredInterval};
-pub use unit_id::{UnitId, id_of};
 pub use units::encode_unit;
 pub use view::UnitView;

@@ -1,13 +1,13 @@
 ghost use Rattle.std.specs.Prelude.{◌≡◌, IfErr};
-ghost use Rattle.update_records.specs.declared.fault.RowFault.TheVariants.{Bad};
-ghost use Rattle.update_records.specs.Fields.{Gives};
+ghost use Rattle.byte_fields.specs.declared.fault.ReadFault.TheVariants.{Bad};
+ghost use Rattle.byte_fields.specs.Fields.{Gives};
 ghost use Rattle.update_records.specs.Reading.{reason_of, refusal_at, bare_kind, kind_at, mark_key, mark_value, mark_at};
 
-use crate::fault::RowFault;
-use crate::fields::{byte_at, u32_at, u64_at, unit_at};
+use crate::fields::{byte_at, unit_at};
 use crate::numbers::nums_at;
 use crate::records::{Mark, MarkKind};
 use crate::stored::Record;
+use byte_fields::{ReadFault, u32_at, u64_at};
 use enq_base::{Reason, UnitKey};
 use std::alloc::Global;
 
@@ -25,17 +25,17 @@ fn reason_of(byte: u8) -> Option<Reason>
 
 /// The place of the effect that was refused, and why.
 #[tactic(auto, unfolding(crate::specs::Reading::refusal_at))]
-fn refusal_at(bytes: &[u8]) -> Result<((u32, Reason), &[u8]), RowFault>
+fn refusal_at(bytes: &[u8]) -> Result<((u32, Reason), &[u8]), ReadFault>
     ensures gives { Gives (λ x. (x.0, x.1.now)) result (refusal_at bytes.now) }
     ensures bad { IfErr result (λ fault. fault ≡ Bad) }
 {
     let (index, rest) = u32_at(bytes)?;
     let [byte, rest @ ..] = rest else {
-        return Err(RowFault::Bad);
+        return Err(ReadFault::Bad);
     };
     match reason_of(*byte) {
         Some(reason) => Ok(((index, reason), rest)),
-        None => Err(RowFault::Bad),
+        None => Err(ReadFault::Bad),
     }
 }
 
@@ -55,7 +55,7 @@ fn bare_kind(byte: u8) -> Option<MarkKind>
 }
 
 #[tactic(auto, unfolding(crate::specs::Reading::kind_at))]
-fn kind_at(alloc: Global, byte: u8, bytes: &[u8]) -> Result<(MarkKind, &[u8]), RowFault>
+fn kind_at(alloc: Global, byte: u8, bytes: &[u8]) -> Result<(MarkKind, &[u8]), ReadFault>
     ensures { Gives (λ x. (x.0, x.1.now)) result (kind_at byte bytes.now) }
 {
     match byte {
@@ -73,13 +73,13 @@ fn kind_at(alloc: Global, byte: u8, bytes: &[u8]) -> Result<(MarkKind, &[u8]), R
         }
         _ => match bare_kind(byte) {
             Some(kind) => Ok((kind, bytes)),
-            None => Err(RowFault::Bad),
+            None => Err(ReadFault::Bad),
         },
     }
 }
 
 #[tactic(auto, unfolding(crate::specs::Reading::mark_key))]
-fn mark_key(bytes: &[u8]) -> Result<u64, RowFault>
+fn mark_key(bytes: &[u8]) -> Result<u64, ReadFault>
     ensures gives { Gives (λ x. x) result (mark_key bytes.now) }
     ensures bad { IfErr result (λ fault. fault ≡ Bad) }
 {
@@ -87,25 +87,25 @@ fn mark_key(bytes: &[u8]) -> Result<u64, RowFault>
     if rest.is_empty() {
         Ok(seq)
     } else {
-        Err(RowFault::Bad)
+        Err(ReadFault::Bad)
     }
 }
 
 #[tactic(auto, unfolding(crate::specs::Reading::mark_value))]
-fn mark_value(alloc: Global, bytes: &[u8]) -> Result<(UnitKey, MarkKind), RowFault>
+fn mark_value(alloc: Global, bytes: &[u8]) -> Result<(UnitKey, MarkKind), ReadFault>
     ensures { Gives (λ x. x) result (mark_value bytes.now) }
 {
     let (byte, rest) = byte_at(bytes)?;
     let (unit, rest) = unit_at(rest)?;
     match kind_at(alloc, byte, rest) {
         Ok((kind, [])) => Ok((unit, kind)),
-        Ok(_) => Err(RowFault::Bad),
+        Ok(_) => Err(ReadFault::Bad),
         Err(fault) => Err(fault),
     }
 }
 
 #[tactic(auto, unfolding(crate::specs::Reading::mark_at))]
-pub fn mark_at(alloc: Global, key: &[u8], value: &[u8]) -> Result<Record, RowFault>
+pub fn mark_at(alloc: Global, key: &[u8], value: &[u8]) -> Result<Record, ReadFault>
     ensures { Gives (λ x. x) result (mark_at key.now value.now) }
 {
     let seq = mark_key(key)?;

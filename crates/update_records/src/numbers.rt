@@ -1,15 +1,15 @@
 ghost use Rattle.std.specs.Prelude.{◌≡◌, IfErr};
-ghost use Rattle.update_records.specs.declared.fault.RowFault.TheVariants.{Bad};
-ghost use Rattle.update_records.specs.Fields.{Gives, many};
+ghost use Rattle.byte_fields.specs.declared.fault.ReadFault.TheVariants.{Bad};
+ghost use Rattle.byte_fields.specs.Fields.{Gives, many};
 ghost use Rattle.update_records.specs.Reading.{num_at, nums_at};
 
-use crate::fault::RowFault;
-use crate::fields::{name_at, nr_at, u16_at, u64_at};
+use crate::fields::{name_at, nr_at};
+use byte_fields::{ReadFault, u16_at, u64_at};
 use enq_base::{Items, Num};
 use std::alloc::Global;
 
 #[tactic(auto, unfolding(crate::specs::Reading::num_at))]
-fn num_at(bytes: &[u8]) -> Result<(Num, &[u8]), RowFault>
+fn num_at(bytes: &[u8]) -> Result<(Num, &[u8]), ReadFault>
     ensures gives { Gives (λ x. (x.0, x.1.now)) result (num_at bytes.now) }
     ensures bad { IfErr result (λ fault. fault ≡ Bad) }
 {
@@ -22,7 +22,7 @@ fn num_at(bytes: &[u8]) -> Result<(Num, &[u8]), RowFault>
     Ok((Num { object, nr, number }, rest))
 }
 
-fn many_at(alloc: Global, count: u16, bytes: &[u8]) -> Result<(Vec<Num>, &[u8]), RowFault>
+fn many_at(alloc: Global, count: u16, bytes: &[u8]) -> Result<(Vec<Num>, &[u8]), ReadFault>
     ensures { Gives (λ x. (x.0.items, x.1.now)) result (many num_at count bytes.now) }
 {
     let mut numbers = Vec::new(alloc);
@@ -41,7 +41,7 @@ fn many_at(alloc: Global, count: u16, bytes: &[u8]) -> Result<(Vec<Num>, &[u8]),
 
 /// How many numbers there are, and each of them.
 #[tactic(auto, unfolding(crate::specs::Reading::nums_at))]
-pub fn nums_at(alloc: Global, bytes: &[u8]) -> Result<(Items<Num>, &[u8]), RowFault>
+pub fn nums_at(alloc: Global, bytes: &[u8]) -> Result<(Items<Num>, &[u8]), ReadFault>
     ensures { Gives (λ x. (x.0, x.1.now)) result (nums_at bytes.now) }
 {
     let (count, rest) = u16_at(bytes)?;

@@ -1,16 +1,16 @@
 ghost use Rattle.std.specs.Prelude.{◌≡◌, Option, Bool, IfErr};
-ghost use Rattle.update_records.specs.declared.fault.RowFault.TheVariants.{Bad};
-ghost use Rattle.update_records.specs.Fields.{Gives};
+ghost use Rattle.byte_fields.specs.declared.fault.ReadFault.TheVariants.{Bad};
+ghost use Rattle.byte_fields.specs.Fields.{Gives};
 ghost use Rattle.update_records.specs.Reading.{meta_key, meta_value, meta_at, flag_of, level_key, level_tail, level_at, business_key, business_at};
 
-use crate::fault::RowFault;
-use crate::fields::{byte_at, name_at, nr_at, text_of, u32_at, u64_at};
+use crate::fields::{byte_at, name_at, nr_at, text_of};
 use crate::stored::{Interval, Record};
+use byte_fields::{ReadFault, u32_at, u64_at};
 use enq_base::{Key, Name};
 use std::alloc::Global;
 
 #[tactic(auto, unfolding(crate::specs::Reading::meta_key))]
-fn meta_key(bytes: &[u8]) -> Result<u8, RowFault>
+fn meta_key(bytes: &[u8]) -> Result<u8, ReadFault>
     ensures gives { Gives (λ x. x) result (meta_key bytes.now) }
     ensures bad { IfErr result (λ fault. fault ≡ Bad) }
 {
@@ -18,12 +18,12 @@ fn meta_key(bytes: &[u8]) -> Result<u8, RowFault>
     if byte == b'S' && rest.is_empty() {
         Ok(byte)
     } else {
-        Err(RowFault::Bad)
+        Err(ReadFault::Bad)
     }
 }
 
 #[tactic(auto, unfolding(crate::specs::Reading::meta_value))]
-fn meta_value(bytes: &[u8]) -> Result<(u32, u64), RowFault>
+fn meta_value(bytes: &[u8]) -> Result<(u32, u64), ReadFault>
     ensures gives { Gives (λ x. x) result (meta_value bytes.now) }
     ensures bad { IfErr result (λ fault. fault ≡ Bad) }
 {
@@ -32,12 +32,12 @@ fn meta_value(bytes: &[u8]) -> Result<(u32, u64), RowFault>
     if rest.is_empty() {
         Ok((start, marks))
     } else {
-        Err(RowFault::Bad)
+        Err(ReadFault::Bad)
     }
 }
 
 #[tactic(auto, unfolding(crate::specs::Reading::meta_at))]
-pub fn meta_at(key: &[u8], value: &[u8]) -> Result<Record, RowFault>
+pub fn meta_at(key: &[u8], value: &[u8]) -> Result<Record, ReadFault>
     ensures gives { Gives (λ x. x) result (meta_at key.now value.now) }
     ensures bad { IfErr result (λ fault. fault ≡ Bad) }
 {
@@ -57,7 +57,7 @@ fn flag_of(byte: u8) -> Option<bool>
 }
 
 #[tactic(auto, unfolding(crate::specs::Reading::level_key))]
-fn level_key(bytes: &[u8]) -> Result<(Name, [u8; 2]), RowFault>
+fn level_key(bytes: &[u8]) -> Result<(Name, [u8; 2]), ReadFault>
     ensures gives { Gives (λ x. x) result (level_key bytes.now) }
     ensures bad { IfErr result (λ fault. fault ≡ Bad) }
 {
@@ -69,12 +69,12 @@ fn level_key(bytes: &[u8]) -> Result<(Name, [u8; 2]), RowFault>
     if rest.is_empty() {
         Ok((object, nr))
     } else {
-        Err(RowFault::Bad)
+        Err(ReadFault::Bad)
     }
 }
 
 #[tactic(auto, unfolding(crate::specs::Reading::level_tail))]
-fn level_tail(bytes: &[u8]) -> Result<Interval, RowFault>
+fn level_tail(bytes: &[u8]) -> Result<Interval, ReadFault>
     ensures gives { Gives (λ x. (((x.from, x.to), x.level), x.buffered)) result (level_tail bytes.now) }
     ensures bad { IfErr result (λ fault. fault ≡ Bad) }
 {
@@ -82,7 +82,7 @@ fn level_tail(bytes: &[u8]) -> Result<Interval, RowFault>
     let (to, rest) = u64_at(rest)?;
     let (level, rest) = u64_at(rest)?;
     let [flag] = rest else {
-        return Err(RowFault::Bad);
+        return Err(ReadFault::Bad);
     };
     match flag_of(*flag) {
         Some(buffered) => Ok(Interval {
@@ -91,12 +91,12 @@ fn level_tail(bytes: &[u8]) -> Result<Interval, RowFault>
             level,
             buffered,
         }),
-        None => Err(RowFault::Bad),
+        None => Err(ReadFault::Bad),
     }
 }
 
 #[tactic(auto, unfolding(crate::specs::Reading::level_at))]
-pub fn level_at(key: &[u8], value: &[u8]) -> Result<Record, RowFault>
+pub fn level_at(key: &[u8], value: &[u8]) -> Result<Record, ReadFault>
     ensures gives { Gives (λ x. x) result (level_at key.now value.now) }
     ensures bad { IfErr result (λ fault. fault ≡ Bad) }
 {
@@ -118,7 +118,7 @@ pub fn level_at(key: &[u8], value: &[u8]) -> Result<Record, RowFault>
 }
 
 #[tactic(auto, unfolding(crate::specs::Reading::business_key))]
-fn business_key(bytes: &[u8]) -> Result<(Name, Key), RowFault>
+fn business_key(bytes: &[u8]) -> Result<(Name, Key), ReadFault>
     ensures gives { Gives (λ x. x) result (business_key bytes.now) }
     ensures bad { IfErr result (λ fault. fault ≡ Bad) }
 {
@@ -128,12 +128,12 @@ fn business_key(bytes: &[u8]) -> Result<(Name, Key), RowFault>
     };
     match Key::new(rest) {
         Some(key) => Ok((table, key)),
-        None => Err(RowFault::Bad),
+        None => Err(ReadFault::Bad),
     }
 }
 
 #[tactic(auto, unfolding(crate::specs::Reading::business_at))]
-pub fn business_at(alloc: Global, key: &[u8], value: &[u8]) -> Result<Record, RowFault>
+pub fn business_at(alloc: Global, key: &[u8], value: &[u8]) -> Result<Record, ReadFault>
     ensures { Gives (λ x. x) result (business_at key.now value.now) }
 {
     let (table, key) = business_key(key)?;

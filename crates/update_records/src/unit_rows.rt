@@ -1,18 +1,18 @@
 ghost use Rattle.std.specs.Prelude.{◌≡◌, IfErr};
-ghost use Rattle.update_records.specs.declared.fault.RowFault.TheVariants.{Bad};
-ghost use Rattle.update_records.specs.Fields.{Gives};
-ghost use Rattle.update_records.specs.Reading.{unit_key, header_tail, header_at, module_key, module_tail, module_at, lock_key, mode_of, count_at, lock_tail, lock_at};
+ghost use Rattle.byte_fields.specs.declared.fault.ReadFault.TheVariants.{Bad};
+ghost use Rattle.byte_fields.specs.Fields.{Gives};
+ghost use Rattle.update_records.specs.Reading.{unit_key, header_tail, header_at, module_key, module_tail, module_at, lock_key, count_at, lock_tail, lock_at};
 
-use crate::fault::RowFault;
-use crate::fields::{name_at, part_at, pattern_at, u16_at, u32_at, unit_at};
+use crate::fields::{name_at, part_at, pattern_at, unit_at};
 use crate::numbers::nums_at;
 use crate::stored::Record;
+use byte_fields::{ReadFault, u16_at, u32_at};
 use enq_base::{Items, Name, Num, Pattern, UnitKey};
-use lock_entry::Mode;
+use mode_rules::{Mode, mode_of};
 use std::alloc::Global;
 
 #[tactic(auto, unfolding(crate::specs::Reading::unit_key))]
-fn unit_key(bytes: &[u8]) -> Result<UnitKey, RowFault>
+fn unit_key(bytes: &[u8]) -> Result<UnitKey, ReadFault>
     ensures gives { Gives (λ x. x) result (unit_key bytes.now) }
     ensures bad { IfErr result (λ fault. fault ≡ Bad) }
 {
@@ -20,7 +20,7 @@ fn unit_key(bytes: &[u8]) -> Result<UnitKey, RowFault>
     if rest.is_empty() {
         Ok(unit)
     } else {
-        Err(RowFault::Bad)
+        Err(ReadFault::Bad)
     }
 }
 
@@ -33,7 +33,7 @@ struct Header {
 }
 
 #[tactic(auto, unfolding(crate::specs::Reading::header_tail))]
-fn header_tail(alloc: Global, bytes: &[u8]) -> Result<Header, RowFault>
+fn header_tail(alloc: Global, bytes: &[u8]) -> Result<Header, ReadFault>
     ensures { Gives (λ x. ((((x.user, x.v1), x.v2), x.locks), x.numbers)) result (header_tail bytes.now) }
 {
     let (user, rest) = match name_at(bytes) {
@@ -51,13 +51,13 @@ fn header_tail(alloc: Global, bytes: &[u8]) -> Result<Header, RowFault>
             locks,
             numbers,
         }),
-        Ok(_) => Err(RowFault::Bad),
+        Ok(_) => Err(ReadFault::Bad),
         Err(fault) => Err(fault),
     }
 }
 
 #[tactic(auto, unfolding(crate::specs::Reading::header_at))]
-pub fn header_at(alloc: Global, key: &[u8], value: &[u8]) -> Result<Record, RowFault>
+pub fn header_at(alloc: Global, key: &[u8], value: &[u8]) -> Result<Record, ReadFault>
     ensures { Gives (λ x. x) result (header_at key.now value.now) }
 {
     let unit = unit_key(key)?;
@@ -79,7 +79,7 @@ pub fn header_at(alloc: Global, key: &[u8], value: &[u8]) -> Result<Record, RowF
 }
 
 #[tactic(auto, unfolding(crate::specs::Reading::module_key))]
-fn module_key(bytes: &[u8]) -> Result<(UnitKey, u8), RowFault>
+fn module_key(bytes: &[u8]) -> Result<(UnitKey, u8), ReadFault>
     ensures gives { Gives (λ x. x) result (module_key bytes.now) }
     ensures bad { IfErr result (λ fault. fault ≡ Bad) }
 {
@@ -88,12 +88,12 @@ fn module_key(bytes: &[u8]) -> Result<(UnitKey, u8), RowFault>
     if rest.is_empty() {
         Ok((unit, part))
     } else {
-        Err(RowFault::Bad)
+        Err(ReadFault::Bad)
     }
 }
 
 #[tactic(auto, unfolding(crate::specs::Reading::module_tail))]
-fn module_tail(bytes: &[u8]) -> Result<u16, RowFault>
+fn module_tail(bytes: &[u8]) -> Result<u16, ReadFault>
     ensures gives { Gives (λ x. x) result (module_tail bytes.now) }
     ensures bad { IfErr result (λ fault. fault ≡ Bad) }
 {
@@ -101,12 +101,12 @@ fn module_tail(bytes: &[u8]) -> Result<u16, RowFault>
     if rest.is_empty() {
         Ok(count)
     } else {
-        Err(RowFault::Bad)
+        Err(ReadFault::Bad)
     }
 }
 
 #[tactic(auto, unfolding(crate::specs::Reading::module_at))]
-pub fn module_at(key: &[u8], value: &[u8]) -> Result<Record, RowFault>
+pub fn module_at(key: &[u8], value: &[u8]) -> Result<Record, ReadFault>
     ensures gives { Gives (λ x. x) result (module_at key.now value.now) }
     ensures bad { IfErr result (λ fault. fault ≡ Bad) }
 {
@@ -116,7 +116,7 @@ pub fn module_at(key: &[u8], value: &[u8]) -> Result<Record, RowFault>
 }
 
 #[tactic(auto, unfolding(crate::specs::Reading::lock_key))]
-fn lock_key(bytes: &[u8]) -> Result<(UnitKey, u32), RowFault>
+fn lock_key(bytes: &[u8]) -> Result<(UnitKey, u32), ReadFault>
     ensures gives { Gives (λ x. x) result (lock_key bytes.now) }
     ensures bad { IfErr result (λ fault. fault ≡ Bad) }
 {
@@ -125,23 +125,12 @@ fn lock_key(bytes: &[u8]) -> Result<(UnitKey, u32), RowFault>
     if index >= 1 && rest.is_empty() {
         Ok((unit, index))
     } else {
-        Err(RowFault::Bad)
-    }
-}
-
-fn mode_of(byte: u8) -> Option<Mode>
-    ensures { result ≡ mode_of byte }
-{
-    match byte {
-        1 => Some(Mode::S),
-        2 => Some(Mode::E),
-        3 => Some(Mode::X),
-        _ => None,
+        Err(ReadFault::Bad)
     }
 }
 
 #[tactic(auto, unfolding(crate::specs::Reading::count_at))]
-fn count_at(bytes: &[u8]) -> Result<(u16, &[u8]), RowFault>
+fn count_at(bytes: &[u8]) -> Result<(u16, &[u8]), ReadFault>
     ensures gives { Gives (λ x. (x.0, x.1.now)) result (count_at bytes.now) }
     ensures bad { IfErr result (λ fault. fault ≡ Bad) }
 {
@@ -149,7 +138,7 @@ fn count_at(bytes: &[u8]) -> Result<(u16, &[u8]), RowFault>
     if count >= 1 && count <= 9999 {
         Ok((count, rest))
     } else {
-        Err(RowFault::Bad)
+        Err(ReadFault::Bad)
     }
 }
 
@@ -161,7 +150,7 @@ struct Lock {
 }
 
 #[tactic(auto, unfolding(crate::specs::Reading::lock_tail))]
-fn lock_tail(bytes: &[u8]) -> Result<Lock, RowFault>
+fn lock_tail(bytes: &[u8]) -> Result<Lock, ReadFault>
     ensures gives { Gives (λ x. (((x.table, x.mode), x.count), x.pattern)) result (lock_tail bytes.now) }
     ensures bad { IfErr result (λ fault. fault ≡ Bad) }
 {
@@ -170,10 +159,10 @@ fn lock_tail(bytes: &[u8]) -> Result<Lock, RowFault>
         Err(fault) => return Err(fault),
     };
     let [byte, rest @ ..] = rest else {
-        return Err(RowFault::Bad);
+        return Err(ReadFault::Bad);
     };
     let Some(mode) = mode_of(*byte) else {
-        return Err(RowFault::Bad);
+        return Err(ReadFault::Bad);
     };
     let (count, rest) = count_at(rest)?;
     match pattern_at(rest) {
@@ -183,13 +172,13 @@ fn lock_tail(bytes: &[u8]) -> Result<Lock, RowFault>
             count,
             pattern,
         }),
-        Ok(_) => Err(RowFault::Bad),
+        Ok(_) => Err(ReadFault::Bad),
         Err(fault) => Err(fault),
     }
 }
 
 #[tactic(auto, unfolding(crate::specs::Reading::lock_at))]
-pub fn lock_at(key: &[u8], value: &[u8]) -> Result<Record, RowFault>
+pub fn lock_at(key: &[u8], value: &[u8]) -> Result<Record, ReadFault>
     ensures gives { Gives (λ x. x) result (lock_at key.now value.now) }
     ensures bad { IfErr result (λ fault. fault ≡ Bad) }
 {

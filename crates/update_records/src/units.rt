@@ -6,7 +6,7 @@ ghost use Rattle.update_records.specs.Grammar.{HasDigits, HasNames, IsEffect, Is
 ghost use Rattle.keeper_api.specs.Batch.{IsBatch};
 ghost use Rattle.lock_entry.specs.Names.{has_distinct_names};
 ghost use Rattle.update_records.specs.Spelling.{IsRecord, record_row, records_of};
-ghost use Rattle.update_records.specs.RecordRows.{header_row, lock_row, lock_rows, mode_number, number_bytes, numbers_bytes, unit_rows};
+ghost use Rattle.update_records.specs.RecordRows.{header_row, lock_row, lock_rows, number_bytes, numbers_bytes, unit_rows};
 
 use crate::bytes::{bytes_of_unit, push_bytes, push_short, push_u16, push_u32, push_u64, put};
 use crate::parts::push_part;
@@ -14,7 +14,8 @@ use crate::records::Unit;
 use crate::tables;
 use enq_base::{Effect, Items, NoMemory, Num, UnitKey};
 use keeper_api::Change;
-use lock_entry::{Entry, Mode};
+use lock_entry::Entry;
+use mode_rules::mode_number;
 use std::alloc::Global;
 
 impl Unit {
@@ -84,17 +85,6 @@ fn encode_header(alloc: Global, unit: &Unit) -> Result<Change, NoMemory>
     Ok(put(tables::HEADERS, place, value))
 }
 
-fn mode_byte(mode: Mode) -> u8
-    ensures { result ≡ mode_number mode }
-{
-    match mode {
-        Mode::S => 1,
-        Mode::E => 2,
-        Mode::X => 3,
-        Mode::O => 0,
-    }
-}
-
 fn encode_lock(alloc: Global, key: &UnitKey, index: u32, entry: &Entry) -> Result<Change, NoMemory>
     ensures row { IfOk result (λ change. change ≡ lock_row key.now index entry.now) }
     ensures grammar { OnOk result (HasNames entry.now) }
@@ -103,7 +93,7 @@ fn encode_lock(alloc: Global, key: &UnitKey, index: u32, entry: &Entry) -> Resul
     push_u32(&mut place, index)?;
     let mut value = Vec::new(alloc);
     push_short(&mut value, entry.table.bytes())?;
-    value.push(mode_byte(entry.mode))?;
+    value.push(mode_number(entry.mode))?;
     push_u16(&mut value, entry.count)?;
     push_short(&mut value, entry.pattern.bytes())?;
     Ok(put(tables::LOCKS, place, value))

@@ -10,7 +10,7 @@ use Rattle.hall_model.specs.declared.command.PastEntry.{PastEntry}
 use Rattle.keeper_api.specs.Rows.{Rows}
 use Rattle.keeper_wal.specs.Journal.{Stands, IsBad}
 use Rattle.keeper_wal.specs.Wal.{told}
-use Rattle.keeper_wal.proofs.Meaning.{meaning}
+use Rattle.keeper_wal.proofs.lemmas.Meaning.{meaning}
 use Rattle.landscape.specs.declared.landscape.Landscape.{Landscape}
 use Rattle.posting.specs.Reopening.{HasStood}
 use Rattle.script_runner.specs.Replay.{Seen}

@@ -1,23 +1,20 @@
 -- What an end of the reading says of all bytes that a source told.
 use Rattle.std.proofs.Common.{inl, inr, ◌≡◌, ℕ, ◌<◌, List, [], ◌∷◌, ◌++◌, length, refl, sym, ap, ◌∙◌, subst, arith, true, true≢false}
-use Rattle.std.specs.Prelude.{Option, Some, None, Err}
+use Rattle.std.specs.Prelude.{Option, Some, Err}
 use Rattle.std.specs.Io.KnownBytes.{Consumes, IsAtEnd}
 use Rattle.std.proofs.lemmas.List.{append-nil, length-append}
 use Rattle.enq_base.specs.Causes.{Rose}
 use Rattle.io_edge.specs.Lines.{IsLine, is_ended, lines_of}
+use Rattle.io_edge.specs.Reading.{IsUncut}
 use Rattle.script_runner.specs.declared.runner.Why.{Why}
 use Rattle.script_runner.specs.declared.runner.Why.TheVariants.{Done, BadWords, BadLandscape, BadLine, SourceFault, SinkFault}
 use Rattle.script_runner.specs.declared.runner.Why.TheVariants.{LongLine, ManyLines, StoreFault, BackupFault, BadStore, BadBackup, NoStart, NoMemory, LogFull}
 use Rattle.whole_script.specs.Lines.{ComesTo, IsFirstTooLong, IsFirstUnrunnable, runs_behind}
-use Rattle.whole_script.specs.Reading.{BlamesFirst, IsReadingEnd, IsUncut, IsWholeScript, ReadsAll}
-use Rattle.whole_script.proofs.MoreBytes.{GoesFurther, goes_further}
+use Rattle.whole_script.specs.Reading.{BlamesFirst, IsReadingEnd, IsWholeScript, ReadsAll}
+use Rattle.io_edge.proofs.lemmas.LinesRead.{told}
+use Rattle.io_edge.proofs.lemmas.MoreBytes.{GoesFurther, goes_further}
 
 -- the bytes that were read are the first of all
-told : (bytes taken : List ℕ) (left : Option (List ℕ)) → Consumes (Some bytes) left taken
-    → (rest : List ℕ) × (left ≡ Some rest) × (bytes ≡ taken ++ rest)
-told bytes taken None h = absurd h
-told bytes taken (Some rest) h = (rest, refl, h)
-
 further : (n : ℕ) (bytes rest : List ℕ) (c : ComesTo n bytes) → GoesFurther (lines_of (bytes ++ rest)) c.earlier c.line (is_ended bytes ≡ true)
 further n bytes rest c = goes_further bytes rest c.earlier c.at.later c.line c.at.lines
 

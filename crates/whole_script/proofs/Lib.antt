@@ -1,5 +1,4 @@
 mod Adding
 mod Ends
 mod Loop
-mod MoreBytes
 mod Numbering

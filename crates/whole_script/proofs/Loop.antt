@@ -1,17 +1,18 @@
 -- What the loop over the lines of a script keeps.
-use Rattle.std.proofs.Common.{inl, inr, ◌≡◌, ◌≢◌, ℕ, ◌+◌, ◌<◌, ◌≤◌, List, [], ◌∷◌, ◌++◌, length, refl, sym, ap, ◌∙◌, subst, arith, true, false}
-use Rattle.std.specs.Prelude.{Bool, Option, Result, Ok, Err, All}
+use Rattle.std.proofs.Common.{◌≡◌, ◌≢◌, ℕ, ◌+◌, ◌≤◌, List, [], ◌∷◌, ◌++◌, length, refl, sym, ap, ◌∙◌, subst, arith, true, false}
+use Rattle.std.specs.Prelude.{Bool, Option, Ok, Err, All}
 use Rattle.std.specs.Io.KnownBytes.{Consumes, IsAtEnd}
 use Rattle.std.proofs.KnownBytes.{Consumes-nil, Consumes-trans}
 use Rattle.std.proofs.lemmas.List.{append-nil, length-append}
-use Rattle.std.proofs.lemmas.List.Elements.{All-append, All-cons}
-use Rattle.io_edge.specs.Lines.{IsLine, IsUnbroken, is_ended, lines_of}
-use Rattle.io_edge.specs.Reading.{IsHalt, IsTakenAs, LineView, ReadsOn, Repeats}
+use Rattle.io_edge.specs.Lines.{IsLine, lines_of}
+use Rattle.io_edge.specs.Reading.{IsHalt, IsUncut, LineView, ReadsOn, Repeats}
 use Rattle.io_edge.specs.declared.reader.LineFault.{LineFault}
 use Rattle.io_edge.specs.declared.reader.LineFault.TheVariants.{Failed, TooLong, TooMany}
 use Rattle.io_edge.specs.declared.reader.Standing.{Standing}
 use Rattle.io_edge.specs.declared.reader.Standing.TheVariants.{Reading, Ended, Halted}
-use Rattle.io_edge.proofs.LineLemmas.{ended, ended-push, is_ended-ended, lines_of-ended, lines_of-last}
+use Rattle.io_edge.proofs.lemmas.LinesRead.{GotLine, IsReadAs, behind, fault_goes, few_lines, next_line, still_reading, uncut, one_line, whole_lines, no_lines, lines_push}
+use Rattle.io_edge.proofs.lemmas.MoreBytes.{some_line}
+use Rattle.io_edge.proofs.lemmas.LineLemmas.{ended, lines_of-last}
 use Rattle.script_runner.specs.Faults.{why_of}
 use Rattle.script_runner.specs.Lines.{line_in}
 use Rattle.script_runner.specs.declared.runner.Why.{Why}
@@ -19,16 +20,9 @@ use Rattle.script_runner.specs.declared.runner.Why.TheVariants.{Done, BadWords, 
 use Rattle.script_runner.specs.declared.runner.Why.TheVariants.{LongLine, ManyLines, StoreFault, BackupFault, BadStore, BadBackup, NoStart, NoMemory, LogFull}
 use Rattle.whole_script.specs.Adding.{Adds, Refuses}
 use Rattle.whole_script.specs.Lines.{AreRunnable, ComesTo, HaveParts, before_lines, is_runnable, names_in, numbered, runs_behind}
-use Rattle.whole_script.specs.Reading.{AreRunnableBefore, IsRead, IsReadingEnd, IsUncut, ReadsAll}
+use Rattle.whole_script.specs.Reading.{AreRunnableBefore, IsRead, IsReadingEnd, ReadsAll}
 use Rattle.whole_script.specs.declared.script.Script.{Script}
-use Rattle.whole_script.proofs.MoreBytes.{some_line}
 use Rattle.whole_script.proofs.Numbering.{are_more, numbered-push}
-
--- the bytes read so far are whole lines; at the end the last line may lack its end
-abbrev pub IsReadAs : List ℕ → List (List ℕ) → Option (List ℕ) → Standing → Type 0
-IsReadAs bytes lines left Reading = bytes ≡ ended lines
-IsReadAs bytes lines left Ended = (lines_of bytes ≡ lines) × IsAtEnd left
-IsReadAs bytes lines left (Halted fault) = ⊥
 
 -- all lines that were read stand in the script
 pub record GoesOn (old now : Option (List ℕ)) (f g : ℕ) (reader : LineView) (script : Script) : Type 0 where
@@ -45,9 +39,6 @@ pub record GoesOn (old now : Option (List ℕ)) (f g : ℕ) (reader : LineView) 
   pub parts : HaveParts script.lines.items
   pub quiet : g ≡ f
 
-none_all : All IsLine []
-none_all k d lt = absurd (omega arith)
-
 none_runnable : AreRunnable []
 none_runnable earlier later line e = let long = ap length e ∙ length-append earlier (line ∷ later) in absurd (omega (arith, long))
 
@@ -60,7 +51,7 @@ begins left faults reader script none reading lines names =
       lines = [];
       read = Consumes-nil left;
       read_as = subst (λ s. IsReadAs [] [] left s) (sym reading) refl;
-      fit = none_all;
+      fit = no_lines;
       number = sym none;
       few = omega (arith, none);
       runnable = none_runnable;
@@ -70,78 +61,12 @@ begins left faults reader script none reading lines names =
       quiet = refl;
     }
 
--- ---- lines of bytes
-
-whole_lines : (lines : List (List ℕ)) → All IsLine lines → lines_of (ended lines) ≡ lines
-whole_lines lines h = ap lines_of (sym (append-nil (ended lines))) ∙ lines_of-ended lines [] h ∙ append-nil lines
-
--- the lines of bytes that stand behind whole lines
-behind : (bytes taken : List ℕ) (lines later : List (List ℕ)) → bytes ≡ ended lines → All IsLine lines → lines_of taken ≡ later
-    → lines_of (bytes ++ taken) ≡ lines ++ later
-behind bytes taken lines later e all are = ap (λ x. lines_of (x ++ taken)) e ∙ lines_of-ended lines taken all ∙ ap (λ x. lines ++ x) are
-
-one_line : (line : List ℕ) → IsUnbroken line → 0 < length line → lines_of line ≡ line ∷ []
-one_line [] h some = absurd (omega arith)
-one_line (b ∷ line) h some = lines_of-last b line h
-
-all_push : (lines : List (List ℕ)) (line : List ℕ) → All IsLine lines → IsLine line → All IsLine (lines ++ line ∷ [])
-all_push lines line h k = All-append IsLine lines (line ∷ []) h (All-cons IsLine line [] k none_all)
-
--- a reader that answers anything but the end was reading, and all that was read before are whole lines
-still_reading : (bytes : List ℕ) (lines : List (List ℕ)) (left : Option (List ℕ)) (s : Standing) (r : Result Bool LineFault) → (r ≡ Ok false → ⊥)
-    → IsReadAs bytes lines left s → Repeats s r → (s ≡ Reading) × (bytes ≡ ended lines)
-still_reading bytes lines left Reading r goes h again = (refl, h)
-still_reading bytes lines left Ended r goes h again = absurd (goes again)
-still_reading bytes lines left (Halted fault) r goes h again = absurd h
-
-true_goes : ◌≡◌ {A = Result Bool LineFault} (Ok true) (Ok false) → ⊥
-true_goes e = cc
-
-fault_goes : (fault : LineFault) → ◌≡◌ {A = Result Bool LineFault} (Err fault) (Ok false) → ⊥
-fault_goes fault e = cc
-
--- a line was taken behind whole lines
-taken_as : (bytes taken : List ℕ) (lines : List (List ℕ)) (line : List ℕ) (left : Option (List ℕ)) (s : Standing) → bytes ≡ ended lines
-    → All IsLine lines → IsLine line → IsTakenAs taken line left s
-    → IsReadAs (bytes ++ taken) (lines ++ line ∷ []) left s × (lines_of (bytes ++ taken) ≡ lines ++ line ∷ [])
-taken_as bytes taken lines line left Reading e all fits t =
-    let whole : bytes ++ taken ≡ ended (lines ++ line ∷ []) = ap (λ x. x ++ taken) e ∙ ap (λ x. ended lines ++ x) t ∙ sym (ended-push lines line) in
-    (whole, ap lines_of whole ∙ whole_lines _ (all_push lines line all fits))
-taken_as bytes taken lines line left Ended e all fits t =
-    let last = ap lines_of t.0 ∙ one_line line fits.unbroken t.1 in
-    let each = behind bytes taken lines (line ∷ []) e all last in
-    ((each, t.2), each)
-taken_as bytes taken lines line left (Halted fault) e all fits t = absurd t
-
 -- one line more was read
-record GotLine (old now : Option (List ℕ)) (f g : ℕ) (lines : List (List ℕ)) (reader : LineView) : Type 0 where
-  bytes : List ℕ
-  read : Consumes old now bytes
-  read_as : IsReadAs bytes (lines ++ reader.line ∷ []) now reader.standing
-  each : lines_of bytes ≡ lines ++ reader.line ∷ []
-  fits : IsLine reader.line
-  number : reader.number ≡ length lines + 1
-  few : reader.number ≤ 200000
-  quiet : g ≡ f
-
 got_line : (old now next : Option (List ℕ)) (f g g' : ℕ) (reader reader' : LineView) (script : Script) (h : GoesOn old now f g reader script)
     → (reader.standing ≡ Reading → ReadsOn now next g g' reader reader' (Ok true)) → Repeats reader.standing (Ok true)
     → GotLine old next f g' h.lines reader'
 got_line old now next f g g' reader reader' script h reads again =
-    let s = still_reading h.bytes h.lines now reader.standing (Ok true) true_goes h.read_as again in
-    let n = reads s.0 in
-    let line = n.reading.0 in
-    let t = taken_as h.bytes n.taken h.lines reader'.line next reader'.standing s.1 h.fit line.line line.taken_as in
-    record {
-      bytes = h.bytes ++ n.taken;
-      read = Consumes-trans old now next h.bytes n.taken h.read n.consumed;
-      read_as = t.0;
-      each = t.1;
-      fits = line.line;
-      number = line.number ∙ ap (λ k. k + 1) (sym h.number);
-      few = line.bound;
-      quiet = n.reading.1 ∙ h.quiet;
-    }
+    next_line old now next f g g' reader reader' h.bytes h.lines h.read h.read_as h.fit h.number h.quiet reads again
 
 -- what is known of the script tells whether a line is runnable behind its lines
 same_runs : (lines : List (List ℕ)) (script : Script) (line : List ℕ) → script.lines.items ≡ numbered 0 lines
@@ -163,7 +88,7 @@ goes_on old now next f g g' n given reader reader' script script' h reads again 
       lines = h.lines ++ line ∷ [];
       read = got.read;
       read_as = got.read_as;
-      fit = all_push h.lines line h.fit got.fits;
+      fit = lines_push h.lines line h.fit got.fits;
       number = length-append h.lines (line ∷ []) ∙ sym got.number;
       few = got.few;
       runnable = are_more h.lines line h.runnable (got.fits, sym (same_runs h.lines script line h.known h.names) ∙ a.runnable);
@@ -177,12 +102,6 @@ abbrev comes_to : (n : ℕ) (bytes : List ℕ) (lines later : List (List ℕ)) (
     → lines_of bytes ≡ lines ++ line ∷ later → n ≡ length lines + 1 → ComesTo n bytes
 comes_to n bytes lines later line runnable each place =
     record { earlier = lines; line = line; at = record { later = later; lines = each; place = place }; runnable = runnable }
-
--- a line that was taken was read to its end
-uncut : (bytes : List ℕ) (lines : List (List ℕ)) (left : Option (List ℕ)) (s : Standing) → IsReadAs bytes lines left s → IsUncut bytes left
-uncut bytes lines left Reading h = inl (ap is_ended h ∙ is_ended-ended lines)
-uncut bytes lines left Ended h = inr h.1
-uncut bytes lines left (Halted fault) h = absurd h
 
 -- why a line that wasn't added ends the reading
 ends_at : (bytes : List ℕ) (left : Option (List ℕ)) (f g n : ℕ) (lines : List (List ℕ)) (line : List ℕ) (can : Bool) (why : Why) → AreRunnable lines
@@ -258,9 +177,6 @@ ends_fault old now next f g g' reader reader' script fault why is h reads again 
       Consumes-trans old now next h.bytes n.taken h.read n.consumed,
       subst (λ w. IsReadingEnd (h.bytes ++ n.taken) next f g' w) (sym is) end,
     )
-
-few_lines : (lines : List (List ℕ)) (n : ℕ) → length lines ≡ n → n ≤ 200000 → length lines ≤ 200000
-few_lines lines n is few = omega (arith, is, few)
 
 -- the script, where all of its bytes were read
 read_all : (old next : Option (List ℕ)) (f g' n : ℕ) (bytes : List ℕ) (lines : List (List ℕ)) (script : Script) → Consumes old next bytes

@@ -1,8 +1,9 @@
 -- How the reading of a whole script ends.
-use Rattle.std.specs.Prelude.{◌≡◌, ◌⊎◌, ℕ, ◌<◌, ◌≤◌, true, List, ◌++◌, length, Option, Result, Ok, Err}
+use Rattle.std.specs.Prelude.{◌≡◌, ℕ, ◌<◌, ◌≤◌, List, ◌++◌, length, Option, Result, Ok, Err}
 use Rattle.std.specs.Io.KnownBytes.{Consumes, IsAtEnd}
 use Rattle.enq_base.specs.Causes.{Rose}
-use Rattle.io_edge.specs.Lines.{is_ended, lines_of}
+use Rattle.io_edge.specs.Lines.{lines_of}
+use Rattle.io_edge.specs.Reading.{IsUncut}
 use Rattle.script_actors.specs.declared.line.NumberedLine.{NumberedLine}
 use Rattle.script_runner.specs.declared.runner.Why.{Why}
 use Rattle.script_runner.specs.declared.runner.Why.TheVariants.{BadLine, LongLine, ManyLines, NoMemory, SourceFault}
@@ -15,10 +16,6 @@ pub record IsRead (bytes : List ℕ) (left : Option (List ℕ)) (lines : List Nu
   pub few : length (lines_of bytes) ≤ 200000
   pub runnable : AreRunnable (lines_of bytes)
   pub known : lines ≡ numbered 0 (lines_of bytes)
-
--- the last line that was read was read to its end
-abbrev pub IsUncut : List ℕ → Option (List ℕ) → Type 0
-IsUncut bytes left = (is_ended bytes ≡ true) ⊎ IsAtEnd left
 
 -- the lines that were read before a fault could be done, but for the last one, which may have been cut
 pub record AreRunnableBefore (bytes : List ℕ) : Type 0 where

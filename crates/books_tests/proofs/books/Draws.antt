@@ -8,7 +8,7 @@ use Rattle.std.proofs.lemmas.Bool.Decides.{Decides-and}
 use Rattle.std.proofs.lemmas.List.Elements.{All-nil, All-push}
 use Rattle.std.proofs.lemmas.Slice.Eq.{bytes_eq-Decides}
 use Rattle.enq_base.specs.declared.unit.Num.{Num as Number}
-use Rattle.module_effects.proofs.Tables.{rows_total, same_row, same_row-Decides}
+use Rattle.module_effects.proofs.lemmas.Tables.{rows_total, same_row, same_row-Decides}
 use Rattle.module_effects.specs.Rows.{RowName}
 use Rattle.update_records.specs.Business.{interval_of, numbers_from, numbers_of}
 use Rattle.update_records.specs.Grammar.{HasDigits}

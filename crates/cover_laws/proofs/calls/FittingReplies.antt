@@ -2,8 +2,8 @@
 use Rattle.std.proofs.Common.{◌≡◌, inl, inr, ℕ, true, false, List, refl, sym, ◌∙◌, subst}
 use Rattle.enq_base.specs.declared.unit.Num.{Num}
 use Rattle.enq_base.specs.declared.unit.Parts.{Parts}
-use Rattle.hall_model.proofs.ByCall.{OfEach, by_call}
-use Rattle.hall_model.proofs.NotedCalls.{of_server}
+use Rattle.model_laws.proofs.ByCall.{OfEach, by_call}
+use Rattle.model_laws.proofs.NotedCalls.{of_server}
 use Rattle.hall_model.specs.Devices.{found_by}
 use Rattle.hall_model.specs.Calls.{Call, LogsOn, OfSession, OfWorker, OfAdmin, LogsOff, Asks, Frees, FreesAll, Converts, Draws, Reserves, Reads, Commits, RollsBack, call_of}
 use Rattle.hall_model.specs.History.{judged}

@@ -17,8 +17,8 @@ use Rattle.update_records.specs.Ledger.{Ledger, Levels}
 use Rattle.update_records.specs.Marks.{status_of}
 use Rattle.update_records.specs.declared.records.MarkKind.TheVariants as mark
 use Rattle.hall_laws.proofs.histories.WithoutServer.{anew_as_before}
-use Rattle.hall_model.proofs.ByCall.{OfEach, by_call}
-use Rattle.hall_model.proofs.PartOrders.{held_for}
+use Rattle.model_laws.proofs.ByCall.{OfEach, by_call}
+use Rattle.model_laws.proofs.PartOrders.{held_for}
 use Rattle.hall_model.specs.Calls.{Call, OfSession, OfWorker, OfAdmin, Cancels, Commits, Posts, Resubmits, Restarts}
 use Rattle.hall_model.specs.Numbers.{from_memory, next_number, raised_to}
 use Rattle.hall_model.specs.Orders.{order_of}

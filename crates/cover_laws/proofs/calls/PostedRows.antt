@@ -12,7 +12,7 @@ use Rattle.std.specs.Str.{bytes_eq}
 use Rattle.enq_base.specs.declared.owner.UnitKey.{UnitKey}
 use Rattle.enq_base.specs.declared.refusal.Refusal.{Refusal}
 use Rattle.enq_base.specs.declared.unit.Effect.{Effect}
-use Rattle.lock_entry.proofs.Naming.{bytes_eq-refl}
+use Rattle.lock_entry.proofs.lemmas.Naming.{bytes_eq-refl}
 use Rattle.module_effects.specs.Effects.{applied, applied_from, row_after}
 use Rattle.module_effects.specs.Rows.{RowName, Tables, row_cmp, row_of, with_row}
 use Rattle.module_effects.specs.declared.fault.EffectFault.{EffectFault}
@@ -20,8 +20,8 @@ use Rattle.module_effects.specs.declared.fault.EffectFault.TheVariants as fault
 use Rattle.ledger_steps.specs.Posts.{kind_for}
 use Rattle.ledger_steps.specs.declared.step.Outcome.{Outcome}
 use Rattle.ledger_steps.specs.declared.step.Outcome.TheVariants as outcome
-use Rattle.update_records.proofs.Books.{tables_grow, tables_push}
-use Rattle.update_records.proofs.Status.{none_of}
+use Rattle.record_laws.proofs.Books.{tables_grow, tables_push}
+use Rattle.record_laws.proofs.Status.{none_of}
 use Rattle.update_records.specs.Business.{part_of, posted, tables_of, tables_or}
 use Rattle.update_records.specs.Growing.{next_mark, with_mark, with_unit}
 use Rattle.update_records.specs.Ledger.{Ledger}
@@ -30,7 +30,7 @@ use Rattle.update_records.specs.declared.records.MarkKind.{MarkKind}
 use Rattle.update_records.specs.declared.records.MarkKind.TheVariants as mark
 use Rattle.update_records.specs.declared.records.Unit.{Unit as UnitOfWork}
 use Rattle.hall_laws.proofs.keeping.UnitsToCome.{open_unheard}
-use Rattle.hall_model.proofs.OtherStatuses.{status_in}
+use Rattle.model_laws.proofs.OtherStatuses.{status_in}
 use Rattle.hall_model.specs.Calls.{OfSession, Reads, call_of}
 use Rattle.hall_model.specs.Devices.{MayRead, Reading, AsKnown, Comes, Shows, Reopens, Hands, IsTold, found_by}
 use Rattle.hall_model.specs.History.{judged}

@@ -11,9 +11,9 @@ use Rattle.enq_base.specs.declared.refusal.Refusal.TheVariants as refusal
 use Rattle.enq_base.specs.declared.unit.Num.{Num}
 use Rattle.enq_base.specs.declared.unit.Parts.{Parts}
 use Rattle.update_records.specs.Ledger.{Ledger}
-use Rattle.hall_model.proofs.BarredCalls.{refused_verdict}
-use Rattle.hall_model.proofs.ByCall.{by_room}
-use Rattle.hall_model.proofs.NotedCalls.{by_noting}
+use Rattle.model_laws.proofs.BarredCalls.{refused_verdict}
+use Rattle.model_laws.proofs.ByCall.{by_room}
+use Rattle.model_laws.proofs.NotedCalls.{by_noting}
 use Rattle.hall_model.specs.Calls.{Call, LogsOn, OfSession, OfWorker, OfAdmin, SessionCall, call_of, wants_server, who_calls}
 use Rattle.hall_model.specs.Devices.{AllWell, Wanting, StoreFails, BackupFails, LinkFails, NotRemade, found_by}
 use Rattle.hall_model.specs.History.{Served, ends_in, judged, losing, refused, served, takes_flight, with_entry}

@@ -16,7 +16,7 @@ use Rattle.ledger_steps.specs.Posts.{WaitsFor, entries_of, kind_for}
 use Rattle.ledger_steps.specs.Steps.{IsOpenUnit, IsPostedUnit}
 use Rattle.ledger_steps.specs.declared.step.Outcome.{Outcome}
 use Rattle.ledger_steps.specs.declared.step.Outcome.TheVariants as outcome
-use Rattle.update_records.proofs.Status.{flip, one_unit, unit_new}
+use Rattle.record_laws.proofs.Status.{flip, one_unit, unit_new}
 use Rattle.update_records.specs.Growing.{with_mark, with_unit}
 use Rattle.update_records.specs.Ledger.{Ledger}
 use Rattle.update_records.specs.Marks.{given, has_no_v2}
@@ -24,10 +24,10 @@ use Rattle.update_records.specs.declared.records.MarkKind.{MarkKind}
 use Rattle.update_records.specs.declared.records.MarkKind.TheVariants as mark
 use Rattle.update_records.specs.declared.records.Unit.{Unit as UnitOfWork}
 use Rattle.hall_laws.proofs.keeping.UnitsToCome.{open_unheard}
-use Rattle.hall_model.proofs.BesideRecorded.{entries_beside}
-use Rattle.hall_model.proofs.EachLock.{recorded_here}
-use Rattle.hall_model.proofs.NotedCalls.{full_or}
-use Rattle.hall_model.proofs.OtherStatuses.{apart_by, apart_by_status, marked_other, numbers_leave, recorded_open, recorded_other, status_in, status_marked}
+use Rattle.model_laws.proofs.BesideRecorded.{entries_beside}
+use Rattle.model_laws.proofs.EachLock.{recorded_here}
+use Rattle.model_laws.proofs.NotedCalls.{full_or}
+use Rattle.model_laws.proofs.OtherStatuses.{apart_by, apart_by_status, marked_other, numbers_leave, recorded_open, recorded_other, status_in, status_marked}
 use Rattle.hall_model.specs.Calls.{AdminCall, Call, OfSession, OfWorker, OfAdmin, Commits, Posts, SessionCall, call_of, wants_server}
 use Rattle.hall_model.specs.Devices.{found_by}
 use Rattle.hall_model.specs.Kept.{IsSteady}

@@ -9,7 +9,7 @@ use Rattle.enq_base.specs.declared.unit.Status.{Status}
 use Rattle.enq_base.specs.declared.unit.Status.TheVariants as status
 use Rattle.lock_objects.specs.Objects.{Object}
 use Rattle.ledger_steps.specs.Posts.{status_for}
-use Rattle.update_records.proofs.Status.{flip}
+use Rattle.record_laws.proofs.Status.{flip}
 use Rattle.update_records.specs.Growing.{with_mark, with_unit}
 use Rattle.update_records.specs.Ledger.{Ledger}
 use Rattle.update_records.specs.Marks.{unit_at}
@@ -17,9 +17,9 @@ use Rattle.update_records.specs.declared.records.MarkKind.{MarkKind}
 use Rattle.update_records.specs.declared.records.MarkKind.TheVariants as mark
 use Rattle.update_records.specs.declared.records.Unit.{Unit as UnitOfWork}
 use Rattle.hall_laws.proofs.keeping.UnitsToCome.{open_unheard}
-use Rattle.hall_model.proofs.EachLock.{every_by, found_unit}
-use Rattle.hall_model.proofs.LockLists.{Among, among_from, contains_from}
-use Rattle.hall_model.proofs.OtherStatuses.{apart_by, apart_by_status, marked_other, numbers_leave, recorded_other, status_in}
+use Rattle.model_laws.proofs.EachLock.{every_by, found_unit}
+use Rattle.model_laws.proofs.LockLists.{Among, among_from, contains_from}
+use Rattle.model_laws.proofs.OtherStatuses.{apart_by, apart_by_status, marked_other, numbers_leave, recorded_other, status_in}
 use Rattle.hall_model.specs.Calls.{Call, OfSession, Commits, call_of}
 use Rattle.hall_model.specs.Devices.{found_by}
 use Rattle.hall_model.specs.Kept.{IsSteady}

@@ -13,7 +13,7 @@ use Rattle.hall_model.specs.declared.command.Session.{Session}
 use Rattle.hall_model.specs.History.{Served, losing}
 use Rattle.hall_model.specs.Sessions.{session_at, unit_key, with_mark, with_marks}
 use Rattle.hall_model.specs.State.{State}
-use Rattle.hall_model.proofs.FoundSessions.{equal_session}
+use Rattle.model_laws.proofs.FoundSessions.{equal_session}
 use Rattle.cover_laws.proofs.needed.HoldingNeeded.{HoldsIn, StandsAt, unit_owner}
 use Rattle.cover_laws.proofs.needed.LocksNeeded.{Holds, often}
 use Rattle.cover_laws.proofs.Lists.{mapped_from, none_from}

@@ -7,8 +7,8 @@ use Rattle.std.proofs.lemmas.Bool.{and_parts, cases_Bool, or_left, or_right}
 use Rattle.enq_base.specs.Owners.{same_owner}
 use Rattle.enq_base.specs.declared.owner.Owner.{Owner}
 use Rattle.enq_base.specs.declared.owner.Owner.TheVariants.{Upd}
-use Rattle.lock_entry.proofs.Lists.{list_any-weaken}
-use Rattle.lock_entry.proofs.Naming.{same_owner-same, same_owner-sym}
+use Rattle.lock_entry.proofs.lemmas.Lists.{list_any-weaken}
+use Rattle.lock_entry.proofs.lemmas.Naming.{same_owner-same, same_owner-sym}
 use Rattle.lock_entry.specs.Names.{asked_of, count_at, has_name, is_of, named, same_asked}
 use Rattle.lock_entry.specs.Pairs.{in_pair}
 use Rattle.lock_entry.specs.declared.entry.Asked.{Asked}

@@ -34,10 +34,10 @@ use Rattle.hall_model.specs.Orders.{order_of}
 use Rattle.hall_model.specs.Sessions.{begun, bereft_if, pair_of, session_at, unit_key, with_draw, with_fresh_unit, with_mark, with_next_unit, with_session, without_draws}
 use Rattle.hall_model.specs.State.{State, table_for, unhanded}
 use Rattle.hall_model.specs.Step.{Found, Verdict, attached, call_verdict, cancelled, committed, detached, entered, followed_over, freed_all, has_lock, is_taken, killed, locks_behind, locks_without, logged_off, lowered, marked, numbered, replica_list, restarted, rolled_back}
-use Rattle.hall_model.proofs.ByCall.{OfEach, by_call}
-use Rattle.hall_model.proofs.OtherStatuses.{apart_by_status, status_in}
-use Rattle.hall_model.proofs.PartOrders.{held_for}
-use Rattle.hall_model.proofs.Resubmissions.{table_in}
+use Rattle.model_laws.proofs.ByCall.{OfEach, by_call}
+use Rattle.model_laws.proofs.OtherStatuses.{apart_by_status, status_in}
+use Rattle.model_laws.proofs.PartOrders.{held_for}
+use Rattle.model_laws.proofs.Resubmissions.{table_in}
 use Rattle.hall_laws.proofs.keeping.UnitsToCome.{open_unheard}
 use Rattle.cover_laws.proofs.needed.HallNeeded.{IsReached, IsSure}
 use Rattle.cover_laws.specs.Histories.{is_unit, resubmits}
@@ -194,11 +194,6 @@ module _ (asks : AskingLeaves) (frees : OthersFreeingLeaves) (ends : OwnerFreein
     reserved_stands i upto =
         let t : State = record s { stored = raised_to i upto s.stored } in
         leaves_other t (beside t refl (λ on. on) (raised_start i upto s.stored) refl) (λ x here holds. holds)
-
-    stocked_stands : (stock : List Num) → StandsAt (stocked stock s) name held
-    stocked_stands stock =
-        let t = stocked stock s in
-        leaves_other t (beside t refl (λ on. on) refl refl) (λ x here holds. holds)
 
     numbered_stands : (caller : List ℕ) (y : Session) (numbers stock : List Num) → session_at s.sessions caller ≡ Some y → bytes_eq caller name ≡ false
         → StandsAt (stocked stock (numbered s y numbers)) name held

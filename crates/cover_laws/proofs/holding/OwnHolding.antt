@@ -28,8 +28,8 @@ use Rattle.hall_model.specs.Numbers.{drawn, next_number, raised_to, stocked}
 use Rattle.hall_model.specs.Sessions.{pair_of, session_at, unit_key, with_draw, with_session, without_draws}
 use Rattle.hall_model.specs.State.{State}
 use Rattle.hall_model.specs.Step.{Found, Verdict, Leaves, call_verdict, lowered, numbered, unavailable}
-use Rattle.hall_model.proofs.ByCall.{OfEach, by_call}
-use Rattle.hall_model.proofs.Resubmissions.{table_in}
+use Rattle.model_laws.proofs.ByCall.{OfEach, by_call}
+use Rattle.model_laws.proofs.Resubmissions.{table_in}
 use Rattle.cover_laws.proofs.needed.HallNeeded.{IsSure}
 use Rattle.cover_laws.specs.Histories.{is_refused}
 use Rattle.cover_laws.proofs.needed.HoldingNeeded.{MovesHeld, OwnCallsHold, StandsAt}

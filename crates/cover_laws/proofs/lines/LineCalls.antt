@@ -24,13 +24,13 @@ use Rattle.script_lang.specs.declared.script_line.ScriptLine.{ScriptLine}
 use Rattle.script_lang.specs.declared.script_line.ScriptLine.TheVariants as line
 use Rattle.script_runner.specs.Lines.{Calls, Changes, Declines, Meaning, Shows, Silent, and_next, asking, collected, collecting, effect_of, key_in, key_with, meaning, number_in, of_session, registered, registering, requesting, text_in, then_deed, unless_refused, with_requested}
 use Rattle.script_runner.specs.Sides.{container_of, parts_of, side_of, variables_of, with_side}
-use Rattle.script_runner.specs.World.{world}
+use Rattle.script_runner.specs.World.{setting}
 use Rattle.script_runner.specs.declared.monitor.Monitor.{Monitor}
 use Rattle.script_runner.specs.declared.monitor.Monitor.TheVariants as monitor
-use Rattle.coverage.specs.Lacks.{Standing, after_line, session_of}
+use Rattle.coverage.specs.Lacks.{Standing, after_line}
+use Rattle.script_lang.specs.Sessions.{session_of}
 use Rattle.cover_laws.proofs.needed.CoverageNeeded.{RowEffect, effect_at, ends_unit_at}
 use Rattle.cover_laws.specs.Histories.{is_session}
-use Rattle.cover_laws.specs.Safe.{unseen}
 
 -- the line of a session registers an effect on this row, and does no more
 pub record IsEffectLine (l : ScriptLine) (s : List ℕ) (row : RowEffect) : Type 0 where
@@ -117,13 +117,13 @@ module _ (objects : List Object) (sides : List Private) where
 
   requests : (l : ScriptLine) (s object : List ℕ) (m : Mode) (scope : Scope) (values : List RawValue) (next : List Request → Meaning)
       → Given l s (requesting (variables_of sides s) objects object m scope values) next
-      → To l (with_requested (world objects unseen sides) s object m scope values next)
+      → To l (with_requested (setting objects sides) s object m scope values next)
   requests l s object m scope values next given =
       let rule = requesting (variables_of sides s) objects object m scope values in
       on_session l s (unless_refused rule next) (λ x at. where_ok l rule next (λ rs ok. given rs x at ok))
 
   collects : (s object : List ℕ) (m : Mode) (scope : Scope) (values : List RawValue)
-      → To (line.Collect s object m scope values) (with_requested (world objects unseen sides) s object m scope values (collecting sides s))
+      → To (line.Collect s object m scope values) (with_requested (setting objects sides) s object m scope values (collecting sides s))
   collects s object m scope values =
       let l = line.Collect s object m scope values in
       requests l s object m scope values (collecting sides s)
@@ -150,7 +150,7 @@ module _ (objects : List Object) (sides : List Private) where
   others : (l : ScriptLine) (c : Command) → session_of l ≡ None → is_session (who_of c) ≡ false → To l (Calls c)
   others l c none other = ToCall l c (OfOthers l c none other)
 
-  pub comes : (l : ScriptLine) → Comes objects sides l (meaning (world objects unseen sides) l)
+  pub comes : (l : ScriptLine) → Comes objects sides l (meaning (setting objects sides) l)
   comes line.Blank = ToNothing line.Blank refl
   comes line.Sm12 = ToMonitor line.Sm12 monitor.Sm12 refl
   comes line.Sm13 = ToMonitor line.Sm13 monitor.Sm13 refl
@@ -212,7 +212,7 @@ module _ (objects : List Object) (sides : List Private) where
   comes (line.Cancel unit) = others (line.Cancel unit) (command.Cancel unit) refl refl
   comes (line.Resubmit unit) = others (line.Resubmit unit) (command.Resubmit unit) refl refl
 
-  pub call_made : (l : ScriptLine) (c : Command) → meaning (world objects unseen sides) l ≡ Calls c → IsMade objects sides l c
+  pub call_made : (l : ScriptLine) (c : Command) → meaning (setting objects sides) l ≡ Calls c → IsMade objects sides l c
   call_made l c is = made (subst (Comes objects sides l) is (comes l))
     where
       made : Comes objects sides l (Calls c) → IsMade objects sides l c

@@ -9,7 +9,7 @@ use Rattle.std.proofs.lemmas.List.{append-nil}
 use Rattle.std.proofs.lemmas.List.Elements.{Contains-append_right}
 use Rattle.std.proofs.lemmas.List.Folds.{list_all-append}
 use Rattle.lock_entry.specs.declared.entry.Asked.{Asked}
-use Rattle.lock_entry.proofs.Naming.{bytes_eq-same}
+use Rattle.lock_entry.proofs.lemmas.Naming.{bytes_eq-same}
 use Rattle.lock_objects.specs.Objects.{Object}
 use Rattle.dialogue_session.specs.Private.{Private}
 use Rattle.hall_model.specs.Calls.{call_of}
@@ -20,13 +20,14 @@ use Rattle.script_lang.specs.declared.script_line.ScriptLine.{ScriptLine}
 use Rattle.script_lang.specs.declared.script_line.ScriptLine.TheVariants as line
 use Rattle.script_runner.specs.Lines.{Calls, Changes, Declines, Meaning, Shows, Silent, meaning, settled}
 use Rattle.script_runner.specs.Sides.{side_of}
-use Rattle.script_runner.specs.World.{world}
-use Rattle.coverage.specs.Lacks.{is_of, session_of}
+use Rattle.script_runner.specs.World.{setting}
+use Rattle.coverage.specs.Lacks.{is_of}
+use Rattle.script_lang.specs.Sessions.{session_of}
 use Rattle.cover_laws.proofs.needed.CoverageNeeded.{ends_unit_at, stand}
 use Rattle.cover_laws.proofs.needed.HallNeeded.{FitsReply, on_after}
 use Rattle.cover_laws.proofs.needed.HoldingNeeded.{MovesHeld}
 use Rattle.cover_laws.proofs.needed.LinesNeeded.{IsPlace, Matches, NextCall, Place, PlacesGoOn}
-use Rattle.cover_laws.specs.Safe.{AreCallsOf, unseen}
+use Rattle.cover_laws.specs.Safe.{AreCallsOf}
 use Rattle.cover_laws.proofs.lines.LineCalls.{Comes, IsChange, IsMade, ToCall, ToChange, ToMonitor, ToNothing, ToRefusal, comes}
 use Rattle.cover_laws.proofs.lines.QuietLines.{IsQuietLine, QuietOf, quiet_line}
 use Rattle.cover_laws.proofs.lines.SessionCalls.{IsTurn, TurnOf, call_turns}
@@ -111,7 +112,7 @@ module _ (objects : List Object) (name : List ℕ) (e : PastEntry) (calls : List
         p.off
 
     -- the line makes the call
-    call_here : (c : Command) → IsMade objects sides l c → meaning (world objects unseen sides) l ≡ Calls c
+    call_here : (c : Command) → IsMade objects sides l c → meaning (setting objects sides) l ≡ Calls c
         → (e.command ≡ c) × AreCallsOf objects (settled l e.reply sides) ls calls → Next done (l ∷ ls) sides
     call_here c made is (same, rest) =
         let t = turn (subst (IsMade objects sides l) (sym same) made) in
@@ -177,7 +178,7 @@ module _ (objects : List Object) (name : List ℕ) (e : PastEntry) (calls : List
     goes : ((more : List Private) → Stands (done ++ l ∷ []) ls more → Next (done ++ l ∷ []) ls more) → Next done (l ∷ ls) sides
     goes behind = by_rest p.place.rest
       where
-        by_meaning : (m : Meaning) → Comes objects sides l m → meaning (world objects unseen sides) l ≡ m
+        by_meaning : (m : Meaning) → Comes objects sides l m → meaning (setting objects sides) l ≡ m
             → GoesBy objects sides l ls (e ∷ calls) m → Next done (l ∷ ls) sides
         by_meaning m (ToCall k c made) is rest = call_here c made is rest
         by_meaning m (ToChange k more made) is rest =
@@ -188,9 +189,9 @@ module _ (objects : List Object) (name : List ℕ) (e : PastEntry) (calls : List
         by_meaning m (ToNothing k none) is rest = absurd (not_own none)
         by_meaning m (ToMonitor k shown none) is rest = absurd (not_own none)
 
-        by_rest : (((e ∷ calls) ≡ []) ⊎ GoesBy objects sides l ls (e ∷ calls) (meaning (world objects unseen sides) l)) → Next done (l ∷ ls) sides
+        by_rest : (((e ∷ calls) ≡ []) ⊎ GoesBy objects sides l ls (e ∷ calls) (meaning (setting objects sides) l)) → Next done (l ∷ ls) sides
         by_rest (inl none) = absurd (cc)
-        by_rest (inr rest) = by_meaning (meaning (world objects unseen sides) l) (comes objects sides l) refl rest
+        by_rest (inr rest) = by_meaning (meaning (setting objects sides) l) (comes objects sides l) refl rest
 
   goes_from : (left done : List ScriptLine) (sides : List Private) → Stands done left sides → Next done left sides
   goes_from [] done sides p = absurd (let none : (e ∷ calls) ≡ [] = p.place.rest in cc)

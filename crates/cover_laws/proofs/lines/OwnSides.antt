@@ -2,7 +2,7 @@
 use Rattle.std.proofs.Common.{◌≡◌, ℕ, Bool, true, cond, not, List, [], ◌∷◌, Option, Some, None, refl, sym, ap, ◌∙◌, inl, inr}
 use Rattle.std.specs.Str.{bytes_eq}
 use Rattle.std.proofs.lemmas.Bool.{cases_Bool}
-use Rattle.lock_entry.proofs.Naming.{bytes_eq-refl}
+use Rattle.lock_entry.proofs.lemmas.Naming.{bytes_eq-refl}
 use Rattle.dialogue_session.specs.Private.{Private, fresh}
 use Rattle.script_runner.specs.Sides.{is_side_of, side_of, with_new_side, with_side, without_side}
 

@@ -20,7 +20,8 @@ use Rattle.script_lang.specs.declared.script_line.ScriptLine.{ScriptLine}
 use Rattle.script_lang.specs.declared.script_line.ScriptLine.TheVariants as line
 use Rattle.script_runner.specs.Lines.{and_next, effect_of, key_in}
 use Rattle.script_runner.specs.Sides.{side_of, variables_of, with_side}
-use Rattle.coverage.specs.Lacks.{Standing, after_line, session_of}
+use Rattle.coverage.specs.Lacks.{Standing, after_line}
+use Rattle.script_lang.specs.Sessions.{session_of}
 use Rattle.coverage.specs.Locks.{covering_locks}
 use Rattle.cover_laws.proofs.needed.CoverageNeeded.{RowEffect, ends_unit_at, stand}
 use Rattle.cover_laws.proofs.needed.LinesNeeded.{Matches}

@@ -20,7 +20,8 @@ use Rattle.script_lang.specs.declared.script_line.ScriptLine.{ScriptLine}
 use Rattle.script_lang.specs.declared.script_line.ScriptLine.TheVariants as line
 use Rattle.script_runner.specs.Lines.{settled}
 use Rattle.script_runner.specs.Sides.{container_of, parts_of, side_of, with_side}
-use Rattle.coverage.specs.Lacks.{Standing, after_line, committed, fresh, session_of, without}
+use Rattle.coverage.specs.Lacks.{Standing, after_line, committed, fresh, without}
+use Rattle.script_lang.specs.Sessions.{session_of}
 use Rattle.coverage.specs.Locks.{any_dollar, covering_locks, unit_locks}
 use Rattle.cover_laws.proofs.needed.CoverageNeeded.{ends_unit_at, stand}
 use Rattle.cover_laws.proofs.needed.HallNeeded.{FitsReply, ends_unit_by, on_after}

@@ -17,8 +17,8 @@ use Rattle.lock_entry.specs.declared.entry.Entry.{Entry}
 use Rattle.lock_entry.specs.declared.entry.LockName.{LockName}
 use Rattle.lock_entry.specs.declared.fault.AskFault.{AskFault}
 use Rattle.lock_entry.specs.declared.fault.AskFault.TheVariants.{Count, Lost}
-use Rattle.lock_entry.proofs.Grants.{unless_barred-Ok}
-use Rattle.lock_entry.proofs.Naming.{same_name-same}
+use Rattle.lock_laws.proofs.Grants.{unless_barred-Ok}
+use Rattle.lock_entry.proofs.lemmas.Naming.{same_name-same}
 use Rattle.coverage.specs.Locks.{is_exclusive}
 use Rattle.cover_laws.proofs.locks.LockCounts.{count-none}
 

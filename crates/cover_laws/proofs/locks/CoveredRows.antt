@@ -23,8 +23,8 @@ use Rattle.lock_entry.specs.Sound.{in_conflict}
 use Rattle.lock_entry.specs.declared.entry.Asked.{Asked}
 use Rattle.lock_entry.specs.declared.entry.Entry.{Entry}
 use Rattle.lock_entry.specs.declared.entry.LockName.{LockName}
-use Rattle.lock_entry.proofs.Lists.{count_by-any}
-use Rattle.lock_entry.proofs.Naming.{bytes_eq-refl, bytes_eq-same, same_name-same, same_owner-refl, same_owner-same, same_owner-sym}
+use Rattle.lock_entry.proofs.lemmas.Lists.{count_by-any}
+use Rattle.lock_entry.proofs.lemmas.Naming.{bytes_eq-refl, bytes_eq-same, same_name-same, same_owner-refl, same_owner-same, same_owner-sym}
 use Rattle.coverage.specs.Locks.{covers, is_exclusive}
 use Rattle.cover_laws.proofs.needed.LocksNeeded.{HandingCovers, HeldCovers, Holds, OneCovers, often}
 use Rattle.cover_laws.proofs.locks.HeldLocks.{handing_leaves}

@@ -14,8 +14,8 @@ use Rattle.lock_entry.specs.declared.entry.Entry.{Entry}
 use Rattle.lock_entry.specs.declared.entry.LockName.{LockName}
 use Rattle.lock_entry.specs.declared.entry.Request.{Request}
 use Rattle.lock_entry.specs.declared.fault.AskFault.TheVariants.{Count}
-use Rattle.lock_entry.proofs.Grants.{unless_barred-Ok, unless_full-Ok}
-use Rattle.lock_entry.proofs.Naming.{same_name-same, same_owner-sym}
+use Rattle.lock_laws.proofs.Grants.{unless_barred-Ok, unless_full-Ok}
+use Rattle.lock_entry.proofs.lemmas.Naming.{same_name-same, same_owner-sym}
 use Rattle.coverage.specs.Lacks.{without}
 use Rattle.coverage.specs.Locks.{is_exclusive}
 use Rattle.cover_laws.proofs.needed.LocksNeeded.{AreExclusive, AskingAdds, AskingLeaves, ConvertingLeaves, FreeingLeaves, HandingLeaves, Holds, OthersFreeingLeaves, OwnerFreeingLeaves, often, update_asked}

@@ -16,9 +16,9 @@ use Rattle.lock_entry.specs.Granting.{granted, new_entry, new_names, raised}
 use Rattle.lock_entry.specs.Names.{count_at, has_name, is_of, name_of, same_name, stands, times}
 use Rattle.lock_entry.specs.declared.entry.Entry.{Entry}
 use Rattle.lock_entry.specs.declared.entry.LockName.{LockName}
-use Rattle.lock_entry.proofs.EachOnce.{each_once-any}
-use Rattle.lock_entry.proofs.Lists.{count_by-none, find-none_from}
-use Rattle.lock_entry.proofs.Naming.{same_name-same}
+use Rattle.lock_laws.proofs.EachOnce.{each_once-any}
+use Rattle.lock_entry.proofs.lemmas.Lists.{count_by-none, find-none_from}
+use Rattle.lock_entry.proofs.lemmas.Naming.{same_name-same}
 use Rattle.cover_laws.proofs.locks.OftenAsked.{one_if}
 
 abbrev counted : Option Entry → ℕ

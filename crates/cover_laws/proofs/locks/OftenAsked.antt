@@ -11,8 +11,8 @@ use Rattle.lock_entry.specs.declared.entry.Asked.{Asked}
 use Rattle.lock_entry.specs.declared.entry.Asker.{Asker}
 use Rattle.lock_entry.specs.declared.entry.LockName.{LockName}
 use Rattle.lock_entry.specs.declared.entry.Request.{Request}
-use Rattle.lock_entry.proofs.Lists.{count_by-none}
-use Rattle.lock_entry.proofs.Naming.{bytes_eq-refl, bytes_eq-same, same_mode-refl, same_mode-same, same_owner-refl, same_owner-sym}
+use Rattle.lock_entry.proofs.lemmas.Lists.{count_by-none}
+use Rattle.lock_entry.proofs.lemmas.Naming.{bytes_eq-refl, bytes_eq-same, same_mode-refl, same_mode-same, same_owner-refl, same_owner-sym}
 use Rattle.coverage.specs.Lacks.{without}
 use Rattle.coverage.specs.Locks.{is_exclusive}
 use Rattle.cover_laws.proofs.needed.LocksNeeded.{AreExclusive, often, update_asked}

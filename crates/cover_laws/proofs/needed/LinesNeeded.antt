@@ -18,14 +18,14 @@ use Rattle.script_lang.specs.declared.script_line.ScriptLine.{ScriptLine}
 use Rattle.script_lang.specs.declared.script_line.ScriptLine.TheVariants as line
 use Rattle.script_runner.specs.Lines.{Calls, meaning}
 use Rattle.script_runner.specs.Sides.{container_of, parts_of, side_of}
-use Rattle.script_runner.specs.World.{world}
+use Rattle.script_runner.specs.World.{setting}
 use Rattle.coverage.specs.Lacks.{fresh, is_of}
 use Rattle.coverage.specs.Locks.{any_dollar, holds_dollar}
 use Rattle.cover_laws.proofs.needed.CoverageNeeded.{RowEffect, Unended, effect_at, ends_unit_at, stand}
 use Rattle.cover_laws.proofs.needed.HallNeeded.{FitsReply, ends_unit_by, on_after}
 use Rattle.cover_laws.proofs.needed.HoldingNeeded.{MovesHeld}
 use Rattle.cover_laws.proofs.needed.LocksNeeded.{often, update_asked}
-use Rattle.cover_laws.specs.Safe.{AreCallsOf, unseen}
+use Rattle.cover_laws.specs.Safe.{AreCallsOf}
 
 -- an effect that is registered comes from a line of the open unit: of the V1 part, or else of the V2 part
 pub record IsRegistered (objects : List Object) (done : List ScriptLine) (first : Bool) (e : Effect) : Type 0 where
@@ -74,7 +74,7 @@ pub record NextCall (objects : List Object) (name : List ℕ) (p : Place) (e : P
   -- the private side before this line
   pub sides : List Private
   pub before : Matches objects name (p.done ++ quiet) sides
-  pub means : meaning (world objects unseen sides) made_by ≡ Calls e.command
+  pub means : meaning (setting objects sides) made_by ≡ Calls e.command
   pub place : IsPlace objects name next calls
   pub on : is_some (side_of next.sides name) ≡ on_after e.command (is_some (side_of p.sides name))
   pub still : Unended objects p.done quiet
@@ -106,7 +106,7 @@ pub record IsReadLine (l : ScriptLine) (name table key : List ℕ) : Type 0 wher
 abbrev pub ReadsAreLines : Type 0
 ReadsAreLines =
     (objects : List Object) (sides : List Private) (l : ScriptLine) (name table key : List ℕ)
-    → meaning (world objects unseen sides) l ≡ Calls (command.Read name table key) → IsReadLine l name table key
+    → meaning (setting objects sides) l ≡ Calls (command.Read name table key) → IsReadLine l name table key
 
 -- a commit is made by a COMMIT, with the effects of the private side
 pub record IsCommitLine (l : ScriptLine) (sides : List Private) (name : List ℕ) (parts : Parts) : Type 0 where
@@ -116,4 +116,4 @@ pub record IsCommitLine (l : ScriptLine) (sides : List Private) (name : List ℕ
 abbrev pub CommitsAreLines : Type 0
 CommitsAreLines =
     (objects : List Object) (sides : List Private) (l : ScriptLine) (name : List ℕ) (parts : Parts) (stock : List Num)
-    → meaning (world objects unseen sides) l ≡ Calls (command.Commit name parts stock) → IsCommitLine l sides name parts
+    → meaning (setting objects sides) l ≡ Calls (command.Commit name parts stock) → IsCommitLine l sides name parts

@@ -7,7 +7,7 @@ use Rattle.std.specs.Str.{bytes_eq}
 use Rattle.enq_base.specs.declared.owner.UnitKey.{UnitKey}
 use Rattle.enq_base.specs.declared.unit.Num.{Num}
 use Rattle.enq_base.specs.declared.unit.Parts.{Parts}
-use Rattle.hall_model.proofs.NotedCalls.{of_server}
+use Rattle.model_laws.proofs.NotedCalls.{of_server}
 use Rattle.hall_model.specs.Devices.{found_by}
 use Rattle.hall_model.specs.Calls.{Commits, LogsOff, RollsBack, call_of}
 use Rattle.hall_model.specs.History.{Served, judged}

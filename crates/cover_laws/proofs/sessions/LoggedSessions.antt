@@ -10,7 +10,7 @@ use Rattle.number_ranges.specs.declared.interval.Interval.{Interval}
 use Rattle.ledger_steps.specs.Drawn.{handed_out, num_of}
 use Rattle.ledger_steps.specs.Levels.{present}
 use Rattle.hall_laws.proofs.histories.LoggedOn.{Enters, OnDone, step_enters}
-use Rattle.hall_model.proofs.ByCall.{OfEach, by_call}
+use Rattle.model_laws.proofs.ByCall.{OfEach, by_call}
 use Rattle.hall_model.specs.Devices.{found_by}
 use Rattle.hall_model.specs.Calls.{Call, LogsOn, OfSession, OfWorker, OfAdmin, LogsOff, Asks, Frees, FreesAll, Converts, Draws, Reserves, Reads, Commits, RollsBack, call_of}
 use Rattle.hall_model.specs.History.{Served, judged, step}

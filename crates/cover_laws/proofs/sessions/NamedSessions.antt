@@ -11,7 +11,7 @@ use Rattle.enq_base.specs.declared.owner.Owner.TheVariants.{Upd}
 use Rattle.hall_model.specs.declared.command.Session.{Session}
 use Rattle.hall_model.specs.Kept.{AreNumbered}
 use Rattle.hall_model.specs.Sessions.{bereft, bereft_if, is_called, loses, session_at, unit_key, with_session, without_session}
-use Rattle.hall_model.proofs.FoundSessions.{equal_session, found_in, found_name}
+use Rattle.model_laws.proofs.FoundSessions.{equal_session, found_in, found_name}
 
 -- the session has the name by which it is found
 pub name_of : (name : List ℕ) (xs : List Session) (x : Session) → session_at xs name ≡ Some x → x.name ≡ name

@@ -14,7 +14,7 @@ use Rattle.ledger_steps.specs.Levels.{present}
 use Rattle.update_records.specs.Ledger.{Ledger}
 use Rattle.hall_laws.proofs.histories.WithoutServer.{anew_as_before}
 use Rattle.hall_laws.proofs.keeping.UnitsToCome.{number_below}
-use Rattle.hall_model.proofs.ByCall.{OfEach, by_call}
+use Rattle.model_laws.proofs.ByCall.{OfEach, by_call}
 use Rattle.hall_model.specs.Devices.{found_by}
 use Rattle.hall_model.specs.Calls.{call_of}
 use Rattle.hall_model.specs.History.{judged}

@@ -4,8 +4,8 @@ use Rattle.std.proofs.lemmas.Bool.{or_parts}
 use Rattle.std.proofs.lemmas.List.{append-nil}
 use Rattle.std.specs.Prelude.{if◌then◌else◌}
 use Rattle.std.specs.List.{list_any}
-use Rattle.hall_model.proofs.ByCall.{OfEach, by_call, by_event, by_stock}
-use Rattle.hall_model.proofs.NotedCalls.{by_noting}
+use Rattle.model_laws.proofs.ByCall.{OfEach, by_call, by_event, by_stock}
+use Rattle.model_laws.proofs.NotedCalls.{by_noting}
 use Rattle.hall_model.specs.Calls.{call_of}
 use Rattle.hall_model.specs.Devices.{DeviceOutcome}
 use Rattle.hall_model.specs.History.{judged, served, takes_flight, without_stock}

@@ -10,7 +10,7 @@ use Rattle.std.specs.List.{filter, list_all}
 use Rattle.enq_base.specs.declared.owner.Scope.{Scope}
 use Rattle.enq_base.specs.declared.owner.UnitKey.{UnitKey}
 use Rattle.mode_rules.specs.declared.Mode.{Mode}
-use Rattle.lock_entry.proofs.Naming.{bytes_eq-same}
+use Rattle.lock_entry.proofs.lemmas.Naming.{bytes_eq-same}
 use Rattle.lock_objects.specs.Objects.{Object}
 use Rattle.script_lang.specs.declared.script_line.RawValue.{RawValue}
 use Rattle.script_lang.specs.declared.script_line.ScriptLine.{ScriptLine}

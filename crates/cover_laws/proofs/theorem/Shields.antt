@@ -11,7 +11,7 @@ use Rattle.enq_base.specs.declared.owner.UnitKey.{UnitKey}
 use Rattle.enq_base.specs.declared.unit.Effect.{Effect}
 use Rattle.enq_base.specs.declared.unit.Status.{Status}
 use Rattle.enq_base.specs.declared.unit.Status.TheVariants.{Open, Posted, Closed, Cancelled}
-use Rattle.lock_entry.proofs.Naming.{bytes_eq-same, same_owner-refl}
+use Rattle.lock_entry.proofs.lemmas.Naming.{bytes_eq-same, same_owner-refl}
 use Rattle.lock_entry.specs.Names.{asked_of, is_of}
 use Rattle.lock_entry.specs.declared.entry.Entry.{Entry}
 use Rattle.lock_objects.specs.Objects.{Object}

@@ -7,7 +7,7 @@ use Rattle.enq_base.specs.declared.owner.Owner.TheVariants.{Upd}
 use Rattle.enq_base.specs.declared.owner.UnitKey.{UnitKey}
 use Rattle.enq_base.specs.declared.unit.Effect.{Effect}
 use Rattle.enq_base.specs.declared.unit.Num.{Num}
-use Rattle.lock_entry.proofs.Naming.{bytes_eq-refl}
+use Rattle.lock_entry.proofs.lemmas.Naming.{bytes_eq-refl}
 use Rattle.lock_objects.specs.Objects.{Object}
 use Rattle.script_lang.specs.declared.script_line.ScriptLine.{ScriptLine}
 use Rattle.script_lang.specs.declared.script_line.ScriptLine.TheVariants as line

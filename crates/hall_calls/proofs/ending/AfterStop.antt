@@ -25,10 +25,10 @@ use Rattle.hall_model.specs.Step.{posted_reply}
 use Rattle.hall_calls.specs.declared.units.Failure.{Failure}
 use Rattle.hall_model.specs.declared.command.Reply.{Reply}
 use Rattle.hall_model.specs.declared.command.Reply.TheVariants as reply
-use Rattle.hall_model.proofs.PlainRefusals.{IsPlain}
+use Rattle.model_laws.proofs.PlainRefusals.{IsPlain}
 use Rattle.hall_calls.specs.declared.units.Written.{Written}
 use Rattle.hall_calls.specs.declared.units.Written.TheVariants.{Answered, Failed, Unfiled}
-use Rattle.hall_model.proofs.OutsideDoubt.{outside_any}
+use Rattle.model_laws.proofs.OutsideDoubt.{outside_any}
 
 -- ---- a call that writes the store
 

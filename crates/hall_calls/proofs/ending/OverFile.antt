@@ -2,12 +2,12 @@
 use Rattle.std.proofs.Common.{◌≡◌, ◌⊎◌, inl, inr, ℕ, ◌+◌, ◌≤◌, Bool, true, false, not, ◌&&◌, List, refl, sym, ap, ◌∙◌, subst, arith}
 use Rattle.std.specs.Prelude.{if◌then◌else◌, nat_eq, Option, Some, None, IsTrue, Ok, Err}
 use Rattle.std.specs.Option.{option_map}
-use Rattle.backup_file.proofs.Adding.{ready_same}
+use Rattle.backup_file.proofs.lemmas.Adding.{ready_same}
 use Rattle.backup_file.specs.Backup.{BackupView, IsReady, IsSame}
 use Rattle.backup_file.specs.File.{Stands}
 use Rattle.backup_file.specs.Lists.{is_known, without}
 use Rattle.backup_file.specs.declared.handed.Handed.{Handed}
-use Rattle.backup_file.specs.declared.ids.UnitId.{UnitId}
+use Rattle.enq_base.specs.declared.unit_id.UnitId.{UnitId}
 use Rattle.enq_base.specs.Owners.{same_unit}
 use Rattle.enq_server.specs.Recovery.{AreWithout, lists_among}
 use Rattle.enq_base.specs.Causes.{Rose}
@@ -37,8 +37,8 @@ use Rattle.hall_calls.specs.declared.remaking.Remade.TheVariants.{Done, Refused,
 use Rattle.hall_calls.specs.declared.units.Failure.{Failure}
 use Rattle.hall_calls.specs.declared.units.Written.{Written}
 use Rattle.hall_calls.specs.declared.units.Written.TheVariants.{Answered, Failed, Unfiled}
-use Rattle.hall_model.proofs.OutsideDoubt.{outside_any}
-use Rattle.hall_model.proofs.PlainRefusals.{IsPlain}
+use Rattle.model_laws.proofs.OutsideDoubt.{outside_any}
+use Rattle.model_laws.proofs.PlainRefusals.{IsPlain}
 
 -- ---- answers and the disk's count of faults
 

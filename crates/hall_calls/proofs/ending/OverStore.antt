@@ -40,11 +40,7 @@ module _ {K : Type 0} (held : K → Option Rows) (is_open : K → Type 0) (may_l
     kept = keeps shelf.keeper;
   }
 
-  -- a refusal that isn't the store's
-
   -- ---- a step was tried
-
-  -- memory was wanting before it
 
   -- it was written
   pub done_ends : IsSettled → (old new : BooksView K) (step : Step) → TriesStep held is_open may_leave faults old new step (Ok tt)
@@ -57,6 +53,18 @@ module _ {K : Type 0} (held : K → Option Rows) (is_open : K → Type 0) (may_l
     left = answered_leaves held is_open may_leave new settled tried.usable;
     cause = quiet (faults old.keeper) (faults new.keeper) tried.cause.quiet;
     kept = keeps;
+  }
+
+  -- memory was wanting before it was written
+  pub wanting_ends : IsSettled → (old new : BooksView K) (step : Step) → TriesStep held is_open may_leave faults old new step (Err fault.NoMemory)
+      → EndsAs held is_open may_leave faults old new (Answered (reply.Refused refusal.NoMemory))
+  wanting_ends settled old new step tried = record {
+    ledger = tt;
+    usable = tried.usable;
+    told = tried.told;
+    left = answered_leaves held is_open may_leave new settled tried.usable;
+    cause = tried.cause.quiet;
+    kept = (tried.untouched.rows, tried.untouched.crash);
   }
 
   -- the store failed, with a change in flight that is the step

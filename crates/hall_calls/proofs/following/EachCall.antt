@@ -18,8 +18,8 @@ use Rattle.hall_model.specs.declared.command.Command.{Command}
 use Rattle.hall_model.specs.declared.command.PastEntry.{PastEntry}
 use Rattle.hall_model.specs.declared.command.Reply.{Reply}
 use Rattle.hall_model.specs.declared.command.Reply.TheVariants as reply
-use Rattle.hall_model.proofs.PlainRefusals.{IsPlain}
-use Rattle.hall_calls.proofs.verdicts.Replies.{is_fault_reply, verdict_answered}
+use Rattle.model_laws.proofs.PlainRefusals.{IsPlain}
+use Rattle.hall_calls.proofs.lemmas.Replies.{is_fault_reply, verdict_answered}
 
 true_not_false : true ≡ false → ⊥
 true_not_false e = cc

@@ -23,7 +23,7 @@ use Rattle.hall_model.specs.State.{State}
 use Rattle.hall_model.specs.Step.{Found, Verdict, Refuses, ask_refusal, called, call_verdict, cancelling, commit, converting, effects_in, granting, if_room, if_status, if_unclaimed, may_cancel, may_resubmit, own_verdict, passing, posted_reply, posting, recording, reopening, resubmitting, session_call, to_cancel, to_resubmit, trying_again, unavailable, unless_refused, with_room}
 use Rattle.hall_model.specs.declared.command.Reply.TheVariants as reply
 use Rattle.hall_model.specs.declared.command.Session.{Session}
-use Rattle.hall_model.proofs.ByCall.{by_room}
+use Rattle.model_laws.proofs.ByCall.{by_room}
 
 abbrev IsNoted : State → Verdict → Type 0
 IsNoted s v = is_unrecorded (judged s v).reply ≡ false

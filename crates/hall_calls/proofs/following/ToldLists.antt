@@ -18,8 +18,8 @@ use Rattle.hall_model.specs.Unsound.{is_unsound_replica}
 use Rattle.hall_model.specs.declared.command.Command.{Command}
 use Rattle.hall_model.specs.declared.command.Reply.{Reply}
 use Rattle.hall_model.specs.declared.command.Reply.TheVariants as reply
-use Rattle.hall_model.proofs.ByCall.{IsStray, OfEach, by_call}
-use Rattle.hall_model.proofs.PlainRefusals.{IsPlain}
+use Rattle.model_laws.proofs.ByCall.{IsStray, OfEach, by_call}
+use Rattle.model_laws.proofs.PlainRefusals.{IsPlain}
 use Rattle.hall_calls.proofs.TestedLocks.{sound_of}
 
 -- what a call finds of the replica's list

@@ -4,7 +4,7 @@ use Rattle.std.specs.Prelude.{nat_eq, Option, Some, None, IsTrue}
 use Rattle.backup_file.specs.Backup.{BackupView, IsReady}
 use Rattle.backup_file.specs.Lists.{is_known}
 use Rattle.backup_file.specs.declared.handed.Handed.{Handed}
-use Rattle.backup_file.specs.declared.ids.UnitId.{UnitId}
+use Rattle.enq_base.specs.declared.unit_id.UnitId.{UnitId}
 use Rattle.enq_base.specs.Owners.{same_unit}
 use Rattle.enq_base.specs.declared.owner.UnitKey.{UnitKey}
 use Rattle.enq_base.specs.declared.refusal.Refusal.TheVariants as refusal
@@ -36,7 +36,7 @@ use Rattle.hall_calls.specs.declared.units.Written.{Written}
 use Rattle.hall_calls.specs.declared.units.Written.TheVariants.{Answered, Failed}
 use Rattle.hall_calls.proofs.ending.StateBehind.{IsPart}
 use Rattle.hall_calls.proofs.ending.OverFile.{AgreesBoth, answered_files, failed_before, same_file}
-use Rattle.hall_calls.proofs.lists.WaitingLists.{committed_known, ended_known, ended_waiting, kept_waiting, same_known}
+use Rattle.hall_calls.proofs.lemmas.WaitingLists.{committed_known, ended_known, ended_waiting, kept_waiting, same_known}
 use Rattle.hall_calls.proofs.lists.BehindMarks.{again_same, committed_lists, ended_agree, ended_lists, ended_without, ends_first, ends_gone, ends_second, gone_same, gone_second_same, numbers_same, same_agree, same_lists, saved_locks, second_same, uncommitted_agree}
 
 -- ---- a part that is posted

@@ -21,7 +21,7 @@ use Rattle.backup_file.specs.Handing.{as_handed, handed_of}
 use Rattle.backup_file.specs.Lists.{without}
 use Rattle.backup_file.specs.Spelling.{user_of}
 use Rattle.backup_file.specs.declared.handed.Handed.{Handed}
-use Rattle.enq_server.proofs.Listed.{entries-with, entries-without, returned_as_kept}
+use Rattle.enq_server.proofs.lemmas.Listed.{entries-with, entries-without, returned_as_kept}
 use Rattle.enq_server.specs.Recovery.{entries_of as listed_of}
 use Rattle.enq_server.specs.Server.{lasting, of_user, with_list}
 use Rattle.ledger_steps.specs.Intervals.{with_intervals}
@@ -29,7 +29,7 @@ use Rattle.ledger_steps.specs.Posts.{entries_of, kind_for}
 use Rattle.ledger_steps.specs.Steps.{IsOpenUnit}
 use Rattle.ledger_steps.specs.declared.step.Outcome.{Outcome}
 use Rattle.ledger_steps.specs.declared.step.Outcome.TheVariants as outcome
-use Rattle.update_records.proofs.Status.{flip, one_unit, unit_new, unit_refl}
+use Rattle.record_laws.proofs.Status.{flip, one_unit, unit_new, unit_refl}
 use Rattle.update_records.specs.Growing.{with_mark, with_unit}
 use Rattle.update_records.specs.Ledger.{Ledger}
 use Rattle.update_records.specs.Marks.{unit_at}
@@ -43,11 +43,11 @@ use Rattle.hall_calls.specs.OpenLists.{AgreeAll, AreOpenLists}
 use Rattle.hall_model.specs.Sessions.{unit_key}
 use Rattle.hall_model.specs.Step.{handed_locks, unit_of}
 use Rattle.hall_model.specs.declared.command.Session.{Session}
-use Rattle.hall_model.proofs.OtherStatuses.{EndsFirst, apart_from_ended, marked_other, numbers_leave, recorded_open, recorded_other, status_in, status_marked, two_statuses}
-use Rattle.hall_calls.proofs.lists.OfOpenUnits.{AgreeEach, FollowUnits, IsOfOpen, all_agree, are_open_lists, each_agree, follow_units, none_listed}
-use Rattle.hall_model.proofs.EachLock.{recorded_here, every_append, every_more}
+use Rattle.model_laws.proofs.OtherStatuses.{EndsFirst, apart_from_ended, marked_other, numbers_leave, recorded_open, recorded_other, status_in, status_marked, two_statuses}
+use Rattle.hall_calls.proofs.lemmas.OfOpenUnits.{AgreeEach, FollowUnits, IsOfOpen, all_agree, are_open_lists, each_agree, follow_units, none_listed}
+use Rattle.model_laws.proofs.EachLock.{recorded_here, every_append, every_more}
 use Rattle.hall_calls.proofs.lists.StoredLocks.{stored_flags, stored_used}
-use Rattle.hall_model.proofs.BesideRecorded.{entries_beside}
+use Rattle.model_laws.proofs.BesideRecorded.{entries_beside}
 
 -- ---- lists
 

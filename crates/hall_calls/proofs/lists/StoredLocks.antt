@@ -1,27 +1,26 @@
 -- The locks that are stored with a unit have one user, were handed over, and may be handed over again.
-use Rattle.std.proofs.Common.{◌≡◌, ℕ, ◌<◌, ◌≤◌, true, not, List, [], ◌∷◌, length, refl, arith}
+use Rattle.std.proofs.Common.{◌≡◌, ℕ, ◌≤◌, true, not, List, [], ◌∷◌, length, refl}
 use Rattle.std.specs.Prelude.{nat_le, Some, None}
 use Rattle.std.specs.List.{AllByRecursion, list_all}
 use Rattle.std.specs.Option.{option_map_or}
 use Rattle.std.proofs.lemmas.Bool.{and_parts, leb-true}
 use Rattle.enq_base.specs.declared.owner.Owner.TheVariants.{Upd}
 use Rattle.enq_base.specs.declared.owner.UnitKey.{UnitKey}
-use Rattle.lock_entry.proofs.Naming.{same_owner-same}
+use Rattle.lock_entry.proofs.lemmas.Naming.{same_owner-same}
 use Rattle.lock_entry.specs.Names.{is_of}
 use Rattle.lock_entry.specs.Sound.{ReadmitsOnly, has_count}
 use Rattle.lock_entry.specs.declared.entry.Entry.{Entry}
-use Rattle.mode_rules.specs.declared.Mode.{Mode}
-use Rattle.mode_rules.specs.declared.Mode.TheVariants.{S, E, X, O}
+use Rattle.mode_rules.specs.declared.Mode.TheVariants.{O}
 use Rattle.mode_rules.specs.Modes.{same_mode}
 use Rattle.backup_file.specs.Handing.{IsHandable, MayBeHanded}
-use Rattle.backup_file.specs.Spelling.{mode_byte}
+use Rattle.mode_rules.proofs.lemmas.ModeNumbers.{lasts}
 use Rattle.ledger_steps.specs.Posts.{entries_of}
 use Rattle.update_records.specs.Marks.{unit_at}
 use Rattle.update_records.specs.declared.records.Unit.{Unit as UnitOfWork}
 use Rattle.hall_model.specs.Kept.{HasGoodLocks, is_firm}
 use Rattle.hall_model.specs.Sessions.{owners_of}
-use Rattle.hall_calls.proofs.lists.OfOpenUnits.{every_passing}
-use Rattle.hall_model.proofs.EachLock.{found_unit, may_be_readmitted, stored_firm}
+use Rattle.hall_calls.proofs.lemmas.OfOpenUnits.{every_passing}
+use Rattle.model_laws.proofs.EachLock.{found_unit, may_be_readmitted, stored_firm}
 
 -- they have one user
 pub stored_used : (units : List UnitOfWork) (key : UnitKey) → AllByRecursion HasGoodLocks units → (user : List ℕ)
@@ -40,12 +39,6 @@ pub stored_flags : (units : List UnitOfWork) (key : UnitKey) → AllByRecursion 
 stored_flags units key held =
     every_passing (λ (e : Entry). e.handed ≡ true) is_firm (λ e firm. (and_parts e.handed (not (same_mode e.mode O)) firm).0) (entries_of units key)
     (stored_firm units key held)
-
-lasts : (m : Mode) → not (same_mode m O) ≡ true → 0 < mode_byte m
-lasts S h = omega arith
-lasts E h = omega arith
-lasts X h = omega arith
-lasts O h = absurd (cc)
 
 may_be_handed : (key : UnitKey) (e : Entry) → is_of (Upd key) e ≡ true → has_count e ≡ true → is_firm e ≡ true → MayBeHanded key e
 may_be_handed key e own counted firm =

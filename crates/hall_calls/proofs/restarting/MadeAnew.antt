@@ -21,7 +21,7 @@ use Rattle.enq_server.specs.declared.fault.OpenFault.TheVariants as opening
 use Rattle.lock_entry.specs.Table.{IsTable, Table}
 use Rattle.lock_entry.specs.declared.entry.UnitLocks.{UnitLocks}
 use Rattle.ledger_steps.specs.Views.{open_locks}
-use Rattle.update_records.proofs.Status.{one_unit}
+use Rattle.record_laws.proofs.Status.{one_unit}
 use Rattle.update_records.specs.Ledger.{Ledger}
 use Rattle.hall_model.specs.Acts.{Admits, IsTelling}
 use Rattle.hall_model.specs.Calls.{OfAdmin, Restarts}
@@ -43,8 +43,8 @@ use Rattle.hall_model.specs.declared.command.Session.{Session}
 use Rattle.hall_calls.specs.declared.remaking.Remade.TheVariants.{Done}
 use Rattle.hall_calls.proofs.ending.StateBehind.{marks_kept}
 use Rattle.hall_calls.proofs.verdicts.EachCall.{admitted}
-use Rattle.hall_calls.proofs.lists.OfOpenUnits.{all_agree, each_agree, one_of_open, recovered_lists}
-use Rattle.hall_calls.proofs.lists.WaitingLists.{known_waiting}
+use Rattle.hall_calls.proofs.lemmas.OfOpenUnits.{all_agree, each_agree, one_of_open, recovered_lists}
+use Rattle.hall_calls.proofs.lemmas.WaitingLists.{known_waiting}
 
 -- ---- what the call comes to
 

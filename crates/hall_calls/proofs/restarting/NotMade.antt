@@ -29,7 +29,7 @@ use Rattle.hall_calls.specs.declared.remaking.Remade.{Remade}
 use Rattle.hall_calls.specs.declared.remaking.Remade.TheVariants.{Done, Refused, InDoubt}
 use Rattle.hall_calls.specs.declared.units.Failure.{Failure}
 use Rattle.hall_calls.proofs.restarting.MadeAnew.{not_read, restart_wanting, same_recovers, sessions_kept, untouched_recovers}
-use Rattle.hall_calls.proofs.restarting.StoreRead.{unread_known}
+use Rattle.hall_calls.proofs.lemmas.StoreRead.{unread_known}
 
 -- ---- by what came of it
 

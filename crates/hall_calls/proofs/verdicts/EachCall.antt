@@ -104,6 +104,16 @@ fails_filing s c after r h e uses =
 pub at_state : (s : State) (c : Command) (after other : State) (r : Reply) → after ≡ other → IsAct s c after r → IsAct s c other r
 at_state s c after other r e h = subst (λ x. IsAct s c x r) e h
 
+-- by another name
+pub act_as : {s after : State} {c d : Command} {r : Reply} → c ≡ d → IsAct s d after r → IsAct s c after r
+act_as {s = s} {after = after} {r = r} is act = subst (λ x. IsAct s x after r) (sym is) act
+
+-- a call that leaves the sessions, with these as its own
+pub same_sessions : {s : State} {c : Command} {r : Reply} {sessions : List Session} {locks : List Entry} → s.sessions ≡ sessions
+    → IsAct s c (record s { locks = locks }) r → IsAct s c (record s { sessions = sessions; locks = locks }) r
+same_sessions {s = s} {c = c} {r = r} {locks = locks} is act =
+    subst (λ after. IsAct s c after r) (λ i. record s { sessions = is i; locks = locks }) act
+
 pub found_at : (s : State) (sessions : List Session) (name : List ℕ) (o : Option Session) → s.sessions ≡ sessions → session_at sessions name ≡ o
     → session_at s.sessions name ≡ o
 found_at s sessions name o e f = ap (λ xs. session_at xs name) e ∙ f

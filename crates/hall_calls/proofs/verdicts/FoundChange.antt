@@ -10,7 +10,7 @@ use Rattle.hall_model.specs.State.{State}
 use Rattle.hall_model.specs.Step.{barred, down_refusal, is_full}
 use Rattle.hall_model.specs.declared.command.Command.{Command}
 use Rattle.hall_model.specs.declared.command.Reply.{Reply}
-use Rattle.hall_model.proofs.NotedCalls.{finds_none}
+use Rattle.model_laws.proofs.NotedCalls.{finds_none}
 
 -- a full history
 pub shut_by_history : (s : State) (call : Call) → is_full s ≡ true → barred s call ≡ Some refusal.LogFull

@@ -22,7 +22,7 @@ use Rattle.hall_model.specs.Kept.{draws_in}
 use Rattle.hall_model.specs.Numbers.{IsNextDraw, IsNextReserve, level_for}
 use Rattle.hall_model.specs.State.{State}
 use Rattle.hall_model.specs.declared.command.Session.{Session}
-use Rattle.hall_model.proofs.BlockLevels.{AreRightIn, blocks}
+use Rattle.model_laws.proofs.BlockLevels.{AreRightIn, blocks}
 
 not_past : (m n : ℕ) → nat_lt m n ≡ false → n ≤ m
 not_past m n h = grind (arith, nat_tests)

@@ -8,7 +8,7 @@ use Rattle.std.proofs.lemmas.Bool.Decides.{nat_tests}
 use Rattle.enq_base.specs.declared.refusal.Refusal.{Refusal}
 use Rattle.enq_base.specs.declared.refusal.Refusal.TheVariants as refusal
 use Rattle.enq_base.specs.declared.unit.Num.{Num}
-use Rattle.lock_entry.proofs.Naming.{bytes_eq-same}
+use Rattle.lock_entry.proofs.lemmas.Naming.{bytes_eq-same}
 use Rattle.number_ranges.specs.Intervals.{block_level, code_of, is_buffered, level_with, with_level}
 use Rattle.number_ranges.specs.declared.interval.Interval.{Interval}
 use Rattle.ledger_steps.specs.Intervals.{with_intervals}
@@ -36,8 +36,8 @@ use Rattle.hall_model.specs.State.{State}
 use Rattle.hall_model.specs.Step.{Verdict, Refuses, Leaves, called, draw, drawing, found_in, giving, own_verdict, reserve, reserving}
 use Rattle.hall_calls.specs.Storing.{IsRaiseFault}
 use Rattle.hall_calls.proofs.verdicts.EachCall.{at_state, fails, found_at, is_wanting, knows_no_session, leaves_as, refuses}
-use Rattle.hall_model.proofs.BlockLevels.{blocks}
-use Rattle.hall_model.proofs.FoundSessions.{found_name}
+use Rattle.model_laws.proofs.BlockLevels.{blocks}
+use Rattle.model_laws.proofs.FoundSessions.{found_name}
 
 -- ---- sessions
 

@@ -9,7 +9,7 @@ use Rattle.enq_base.specs.declared.owner.UnitKey.{UnitKey}
 use Rattle.enq_base.specs.declared.refusal.Refusal.TheVariants as refusal
 use Rattle.enq_base.specs.declared.unit.Num.{Num as Number}
 use Rattle.enq_base.specs.declared.unit.Parts.{Parts}
-use Rattle.lock_entry.proofs.Naming.{bytes_eq-same}
+use Rattle.lock_entry.proofs.lemmas.Naming.{bytes_eq-same}
 use Rattle.lock_entry.specs.declared.entry.Entry.{Entry}
 use Rattle.number_ranges.specs.Intervals.{is_buffered}
 use Rattle.number_ranges.specs.declared.interval.Interval.{Interval}
@@ -40,7 +40,7 @@ use Rattle.hall_model.specs.Kept.{IsAhead, draws_in}
 use Rattle.hall_model.specs.Sessions.{is_called, session_at, unit_key, with_next_unit, with_session, without_draws}
 use Rattle.hall_model.specs.State.{State}
 use Rattle.hall_model.specs.Step.{effects_in, unit_of}
-use Rattle.hall_model.proofs.FoundSessions.{found_in as found_all_in, found_name}
+use Rattle.model_laws.proofs.FoundSessions.{found_in as found_all_in, found_name}
 use Rattle.hall_calls.proofs.verdicts.UnitCalls.{IsCommitAt, commits, commits_in_doubt, commits_unfiled, commits_numbers, commits_wanting, is_nothing, is_too_much, numbers_in_doubt}
 
 -- ---- the rows of the settled intervals

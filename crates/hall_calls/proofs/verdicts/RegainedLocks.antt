@@ -4,7 +4,7 @@ use Rattle.std.specs.Prelude.{◌&&◌, ◌||◌, Option, Some, None}
 use Rattle.std.specs.List.{AllByRecursion, list_any, list_all}
 use Rattle.std.proofs.lemmas.Bool.{and_parts, cases_Bool}
 use Rattle.std.proofs.lemmas.List.Elements.{filter-append}
-use Rattle.lock_entry.proofs.Naming.{same_owner-same}
+use Rattle.lock_entry.proofs.lemmas.Naming.{same_owner-same}
 use Rattle.enq_base.specs.Owners.{same_unit}
 use Rattle.enq_base.specs.declared.owner.Owner.{Owner}
 use Rattle.enq_base.specs.declared.owner.Owner.TheVariants.{Upd}
@@ -17,7 +17,7 @@ use Rattle.lock_entry.specs.Pairs.{in_pair}
 use Rattle.lock_entry.specs.Table.{Table}
 use Rattle.lock_entry.specs.declared.entry.Entry.{Entry}
 use Rattle.ledger_steps.specs.Posts.{entries_of}
-use Rattle.update_records.proofs.Status.{one_unit}
+use Rattle.record_laws.proofs.Status.{one_unit}
 use Rattle.update_records.specs.Ledger.{Ledger}
 use Rattle.update_records.specs.Marks.{status_of}
 use Rattle.hall_calls.specs.Written.{IsRegained, OnFailure}
@@ -27,8 +27,8 @@ use Rattle.hall_model.specs.State.{unhanded}
 use Rattle.hall_model.specs.declared.command.Session.{Session}
 use Rattle.hall_calls.specs.declared.units.Written.{Written}
 use Rattle.hall_calls.specs.declared.units.Written.TheVariants.{Answered, Failed, Unfiled}
-use Rattle.hall_model.proofs.EachLock.{every_more, stored_firm}
-use Rattle.hall_model.proofs.Resubmissions.{readmitted_is}
+use Rattle.model_laws.proofs.EachLock.{every_more, stored_firm}
+use Rattle.model_laws.proofs.Resubmissions.{readmitted_is}
 use Rattle.hall_calls.proofs.ending.StateBehind.{LoseAlike}
 
 -- locks that were handed over are none of those that weren't

@@ -41,7 +41,7 @@ use Rattle.hall_calls.proofs.ending.OverFile.{AgreesBoth, half_written_files, re
 use Rattle.hall_calls.proofs.ending.AfterStop.{refused_keeps}
 use Rattle.hall_calls.proofs.lists.AsCallsEnd.{was_bad}
 use Rattle.hall_calls.proofs.lists.BehindMarks.{reopened_agree, unagain_agree}
-use Rattle.hall_model.proofs.PlainRefusals.{IsPlain}
+use Rattle.model_laws.proofs.PlainRefusals.{IsPlain}
 use Rattle.hall_calls.proofs.verdicts.UnitCalls.{reopens_in_vain, reopens_unfiled, resubmits_wanting}
 
 pub ungranted_acts : (s : State) (t : Table) (ledger new : Ledger) (limit : ℕ) (unit : UnitKey) (left : List Entry) (f : ServerFault) → s.locks ≡ t.entries

@@ -15,7 +15,7 @@ use Rattle.enq_base.specs.declared.unit.Status.TheVariants.{Bad, Bad2}
 use Rattle.lock_entry.specs.declared.entry.Entry.{Entry}
 use Rattle.enq_base.specs.declared.owner.Owner.TheVariants.{Upd}
 use Rattle.lock_entry.specs.Freeing.{freed_owner, handed_over}
-use Rattle.lock_entry.proofs.Frees.{IsTable-filter, IsTable-handed_over}
+use Rattle.lock_laws.proofs.Frees.{IsTable-filter, IsTable-handed_over}
 use Rattle.lock_entry.specs.Granting.{readmitted}
 use Rattle.lock_entry.specs.Names.{is_of}
 use Rattle.lock_entry.specs.Table.{IsFaultOf, IsTable, Table, with_entries}
@@ -52,7 +52,7 @@ use Rattle.hall_model.specs.OpenUnits.{waits_with_locks}
 use Rattle.enq_server.specs.Server.{lasting, with_user}
 use Rattle.enq_base.specs.declared.unit.Status.TheVariants as status
 use Rattle.update_records.specs.Marks.{has_status, status_of}
-use Rattle.hall_model.proofs.Resubmissions.{can_be_tried}
+use Rattle.model_laws.proofs.Resubmissions.{can_be_tried}
 use Rattle.std.proofs.lemmas.Bool.{and_from}
 use Rattle.hall_model.specs.Coming.{MayComeTo, outcome_in, outcome_of}
 use Rattle.hall_model.specs.History.{doubted, is_unread, judged, pending_after, refused, stored_before_file, unfiled, without_stock}
@@ -64,8 +64,8 @@ use Rattle.hall_model.specs.State.{State}
 use Rattle.hall_model.specs.Step.{Found, Verdict, Refuses, Leaves, ask_refusal, call_verdict, called, cancel, cancelled, cancelling, commit, committed, effects_in, found_in, leaves, locks_behind, locks_without, marked, numbered, own_verdict, passing, posted_reply, posting, reopened, reopening, reposted, resubmit, resubmitting, row_in, to_cancel, to_resubmit, unit_of, with_room}
 use Rattle.hall_calls.proofs.verdicts.EachCall.{admitted, at_state, fails, fails_filing, found_at, is_done, is_wanting, leaves_as, refuses}
 use Rattle.hall_calls.proofs.ending.StateBehind.{IsPart, posts_part}
-use Rattle.hall_model.proofs.FoundSessions.{found_in as found_all_in}
-use Rattle.hall_model.proofs.HandedLocks.{all_held, handed_good}
+use Rattle.model_laws.proofs.FoundSessions.{found_in as found_all_in}
+use Rattle.model_laws.proofs.HandedLocks.{all_held, handed_good}
 
 -- ---- orders
 

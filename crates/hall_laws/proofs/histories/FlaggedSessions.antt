@@ -10,8 +10,8 @@ use Rattle.hall_model.specs.Recall.{AreModelAnswers, Made, again, recalled, stat
 use Rattle.hall_model.specs.Sessions.{bereft_if}
 use Rattle.hall_model.specs.State.{State}
 use Rattle.hall_model.specs.Step.{Found, Verdict, call_verdict}
-use Rattle.hall_model.proofs.ByCall.{by_anew, by_event}
-use Rattle.hall_model.proofs.NotedCalls.{by_noting}
+use Rattle.model_laws.proofs.ByCall.{by_anew, by_event}
+use Rattle.model_laws.proofs.NotedCalls.{by_noting}
 
 abbrev FlagsIf : State → Call → Served → Type 0
 FlagsIf s call r = call ≡ OfAdmin Restarts → r.reply ≡ reply.Done → r.state.sessions ≡ map (bereft_if s.failed_caller) s.sessions

@@ -21,8 +21,8 @@ use Rattle.hall_model.specs.declared.command.Session.{Session}
 use Rattle.hall_model.specs.Kept.{AreNumbered, HasItsUser, IsKnown, IsUserOf, OfLock, is_of_session}
 use Rattle.hall_model.specs.Sessions.{is_called, pair_of, with_next_unit, with_session}
 use Rattle.hall_laws.proofs.keeping.UnitsToCome.{IsBelow, all_filter, all_next, all_push}
-use Rattle.hall_model.proofs.FoundSessions.{equal_session, found_in}
-use Rattle.hall_model.proofs.EachLock.{every_append, every_filter, every_map, every_more}
+use Rattle.model_laws.proofs.FoundSessions.{equal_session, found_in}
+use Rattle.model_laws.proofs.EachLock.{every_append, every_filter, every_map, every_more}
 
 -- ---- lists
 
@@ -60,10 +60,6 @@ every_freed Q es (n ∷ ns) h = every_freed Q (freed es n) ns (every_replaced (O
 pub every_freed_owner : (Q : Owner → List ℕ → Type 0) (es : List Entry) (owner : Owner) → AllByRecursion (OfLock Q) es
     → AllByRecursion (OfLock Q) (freed_owner es owner)
 every_freed_owner Q es owner h = every_filter (OfLock Q) (λ e. not (is_of owner e)) es h
-
-pub every_of : (Q : Owner → List ℕ → Type 0) (es : List Entry) (owner : Owner) → AllByRecursion (OfLock Q) es
-    → AllByRecursion (OfLock Q) (filter (is_of owner) es)
-every_of Q es owner h = every_filter (OfLock Q) (is_of owner) es h
 
 by_mode : (Q : Owner → List ℕ → Type 0) (m : Mode) (es : List Entry) (e : Entry) → OfLock Q e → OnSome (OfLock Q) (turned_by m es e)
 by_mode Q S es e h = h

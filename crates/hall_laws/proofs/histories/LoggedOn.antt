@@ -4,9 +4,9 @@ use Rattle.std.specs.Prelude.{IsTrue, Option, Some, if◌then◌else◌, is_some
 use Rattle.std.specs.Cmp.Lexicographic.{bytes_decides}
 use Rattle.std.specs.Str.{bytes_eq}
 use Rattle.std.proofs.lemmas.Bool.{cases_Bool}
-use Rattle.hall_model.proofs.ByCall.{OfEach, by_call, by_event, by_stock}
-use Rattle.hall_model.proofs.NotedCalls.{by_noting}
-use Rattle.hall_model.proofs.FoundSessions.{found_name}
+use Rattle.model_laws.proofs.ByCall.{OfEach, by_call, by_event, by_stock}
+use Rattle.model_laws.proofs.NotedCalls.{by_noting}
+use Rattle.model_laws.proofs.FoundSessions.{found_name}
 use Rattle.hall_model.specs.declared.command.Command.{Command}
 use Rattle.hall_model.specs.declared.command.Command.TheVariants as command
 use Rattle.hall_model.specs.declared.command.Reply.{Reply}

@@ -9,7 +9,7 @@ use Rattle.enq_base.specs.Owners.{same_owner}
 use Rattle.enq_base.specs.declared.owner.Owner.{Owner}
 use Rattle.enq_base.specs.declared.owner.Owner.TheVariants.{Upd}
 use Rattle.enq_base.specs.declared.owner.UnitKey.{UnitKey}
-use Rattle.lock_entry.proofs.Naming.{same_name-same, same_owner-same, same_owner-sym}
+use Rattle.lock_entry.proofs.lemmas.Naming.{same_name-same, same_owner-same, same_owner-sym}
 use Rattle.lock_entry.specs.Barring.{places_meet}
 use Rattle.lock_entry.specs.Converting.{conversion, gives_way, turns}
 use Rattle.lock_entry.specs.Freeing.{freed, freed_owner, handed_over}
@@ -25,9 +25,9 @@ use Rattle.lock_entry.specs.declared.entry.Request.{Request}
 use Rattle.mode_rules.specs.declared.Mode.TheVariants.{O}
 use Rattle.mode_rules.specs.Modes.{same_mode}
 use Rattle.hall_model.specs.Kept.{is_firm}
-use Rattle.hall_model.proofs.LockLists.{raised_same}
+use Rattle.model_laws.proofs.LockLists.{raised_same}
 use Rattle.hall_laws.proofs.histories.LockUsers.{NamesOf, OnSome, of_halves, of_once, turned_one}
-use Rattle.hall_model.proofs.EachLock.{every_filter}
+use Rattle.model_laws.proofs.EachLock.{every_filter}
 
 -- ---- lists
 

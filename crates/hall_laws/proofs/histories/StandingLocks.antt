@@ -15,7 +15,7 @@ use Rattle.enq_base.specs.declared.unit.Num.{Num}
 use Rattle.enq_base.specs.declared.unit.Parts.{Parts}
 use Rattle.enq_base.specs.declared.unit.Status.{Status}
 use Rattle.enq_base.specs.declared.unit.Status.TheVariants.{Open, Posted, Bad, Bad2 as BadSecond}
-use Rattle.lock_entry.proofs.Naming.{same_mode-same, same_owner-refl}
+use Rattle.lock_entry.proofs.lemmas.Naming.{same_mode-same, same_owner-refl}
 use Rattle.lock_entry.specs.declared.entry.Entry.{Entry}
 use Rattle.lock_entry.specs.Freeing.{handed_over}
 use Rattle.lock_entry.specs.Names.{is_of}
@@ -30,7 +30,7 @@ use Rattle.ledger_steps.specs.declared.step.Outcome.{Outcome}
 use Rattle.ledger_steps.specs.declared.step.Outcome.TheVariants as outcome
 use Rattle.ledger_steps.specs.Drawn.{handed_out, num_of, stored_as}
 use Rattle.ledger_steps.specs.Levels.{present}
-use Rattle.update_records.proofs.Status.{flip}
+use Rattle.record_laws.proofs.Status.{flip}
 use Rattle.update_records.specs.Growing.{with_mark}
 use Rattle.update_records.specs.Ledger.{Ledger}
 use Rattle.update_records.specs.declared.records.MarkKind.{MarkKind}
@@ -51,18 +51,18 @@ use Rattle.hall_laws.specs.Standing.{FirmAreHanded, IsCommitOf, IsFirm, LocksRet
 use Rattle.hall_model.specs.State.{State, is_honest, opened}
 use Rattle.hall_model.specs.Step.{Found, call_verdict, committed, is_taken, numbered, posted_reply, stored_anew, unit_of}
 use Rattle.hall_laws.proofs.starting.FirstKeeps.{AgreeWith, IsFirst}
-use Rattle.hall_model.proofs.ByCall.{OfEach, by_call, by_event, by_stock, in_doubt_refused}
-use Rattle.hall_model.proofs.PartOrders.{held_for}
+use Rattle.model_laws.proofs.ByCall.{OfEach, by_call, by_event, by_stock, in_doubt_refused}
+use Rattle.model_laws.proofs.PartOrders.{held_for}
 use Rattle.hall_laws.proofs.starting.FirstState.{IsFirstTable, first_few, first_open, first_sound, first_steady}
-use Rattle.hall_model.proofs.NotedCalls.{by_noting}
+use Rattle.model_laws.proofs.NotedCalls.{by_noting}
 use Rattle.hall_laws.proofs.keeping.Unchanged.{verdict_condition, verdict_pending}
 use Rattle.hall_laws.proofs.keeping.UnitsToCome.{open_unheard}
-use Rattle.hall_model.proofs.OtherStatuses.{apart_by, apart_by_status, marked_other, numbers_leave, recorded_open, status_in}
+use Rattle.model_laws.proofs.OtherStatuses.{apart_by, apart_by_status, marked_other, numbers_leave, recorded_open, status_in}
 use Rattle.hall_laws.proofs.keeping.InFlight.{HoldsAll, step_all}
-use Rattle.hall_model.proofs.LockLists.{Among, among_from, contains_from, filter_source, hands_over, kept_filter}
+use Rattle.model_laws.proofs.LockLists.{Among, among_from, contains_from, filter_source, hands_over, kept_filter}
 use Rattle.hall_laws.proofs.open_units.ChangedLocks.{holds_up, while_up}
-use Rattle.hall_model.proofs.BesideRecorded.{entries_beside}
-use Rattle.hall_model.proofs.EachLock.{recorded_here}
+use Rattle.model_laws.proofs.BesideRecorded.{entries_beside}
+use Rattle.model_laws.proofs.EachLock.{recorded_here}
 use Rattle.hall_laws.proofs.histories.NotedSteps.{AnswersFrom, answers_before, answers_behind}
 use Rattle.hall_laws.proofs.histories.WithoutServer.{anew_as_before, unserved}
 

@@ -14,8 +14,8 @@ use Rattle.hall_model.specs.Recall.{AreModelAnswers, Made, state_after}
 use Rattle.hall_model.specs.Sessions.{session_at}
 use Rattle.hall_model.specs.State.{State}
 use Rattle.hall_model.specs.Step.{Verdict, Refuses, barred, call_verdict, leaves, or_else, server_refusal, session_refusal, unavailable}
-use Rattle.hall_model.proofs.BarredCalls.{refused_verdict}
-use Rattle.hall_model.proofs.NotedCalls.{by_noting}
+use Rattle.model_laws.proofs.BarredCalls.{refused_verdict}
+use Rattle.model_laws.proofs.NotedCalls.{by_noting}
 
 no_call : (o : Option Refusal) (r : Refusal) → o ≡ Some r → o ≡ None → ⊥
 no_call None r h k = cc

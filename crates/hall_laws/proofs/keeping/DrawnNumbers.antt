@@ -9,10 +9,10 @@ use Rattle.enq_base.specs.Owners.{same_unit}
 use Rattle.enq_base.specs.declared.owner.UnitKey.{UnitKey}
 use Rattle.enq_base.specs.declared.unit.Num.{Num}
 use Rattle.enq_base.specs.declared.unit.Status.{Status}
-use Rattle.lock_entry.proofs.Naming.{bytes_eq-same}
+use Rattle.lock_entry.proofs.lemmas.Naming.{bytes_eq-same}
 use Rattle.number_ranges.specs.Intervals.{block_level, is_buffered, with_level}
 use Rattle.number_ranges.specs.declared.interval.Interval.{Interval}
-use Rattle.ledger_steps.proofs.CommittedNumbers.{numbers_push, numbers_recorded, numbers_same}
+use Rattle.record_laws.proofs.CommittedNumbers.{numbers_push, numbers_recorded, numbers_same}
 use Rattle.ledger_steps.specs.Intervals.{with_intervals, with_levels}
 use Rattle.ledger_steps.specs.Posts.{kind_for}
 use Rattle.ledger_steps.specs.declared.step.Outcome.{Outcome}
@@ -28,7 +28,7 @@ use Rattle.draw_laws.proofs.Stocks.{no_stock, stock_drawn}
 use Rattle.ledger_steps.specs.Drawn.{AreDrawnRight, IsStock, times, drawn_of, handed_out, num_of, passed, settled_rows, stored_as}
 use Rattle.ledger_steps.specs.Levels.{intervals_of, level_in, name_of, present}
 use Rattle.ledger_steps.specs.declared.range.NumberRange.{NumberRange}
-use Rattle.update_records.proofs.Status.{none_of, one_unit, status_push, unit_other}
+use Rattle.record_laws.proofs.Status.{none_of, one_unit, status_push, unit_other}
 use Rattle.update_records.specs.Business.{numbers_in, numbers_of}
 use Rattle.update_records.specs.Growing.{next_mark, with_mark, with_unit}
 use Rattle.update_records.specs.Intervals.{level_of}
@@ -44,10 +44,10 @@ use Rattle.hall_model.specs.State.{State}
 use Rattle.hall_model.specs.Stocks.{IsStockIn}
 use Rattle.hall_model.specs.Step.{numbered}
 use Rattle.hall_model.specs.declared.command.Session.{Session}
-use Rattle.hall_model.proofs.ByCall.{CanDraw}
-use Rattle.hall_model.proofs.OtherStatuses.{recorded_other, status_in}
-use Rattle.hall_model.proofs.EachLock.{recorded_here}
-use Rattle.hall_model.proofs.BlockLevels.{AreRightIn, blocks, up_to}
+use Rattle.model_laws.proofs.ByCall.{CanDraw}
+use Rattle.model_laws.proofs.OtherStatuses.{recorded_other, status_in}
+use Rattle.model_laws.proofs.EachLock.{recorded_here}
+use Rattle.model_laws.proofs.BlockLevels.{AreRightIn, blocks, up_to}
 
 abbrev draws_of : Session → List Num
 draws_of x = x.draws

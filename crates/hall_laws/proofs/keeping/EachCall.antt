@@ -15,7 +15,7 @@ use Rattle.enq_base.specs.declared.unit.Num.{Num as Number}
 use Rattle.enq_base.specs.declared.unit.Parts.{Parts}
 use Rattle.enq_base.specs.declared.unit.Status.{Status}
 use Rattle.enq_base.specs.declared.unit.Status.TheVariants.{Open, Posted, Bad, Closed, Bad2, Cancelled}
-use Rattle.lock_entry.proofs.Naming.{bytes_eq-same}
+use Rattle.lock_entry.proofs.lemmas.Naming.{bytes_eq-same}
 use Rattle.lock_entry.specs.declared.entry.Asked.{Asked}
 use Rattle.lock_entry.specs.declared.entry.Entry.{Entry}
 use Rattle.lock_entry.specs.declared.entry.Request.{Request}
@@ -53,24 +53,24 @@ use Rattle.hall_model.specs.State.{State, is_honest, table_for}
 use Rattle.hall_model.specs.Stocks.{IsStockIn, MayCall}
 use Rattle.hall_model.specs.Step.{Found, Verdict, call_verdict, cancelled, committed, detached, entered, followed_over, has_lock, is_taken, killed, locks_behind, locks_without, marked, numbered, reopened, reposted, restarted, stored_anew, taken, unit_of}
 use Rattle.hall_laws.proofs.keeping.SessionsAlike.{AreAlike, HaveOneStatus, ahead_alike, alike_all, alike_self, alike_with, count_alike, marked_few, marked_steady, numbered_alike, orders_alike, owned_alike, with_other_marks, with_others, young_alike}
-use Rattle.hall_model.proofs.HandedLocks.{handed_good}
-use Rattle.lock_entry.proofs.Naming.{same_owner-same}
-use Rattle.hall_model.proofs.ByCall.{CanDraw, IsHandedOver, OfEach, by_anew, by_doubt, by_filing, by_made, by_restart, by_stock, pending_stays}
-use Rattle.hall_model.proofs.Cancels.{CanBeCancelled, unclaimed}
+use Rattle.model_laws.proofs.HandedLocks.{handed_good}
+use Rattle.lock_entry.proofs.lemmas.Naming.{same_owner-same}
+use Rattle.model_laws.proofs.ByCall.{CanDraw, IsHandedOver, OfEach, by_anew, by_doubt, by_filing, by_made, by_restart, by_stock, pending_stays}
+use Rattle.model_laws.proofs.Cancels.{CanBeCancelled, unclaimed}
 use Rattle.hall_laws.proofs.keeping.WorkerOrders.{found_all, orders_marked, orders_posted, orders_recorded, orders_with, orders_without, outside_more}
-use Rattle.hall_model.proofs.PartOrders.{held_for}
-use Rattle.hall_model.proofs.BlockLevels.{AreRightIn}
+use Rattle.model_laws.proofs.PartOrders.{held_for}
+use Rattle.model_laws.proofs.BlockLevels.{AreRightIn}
 use Rattle.hall_laws.proofs.keeping.DrawnNumbers.{CommitsNone, drawn_back, drawn_buffered, drawn_entered, drawn_left, drawn_marked, drawn_numbered, drawn_plain, drawn_raised, drawn_recorded, drawn_stocked, marks_marked, marks_recorded, named_filter, named_push, named_with, post_commits_none}
 use Rattle.hall_laws.proofs.keeping.Unchanged.{list_told, may_find, reads_none}
-use Rattle.hall_model.proofs.FoundSessions.{found_name}
+use Rattle.model_laws.proofs.FoundSessions.{found_name}
 use Rattle.hall_laws.proofs.keeping.UnitsToCome.{fresh_committed, fresh_entered, fresh_left, fresh_marked, fresh_next, number_below, open_unheard}
-use Rattle.hall_model.proofs.OtherStatuses.{all_waiting, apart_from_waiting, numbers_leave, status_in}
-use Rattle.hall_model.proofs.LockLists.{allowed, Allows, asked_allows, converted_allows}
+use Rattle.model_laws.proofs.OtherStatuses.{all_waiting, apart_from_waiting, numbers_leave, status_in}
+use Rattle.model_laws.proofs.LockLists.{allowed, Allows, asked_allows, converted_allows}
 use Rattle.hall_laws.proofs.keeping.Owners.{owned_back, owned_beside, owned_by_none, owned_entered, owned_freed, owned_left, owned_locks, owned_next, owned_recorded}
-use Rattle.hall_model.proofs.Resubmissions.{readmitted_is, table_in}
+use Rattle.model_laws.proofs.Resubmissions.{readmitted_is, table_in}
 use Rattle.hall_laws.proofs.keeping.Restarts.{restart_lands, restarted_few, restarted_steady}
 use Rattle.hall_laws.proofs.histories.LockUsers.{every_conversion, every_freed, every_freed_owner, every_granted, known_dialogue, known_update, one_number, only_dialogue, only_update}
-use Rattle.hall_model.proofs.EachLock.{every_handed}
+use Rattle.model_laws.proofs.EachLock.{every_handed}
 
 young_more : (n m : ℕ) (xs : List Session) → n ≤ m → AllByRecursion (IsYoung n) xs → AllByRecursion (IsYoung m) xs
 young_more n m [] h k = tt

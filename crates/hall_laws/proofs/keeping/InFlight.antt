@@ -6,7 +6,7 @@ use Rattle.std.proofs.lemmas.Bool.{false≢true}
 use Rattle.std.proofs.lemmas.List.{length-append}
 use Rattle.enq_base.specs.declared.unit.Num.{Num}
 use Rattle.enq_base.specs.declared.unit.Parts.{Parts}
-use Rattle.lock_entry.proofs.Naming.{bytes_eq-same}
+use Rattle.lock_entry.proofs.lemmas.Naming.{bytes_eq-same}
 use Rattle.number_ranges.specs.Intervals.{is_buffered}
 use Rattle.ledger_steps.specs.Posts.{kind_for}
 use Rattle.ledger_steps.specs.Drawn.{handed_out, num_of}
@@ -28,13 +28,13 @@ use Rattle.hall_model.specs.Sessions.{is_called, session_at, with_marks, with_dr
 use Rattle.hall_model.specs.State.{State, is_honest}
 use Rattle.hall_model.specs.Stocks.{MayCall}
 use Rattle.hall_model.specs.Step.{Found, Verdict, Refuses, Leaves, call_verdict, cancelled, committed, detached, is_full, is_taken, leaves, marked, numbered, reopened, reposted, stored_anew}
-use Rattle.hall_model.proofs.ByCall.{CanDraw, OfEach, by_doubt, by_made, by_restart}
+use Rattle.model_laws.proofs.ByCall.{CanDraw, OfEach, by_doubt, by_made, by_restart}
 use Rattle.hall_laws.proofs.keeping.SessionsAlike.{marked_steady, same_marked, with_other_marks}
 use Rattle.hall_laws.proofs.keeping.SoundLocks.{over_table, served-sound, verdict-stored}
 use Rattle.hall_laws.proofs.keeping.EachCall.{Holds, below_limit, by_condition, each-holds, raises-holds, served-holds, stocked-holds, with_past}
-use Rattle.hall_model.proofs.NotedCalls.{by_noting}
+use Rattle.model_laws.proofs.NotedCalls.{by_noting}
 use Rattle.hall_laws.proofs.keeping.Unchanged.{list_told, served-past, verdict_pending}
-use Rattle.hall_model.proofs.FoundSessions.{found_name}
+use Rattle.model_laws.proofs.FoundSessions.{found_name}
 use Rattle.hall_laws.proofs.open_units.ChangedLocks.{served-open, verdict-together}
 use Rattle.hall_laws.proofs.keeping.Restarts.{may_stay, restart_lands, same_sessions}
 

@@ -9,12 +9,12 @@ use Rattle.enq_base.specs.declared.owner.Owner.TheVariants.{Dlg, Upd}
 use Rattle.enq_base.specs.declared.owner.UnitKey.{UnitKey}
 use Rattle.enq_base.specs.declared.unit.Status.{Status}
 use Rattle.enq_base.specs.declared.unit.Status.TheVariants.{Open}
-use Rattle.lock_entry.proofs.Naming.{same_owner-refl, same_owner-same}
+use Rattle.lock_entry.proofs.lemmas.Naming.{same_owner-refl, same_owner-same}
 use Rattle.lock_entry.specs.declared.entry.Entry.{Entry}
 use Rattle.lock_entry.specs.Freeing.{freed_owner}
 use Rattle.lock_entry.specs.Names.{is_of}
 use Rattle.ledger_steps.specs.Posts.{entries_of}
-use Rattle.update_records.proofs.Status.{one_unit}
+use Rattle.record_laws.proofs.Status.{one_unit}
 use Rattle.update_records.specs.Growing.{with_mark, with_unit}
 use Rattle.update_records.specs.Ledger.{Ledger}
 use Rattle.update_records.specs.Marks.{unit_at}
@@ -24,9 +24,9 @@ use Rattle.update_records.specs.declared.records.Unit.{Unit as UnitOfWork}
 use Rattle.hall_model.specs.declared.command.Session.{Session}
 use Rattle.hall_model.specs.Kept.{HasGoodLocks, HasItsUser, IsKnown, IsOwned, MayHold, OfLock, OfStored, may_hold}
 use Rattle.hall_model.specs.Sessions.{with_next_unit, with_session}
-use Rattle.hall_model.proofs.OtherStatuses.{marked_other, recorded_other, status_in, status_marked}
-use Rattle.hall_model.proofs.LockLists.{Among, all_among, filter_source}
-use Rattle.hall_model.proofs.EachLock.{every_append, every_more, every_at, every_by, found_unit, may_be_readmitted, none_held, recorded_here}
+use Rattle.model_laws.proofs.OtherStatuses.{marked_other, recorded_other, status_in, status_marked}
+use Rattle.model_laws.proofs.LockLists.{Among, all_among, filter_source}
+use Rattle.model_laws.proofs.EachLock.{every_append, every_more, every_at, every_by, found_unit, may_be_readmitted, none_held, recorded_here}
 use Rattle.hall_laws.proofs.histories.LockUsers.{every_freed_owner, every_two, known_next, user_entered, user_left, user_next}
 
 -- ---- lists

@@ -19,7 +19,7 @@ use Rattle.hall_model.specs.Step.{restarted, stored_anew}
 use Rattle.hall_model.specs.declared.command.Session.{Session}
 use Rattle.hall_laws.proofs.starting.FirstKeeps.{idle, no_orders}
 use Rattle.hall_laws.proofs.open_units.StoredLocks.{open_owned}
-use Rattle.hall_model.proofs.EachLock.{every_map, every_more}
+use Rattle.model_laws.proofs.EachLock.{every_map, every_more}
 
 -- ---- sessions that may have lost a lock
 

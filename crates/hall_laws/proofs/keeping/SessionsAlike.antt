@@ -17,8 +17,8 @@ use Rattle.hall_model.specs.State.{State, is_honest}
 use Rattle.ledger_steps.specs.Drawn.{AreDrawnRight}
 use Rattle.update_records.specs.Business.{numbers_of}
 use Rattle.hall_model.specs.declared.command.Session.{Session}
-use Rattle.hall_model.proofs.OtherStatuses.{status_in}
-use Rattle.hall_model.proofs.EachLock.{every_more}
+use Rattle.model_laws.proofs.OtherStatuses.{status_in}
+use Rattle.model_laws.proofs.EachLock.{every_more}
 
 pub record IsAlike (x y : Session) : Type 0 where
   pub name : y.name ≡ x.name

@@ -10,27 +10,25 @@ use Rattle.enq_base.specs.declared.owner.Owner.TheVariants.{Upd}
 use Rattle.enq_base.specs.declared.owner.UnitKey.{UnitKey}
 use Rattle.enq_base.specs.declared.unit.Status.{Status}
 use Rattle.enq_base.specs.declared.unit.Status.TheVariants.{Open, Posted, Bad, Closed, Bad2, Cancelled}
-use Rattle.enq_server.specs.Server.{larger, recovered, replicated}
+use Rattle.enq_server.specs.Server.{larger, replicated}
 use Rattle.lock_entry.specs.declared.entry.Entry.{Entry}
 use Rattle.lock_entry.specs.declared.entry.LockName.{LockName}
 use Rattle.lock_entry.specs.Freeing.{freed, freed_owner}
 use Rattle.lock_entry.specs.Names.{halves}
 use Rattle.lock_entry.specs.Pairs.{IsPair}
-use Rattle.lock_entry.specs.Sound.{IsSound}
 use Rattle.lock_entry.specs.Table.{Table, IsTable, with_entries}
-use Rattle.lock_entry.proofs.ConversionSound.{IsTable-converted}
-use Rattle.lock_entry.proofs.Frees.{IsTable-freed, IsTable-freed_owner, IsTable-handed_over}
-use Rattle.lock_entry.proofs.GrantSound.{IsTable-asked}
-use Rattle.lock_entry.proofs.Readmits.{IsTable-readmitted}
+use Rattle.lock_laws.proofs.ConversionSound.{IsTable-converted}
+use Rattle.lock_laws.proofs.Frees.{IsTable-freed, IsTable-freed_owner, IsTable-handed_over}
+use Rattle.lock_laws.proofs.GrantSound.{IsTable-asked}
+use Rattle.lock_laws.proofs.Readmits.{IsTable-readmitted}
 use Rattle.ledger_steps.specs.Posts.{entries_of}
-use Rattle.ledger_steps.specs.Views.{open_locks}
 use Rattle.hall_model.specs.declared.command.Command.{Command}
 use Rattle.hall_model.specs.declared.command.Session.{Session}
 use Rattle.hall_model.specs.Devices.{DeviceOutcome, Event, AllWell, Wanting, StoreFails, BackupFails, LinkFails, NotRemade, IsPossible, MayBeDone, MayHappen, Reading, found_by}
 use Rattle.hall_model.specs.Calls.{Call, call_of}
 use Rattle.hall_model.specs.History.{doubted, ends_in, judged, read_anew, served, unfiled, without_stock}
 use Rattle.hall_model.specs.Kept.{HasGoodLocks, HasLanding, HasOpenUnits, HasSoundLocks, IsSteady}
-use Rattle.hall_model.specs.OpenUnits.{OfPending, open_entries}
+use Rattle.hall_model.specs.OpenUnits.{OfPending}
 use Rattle.hall_model.specs.Sessions.{owners_of, pair_of, unit_key, with_draw, with_session}
 use Rattle.hall_model.specs.Numbers.{drawn, raised_to}
 use Rattle.ledger_steps.specs.Drawn.{handed_out, num_of, stored_as}
@@ -41,10 +39,10 @@ use Rattle.ledger_steps.specs.Intervals.{with_intervals}
 use Rattle.ledger_steps.specs.Levels.{present}
 use Rattle.hall_model.specs.Step.{Found, call_verdict, cancelled, detached, is_taken, unit_of}
 use Rattle.update_records.specs.Ledger.{Ledger}
-use Rattle.hall_model.proofs.ByCall.{OfEach, by_call, by_filing, by_stock}
-use Rattle.hall_model.proofs.HandedLocks.{handed_good}
-use Rattle.hall_model.proofs.EachLock.{may_be_readmitted, every_append}
-use Rattle.hall_model.proofs.Resubmissions.{table_in}
+use Rattle.model_laws.proofs.ByCall.{OfEach, by_call, by_filing, by_stock}
+use Rattle.model_laws.proofs.HandedLocks.{handed_good}
+use Rattle.model_laws.proofs.EachLock.{may_be_readmitted, every_append}
+use Rattle.model_laws.proofs.Resubmissions.{table_in}
 use Rattle.hall_laws.proofs.keeping.Restarts.{restart_lands}
 
 -- the locks of a state, and those that are stored in it
@@ -107,13 +105,6 @@ larger_within a b =
 
 larger_fits : (a b : ℕ) → a < 2 ^ 32 → b < 2 ^ 32 → larger a b < 2 ^ 32
 larger_fits a b h k = elim (nat_le a b) as (λ t. (if t then b else a) < 2 ^ 32) [ true ↦ k | false ↦ h ]
-
--- the table of a lock server that is made anew
-remade-sound : (max_locks : ℕ) (ledger : Ledger) → max_locks < 2 ^ 32 → IsSound (open_entries ledger) → length (open_entries ledger) < 2 ^ 32
-    → IsTable (recovered max_locks (open_locks ledger))
-remade-sound max_locks ledger limited together fit =
-    let count = length (open_entries ledger) in
-    record { sound = together; within = larger_within max_locks count; limit_fits = larger_fits max_locks count limited fit }
 
 -- ---- no replica
 

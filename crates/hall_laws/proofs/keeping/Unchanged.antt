@@ -23,8 +23,8 @@ use Rattle.update_records.specs.Ledger.{Ledger}
 use Rattle.hall_model.specs.Step.{Found, Verdict, call_verdict, verdict}
 use Rattle.hall_model.specs.declared.command.Command.{Command}
 use Rattle.hall_model.specs.declared.command.Reply.{Reply}
-use Rattle.hall_model.proofs.ByCall.{OfEach, by_call, by_event, by_restart, by_stock}
-use Rattle.hall_model.proofs.NotedCalls.{by_noting, of_server, reads_anew}
+use Rattle.model_laws.proofs.ByCall.{OfEach, by_call, by_event, by_restart, by_stock}
+use Rattle.model_laws.proofs.NotedCalls.{by_noting, of_server, reads_anew}
 
 -- ---- what is kept
 

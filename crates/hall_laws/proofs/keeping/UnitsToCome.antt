@@ -11,11 +11,11 @@ use Rattle.update_records.specs.Ledger.{Ledger}
 use Rattle.update_records.specs.declared.records.MarkKind.{MarkKind}
 use Rattle.update_records.specs.declared.records.Unit.{Unit as UnitOfWork}
 use Rattle.hall_model.specs.declared.command.Session.{Session}
-use Rattle.hall_model.proofs.OtherStatuses.{marked_unheard, recorded_other, status_in}
+use Rattle.model_laws.proofs.OtherStatuses.{marked_unheard, recorded_other, status_in}
 use Rattle.hall_model.specs.Kept.{AreNumbered, HasFreshKeys, IsAhead}
 use Rattle.hall_model.specs.Sessions.{is_called, unit_key, with_next_unit, with_session}
 use Rattle.hall_model.specs.State.{State}
-use Rattle.hall_model.proofs.FoundSessions.{equal_session, found_in}
+use Rattle.model_laws.proofs.FoundSessions.{equal_session, found_in}
 
 abbrev pub IsBelow : ℕ → Session → Type 0
 IsBelow n y = n < y.number

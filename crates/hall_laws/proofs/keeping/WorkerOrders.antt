@@ -5,12 +5,12 @@ use Rattle.std.specs.List.{AllByRecursion, find}
 use Rattle.std.specs.Option.{option_and_then}
 use Rattle.enq_base.specs.Owners.{same_unit}
 use Rattle.enq_base.specs.declared.owner.UnitKey.{UnitKey}
-use Rattle.update_records.proofs.Status.{flip, one_unit, unit_refl}
+use Rattle.record_laws.proofs.Status.{flip, one_unit, unit_refl}
 use Rattle.update_records.specs.Growing.{with_mark, with_unit}
 use Rattle.update_records.specs.Ledger.{Ledger}
 use Rattle.update_records.specs.declared.records.MarkKind.{MarkKind}
 use Rattle.update_records.specs.declared.records.Unit.{Unit as UnitOfWork}
-use Rattle.hall_model.proofs.OtherStatuses.{marked_waiting, recorded_waiting, status_in}
+use Rattle.model_laws.proofs.OtherStatuses.{marked_waiting, recorded_waiting, status_in}
 use Rattle.hall_model.specs.Kept.{AreOrders, IsWaiting, OutsideDoubt}
 use Rattle.enq_base.specs.declared.condition.Condition.{Condition}
 use Rattle.enq_base.specs.declared.condition.Condition.TheVariants as condition

@@ -29,9 +29,9 @@ use Rattle.hall_model.specs.State.{State, is_honest, table_for}
 use Rattle.hall_model.specs.Step.{Found, Verdict, Refuses, Leaves, call_verdict, caller_refusal, barred, detached, is_taken, or_else, server_refusal, stored_anew, unavailable}
 use Rattle.hall_model.specs.declared.command.Command.{Command}
 use Rattle.hall_model.specs.declared.command.Session.{Session}
-use Rattle.hall_model.proofs.BarredCalls.{refused_verdict}
-use Rattle.hall_model.proofs.ByCall.{IsHandedOver, OfEach, by_call, by_restart, by_stock, shut_in_doubt}
-use Rattle.hall_model.proofs.PartOrders.{held_for}
+use Rattle.model_laws.proofs.BarredCalls.{refused_verdict}
+use Rattle.model_laws.proofs.ByCall.{IsHandedOver, OfEach, by_call, by_restart, by_stock, shut_in_doubt}
+use Rattle.model_laws.proofs.PartOrders.{held_for}
 use Rattle.hall_laws.proofs.keeping.SoundLocks.{behind-sound, each-sound, without-sound}
 use Rattle.hall_laws.proofs.keeping.Unchanged.{list_told}
 use Rattle.hall_laws.proofs.open_units.StoredLocks.{first_held, open_fit, open_stands}

@@ -14,7 +14,7 @@ use Rattle.enq_base.specs.declared.unit.Parts.{Parts}
 use Rattle.enq_base.specs.declared.unit.Reason.{Reason}
 use Rattle.enq_base.specs.declared.unit.Status.{Status}
 use Rattle.enq_base.specs.declared.unit.Status.TheVariants.{Open, Posted, Bad, Closed, Bad2 as BadSecond, Cancelled}
-use Rattle.lock_entry.proofs.Naming.{same_owner-same}
+use Rattle.lock_entry.proofs.lemmas.Naming.{same_owner-same}
 use Rattle.lock_entry.specs.Converting.{Conversion, conversion, converted, gives_way, turns}
 use Rattle.lock_entry.specs.Freeing.{flagged, freed, freed_owner, handed_over, lowered, without_optimistic}
 use Rattle.lock_entry.specs.Granting.{asked, granted, new_entry, new_names, raised}
@@ -36,7 +36,7 @@ use Rattle.ledger_steps.specs.declared.step.Outcome.{Outcome}
 use Rattle.ledger_steps.specs.declared.step.Outcome.TheVariants as outcome
 use Rattle.ledger_steps.specs.Drawn.{handed_out, num_of, settled_rows, stored_as}
 use Rattle.ledger_steps.specs.Levels.{present}
-use Rattle.update_records.proofs.Status.{flip, one_unit, unit_new, unit_other}
+use Rattle.record_laws.proofs.Status.{flip, one_unit, unit_new, unit_other}
 use Rattle.update_records.specs.Growing.{with_mark, with_unit}
 use Rattle.update_records.specs.Ledger.{Ledger, Levels}
 use Rattle.update_records.specs.Marks.{given, has_no_v2, unit_at}
@@ -55,17 +55,17 @@ use Rattle.hall_model.specs.Sessions.{owners_of, pair_of, session_at, unit_key, 
 use Rattle.hall_model.specs.State.{State}
 use Rattle.hall_model.specs.Step.{Found, Verdict, committed, freed_all, locks_behind, locks_without, lowered as names_lowered, numbered, unit_of}
 use Rattle.hall_laws.proofs.keeping.SessionsAlike.{HaveOneStatus, with_others}
-use Rattle.hall_model.proofs.ByCall.{OfEach}
-use Rattle.hall_model.proofs.HandedLocks.{handed_as_stood}
-use Rattle.hall_model.proofs.NotedCalls.{of_server}
-use Rattle.hall_model.proofs.PartOrders.{held_for}
+use Rattle.model_laws.proofs.ByCall.{OfEach}
+use Rattle.model_laws.proofs.HandedLocks.{handed_as_stood}
+use Rattle.model_laws.proofs.NotedCalls.{of_server}
+use Rattle.model_laws.proofs.PartOrders.{held_for}
 use Rattle.hall_laws.proofs.keeping.UnitsToCome.{open_unheard}
-use Rattle.hall_model.proofs.OtherStatuses.{apart_by, apart_by_status, marked_other, numbers_leave, recorded_open, recorded_other, status_in, status_marked}
-use Rattle.hall_model.proofs.LockLists.{allowed, asked_allows, converted_allows, filter_source}
-use Rattle.hall_model.proofs.EachLock.{every_at, every_by, may_be_readmitted, recorded_here, stored_firm, every_append, every_filter, every_map, every_more}
+use Rattle.model_laws.proofs.OtherStatuses.{apart_by, apart_by_status, marked_other, numbers_leave, recorded_open, recorded_other, status_in, status_marked}
+use Rattle.model_laws.proofs.LockLists.{allowed, asked_allows, converted_allows, filter_source}
+use Rattle.model_laws.proofs.EachLock.{every_at, every_by, may_be_readmitted, recorded_here, stored_firm, every_append, every_filter, every_map, every_more}
 use Rattle.hall_laws.proofs.keeping.Owners.{stored_owner}
 use Rattle.hall_laws.proofs.histories.OwnLocks.{IsOther, filter_all, halves_of_others, none_of_others, none_stay, its_conversion, its_freed, its_freed_owner, its_granted, its_handed_over}
-use Rattle.hall_model.proofs.Resubmissions.{readmitted_is, table_in}
+use Rattle.model_laws.proofs.Resubmissions.{readmitted_is, table_in}
 use Rattle.hall_laws.proofs.histories.LockUsers.{OnSome, every_replaced, every_turned}
 
 by_unit : (P : Type 0) (key other : UnitKey) → (key ≡ other → P) → (same_unit key other ≡ false → P) → P

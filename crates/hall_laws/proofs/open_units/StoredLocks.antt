@@ -10,7 +10,7 @@ use Rattle.enq_base.specs.Owners.{same_unit}
 use Rattle.enq_base.specs.declared.owner.Owner.{Owner}
 use Rattle.enq_base.specs.declared.owner.Owner.TheVariants.{Upd}
 use Rattle.enq_base.specs.declared.owner.UnitKey.{UnitKey}
-use Rattle.enq_server.proofs.Held.{held_stand}
+use Rattle.enq_server.proofs.lemmas.Held.{held_stand}
 use Rattle.enq_server.specs.Held.{owner_of}
 use Rattle.enq_server.specs.Recovery.{joined}
 use Rattle.lock_entry.specs.Freeing.{freed_owner}
@@ -21,17 +21,17 @@ use Rattle.lock_entry.specs.declared.entry.UnitLocks.{UnitLocks}
 use Rattle.ledger_steps.specs.Posts.{entries_of}
 use Rattle.ledger_steps.specs.Steps.{IsOpenUnit, waiting_for}
 use Rattle.ledger_steps.specs.Views.{locks_of, open_locks}
-use Rattle.update_records.proofs.Status.{flip}
+use Rattle.record_laws.proofs.Status.{flip}
 use Rattle.update_records.specs.Ledger.{Ledger}
 use Rattle.hall_model.specs.Kept.{HasGoodLocks, HasItsUser, IsKnown, IsOwned, MayHold, OfLock, may_hold}
 use Rattle.hall_model.specs.OpenUnits.{HoldsOpenUnits, IsOpenIfHanded, IsOpenOwner, open_entries}
 use Rattle.hall_model.specs.declared.command.Session.{Session}
 use Rattle.hall_laws.proofs.starting.FirstKeeps.{IsFirst, first_known, first_stored, first_users}
-use Rattle.hall_model.proofs.LockLists.{Among, all_among}
-use Rattle.hall_model.proofs.EachLock.{every_at, every_by, may_be_readmitted, every_map, every_more}
+use Rattle.model_laws.proofs.LockLists.{Among, all_among}
+use Rattle.model_laws.proofs.EachLock.{every_at, every_by, may_be_readmitted, every_map, every_more}
 use Rattle.hall_laws.proofs.keeping.Owners.{every_stored, stored_owner}
 use Rattle.hall_laws.proofs.histories.OwnLocks.{filter_all, its_freed_owner, none_of_others}
-use Rattle.hall_model.proofs.WaitingUnits.{all_open, differ, open_listed, open_owners_differ, waiting_differ}
+use Rattle.model_laws.proofs.WaitingUnits.{all_open, differ, open_listed, open_owners_differ, waiting_differ}
 
 -- ---- one unit behind the other
 

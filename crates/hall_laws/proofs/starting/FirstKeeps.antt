@@ -8,14 +8,14 @@ use Rattle.std.proofs.lemmas.List.Elements.{All-from_recursion, recursion_from_A
 use Rattle.enq_base.specs.declared.owner.UnitKey.{UnitKey}
 use Rattle.std.specs.FinMap.{empty, get-empty}
 use Rattle.number_ranges.specs.declared.interval.Interval.{Interval}
-use Rattle.ledger_steps.proofs.UnmarkedUnits.{not_there}
+use Rattle.record_laws.proofs.UnmarkedUnits.{not_there}
 use Rattle.draw_laws.proofs.FittingLevels.{fit_levels}
 use Rattle.draw_laws.proofs.SessionDraws.{first_drawn}
 use Rattle.ledger_steps.specs.Drawn.{AreDrawnRight}
 use Rattle.ledger_steps.specs.Levels.{AreIntervals, FitRows, first_ranges}
 use Rattle.enq_base.specs.Owners.{same_owner}
 use Rattle.enq_base.specs.declared.owner.Owner.TheVariants.{Upd}
-use Rattle.lock_entry.proofs.Naming.{same_owner-refl}
+use Rattle.lock_entry.proofs.lemmas.Naming.{same_owner-refl}
 use Rattle.lock_entry.specs.declared.entry.Entry.{Entry}
 use Rattle.lock_entry.specs.Names.{is_of}
 use Rattle.lock_entry.specs.Sound.{has_count}
@@ -24,7 +24,7 @@ use Rattle.mode_rules.specs.declared.Mode.TheVariants.{S, E, X, O}
 use Rattle.mode_rules.specs.Modes.{same_mode}
 use Rattle.ledger_steps.specs.Starts.{IsRaised}
 use Rattle.store_reading.specs.Good.{IsSound}
-use Rattle.update_records.proofs.Status.{NoneOf, no_status, none_of}
+use Rattle.record_laws.proofs.Status.{NoneOf, no_status, none_of}
 use Rattle.update_records.specs.Grammar.{IsEntryOf, IsUnit, is_optimistic}
 use Rattle.update_records.specs.Business.{numbers_of}
 use Rattle.update_records.specs.Growing.{with_start}
@@ -33,7 +33,7 @@ use Rattle.update_records.specs.Marks.{draws_alone, has_no_v2, is_rec, status_of
 use Rattle.update_records.specs.declared.records.Mark.{Mark}
 use Rattle.update_records.specs.declared.records.Unit.{Unit as UnitOfWork}
 use Rattle.hall_model.specs.Kept.{AreOrders, HasGoodLocks, HasItsUser, HaveMarks, IsKnown, IsUnheard, OfLock, OfStored, is_firm}
-use Rattle.hall_model.proofs.EachLock.{every_more}
+use Rattle.model_laws.proofs.EachLock.{every_more}
 use Rattle.hall_laws.proofs.histories.LockUsers.{every_two}
 
 pub no_orders : (ledger : Ledger) (n : ℕ) → AreOrders ledger (replicate n None)

@@ -1,12 +1,18 @@
-use Rattle.std.proofs.Common.{rules, List, refl, sym, ap, ◌≡◌, ◌+◌, ◌++◌, ◌∷◌, [], ◌∙◌, arith, subst, length, append-nil, length-append}
+use Rattle.std.proofs.Common.{rules, List, refl, sym, ap, ◌≡◌, ◌+◌, ◌++◌, ◌∷◌, [], ◌∙◌, arith, subst, length, map, append-nil, length-append}
+use Rattle.std.specs.List.{AllByRecursion}
+use Rattle.std.proofs.lemmas.List.{map-append}
 use Rattle.std.proofs.lemmas.List.Sorted.{IsPermutation-refl}
 use mathlib.Core.List.{IsPrefix}
 use Rattle.hall_model.specs.declared.command.PastEntry.{PastEntry}
 use Rattle.turn_lock.specs.declared.view.View.{View}
+use Rattle.gauges.specs.declared.board.GaugePass.{GaugePass}
 use Rattle.turn_lock.specs.Passes.{known}
 use Rattle.turn_lock.specs.Rule.{own_entries}
+use Rattle.turn_desks.specs.Watching.{IsReaderAt}
+use Rattle.turn_desks.proofs.lemmas.Places.{all_more}
 use Rattle.actor_threads.specs.Working.{AreDeeds}
 use Rattle.actor_threads.specs.declared.actor.Actor.{Actor}
+use Rattle.actor_threads.specs.declared.actor.Deed.{Deed}
 use Rattle.actor_threads.proofs.Gathered.{AllSeen, all_stand, moved_last, moved_over, seen_later}
 use Rattle.actor_threads.proofs.working.gather.Goals as goal
 
@@ -15,8 +21,11 @@ loop-actor-init g c = record {
   own = c.requires.own;
   parts = refl;
   entries = IsPermutation-refl _;
-  joined = ([], sym (append-nil _), tt, c.requires.none);
-  room = omega (arith, ap length c.requires.none, c.requires.room);
+  joined = ([], sym (append-nil _), tt, c.requires.none.0);
+  room = omega (arith, ap length c.requires.none.0, c.requires.room.0);
+  glances = ap (map (λ (d : Deed). d.glanced.value)) c.requires.none.0 ∙ sym c.requires.none.1;
+  readers = subst (AllByRecursion (IsReaderAt g.N.LockName.board)) (sym c.requires.none.1) tt;
+  place = omega (arith, ap length c.requires.none.1, c.requires.room.1);
 }
 
 pub join-pass-requires : goal.join-pass-requires
@@ -37,6 +46,9 @@ loop-actor-preserved g c =
     let one : (known c.retire-retired.result.pass).parts ≡ 1 = ap (λ p. (known p).parts) out ∙ actor.desk.one in
     let long : length c.loop-actor.actors.items ≡ length rest + 1 = ap length was ∙ length-append rest (actor ∷ []) in
     let so_far = inv.parts in
+    let deed : Deed = c.retire-retired.result.deed in
+    let glance : GaugePass = c.retire-retired.result.glance in
+    let glanced : Deed → GaugePass = λ d. d.glanced.value in
     record {
       own = join.own;
       parts = omega arith;
@@ -46,15 +58,29 @@ loop-actor-preserved g c =
         actor ∷ inv.joined.0,
         moved_last _ rest _ inv.joined.0 actor inv.joined.1 was,
         (subst (λ p. IsPrefix (known p).seen (known c.join-pass.result).seen) out join.begins.1, seen_later _ _ inv.joined.0 join.begins.0 inv.joined.2),
-        (c.loop-actor.deeds.items, c.retire-retired.result.deed, c.push_reserved.ensures.items, c.retire-retired.ensures.deed, inv.joined.3),
+        (c.loop-actor.deeds.items, deed, c.push_reserved.ensures.items, c.retire-retired.ensures.deed, inv.joined.3),
       );
       room = omega (
         arith,
         long,
         c.push_reserved.ensures.capacity,
         ap length c.push_reserved.ensures.items,
-        length-append c.loop-actor.deeds.items (c.retire-retired.result.deed ∷ []),
+        length-append c.loop-actor.deeds.items (deed ∷ []),
         inv.room,
+      );
+      glances =
+          ap (map glanced) c.push_reserved.ensures.items ∙ map-append glanced c.loop-actor.deeds.items (deed ∷ [])
+          ∙ (λ i. inv.glances i ++ c.retire-retired.ensures.glance i ∷ []) ∙ sym c.push_reserved-in-Some.ensures.items;
+      readers =
+          subst (AllByRecursion (IsReaderAt g.N.LockName.board)) (sym c.push_reserved-in-Some.ensures.items)
+          (all_more (IsReaderAt g.N.LockName.board) c.loop-actor.glances.items (glance ∷ []) inv.readers (c.retire-retired.ensures.own, tt));
+      place = omega (
+        arith,
+        long,
+        c.push_reserved-in-Some.ensures.capacity,
+        ap length c.push_reserved-in-Some.ensures.items,
+        length-append c.loop-actor.glances.items (glance ∷ []),
+        inv.place,
       );
     }
 

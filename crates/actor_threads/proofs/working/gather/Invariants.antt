@@ -1,8 +1,11 @@
-use Rattle.std.proofs.Common.{◌≡◌, ◌+◌, ◌≤◌, ◌++◌, length, vec_capacity}
+use Rattle.std.proofs.Common.{◌≡◌, ◌+◌, ◌≤◌, ◌++◌, length, map, vec_capacity}
+use Rattle.std.specs.List.{AllByRecursion}
 use Rattle.std.specs.List.Sorted.{IsPermutation}
 use Rattle.turn_lock.specs.Passes.{known, IsPassOf}
 use Rattle.turn_lock.specs.Rule.{own_entries}
 use Rattle.actor_threads.specs.Working.{AreDeeds, entries_in}
+use Rattle.actor_threads.specs.declared.actor.Deed.{Deed}
+use Rattle.turn_desks.specs.Watching.{IsReaderAt}
 use Rattle.actor_threads.proofs.Gathered.{AllSeen}
 use Rattle.actor_threads.proofs.working.gather.Given as goal
 
@@ -13,6 +16,9 @@ invariant-loop-actor g l = record {
   entries : IsPermutation (own_entries (known l.fn.pass) ++ entries_in l.fn.actors.items) (own_entries (known l.pass) ++ entries_in l.actors.items);
   joined : (done : _) × (l.fn.actors.items ≡ l.actors.items ++ done) × AllSeen (known l.pass).seen done × AreDeeds done l.deeds.items;
   room : length l.deeds.items + length l.actors.items ≤ vec_capacity l.deeds;
+  glances : map (λ (d : Deed). d.glanced.value) l.deeds.items ≡ l.glances.items;
+  readers : AllByRecursion (IsReaderAt g.N.LockName.board) l.glances.items;
+  place : length l.glances.items + length l.actors.items ≤ vec_capacity l.glances;
 }
 
 abbrev pub decreases-loop-actor : goal.decreases-loop-actor

@@ -1,7 +1,7 @@
-use Rattle.gate_log.proofs.Logs.{stands_once, stands_unbroken, bad_once}
+use Rattle.gate_log.proofs.lemmas.Logs.{stands_once, stands_unbroken, bad_once}
 use Rattle.backup_file.specs.Reading.{record_at}
 use Rattle.backup_file.specs.File.{grammar}
-use Rattle.backup_file.proofs.Records.{record_reader}
+use Rattle.backup_file.proofs.lemmas.Records.{record_reader}
 use Rattle.backup_file.proofs.laws.one_meaning.Goals as goal
 
 pub returns-clause-stands : goal.returns-clause-stands

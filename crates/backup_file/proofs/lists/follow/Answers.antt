@@ -1,6 +1,6 @@
 use Rattle.std.proofs.Common.{sym, subst}
 use Rattle.backup_file.specs.Lists.{AreUnits, after}
-use Rattle.backup_file.proofs.Units.{units-free, units-hand}
+use Rattle.backup_file.proofs.lemmas.Units.{units-free, units-hand}
 use Rattle.backup_file.proofs.lists.follow.Goals as goal
 
 pub returns-in_ok-add-in-Hand : goal.returns-in_ok-add-in-Hand

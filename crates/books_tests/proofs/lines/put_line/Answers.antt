@@ -1,5 +1,5 @@
 use Rattle.std.proofs.Common.{◌∙◌}
-use Rattle.store_reading.proofs.Batches.{one_put}
+use Rattle.record_laws.proofs.Batches.{one_put}
 use Rattle.books_tests.proofs.lines.put_line.Goals as goal
 
 pub put-requires-clause-batch : goal.put-requires-clause-batch

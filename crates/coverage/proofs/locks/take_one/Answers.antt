@@ -1,7 +1,7 @@
 use Rattle.std.proofs.Common.{[], Some, None, ◌≡◌, sym, ◌∙◌}
 use Rattle.std.specs.List.{position}
 use Rattle.lock_entry.specs.Names.{same_asked}
-use Rattle.lock_entry.proofs.Places.{position-None, position-replace, replace_first-none}
+use Rattle.lock_entry.proofs.lemmas.Places.{position-None, position-replace, replace_first-none}
 use Rattle.coverage.proofs.locks.take_one.Goals as goal
 
 pub returns-in_ok-push-clause-left : goal.returns-in_ok-push-clause-left

@@ -1,6 +1,6 @@
 use Rattle.std.proofs.Common.{arith}
 use Rattle.coverage.specs.Tallies.{turned}
-use Rattle.lock_entry.proofs.Places.{map_written}
+use Rattle.lock_entry.proofs.lemmas.Places.{map_written}
 use Rattle.coverage.proofs.session.turn_each.Goals as goal
 
 pub loop-tally-preserved : goal.loop-tally-preserved

@@ -1,4 +1,4 @@
-use Rattle.enq_base.proofs.Cuts.{parts_whole, parts_first, parts_none}
+use Rattle.enq_base.proofs.lemmas.Cuts.{parts_whole, parts_first, parts_none}
 use Rattle.enq_base.proofs.cut.cut_at.Goals as goal
 
 pub returns-clause-whole : goal.returns-clause-whole

@@ -1,6 +1,6 @@
 use Rattle.std.proofs.Common.{sym, ◌∙◌, ap, option_map, arith}
 use Rattle.std.proofs.lemmas.Grind.{common_steps}
-use Rattle.enq_base.proofs.Cuts.{cut-position, around}
+use Rattle.enq_base.proofs.lemmas.Cuts.{cut-position, around}
 use Rattle.enq_base.proofs.cut.parts_at.Goals as goal
 
 pub returns-in_err-at : goal.returns-in_err-at

@@ -1,7 +1,7 @@
 use Rattle.std.proofs.Common.{rules, arith}
 use Rattle.std.proofs.lemmas.Grind.{common_steps}
 use Rattle.enq_base.specs.Number.{number_of}
-use Rattle.enq_base.proofs.Numbers.{parsed_number, numeral_utf8}
+use Rattle.enq_base.proofs.lemmas.Numbers.{parsed_number, numeral_utf8}
 use Rattle.enq_base.proofs.number.number_in.Goals as goal
 
 pub returns-then-not-is_numeral : goal.returns-then-not-is_numeral

@@ -1,6 +1,6 @@
 use Rattle.std.proofs.Common.{sym, ◌∙◌, decimal}
 use Rattle.enq_base.specs.Number.{count_of, IsCount}
-use Rattle.enq_base.proofs.Numbers.{count_if, count_again, unread, if_read, if_none}
+use Rattle.enq_base.proofs.lemmas.Numbers.{count_if, count_again, unread, if_read, if_none}
 use Rattle.enq_base.proofs.number.read_count.Goals as goal
 
 pub returns-clause-spelled : goal.returns-clause-spelled

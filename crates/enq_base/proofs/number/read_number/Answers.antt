@@ -1,6 +1,6 @@
 use Rattle.std.proofs.Common.{◌<◌, ◌^◌, sym, ◌∙◌, decimal}
 use Rattle.enq_base.specs.Number.{number_of}
-use Rattle.enq_base.proofs.Numbers.{number_if, number_again, unread, if_read, if_none}
+use Rattle.enq_base.proofs.lemmas.Numbers.{number_if, number_again, unread, if_read, if_none}
 use Rattle.enq_base.proofs.number.read_number.Goals as goal
 
 pub returns-clause-spelled : goal.returns-clause-spelled

@@ -1,7 +1,7 @@
 use Rattle.std.proofs.Common.{sym, ◌∙◌}
 use Rattle.enq_base.specs.Number.{unit_key_of, IsUnitKey}
 use Rattle.enq_base.specs.Text.{unit_text}
-use Rattle.enq_base.proofs.Numbers.{unit_key_if, unit_key_again, unread, if_read, if_none}
+use Rattle.enq_base.proofs.lemmas.Numbers.{unit_key_if, unit_key_again, unread, if_read, if_none}
 use Rattle.enq_base.proofs.owner.read_unit_key.Goals as goal
 
 pub returns-clause-spelled : goal.returns-clause-spelled

@@ -1,4 +1,4 @@
-use Rattle.enq_server.proofs.Listed.{entries-among, entries-with, entries-without}
+use Rattle.enq_server.proofs.lemmas.Listed.{entries-among, entries-with, entries-without}
 use Rattle.enq_server.proofs.laws.entries_follow_lists.Goals as goal
 
 pub returns-clause-with_one : goal.returns-clause-with_one

@@ -1,4 +1,4 @@
-use Rattle.enq_server.proofs.Listed.{handed_as_kept, returned_as_kept}
+use Rattle.enq_server.proofs.lemmas.Listed.{handed_as_kept, returned_as_kept}
 use Rattle.enq_server.proofs.laws.one_user_is_kept.Goals as goal
 
 pub returns-clause-handed : goal.returns-clause-handed

@@ -1,7 +1,7 @@
 use Rattle.std.proofs.Common.{◌-◌, Some, if◌then◌else◌, ap, sym, ◌∙◌, arith}
 use Rattle.std.specs.HashMap.{get}
 use Rattle.enq_base.specs.Owners.{same_unit}
-use Rattle.backup_file.specs.Ids.{id_of, same_id}
+use Rattle.enq_base.specs.Ids.{id_of, same_id}
 use Rattle.backup_file.specs.declared.handed.Handed.{Handed}
 use Rattle.enq_server.specs.Recovery.{entries_at}
 use Rattle.enq_server.proofs.Differences.{places_more}

@@ -3,7 +3,7 @@ use Rattle.std.proofs.lemmas.List.{take_all}
 use Rattle.backup_file.specs.Backup.{IsReady}
 use Rattle.backup_file.specs.File.{Stands}
 use Rattle.backup_file.specs.Lists.{AreUnits}
-use Rattle.backup_file.proofs.Units.{units-free}
+use Rattle.backup_file.proofs.lemmas.Units.{units-free}
 use Rattle.enq_base.specs.declared.owner.UnitKey.{UnitKey}
 use Rattle.enq_server.specs.Recovery.{left}
 use Rattle.enq_server.proofs.Others.{units_of, left_absent, left_all, left_freed, left_none, left_stays, still, taken_units}

@@ -7,7 +7,7 @@ use Rattle.backup_file.specs.Lists.{AreUnits, HaveEntries}
 use Rattle.enq_server.specs.Faults.{Leaves}
 use Rattle.enq_server.specs.Recovery.{Agrees}
 use Rattle.enq_server.proofs.Images.{opening_leaves, some_left}
-use Rattle.enq_server.proofs.Known.{known_locking}
+use Rattle.enq_server.proofs.lemmas.Known.{known_locking}
 use Rattle.enq_server.proofs.recovery.read_anew.Goals as goal
 
 pub returns-in-Err-clause-images : goal.returns-in-Err-clause-images

@@ -4,7 +4,7 @@ use Rattle.std.proofs.Math.Seq.{take-append_seam}
 use Rattle.enq_base.specs.declared.owner.Owner.TheVariants.{Upd}
 use Rattle.mode_rules.specs.Modes.{same_mode}
 use Rattle.mode_rules.specs.declared.Mode.TheVariants.{O}
-use Rattle.lock_entry.proofs.OwnEntries.{filter-filter}
+use Rattle.lock_laws.proofs.OwnEntries.{filter-filter}
 use Rattle.lock_entry.specs.Names.{is_of}
 use Rattle.lock_entry.specs.declared.entry.Entry.{Entry}
 use Rattle.backup_file.specs.Handing.{IsHandable}

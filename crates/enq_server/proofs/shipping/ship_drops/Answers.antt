@@ -2,7 +2,7 @@ use Rattle.std.proofs.Common.{[], ◌∷◌, ◌+◌, map, take, subst, arith}
 use Rattle.replica_link.specs.Operations.{after_op, replica}
 use Rattle.replica_link.specs.Shipping.{drop_of}
 use Rattle.enq_server.specs.Following.{IsAt}
-use Rattle.enq_server.proofs.Following.{at_more, keeps_both, lost_more, mapped_more}
+use Rattle.enq_server.proofs.lemmas.Following.{at_more, keeps_both, lost_more, mapped_more}
 use Rattle.enq_server.proofs.shipping.ship_drops.Goals as goal
 
 pub loop-entry-preserved : goal.loop-entry-preserved

@@ -2,7 +2,7 @@ use Rattle.std.proofs.Common.{[], ◌∷◌, ◌+◌, take, sym, subst, ◌∙�
 use Rattle.replica_link.specs.Operations.{replica}
 use Rattle.replica_link.specs.Shipping.{owner_ops}
 use Rattle.enq_server.specs.Following.{IsAt, IsLostBy}
-use Rattle.enq_server.proofs.Following.{at_more, keeps_both, lost_more, owner_end, owner_more}
+use Rattle.enq_server.proofs.lemmas.Following.{at_more, keeps_both, lost_more, owner_end, owner_more}
 use Rattle.enq_server.proofs.shipping.ship_found.Goals as goal
 use Rattle.enq_server.proofs.shipping.ship_found.Goals.{in-Some, in_default}
 

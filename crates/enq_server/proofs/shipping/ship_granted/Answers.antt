@@ -3,7 +3,7 @@ use Rattle.std.proofs.lemmas.List.Concat.{flat_map-append}
 use Rattle.lock_entry.specs.Names.{halves, halves_of}
 use Rattle.replica_link.specs.Operations.{replica}
 use Rattle.replica_link.specs.Shipping.{granted_ops, put_ops}
-use Rattle.enq_server.proofs.Following.{at_more, joined_more, keeps_both, lost_more}
+use Rattle.enq_server.proofs.lemmas.Following.{at_more, joined_more, keeps_both, lost_more}
 use Rattle.enq_server.proofs.shipping.ship_granted.Goals as goal
 
 pub loop-request-preserved : goal.loop-request-preserved

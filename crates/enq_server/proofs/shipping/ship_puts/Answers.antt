@@ -1,7 +1,7 @@
 use Rattle.std.proofs.Common.{[], ◌∷◌, ◌+◌, map, take, arith}
 use Rattle.replica_link.specs.Operations.{replica}
 use Rattle.replica_link.specs.declared.operation.TableOp.TheVariants.{Put}
-use Rattle.enq_server.proofs.Following.{at_more, keeps_both, lost_more, mapped_more}
+use Rattle.enq_server.proofs.lemmas.Following.{at_more, keeps_both, lost_more, mapped_more}
 use Rattle.enq_server.proofs.shipping.ship_puts.Goals as goal
 
 pub loop-entry-preserved : goal.loop-entry-preserved

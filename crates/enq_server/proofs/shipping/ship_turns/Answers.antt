@@ -2,7 +2,7 @@ use Rattle.std.proofs.Common.{◌+◌, take}
 use Rattle.std.specs.List.{flat_map}
 use Rattle.replica_link.specs.Operations.{replica}
 use Rattle.replica_link.specs.Shipping.{turn_ops}
-use Rattle.enq_server.proofs.Following.{at_more, joined_more, keeps_both, lost_more}
+use Rattle.enq_server.proofs.lemmas.Following.{at_more, joined_more, keeps_both, lost_more}
 use Rattle.enq_server.proofs.shipping.ship_turns.Goals as goal
 
 pub loop-one-preserved : goal.loop-one-preserved

@@ -1,6 +1,6 @@
 use Rattle.std.proofs.Common.{sym, subst, arith, rules}
 use Rattle.std.proofs.lemmas.Grind.{common_steps}
-use Rattle.enq_server.proofs.Following.{keeps_both}
+use Rattle.enq_server.proofs.lemmas.Following.{keeps_both}
 use Rattle.lock_entry.specs.Names.{halves_of}
 use Rattle.hall_calls.proofs.following.LostFrees.{IsLess, all_less, freed_both}
 use Rattle.hall_calls.proofs.locks.free_requests.Goals as goal

@@ -1,17 +1,40 @@
-use Rattle.std.proofs.lemmas.Result.{err_from_is_err_and}
-use Rattle.hall_calls.proofs.ending.OverFile.{freed_all, not_freed}
+use Rattle.std.proofs.Common.{◌≡◌, refl, sym, subst}
+use Rattle.std.specs.Prelude.{OnOk}
+use Rattle.lock_entry.specs.Freeing.{freed_owner}
+use Rattle.lock_entry.specs.Table.{with_entries}
+use Rattle.enq_base.specs.declared.owner.Owner.TheVariants.{Upd}
+use Rattle.hall_calls.specs.Filing.{locks_ended}
+use Rattle.hall_calls.proofs.MarkedUnits.{frees_list, keeps_list, limit_stays, never_both, serves_still}
 use Rattle.hall_calls.proofs.units.end_locks.Goals as goal
 
-pub returns-in_err-end_unit-clause-file : goal.returns-in_err-end_unit-clause-file
-returns-in_err-end_unit-clause-file g c =
-    let p = err_from_is_err_and c.from_residual.result c.from_residual.ensures.1 in
-    let h = c.in_err-end_unit.ensures in
-    rw (p.1, p.2)
-    (not_freed g.D.Disk.tells g.D.Disk.reads g.D.Disk.may_leave g.D.Disk.faults c.args.ends c.args.unit.now c.args.locks.now.file c.end_unit.new.self.file _
-    c.if-ends.true h.needed h.images h.cause.later h.cause.failed)
+pub returns-then-ends : goal.returns-then-ends
+returns-then-ends g c =
+    let h = c.end_unit.ensures in
+    let was = c.args.locks.now in
+    let left = c.end_unit.new.self in
+    record {
+      table =
+          subst (λ b. OnOk c.end_unit.result (left.table ≡ with_entries was.table (locks_ended b was.table.entries c.args.unit.now)))
+          (sym c.if-ends.true) h.table;
+      kept = h.kept;
+      apart = λ off. never_both _ c.args.ends c.if-ends.true off;
+      serves = record {
+        limit = limit_stays c.end_unit.result was.table left.table (freed_owner was.table.entries (Upd c.args.unit.now)) h.table h.kept;
+        standing = h.standing;
+        follower = h.copy;
+        lost = h.lost;
+      };
+      file = frees_list g.D.Disk.tells g.D.Disk.reads g.D.Disk.may_leave g.D.Disk.faults c.args.ends c.args.unit.now was.file left.file c.end_unit.result
+          c.if-ends.true h.usable h.known h.freed h.images h.needed h.cause;
+    }
 
-pub returns-in_ok-end_unit-clause-file : goal.returns-in_ok-end_unit-clause-file
-returns-in_ok-end_unit-clause-file g c =
-    let h = c.in_ok-end_unit.ensures in
-    freed_all g.D.Disk.tells g.D.Disk.reads g.D.Disk.may_leave g.D.Disk.faults c.args.ends c.args.unit.now c.args.locks.now.file c.end_unit.new.self.file
-    c.if-ends.true h.usable h.known h.freed h.images h.cause.quiet
+pub returns-else-ends : goal.returns-else-ends
+returns-else-ends g c =
+    let was = c.args.locks.now in
+    record {
+      table = subst (λ b. was.table ≡ with_entries was.table (locks_ended b was.table.entries c.args.unit.now)) (sym c.if-ends.false) refl;
+      kept = tt;
+      apart = λ off. refl;
+      serves = serves_still g.L.Link.applied g.L.Link.faults g.L.Link.refusals was;
+      file = keeps_list g.D.Disk.tells g.D.Disk.reads g.D.Disk.may_leave g.D.Disk.faults c.args.ends c.args.unit.now was.file c.if-ends.false c.requires.usable;
+    }

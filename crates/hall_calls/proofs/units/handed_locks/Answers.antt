@@ -2,7 +2,7 @@ use Rattle.std.proofs.Common.{◌≡◌, ◌++◌, ℕ, length, take, drop, ap, 
 use Rattle.std.proofs.Math.Seq.{take-append_seam}
 use Rattle.enq_base.specs.declared.owner.Owner.TheVariants.{Upd}
 use Rattle.enq_server.specs.Server.{of_user}
-use Rattle.lock_entry.proofs.OwnEntries.{handed_over-own}
+use Rattle.lock_laws.proofs.OwnEntries.{handed_over-own}
 use Rattle.lock_entry.specs.Freeing.{handed_over}
 use Rattle.hall_calls.proofs.units.handed_locks.Goals as goal
 

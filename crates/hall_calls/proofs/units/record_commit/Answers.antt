@@ -1,203 +1,172 @@
-use Rattle.std.proofs.Common.{◌+◌, ◌++◌, sym, refl, ap, ◌∙◌, length, subst, arith}
-use Rattle.ledger_steps.specs.Drawn.{settled_rows}
+use Rattle.std.proofs.Common.{◌++◌, inr, length, refl, sym, ap, subst, arith}
+use Rattle.enq_base.specs.declared.refusal.Refusal.TheVariants as refusal
 use Rattle.update_records.specs.declared.records.Unit.{Unit as UnitOfWork}
-use Rattle.hall_calls.specs.Commits.{IsOfCommit}
 use Rattle.hall_model.specs.Kept.{IsAhead}
-use Rattle.hall_model.specs.Sessions.{is_called, unit_key}
-use Rattle.hall_model.proofs.FoundSessions.{found_in}
+use Rattle.hall_model.specs.Sessions.{is_called}
+use Rattle.hall_model.specs.declared.command.Reply.TheVariants as reply
+use Rattle.model_laws.proofs.FoundSessions.{found_in}
+use Rattle.hall_calls.specs.Commits.{IsChange, IsOfCommit}
+use Rattle.hall_calls.proofs.CommittedChanges.{answered_before, answered_ends, commits_alone, commits_unit, some_alone}
+use Rattle.hall_calls.proofs.MarkedUnits.{serves_still}
+use Rattle.hall_calls.proofs.ending.AfterStop.{also_failed}
+use Rattle.hall_calls.proofs.ending.OverFile.{refused_files, same_file}
+use Rattle.hall_calls.proofs.ending.OverStore.{quiet_ends}
 use Rattle.hall_calls.proofs.lists.AsCallsEnd.{numbers_files}
 use Rattle.hall_calls.proofs.lists.BehindMarks.{of_session}
-use Rattle.hall_model.specs.Step.{unit_of}
-use Rattle.hall_calls.proofs.verdicts.UnitCalls.{commits_full, commits_nothing, commits_too_much, commits_unknown, commits_wanting, may_record}
-use Rattle.hall_calls.proofs.verdicts.Recording.{draws_digits, draws_stored, may_draw, numbers_recorded, rows_fit, unit_recorded, few_enough, no_effects, nothing_there, some_effects, some_numbers, together, too_large, too_many, with_effects}
-use Rattle.hall_calls.proofs.units.record_commit.Goals.{else-effects-eq0-via-then-effects-eq0+else-drawn-eq0, else-effects-eq0-via-else-effects-eq0, then-drawn-gt-DRAWS_LIMIT-via-then-drawn-gt-DRAWS_LIMIT, then-drawn-gt-DRAWS_LIMIT-via-else-drawn-gt-DRAWS_LIMIT+then-effects-gt-EFFECTS_LIMIT}
+use Rattle.hall_calls.proofs.verdicts.Recording.{draws_digits, draws_stored, may_draw, rows_fit}
+use Rattle.hall_calls.proofs.verdicts.UnitCalls.{below_limit, commits_wanting, may_record}
 use Rattle.hall_calls.proofs.units.record_commit.Goals as goal
 
-pub returns-in-Err-clause-act : goal.returns-in-Err-clause-act
-returns-in-Err-clause-act g c s e r f l m room =
-    commits_unknown s c.args.sessions.now c.args.ranges.now c.args.locks.now.table.entries c.args.books.now.ledger c.args.name.now c.args.parts.now
-    c.args.stock.now c.in-Err.refusal e r f l room
-    c.in-Err.ensures.unknown.0 c.in-Err.ensures.unknown.1
-
-pub returns-then-drawn-gt-DRAWS_LIMIT-clause-act : goal.returns-then-drawn-gt-DRAWS_LIMIT-clause-act
-returns-then-drawn-gt-DRAWS_LIMIT-clause-act g c s e r f l m room =
-    commits_too_much s c.args.sessions.now c.args.ranges.now c.args.locks.now.table.entries
-    c.args.books.now.ledger c.args.max_marks c.args.name.now c.in-Ok.session.now c.args.parts.now c.args.stock.now
-    (record { own_sessions = e; own_ranges = r; own_locks = f; own_ledger = l; own_limit = m; admits = room; found = c.in-Ok.ensures.found })
-    (elim c.then-drawn-gt-DRAWS_LIMIT.branch [
-      | then-drawn-gt-DRAWS_LIMIT-via-then-drawn-gt-DRAWS_LIMIT w ↦ too_many (c.in-Ok.session.now.draws ++ c.args.stock.now) c.args.parts.now
-          (length c.as_slice.result.now + length c.args.stock.now)
-          (together c.in-Ok.session.now.draws c.as_slice.result.now c.args.stock.now c.as_slice.ensures) (omega (arith, w.if-drawn-gt-DRAWS_LIMIT.true))
-      | then-drawn-gt-DRAWS_LIMIT-via-else-drawn-gt-DRAWS_LIMIT+then-effects-gt-EFFECTS_LIMIT w ↦ too_large
-          (c.in-Ok.session.now.draws ++ c.args.stock.now) c.args.parts.now c.effects_in-effects.result c.effects_in-effects.ensures
-          (omega (arith, w.if-effects-gt-EFFECTS_LIMIT.true))
-    ])
-
-pub returns-then-drawn-eq0-clause-act : goal.returns-then-drawn-eq0-clause-act
-returns-then-drawn-eq0-clause-act g c s e r f l m room =
-    commits_nothing s c.args.sessions.now c.args.ranges.now c.args.locks.now.table.entries
-    c.args.books.now.ledger c.args.max_marks c.args.name.now c.in-Ok.session.now c.args.parts.now c.args.stock.now
-    (record { own_sessions = e; own_ranges = r; own_locks = f; own_ledger = l; own_limit = m; admits = room; found = c.in-Ok.ensures.found })
-    (few_enough (c.in-Ok.session.now.draws ++ c.args.stock.now) c.args.parts.now
-    (length c.as_slice.result.now + length c.args.stock.now) c.effects_in-effects.result
-    (together c.in-Ok.session.now.draws c.as_slice.result.now c.args.stock.now c.as_slice.ensures) c.effects_in-effects.ensures
-    (omega (arith, c.if-drawn-gt-DRAWS_LIMIT.false)) (omega (arith, c.if-effects-gt-EFFECTS_LIMIT.false)))
-    (nothing_there (c.in-Ok.session.now.draws ++ c.args.stock.now) c.args.parts.now
-    (length c.as_slice.result.now + length c.args.stock.now) c.effects_in-effects.result
-    (together c.in-Ok.session.now.draws c.as_slice.result.now c.args.stock.now c.as_slice.ensures) c.effects_in-effects.ensures
-    (omega (arith, c.if-drawn-eq0.true)) (omega (arith, c.if-effects-eq0.true)))
-
-pub returns-then-is_full-clause-act : goal.returns-then-is_full-clause-act
-returns-then-is_full-clause-act g c s e r f l m room =
-    commits_full s c.args.sessions.now c.args.ranges.now c.args.locks.now.table.entries
-    c.args.books.now.ledger c.args.max_marks c.args.name.now c.in-Ok.session.now c.args.parts.now c.args.stock.now
-    (record { own_sessions = e; own_ranges = r; own_locks = f; own_ledger = l; own_limit = m; admits = room; found = c.in-Ok.ensures.found })
-    (few_enough (c.in-Ok.session.now.draws ++ c.args.stock.now) c.args.parts.now
-    (length c.as_slice.result.now + length c.args.stock.now) c.effects_in-effects.result
-    (together c.in-Ok.session.now.draws c.as_slice.result.now c.args.stock.now c.as_slice.ensures) c.effects_in-effects.ensures
-    (omega (arith, c.if-drawn-gt-DRAWS_LIMIT.false)) (omega (arith, c.if-effects-gt-EFFECTS_LIMIT.false)))
-    (elim c.else-effects-eq0.branch [
-      | else-effects-eq0-via-then-effects-eq0+else-drawn-eq0 w ↦ some_numbers (c.in-Ok.session.now.draws ++ c.args.stock.now) c.args.parts.now
-          (length c.as_slice.result.now + length c.args.stock.now)
-          (together c.in-Ok.session.now.draws c.as_slice.result.now c.args.stock.now c.as_slice.ensures) (omega (arith, w.if-drawn-eq0.false))
-      | else-effects-eq0-via-else-effects-eq0 w ↦ some_effects (c.in-Ok.session.now.draws ++ c.args.stock.now) c.args.parts.now c.effects_in-effects.result
-          c.effects_in-effects.ensures (omega (arith, w.if-effects-eq0.false))
-    ])
-    (sym c.is_full.ensures ∙ c.if-is_full.true)
-
-pub settled_rows-requires : goal.settled_rows-requires
-settled_rows-requires g c =
+pub change_of-requires : goal.change_of-requires
+change_of-requires g c =
+    let x = c.in-Ok.session.now in
     record {
-      fit = rows_fit c.args.sessions.now c.args.name.now c.in-Ok.session.now c.in-Ok.ensures.found c.args.books.now.ledger
-          c.args.ranges.now c.args.stock.now c.requires.drawn c.requires.stock c.as_slice-2.result.now (c.as_slice-2.ensures.value ∙ c.in-Ok-draws_and.ensures);
+      fit = rows_fit c.args.sessions.now c.args.name.now x c.in-Ok.ensures.session.found c.args.books.now.ledger c.args.ranges.now c.args.stock.now
+          c.requires.drawn c.requires.stock (x.draws ++ c.args.stock.now) refl;
     }
 
-pub returns-in_default-clause-act : goal.returns-in_default-clause-act
-returns-in_default-clause-act g c s e r f l m room =
-    commits_wanting s c.args.sessions.now c.args.ranges.now c.args.locks.now.table.entries
-    c.args.books.now.ledger c.args.max_marks c.args.name.now c.in-Ok.session.now c.args.parts.now c.args.stock.now
-    (record { own_sessions = e; own_ranges = r; own_locks = f; own_ledger = l; own_limit = m; admits = room; found = c.in-Ok.ensures.found })
-    c.args.books.now.ledger refl
-
-pub returns-in_default-settled_rows-clause-act : goal.returns-in_default-settled_rows-clause-act
-returns-in_default-settled_rows-clause-act g c s e r f l m room =
-    commits_wanting s c.args.sessions.now c.args.ranges.now c.args.locks.now.table.entries
-    c.args.books.now.ledger c.args.max_marks c.args.name.now c.in-Ok.session.now c.args.parts.now c.args.stock.now
-    (record { own_sessions = e; own_ranges = r; own_locks = f; own_ledger = l; own_limit = m; admits = room; found = c.in-Ok.ensures.found })
-    c.args.books.now.ledger refl
-
-pub returns-in_default-unit_of-clause-act : goal.returns-in_default-unit_of-clause-act
-returns-in_default-unit_of-clause-act g c s e r f l m room =
-    commits_wanting s c.args.sessions.now c.args.ranges.now c.args.locks.now.table.entries
-    c.args.books.now.ledger c.args.max_marks c.args.name.now c.in-Ok.session.now c.args.parts.now c.args.stock.now
-    (record { own_sessions = e; own_ranges = r; own_locks = f; own_ledger = l; own_limit = m; admits = room; found = c.in-Ok.ensures.found })
-    c.args.books.now.ledger refl
-
-pub record_numbers-requires-clause-drawing : goal.record_numbers-requires-clause-drawing
-record_numbers-requires-clause-drawing g c =
-    let same = ap length c.in-Ok-draws_and.ensures in
-    let whole = together c.in-Ok.session.now.draws c.as_slice.result.now c.args.stock.now c.as_slice.ensures in
-    may_draw c.args.sessions.now c.args.name.now c.in-Ok.session.now c.in-Ok.ensures.found c.args.books.now.ledger
-    c.args.ranges.now c.args.stock.now c.requires.drawn c.requires.stock
-    c.start.result c.unit_key-key.result c.in-Ok-draws_and.numbers.items c.start.ensures c.unit_key-key.ensures
-    c.in-Ok-draws_and.ensures c.requires.started c.requires.fresh
-    (elim c.else-effects-eq0.branch [
-      | else-effects-eq0-via-then-effects-eq0+else-drawn-eq0 w ↦ omega (arith, w.if-drawn-eq0.false, same, whole)
-      | else-effects-eq0-via-else-effects-eq0 w ↦ absurd (omega (arith, w.if-effects-eq0.false, c.if-effects-eq0-2.true))
-    ])
-    (omega (arith, c.if-drawn-gt-DRAWS_LIMIT.false, same, whole))
-
-pub record_numbers-requires-clause-store : goal.record_numbers-requires-clause-store
-record_numbers-requires-clause-store g c =
-    draws_stored c.args.sessions.now c.args.name.now c.in-Ok.session.now c.in-Ok.ensures.found c.args.books.now.ledger
-    c.args.ranges.now c.args.stock.now c.requires.drawn c.requires.stock
-    c.in-Ok-settled_rows.levels.items c.in-Ok-draws_and.numbers.items
-    (c.in-Ok-settled_rows.ensures ∙ ap (settled_rows c.args.books.now.ledger.levels c.args.ranges.now) (c.as_slice-2.ensures.value ∙ c.in-Ok-draws_and.ensures))
-    c.in-Ok-draws_and.ensures
-
-pub returns-then-effects-eq0-2-clause-act : goal.returns-then-effects-eq0-2-clause-act
-returns-then-effects-eq0-2-clause-act g c s e r f l m room =
-    numbers_recorded s c.args.sessions.now c.args.ranges.now c.args.locks.now.table.entries
-    c.args.books.now.ledger c.args.max_marks c.args.name.now c.in-Ok.session.now c.args.parts.now c.args.stock.now
-    (record { own_sessions = e; own_ranges = r; own_locks = f; own_ledger = l; own_limit = m; admits = room; found = c.in-Ok.ensures.found })
-    (few_enough (c.in-Ok.session.now.draws ++ c.args.stock.now) c.args.parts.now
-    (length c.as_slice.result.now + length c.args.stock.now) c.effects_in-effects.result
-    (together c.in-Ok.session.now.draws c.as_slice.result.now c.args.stock.now c.as_slice.ensures) c.effects_in-effects.ensures
-    (omega (arith, c.if-drawn-gt-DRAWS_LIMIT.false)) (omega (arith, c.if-effects-gt-EFFECTS_LIMIT.false)))
-    (elim c.else-effects-eq0.branch [
-      | else-effects-eq0-via-then-effects-eq0+else-drawn-eq0 w ↦ some_numbers (c.in-Ok.session.now.draws ++ c.args.stock.now) c.args.parts.now
-          (length c.as_slice.result.now + length c.args.stock.now)
-          (together c.in-Ok.session.now.draws c.as_slice.result.now c.args.stock.now c.as_slice.ensures) (omega (arith, w.if-drawn-eq0.false))
-      | else-effects-eq0-via-else-effects-eq0 w ↦ some_effects (c.in-Ok.session.now.draws ++ c.args.stock.now) c.args.parts.now c.effects_in-effects.result
-          c.effects_in-effects.ensures (omega (arith, w.if-effects-eq0.false))
-    ])
-    (sym c.is_full.ensures ∙ c.if-is_full.false) (no_effects c.args.parts.now c.effects_in-effects.result c.effects_in-effects.ensures c.if-effects-eq0-2.true)
-    c.unit_key-key.result c.in-Ok-draws_and.numbers.items c.in-Ok-settled_rows.levels.items
-    (c.unit_key-key.ensures ∙ ap (λ n. unit_key n c.in-Ok.session.now) c.start.ensures)
-    c.in-Ok-draws_and.ensures
-    (c.in-Ok-settled_rows.ensures ∙ ap (settled_rows c.args.books.now.ledger.levels c.args.ranges.now) (c.as_slice-2.ensures.value ∙ c.in-Ok-draws_and.ensures))
-    c.record_numbers.new.sessions c.record_numbers.new.books.ledger c.record_numbers.result c.record_numbers.ensures.outcome
-
-pub record_unit-requires-clause-commits : goal.record_unit-requires-clause-commits
-record_unit-requires-clause-commits g c =
+pub record_numbers-requires : goal.record_numbers-requires
+record_numbers-requires g c =
     let ledger = c.args.books.now.ledger in
     let x = c.in-Ok.session.now in
-    let numbers = c.in-Ok-draws_and.numbers.items in
-    subst (λ u. IsOfCommit ledger u c.args.locks.now.table.entries)
-    (sym (c.in-Ok-unit_of.ensures.unit ∙ ap (λ n. unit_of n c.args.locks.now.table.entries x c.args.parts.now numbers) c.start-2.ensures))
-    (of_session ledger x c.args.locks.now.table.entries c.args.parts.now numbers
-    (found_in (IsAhead ledger) (is_called c.args.name.now) c.args.sessions.now x c.in-Ok.ensures.found c.requires.fresh x.luw (omega arith)) c.requires.marked)
+    let at = c.in-Ok.ensures.session in
+    let drawn = c.in-Numbers.drawn in
+    let h = subst (IsChange ledger c.args.ranges.now c.args.locks.now.table x c.args.parts.now c.args.stock.now) c.in-Numbers.is c.in-Ok-change_of.ensures in
+    let many = ap length h.2 in
+    record {
+      usable = c.requires.usable;
+      marks = below_limit _ _ at.room c.requires.limited;
+      drawing = may_draw c.args.sessions.now c.args.name.now x at.found ledger c.args.ranges.now c.args.stock.now c.requires.drawn c.requires.stock
+          ledger.start drawn.unit drawn.numbers refl h.1 h.2 c.requires.started c.requires.fresh
+          (omega (arith, many, some_alone _ _ _ _ _ _ _ at h.0)) (omega (arith, many, at.few_numbers));
+      store = draws_stored c.args.sessions.now c.args.name.now x at.found ledger c.args.ranges.now c.args.stock.now c.requires.drawn c.requires.stock
+          drawn.levels drawn.numbers h.3 h.2;
+    }
 
-pub record_unit-requires-clause-new : goal.record_unit-requires-clause-new
-record_unit-requires-clause-new g c =
-    let same = ap length c.in-Ok-draws_and.ensures in
-    let whole = together c.in-Ok.session.now.draws c.as_slice.result.now c.args.stock.now c.as_slice.ensures in
-    may_record c.args.books.now.ledger c.args.sessions.now c.args.name.now c.in-Ok.session.now c.args.parts.now c.in-Ok-draws_and.numbers.items c.start-2.result
-    c.args.locks.now.table
-    c.in-Ok-unit_of.unit c.start-2.ensures c.in-Ok-unit_of.ensures.unit
-    (draws_digits c.args.sessions.now c.args.name.now c.in-Ok.session.now c.in-Ok.ensures.found c.args.books.now.ledger
-    c.args.ranges.now c.args.stock.now c.requires.drawn c.requires.stock c.in-Ok-draws_and.numbers.items c.in-Ok-draws_and.ensures)
-    (omega (arith, c.if-drawn-gt-DRAWS_LIMIT.false, same, whole))
-    c.in-Ok.ensures.found c.requires.fresh c.in-Ok-unit_of.ensures.good c.requires.started
-    (omega (arith, c.if-effects-eq0-2.false, c.effects_in-effects.ensures))
-    (omega (arith, c.if-effects-gt-EFFECTS_LIMIT.false, c.effects_in-effects.ensures))
+pub record_unit-requires : goal.record_unit-requires
+record_unit-requires g c =
+    let ledger = c.args.books.now.ledger in
+    let table = c.args.locks.now.table in
+    let x = c.in-Ok.session.now in
+    let at = c.in-Ok.ensures.session in
+    let made = c.in-Unit.made in
+    let nums = x.draws ++ c.args.stock.now in
+    let h = subst (IsChange ledger c.args.ranges.now table x c.args.parts.now c.args.stock.now) c.in-Unit.is c.in-Ok-change_of.ensures in
+    record {
+      usable = c.requires.usable;
+      marks = below_limit _ _ at.room c.requires.limited;
+      fresh = may_record ledger c.args.sessions.now c.args.name.now x c.args.parts.now nums ledger.start table made.unit refl h.1
+          (draws_digits c.args.sessions.now c.args.name.now x at.found ledger c.args.ranges.now c.args.stock.now c.requires.drawn c.requires.stock nums refl)
+          at.few_numbers at.found c.requires.fresh h.3 c.requires.started h.0 at.few_effects;
+      store = draws_stored c.args.sessions.now c.args.name.now x at.found ledger c.args.ranges.now c.args.stock.now c.requires.drawn c.requires.stock
+          made.levels made.unit.numbers h.2 (ap (λ (u : UnitOfWork). u.numbers) h.1);
+      young = c.requires.young;
+      commits = subst (λ (u : UnitOfWork). IsOfCommit ledger u table.entries) (sym h.1)
+          (of_session ledger x table.entries c.args.parts.now nums
+          (found_in (IsAhead ledger) (is_called c.args.name.now) c.args.sessions.now x at.found c.requires.fresh x.luw (omega arith)) c.requires.marked);
+      filed = c.requires.filed;
+    }
 
-pub record_unit-requires-clause-store : goal.record_unit-requires-clause-store
-record_unit-requires-clause-store g c =
-    draws_stored c.args.sessions.now c.args.name.now c.in-Ok.session.now c.in-Ok.ensures.found c.args.books.now.ledger
-    c.args.ranges.now c.args.stock.now c.requires.drawn c.requires.stock
-    c.in-Ok-settled_rows.levels.items c.in-Ok-unit_of.unit.numbers
-    (c.in-Ok-settled_rows.ensures ∙ ap (settled_rows c.args.books.now.ledger.levels c.args.ranges.now) (c.as_slice-2.ensures.value ∙ c.in-Ok-draws_and.ensures))
-    (ap (λ (u : UnitOfWork). u.numbers) c.in-Ok-unit_of.ensures.unit ∙ c.in-Ok-draws_and.ensures)
+pub returns-in-Err : goal.returns-in-Err
+returns-in-Err g c =
+    let r = c.in-Err.reply in
+    let h = c.in-Err.ensures in
+    record {
+      act = λ s sessions ranges locks stored limit room. h.answer s c.args.ranges.now c.args.locks.now.table.entries sessions ranges locks stored limit room;
+      serves = serves_still g.L.Link.applied g.L.Link.faults g.L.Link.refusals c.args.locks.now;
+      file = answered_before g.D.Disk.tells g.D.Disk.reads g.D.Disk.may_leave g.D.Disk.faults c.args.books.now.ledger c.args.locks.now.file r c.requires.filed
+          h.quiet;
+      table = tt;
+      sessions = tt;
+      store = answered_ends g.K.Keeper.held g.K.Keeper.is_open g.K.Keeper.may_leave g.K.Keeper.faults g.met.K.Keeper.settled c.args.books.now
+          c.requires.usable r h.quiet;
+    }
 
-pub returns-clause-act : goal.returns-clause-act
-returns-clause-act g c s e r f l m room =
-    unit_recorded s c.args.sessions.now c.args.ranges.now c.args.locks.now.table.entries
-    c.args.books.now.ledger c.args.max_marks c.args.name.now c.in-Ok.session.now c.args.parts.now c.args.stock.now
-    (record { own_sessions = e; own_ranges = r; own_locks = f; own_ledger = l; own_limit = m; admits = room; found = c.in-Ok.ensures.found })
-    (few_enough (c.in-Ok.session.now.draws ++ c.args.stock.now) c.args.parts.now
-    (length c.as_slice.result.now + length c.args.stock.now) c.effects_in-effects.result
-    (together c.in-Ok.session.now.draws c.as_slice.result.now c.args.stock.now c.as_slice.ensures) c.effects_in-effects.ensures
-    (omega (arith, c.if-drawn-gt-DRAWS_LIMIT.false)) (omega (arith, c.if-effects-gt-EFFECTS_LIMIT.false)))
-    (elim c.else-effects-eq0.branch [
-      | else-effects-eq0-via-then-effects-eq0+else-drawn-eq0 w ↦ some_numbers (c.in-Ok.session.now.draws ++ c.args.stock.now) c.args.parts.now
-          (length c.as_slice.result.now + length c.args.stock.now)
-          (together c.in-Ok.session.now.draws c.as_slice.result.now c.args.stock.now c.as_slice.ensures) (omega (arith, w.if-drawn-eq0.false))
-      | else-effects-eq0-via-else-effects-eq0 w ↦ some_effects (c.in-Ok.session.now.draws ++ c.args.stock.now) c.args.parts.now c.effects_in-effects.result
-          c.effects_in-effects.ensures (omega (arith, w.if-effects-eq0.false))
-    ])
-    (sym c.is_full.ensures ∙ c.if-is_full.false)
-    (with_effects c.args.parts.now c.effects_in-effects.result c.effects_in-effects.ensures (omega (arith, c.if-effects-eq0-2.false)))
-    c.in-Ok-unit_of.unit c.in-Ok-settled_rows.levels.items
-    (c.in-Ok-unit_of.ensures.unit
-    ∙ (λ i. unit_of (c.start-2.ensures i) c.args.locks.now.table.entries c.in-Ok.session.now c.args.parts.now (c.in-Ok-draws_and.ensures i)))
-    (c.in-Ok-settled_rows.ensures ∙ ap (settled_rows c.args.books.now.ledger.levels c.args.ranges.now) (c.as_slice-2.ensures.value ∙ c.in-Ok-draws_and.ensures))
-    c.record_unit.new.sessions
-    c.record_unit.new.locks.table.entries c.record_unit.new.books.ledger c.record_unit.result c.record_unit.ensures.outcome
+pub returns-in_default : goal.returns-in_default
+returns-in_default g c =
+    let ledger = c.args.books.now.ledger in
+    let file = c.args.locks.now.file in
+    record {
+      act = λ s sessions ranges locks stored limit room.
+          commits_wanting s c.args.sessions.now c.args.ranges.now c.args.locks.now.table.entries ledger c.args.max_marks c.args.name.now c.in-Ok.session.now
+          c.args.parts.now c.args.stock.now
+          (record {
+            own_sessions = sessions;
+            own_ranges = ranges;
+            own_locks = locks;
+            own_ledger = stored;
+            own_limit = limit;
+            admits = room;
+            found = c.in-Ok.ensures.session.found;
+          })
+          ledger refl;
+      serves = serves_still g.L.Link.applied g.L.Link.faults g.L.Link.refusals c.args.locks.now;
+      file = refused_files g.D.Disk.tells g.D.Disk.reads g.D.Disk.may_leave g.D.Disk.faults ledger ledger file file refusal.NoMemory c.requires.filed
+          (same_file file) refl (inr refl);
+      table = tt;
+      sessions = tt;
+      store = quiet_ends g.K.Keeper.held g.K.Keeper.is_open g.K.Keeper.may_leave g.K.Keeper.faults g.met.K.Keeper.settled c.args.books.now c.requires.usable
+          (reply.Refused refusal.NoMemory) (λ n. refl) (λ k. (refl, λ rows may. may));
+    }
 
-pub returns-then-effects-eq0-2-clause-file : goal.returns-then-effects-eq0-2-clause-file
-returns-then-effects-eq0-2-clause-file g c =
-    numbers_files g.D.Disk.tells g.D.Disk.reads g.D.Disk.may_leave g.D.Disk.faults c.args.sessions.now c.record_numbers.new.sessions c.args.books.now.ledger
-    c.record_numbers.new.books.ledger c.args.name.now c.unit_key-key.result c.in-Ok-draws_and.numbers.items c.in-Ok-settled_rows.levels.items
-    c.args.locks.now.file c.record_numbers.result
-    c.requires.filed c.record_numbers.ensures.store.ledger c.record_numbers.ensures.outcome
+pub returns-in-Numbers : goal.returns-in-Numbers
+returns-in-Numbers g c =
+    let ledger = c.args.books.now.ledger in
+    let x = c.in-Ok.session.now in
+    let at = c.in-Ok.ensures.session in
+    let drawn = c.in-Numbers.drawn in
+    let h = subst (IsChange ledger c.args.ranges.now c.args.locks.now.table x c.args.parts.now c.args.stock.now) c.in-Numbers.is c.in-Ok-change_of.ensures in
+    let w = c.record_numbers.result in
+    let done = c.record_numbers.ensures in
+    record {
+      act = λ s sessions ranges locks stored limit room.
+          commits_alone s c.args.sessions.now c.args.ranges.now c.args.locks.now.table.entries ledger c.args.max_marks c.args.name.now x c.args.parts.now
+          c.args.stock.now
+          (record {
+            own_sessions = sessions;
+            own_ranges = ranges;
+            own_locks = locks;
+            own_ledger = stored;
+            own_limit = limit;
+            admits = room;
+            found = at.found;
+          })
+          at drawn.unit drawn.numbers drawn.levels h.0 h.1 h.2 h.3 c.record_numbers.new.sessions c.record_numbers.new.books.ledger w done.outcome;
+      serves = serves_still g.L.Link.applied g.L.Link.faults g.L.Link.refusals c.args.locks.now;
+      file = numbers_files g.D.Disk.tells g.D.Disk.reads g.D.Disk.may_leave g.D.Disk.faults c.args.sessions.now c.record_numbers.new.sessions ledger
+          c.record_numbers.new.books.ledger c.args.name.now drawn.unit drawn.numbers drawn.levels c.args.locks.now.file w c.requires.filed done.store.ledger
+          done.outcome;
+      table = also_failed _ w refl;
+      sessions = done.sessions;
+      store = done.store;
+    }
+
+pub returns-in-Unit : goal.returns-in-Unit
+returns-in-Unit g c =
+    let ledger = c.args.books.now.ledger in
+    let x = c.in-Ok.session.now in
+    let at = c.in-Ok.ensures.session in
+    let made = c.in-Unit.made in
+    let h = subst (IsChange ledger c.args.ranges.now c.args.locks.now.table x c.args.parts.now c.args.stock.now) c.in-Unit.is c.in-Ok-change_of.ensures in
+    let w = c.record_unit.result in
+    let done = c.record_unit.ensures in
+    record {
+      act = λ s sessions ranges locks stored limit room.
+          commits_unit s c.args.sessions.now c.args.ranges.now c.args.locks.now.table.entries ledger c.args.max_marks c.args.name.now x c.args.parts.now
+          c.args.stock.now
+          (record {
+            own_sessions = sessions;
+            own_ranges = ranges;
+            own_locks = locks;
+            own_ledger = stored;
+            own_limit = limit;
+            admits = room;
+            found = at.found;
+          })
+          at made.unit made.levels h.0 h.1 h.2 c.record_unit.new.sessions c.record_unit.new.locks.table.entries c.record_unit.new.books.ledger w done.outcome;
+      serves = done.serves;
+      file = done.file;
+      table = done.table;
+      sessions = done.sessions;
+      store = done.store;
+    }

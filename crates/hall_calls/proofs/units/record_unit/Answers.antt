@@ -1,75 +1,85 @@
-use Rattle.std.proofs.Common.{inr, Err, refl, sym, ap, subst}
-use Rattle.enq_base.specs.declared.refusal.Refusal.TheVariants as refusal
-use Rattle.enq_server.specs.Server.{with_list}
+use Rattle.std.proofs.Common.{◌≡◌, refl, sym, ap, subst}
 use Rattle.ledger_steps.specs.Intervals.{with_intervals}
+use Rattle.lock_entry.specs.Table.{Table}
 use Rattle.update_records.specs.Growing.{with_unit}
 use Rattle.update_records.specs.Ledger.{Ledger}
-use Rattle.hall_calls.specs.Commits.{RecordsUnit}
-use Rattle.hall_calls.specs.Filing.{IsSaved}
-use Rattle.hall_calls.proofs.ending.OverFile.{before_files, half_written_files, refused_files, same_file}
-use Rattle.hall_calls.proofs.lists.AsCallsEnd.{unsaved_agree, written_saved}
-use Rattle.hall_calls.proofs.lists.BehindMarks.{saved_locks}
-use Rattle.hall_calls.proofs.ending.OverStore.{ready_ends, unfiled_ends, unready_ends}
+use Rattle.hall_calls.specs.Commits.{RecordsUnit, unsaved}
+use Rattle.hall_calls.specs.Filing.{FilesAs, IsSaved}
+use Rattle.hall_calls.specs.Storing.{EndsAs}
+use Rattle.hall_calls.specs.Written.{OnFailure}
+use Rattle.hall_calls.proofs.CommittedChanges.{unsaved_ends, unsaved_records}
+use Rattle.hall_calls.proofs.MarkedUnits.{serves_behind, serves_still}
+use Rattle.hall_calls.proofs.ending.AfterStop.{also_failed}
+use Rattle.hall_calls.proofs.ending.OverFile.{before_files}
+use Rattle.hall_calls.proofs.ending.OverStore.{ready_ends}
 use Rattle.hall_calls.proofs.units.record_unit.Goals as goal
 
-pub returns-in_default-clause-file : goal.returns-in_default-clause-file
-returns-in_default-clause-file g c =
-    refused_files g.D.Disk.tells g.D.Disk.reads g.D.Disk.may_leave g.D.Disk.faults c.args.books.now.ledger c.prepare_unit.new.books.ledger c.args.locks.now.file
-    c.args.locks.now.file refusal.NoMemory c.requires.filed (same_file c.args.locks.now.file) c.prepare_unit.ensures.unmoved.ledger (inr refl)
+pub save-requires : goal.save-requires
+save-requires g c = record {
+  usable = c.requires.usable;
+  marks = c.requires.marks;
+  fresh = c.requires.fresh;
+  store = c.requires.store;
+  commits = c.requires.commits;
+  filed = c.requires.filed;
+}
 
-pub returns-in_default-clause-store : goal.returns-in_default-clause-store
-returns-in_default-clause-store g c =
-    unready_ends g.K.Keeper.held g.K.Keeper.is_open g.K.Keeper.may_leave g.K.Keeper.faults g.met.K.Keeper.settled c.args.books.now c.prepare_unit.new.books
-    c.prepare_unit.ensures.usable c.prepare_unit.ensures.unmoved
+pub record_saved-requires : goal.record_saved-requires
+record_saved-requires g c =
+    let made = c.args.made in
+    record {
+      usable = c.save.ensures.usable;
+      ready = c.in-Ok.ensures.ready;
+      step = c.in-Ok.ensures.step;
+      young = c.requires.young;
+      saved = subst (λ (l : Ledger). IsSaved g.D.Disk.tells g.D.Disk.reads g.D.Disk.may_leave l (with_intervals made.levels (with_unit l made.unit))
+          c.save.new.locks.file) (sym c.save.ensures.unmoved.ledger) c.in-Ok.ensures.list.saved;
+    }
 
-pub record_saved-requires-clause-saved : goal.record_saved-requires-clause-saved
-record_saved-requires-clause-saved g c =
-    subst (λ (l : Ledger). IsSaved g.D.Disk.tells g.D.Disk.reads g.D.Disk.may_leave l
-    (with_intervals c.args.levels.items (with_unit l c.args.unit)) c.save.new.self.file) (sym c.prepare_unit.ensures.unmoved.ledger)
-    (written_saved g.D.Disk.tells g.D.Disk.reads g.D.Disk.may_leave c.args.books.now.ledger c.args.unit c.args.levels.items c.args.locks.now.table.entries
-    c.args.locks.now.file c.save.new.self.file c.requires.filed c.in-Ok-save.ensures.usable c.requires.commits c.in-Ok-save.ensures.saved
-    c.in-Ok-save.ensures.known)
+pub returns-in-Ok : goal.returns-in-Ok
+returns-in-Ok g c =
+    let list = c.in-Ok.ensures.list in
+    let h = c.record_saved.ensures in
+    let w = c.record_saved.result in
+    let was = c.args.locks.now in
+    let mid = c.save.new.locks in
+    let new = c.record_saved.new in
+    let same = c.save.ensures.unmoved in
+    record {
+      outcome = subst (λ (t : Table). RecordsUnit c.args.sessions.now new.sessions t.entries new.locks.table.entries c.args.books.now.ledger new.books.ledger
+          c.args.name.now c.args.made.unit c.args.made.levels w) list.table
+          (subst (λ l. RecordsUnit c.args.sessions.now new.sessions mid.table.entries new.locks.table.entries l new.books.ledger c.args.name.now
+          c.args.made.unit c.args.made.levels w) same.ledger h.outcome);
+      serves = serves_behind g.L.Link.applied g.L.Link.faults g.L.Link.refusals was mid new.locks list.stands list.table list.copy h.serves;
+      file = before_files g.D.Disk.tells g.D.Disk.reads g.D.Disk.may_leave g.D.Disk.faults new.books.ledger was.file mid.file new.locks.file w h.answered
+          list.quiet h.file;
+      table = subst (λ t. OnFailure w (new.locks.table ≡ t)) list.table h.table;
+      sessions = h.sessions;
+      store = ready_ends g.K.Keeper.held g.K.Keeper.is_open g.K.Keeper.may_leave g.K.Keeper.faults c.args.books.now c.save.new.books new.books w same h.store;
+    }
 
-pub returns-in-Ok-save-clause-outcome : goal.returns-in-Ok-save-clause-outcome
-returns-in-Ok-save-clause-outcome g c =
-    subst (λ es. RecordsUnit c.args.sessions.now c.record_saved.new.sessions es c.record_saved.new.locks.table.entries c.args.books.now.ledger
-    c.record_saved.new.books.ledger c.args.name.now c.args.unit c.args.levels.items c.record_saved.result) (ap (λ t. t.entries) c.save.ensures.table)
-    (subst (λ l. RecordsUnit c.args.sessions.now c.record_saved.new.sessions c.save.new.self.table.entries c.record_saved.new.locks.table.entries l
-    c.record_saved.new.books.ledger c.args.name.now c.args.unit c.args.levels.items c.record_saved.result) c.prepare_unit.ensures.unmoved.ledger
-    c.record_saved.ensures.outcome)
-
-pub returns-in-Ok-save-clause-file : goal.returns-in-Ok-save-clause-file
-returns-in-Ok-save-clause-file g c =
-    before_files g.D.Disk.tells g.D.Disk.reads g.D.Disk.may_leave g.D.Disk.faults c.record_saved.new.books.ledger c.args.locks.now.file c.save.new.self.file
-    c.record_saved.new.locks.file c.record_saved.result
-    c.record_saved.ensures.answered c.in-Ok-save.ensures.cause.quiet c.record_saved.ensures.file
-
-pub returns-in-Ok-save-clause-store : goal.returns-in-Ok-save-clause-store
-returns-in-Ok-save-clause-store g c =
-    ready_ends g.K.Keeper.held g.K.Keeper.is_open g.K.Keeper.may_leave g.K.Keeper.faults c.args.books.now c.prepare_unit.new.books c.record_saved.new.books
-    c.record_saved.result c.prepare_unit.ensures.unmoved c.record_saved.ensures.store
-
-pub returns-in-Err-NoMemory-clause-file : goal.returns-in-Err-NoMemory-clause-file
-returns-in-Err-NoMemory-clause-file g c =
-    refused_files g.D.Disk.tells g.D.Disk.reads g.D.Disk.may_leave g.D.Disk.faults c.args.books.now.ledger c.prepare_unit.new.books.ledger c.args.locks.now.file
-    c.save.new.self.file refusal.NoMemory c.requires.filed
-    (c.in-Err-NoMemory.ensures.no_memory (ap Err c.in-Err-NoMemory.field-0-is)) c.prepare_unit.ensures.unmoved.ledger (inr refl)
-
-pub returns-in-Err-NoMemory-clause-store : goal.returns-in-Err-NoMemory-clause-store
-returns-in-Err-NoMemory-clause-store g c =
-    unready_ends g.K.Keeper.held g.K.Keeper.is_open g.K.Keeper.may_leave g.K.Keeper.faults g.met.K.Keeper.settled c.args.books.now c.prepare_unit.new.books
-    c.prepare_unit.ensures.usable c.prepare_unit.ensures.unmoved
-
-pub returns-clause-file : goal.returns-clause-file
-returns-clause-file g c =
-    half_written_files g.D.Disk.tells g.D.Disk.reads g.D.Disk.may_leave g.D.Disk.faults c.args.books.now.ledger c.prepare_unit.new.books.ledger
-    (λ lists. with_list c.args.unit.key (saved_locks c.args.unit c.args.locks.now.table.entries) lists) c.args.locks.now.file c.save.new.self.file
-    c.requires.filed c.save.ensures.images
-    (unsaved_agree c.args.books.now.ledger c.prepare_unit.new.books.ledger c.args.unit c.args.locks.now.table.entries c.requires.commits
-    c.prepare_unit.ensures.unmoved.ledger)
-    (c.save.ensures.cause.later, c.in-Err-Failed.ensures.cause.failed (ap Err c.in-Err-Failed.field-0-is))
-
-pub returns-clause-store : goal.returns-clause-store
-returns-clause-store g c =
-    unfiled_ends g.K.Keeper.held g.K.Keeper.is_open g.K.Keeper.may_leave g.K.Keeper.faults g.met.K.Keeper.settled c.args.books.now c.prepare_unit.new.books
-    c.prepare_unit.ensures.usable c.prepare_unit.ensures.unmoved
+pub returns-in-Err : goal.returns-in-Err
+returns-in-Err g c =
+    let list = c.in-Err.ensures.list in
+    let f = c.in-Err.fault in
+    let was = c.args.locks.now in
+    let mid = c.save.new.locks in
+    let same = c.save.ensures.unmoved in
+    let ledger = c.args.books.now.ledger in
+    let now = c.save.new.books.ledger in
+    record {
+      outcome = subst (RecordsUnit c.args.sessions.now c.args.sessions.now was.table.entries mid.table.entries ledger now c.args.name.now c.args.made.unit
+          c.args.made.levels) (sym c.unsaved.ensures)
+          (unsaved_records c.args.sessions.now was.table.entries mid.table.entries ledger now c.args.name.now c.args.made.unit c.args.made.levels f
+          (ap (λ (t : Table). t.entries) list.table) same.ledger list.needed);
+      serves = serves_behind g.L.Link.applied g.L.Link.faults g.L.Link.refusals was mid mid list.stands list.table list.copy
+          (serves_still g.L.Link.applied g.L.Link.faults g.L.Link.refusals mid);
+      file = subst (FilesAs g.D.Disk.tells g.D.Disk.reads g.D.Disk.may_leave g.D.Disk.faults now was.file mid.file) (sym c.unsaved.ensures)
+          (subst (λ l. FilesAs g.D.Disk.tells g.D.Disk.reads g.D.Disk.may_leave g.D.Disk.faults l was.file mid.file (unsaved f)) (sym same.ledger) list.ends);
+      table = also_failed _ c.unsaved.result list.table;
+      sessions = also_failed _ c.unsaved.result refl;
+      store = subst (EndsAs g.K.Keeper.held g.K.Keeper.is_open g.K.Keeper.may_leave g.K.Keeper.faults c.args.books.now c.save.new.books)
+          (sym c.unsaved.ensures)
+          (unsaved_ends g.K.Keeper.held g.K.Keeper.is_open g.K.Keeper.may_leave g.K.Keeper.faults g.met.K.Keeper.settled c.args.books.now c.save.new.books f
+          c.save.ensures.usable same);
+    }

@@ -3,10 +3,10 @@ use Rattle.std.proofs.lemmas.Bool.{eqb-false, eqb-true}
 use Rattle.std.proofs.lemmas.List.{take_all}
 use Rattle.gate_log.specs.Grammars.{IsBytes}
 use Rattle.gate_log.specs.Logs.{IsReadUpTo}
-use Rattle.gate_log.proofs.Scan.{starts, goes_on, shorter, no_record, illegal_record, closed_gate, place, breaks, no_gate}
+use Rattle.gate_log.proofs.lemmas.Scan.{starts, goes_on, shorter, no_record, illegal_record, closed_gate, place, breaks, no_gate}
 use Rattle.keeper_api.specs.Batch.{changed}
-use Rattle.keeper_wal.specs.declared.fault.ReadFault.{ReadFault}
-use Rattle.keeper_wal.specs.Fields.{Fails}
+use Rattle.byte_fields.specs.declared.fault.ReadFault.{ReadFault}
+use Rattle.byte_fields.specs.Fields.{Fails}
 use Rattle.keeper_wal.specs.Journal.{grammar, IsLegal}
 use Rattle.keeper_wal.specs.Reading.{batch_at}
 use Rattle.keeper_wal.proofs.Records.{batch_reader}

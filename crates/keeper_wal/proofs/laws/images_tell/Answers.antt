@@ -1,4 +1,4 @@
-use Rattle.gate_log.proofs.Logs.{stands_unbroken}
+use Rattle.gate_log.proofs.lemmas.Logs.{stands_unbroken}
 use Rattle.keeper_wal.specs.Reading.{batch_at}
 use Rattle.keeper_wal.specs.Journal.{grammar}
 use Rattle.keeper_wal.proofs.Opened.{stands_left, nothing_left}

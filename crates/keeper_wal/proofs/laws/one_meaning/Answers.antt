@@ -1,7 +1,7 @@
-use Rattle.gate_log.proofs.Logs.{stands_once, stands_unbroken, bad_once}
+use Rattle.gate_log.proofs.lemmas.Logs.{stands_once, stands_unbroken, bad_once}
 use Rattle.keeper_wal.specs.Reading.{batch_at}
 use Rattle.keeper_wal.specs.Journal.{grammar}
-use Rattle.keeper_wal.proofs.Meaning.{meaning, read_is}
+use Rattle.keeper_wal.proofs.lemmas.Meaning.{meaning, read_is}
 use Rattle.keeper_wal.proofs.Records.{batch_reader}
 use Rattle.keeper_wal.proofs.laws.one_meaning.Goals as goal
 

@@ -1,4 +1,4 @@
-use Rattle.lock_entry.proofs.Naming.{is_bytes_eq}
+use Rattle.lock_entry.proofs.lemmas.Naming.{is_bytes_eq}
 use Rattle.lock_entry.proofs.entry.is_table.Goals as goal
 
 pub returns : goal.returns

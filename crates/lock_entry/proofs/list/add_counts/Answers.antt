@@ -1,6 +1,6 @@
 use Rattle.std.proofs.Common.{arith}
 use Rattle.lock_entry.specs.Turning.{joined}
-use Rattle.lock_entry.proofs.Places.{map_written}
+use Rattle.lock_entry.proofs.lemmas.Places.{map_written}
 use Rattle.lock_entry.proofs.list.add_counts.Goals as goal
 
 pub loop-e-preserved : goal.loop-e-preserved

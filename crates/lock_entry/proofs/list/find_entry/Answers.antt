@@ -1,7 +1,7 @@
 use Rattle.std.proofs.Common.{length, refl, sym, ◌∙◌}
 use Rattle.std.proofs.lemmas.Option.{slice_get_read}
 use Rattle.lock_entry.specs.Names.{has_name}
-use Rattle.lock_entry.proofs.Places.{position-find_none, position-find_some}
+use Rattle.lock_entry.proofs.lemmas.Places.{position-find_none, position-find_some}
 use Rattle.lock_entry.proofs.list.find_entry.Goals as goal
 
 pub returns-in-Some : goal.returns-in-Some

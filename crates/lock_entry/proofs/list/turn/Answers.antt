@@ -6,8 +6,8 @@ use Rattle.lock_entry.specs.declared.entry.LockName.{LockName}
 use Rattle.lock_entry.specs.Names.{has_name, stands}
 use Rattle.lock_entry.specs.Freeing.{without}
 use Rattle.lock_entry.specs.Turning.{name_at, joined, made_exclusive}
-use Rattle.lock_entry.proofs.Places.{write_back}
-use Rattle.lock_entry.proofs.Turns.{turned-none, turned-joined, turned-made}
+use Rattle.lock_entry.proofs.lemmas.Places.{write_back}
+use Rattle.lock_entry.proofs.lemmas.Turns.{turned-none, turned-joined, turned-made}
 use Rattle.lock_entry.proofs.list.turn.Goals as goal
 
 pub returns-in_default : goal.returns-in_default

@@ -3,7 +3,7 @@ use Rattle.lock_entry.specs.declared.entry.Entry.{Entry}
 use Rattle.lock_entry.specs.Names.{halves, has_distinct_names}
 use Rattle.lock_entry.specs.Granting.{granted, new_names}
 use Rattle.lock_entry.specs.Table.{Table, IsTable, with_entries}
-use Rattle.lock_entry.proofs.GrantSound.{IsTable-asked}
+use Rattle.lock_laws.proofs.GrantSound.{IsTable-asked}
 use Rattle.lock_index.specs.Granted.{blank_entry, all_risen}
 use Rattle.lock_index.specs.Slots.{live}
 use Rattle.lock_index.proofs.Names.{small-granted, distinct-risen, risen-granted}

@@ -4,8 +4,8 @@ use Rattle.lock_entry.specs.declared.entry.LockName.{LockName}
 use Rattle.lock_entry.specs.Names.{has_name, has_distinct_names, stands}
 use Rattle.lock_entry.specs.Freeing.{without}
 use Rattle.lock_entry.specs.Turning.{joined, made_exclusive, name_at}
-use Rattle.lock_entry.proofs.Lists.{find-none_from}
-use Rattle.lock_entry.proofs.Turns.{turned-none, turned-joined, turned-made}
+use Rattle.lock_entry.proofs.lemmas.Lists.{find-none_from}
+use Rattle.lock_entry.proofs.lemmas.Turns.{turned-none, turned-joined, turned-made}
 use Rattle.lock_index.specs.Slots.{live, IsFirst}
 use Rattle.lock_index.proofs.Changed.{find-first, mapped-first, without-first}
 use Rattle.lock_index.proofs.Turned.{distinct-joined, distinct-made, distinct-without, made-other, named-mode}

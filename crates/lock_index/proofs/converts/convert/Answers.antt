@@ -4,7 +4,7 @@ use Rattle.lock_entry.specs.declared.entry.Entry.{Entry}
 use Rattle.lock_entry.specs.Converting.{gives_way, turns}
 use Rattle.lock_entry.specs.Names.{has_distinct_names, names_differ}
 use Rattle.lock_entry.specs.Turning.{turned}
-use Rattle.lock_entry.proofs.Lists.{all_pairs-filter}
+use Rattle.lock_entry.proofs.lemmas.Lists.{all_pairs-filter}
 use Rattle.lock_index.specs.Slots.{live, on_some, slot_at}
 use Rattle.lock_index.proofs.Cleared.{live-cleared}
 use Rattle.lock_index.proofs.Conversions.{turned-kept}

@@ -1,4 +1,4 @@
-use Rattle.lock_entry.proofs.Conversions.{converted-Lost, converted-Foreign, converted-Count, converted-Ok}
+use Rattle.lock_laws.proofs.Conversions.{converted-Lost, converted-Foreign, converted-Count, converted-Ok}
 use Rattle.lock_index.specs.Slots.{live}
 use Rattle.lock_index.proofs.converts.test.Goals as goal
 

@@ -1,5 +1,5 @@
 use Rattle.lock_laws.proofs.Orders.{IsSound-owners, IsSound-permutation, are_apart-sym}
-use Rattle.lock_entry.proofs.Sounds.{IsSound-filter}
+use Rattle.lock_laws.proofs.Sounds.{IsSound-filter}
 use Rattle.lock_laws.proofs.laws.soundness_has_no_order.Goals as goal
 
 pub returns-clause-apart : goal.returns-clause-apart

@@ -1,7 +1,7 @@
 use Rattle.std.proofs.Common.{length, refl, sym, ◌∙◌}
 use Rattle.std.specs.Str.{bytes_eq}
 use Rattle.std.proofs.lemmas.Option.{slice_get_read}
-use Rattle.lock_entry.proofs.Places.{position-find_none, position-find_some}
+use Rattle.lock_entry.proofs.lemmas.Places.{position-find_none, position-find_some}
 use Rattle.lock_objects.specs.declared.field.Field.{Field}
 use Rattle.lock_objects.proofs.names.field_named.Goals as goal
 

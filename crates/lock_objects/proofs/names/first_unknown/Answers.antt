@@ -1,7 +1,7 @@
 use Rattle.std.proofs.Common.{ℕ, List, length, refl, sym, ◌∙◌, not}
 use Rattle.std.specs.Prelude.{is_some}
 use Rattle.std.proofs.lemmas.Option.{slice_get_read}
-use Rattle.lock_entry.proofs.Places.{position-find_none, position-find_some}
+use Rattle.lock_entry.proofs.lemmas.Places.{position-find_none, position-find_some}
 use Rattle.lock_objects.specs.Objects.{field_named}
 use Rattle.lock_objects.proofs.names.first_unknown.Goals as goal
 

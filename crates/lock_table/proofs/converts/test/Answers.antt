@@ -1,4 +1,4 @@
-use Rattle.lock_entry.proofs.Conversions.{converted-Lost, converted-Foreign, converted-Count, converted-Ok}
+use Rattle.lock_laws.proofs.Conversions.{converted-Lost, converted-Foreign, converted-Count, converted-Ok}
 use Rattle.lock_table.proofs.converts.test.Goals as goal
 
 pub returns-then-is_lost-clause-refused : goal.returns-then-is_lost-clause-refused

@@ -6,7 +6,7 @@ use Rattle.lock_entry.specs.declared.entry.Entry.{Entry}
 use Rattle.lock_entry.specs.Pairs.{in_pair}
 use Rattle.lock_entry.specs.Turning.{turned, is_at}
 use Rattle.lock_entry.specs.Converting.{turns}
-use Rattle.lock_entry.proofs.TurnTests.{turned-push, turned-nothing}
+use Rattle.lock_laws.proofs.TurnTests.{turned-push, turned-nothing}
 use Rattle.lock_table.proofs.converts.turn_all.Goals as goal
 
 pub loop-a-init : goal.loop-a-init

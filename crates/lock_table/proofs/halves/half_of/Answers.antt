@@ -4,7 +4,7 @@ use Rattle.std.specs.Option.{option_map_or}
 use Rattle.std.proofs.lemmas.Option.{slice_get_read}
 use Rattle.lock_entry.specs.declared.entry.Entry.{Entry}
 use Rattle.lock_entry.specs.Names.{has_name, count_at}
-use Rattle.lock_entry.proofs.Places.{position-Some, position-find_some, position-find_none}
+use Rattle.lock_entry.proofs.lemmas.Places.{position-Some, position-find_some, position-find_none}
 use Rattle.lock_table.proofs.halves.half_of.Goals as goal
 
 pub returns-in-Some : goal.returns-in-Some

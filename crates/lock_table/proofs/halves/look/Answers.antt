@@ -5,7 +5,7 @@ use Rattle.lock_entry.specs.declared.entry.Entry.{Entry}
 use Rattle.lock_entry.specs.declared.entry.LockName.{LockName}
 use Rattle.lock_entry.specs.Names.{has_name}
 use Rattle.lock_entry.specs.Barring.{bars}
-use Rattle.lock_entry.proofs.Places.{position-more, find-more, find-front}
+use Rattle.lock_entry.proofs.lemmas.Places.{position-more, find-more, find-front}
 use Rattle.lock_table.proofs.halves.look.Goals as goal
 
 pub loop-i-preserved : goal.loop-i-preserved

@@ -2,7 +2,7 @@ use Rattle.std.proofs.Common.{◌≡◌, Some, None, sym, ◌∙◌}
 use Rattle.std.specs.List.{position}
 use Rattle.lock_entry.specs.Names.{has_name}
 use Rattle.lock_entry.specs.Freeing.{lowered}
-use Rattle.lock_entry.proofs.Places.{position-None, position-any, position-replace, replace_first-none}
+use Rattle.lock_entry.proofs.lemmas.Places.{position-None, position-any, position-replace, replace_first-none}
 use Rattle.lock_table.proofs.Entries.{some_entry}
 use Rattle.lock_table.proofs.places.free_one.Goals as goal
 

@@ -1,7 +1,7 @@
 use Rattle.std.proofs.Common.{◌≡◌, ◌∙◌, length, sym, ap, true, false}
 use Rattle.lock_entry.specs.Granting.{is_full, newcomers}
 use Rattle.lock_entry.specs.Table.{Table}
-use Rattle.lock_entry.proofs.Grants.{readmitted-Foreign, readmitted-Full, readmitted-Ok}
+use Rattle.lock_laws.proofs.Grants.{readmitted-Foreign, readmitted-Full, readmitted-Ok}
 use Rattle.lock_table.proofs.readmits.test.Goals as goal
 
 pub returns-in-Err-clause-refused : goal.returns-in-Err-clause-refused

@@ -5,7 +5,7 @@ use Rattle.std.specs.List.{list_all}
 use Rattle.std.proofs.lemmas.Bool.{false≢true}
 use Rattle.enq_base.specs.Grammar.{is_text_byte}
 use Rattle.enq_base.specs.TextFaults.{has_text_length}
-use Rattle.module_effects.proofs.Integers.{integer_bytes, integer_length}
+use Rattle.module_effects.proofs.lemmas.Integers.{integer_bytes, integer_length}
 use Rattle.module_effects.proofs.integer.integer_text.Goals as goal
 
 pub unreachable-requires : goal.unreachable-requires

@@ -1,5 +1,5 @@
 use Rattle.std.proofs.Common.{arith}
-use Rattle.module_effects.proofs.Integers.{same_number}
+use Rattle.module_effects.proofs.lemmas.Integers.{same_number}
 use Rattle.module_effects.proofs.integer.natural.Goals as goal
 
 pub returns-else-number-clause-none : goal.returns-else-number-clause-none

@@ -1,5 +1,5 @@
 use Rattle.std.proofs.Common.{arith}
-use Rattle.module_effects.proofs.Integers.{same_number}
+use Rattle.module_effects.proofs.lemmas.Integers.{same_number}
 use Rattle.module_effects.proofs.integer.negative.Goals as goal
 use Rattle.module_effects.proofs.integer.negative.Goals.{else-number-ge1-via-then-number-ge1+else-number, else-number-ge1-via-else-number-ge1}
 

@@ -1,6 +1,6 @@
 use Rattle.std.proofs.Common.{ℕ, arith}
 use Rattle.std.proofs.lemmas.List.{take_all, length-drop}
-use Rattle.module_effects.proofs.Integers.{not_empty, none_negative}
+use Rattle.module_effects.proofs.lemmas.Integers.{not_empty, none_negative}
 use Rattle.module_effects.proofs.integer.read_integer.Goals as goal
 
 pub returns-in-empty-clause-none : goal.returns-in-empty-clause-none

@@ -12,7 +12,7 @@ pub loop-preserved-in-V1 : goal.loop-preserved-in-V1
 loop-preserved-in-V1 g c = (
   tt,
   tt,
-  gone_idle g.K.OrderDesk.leads c.args.worker c.loop.part V2 c.args.desk.now c.loop.desk c.do_order.new.desk
+  gone_idle g.K.OrderDesk.leads c.args.worker c.loop.part V2 c.in-Idle.past c.args.desk.now c.loop.desk c.do_order.new.desk
       (ap other c.in-V1.is) c.loop.invariant.2 c.in-Idle.ensures,
 )
 
@@ -20,7 +20,7 @@ pub loop-preserved : goal.loop-preserved
 loop-preserved g c = (
   tt,
   tt,
-  gone_idle g.K.OrderDesk.leads c.args.worker c.loop.part V1 c.args.desk.now c.loop.desk c.do_order.new.desk
+  gone_idle g.K.OrderDesk.leads c.args.worker c.loop.part V1 c.in-Idle.past c.args.desk.now c.loop.desk c.do_order.new.desk
       (ap other c.in-V2.is) c.loop.invariant.2 c.in-Idle.ensures,
 )
 
@@ -31,6 +31,6 @@ returns-in-Refused g c = record {
 
 pub returns-then-is_last : goal.returns-then-is_last
 returns-then-is_last g c = record {
-  works = works_rested g.K.OrderDesk.leads c.args.worker c.loop.part c.args.desk.now c.loop.desk c.do_order.new.desk
+  works = works_rested g.K.OrderDesk.leads c.args.worker c.loop.part c.in-Idle.past c.args.desk.now c.loop.desk c.do_order.new.desk
       c.in-V2.is c.loop.invariant.2 c.in-Idle.ensures;
 }

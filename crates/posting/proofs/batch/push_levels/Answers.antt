@@ -1,4 +1,4 @@
-use Rattle.posting.proofs.LevelRows.{rows_more}
+use Rattle.posting.proofs.lemmas.LevelRows.{rows_more}
 use Rattle.posting.proofs.batch.push_levels.Goals as goal
 
 pub loop-level-preserved : goal.loop-level-preserved

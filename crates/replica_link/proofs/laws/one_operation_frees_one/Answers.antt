@@ -1,4 +1,4 @@
-use Rattle.replica_link.proofs.Frees.{freed_ops-freed}
+use Rattle.replica_link.proofs.lemmas.Frees.{freed_ops-freed}
 use Rattle.replica_link.proofs.laws.one_operation_frees_one.Goals as goal
 
 pub returns : goal.returns

@@ -1,4 +1,4 @@
-use Rattle.replica_link.proofs.Grants.{granted_ops-granted}
+use Rattle.replica_link.proofs.lemmas.Grants.{granted_ops-granted}
 use Rattle.replica_link.proofs.laws.puts_grant.Goals as goal
 
 pub returns : goal.returns

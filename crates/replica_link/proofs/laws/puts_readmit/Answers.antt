@@ -1,4 +1,4 @@
-use Rattle.replica_link.proofs.Grants.{readmitted_ops-readmitted}
+use Rattle.replica_link.proofs.lemmas.Grants.{readmitted_ops-readmitted}
 use Rattle.replica_link.proofs.laws.puts_readmit.Goals as goal
 
 pub returns : goal.returns

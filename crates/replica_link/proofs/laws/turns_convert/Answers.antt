@@ -1,4 +1,4 @@
-use Rattle.replica_link.proofs.Converts.{converted_ops-conversion}
+use Rattle.replica_link.proofs.lemmas.Converts.{converted_ops-conversion}
 use Rattle.replica_link.proofs.laws.turns_convert.Goals as goal
 
 pub returns : goal.returns

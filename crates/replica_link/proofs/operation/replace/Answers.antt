@@ -1,5 +1,5 @@
 use Rattle.std.proofs.Common.{arith}
-use Rattle.lock_entry.proofs.Places.{map_written}
+use Rattle.lock_entry.proofs.lemmas.Places.{map_written}
 use Rattle.replica_link.specs.Operations.{instead_of}
 use Rattle.replica_link.proofs.operation.replace.Goals as goal
 

@@ -1,13 +1,13 @@
 use Rattle.std.proofs.Common.{sym, ap, ◌∙◌, refl, subst}
 use Rattle.script_runner.specs.Lines.{grows}
 use Rattle.script_runner.specs.declared.preparing.Prepared.TheVariants.{Changed}
-use Rattle.script_actors.specs.Actors.{desk_view, DoneAs, followed, unseen}
+use Rattle.script_actors.specs.Actors.{desk_view, DoneAs, followed}
 use Rattle.script_actors.proofs.ActorLines.{call_without_stock, does_call, does_change, does_refused, room_any}
 use Rattle.script_actors.proofs.actor.do_line.Goals as goal
 
 pub call-reply-requires : goal.call-reply-requires
 call-reply-requires g c =
-    let prepared = c.in-Ok-Call.ensures.prepared unseen in
+    let prepared = c.in-Ok-Call.ensures.prepared in
     let facts = rw c.in-Ok-Call.field-0-is at prepared in
     record { stock = call_without_stock c.args.objects.now c.args.numbered.now c.args.sides.now.items c.in-Ok-Call.command facts.0 }
 
@@ -16,7 +16,7 @@ follow-requires g c = room_any c.args.numbered.now.line c.in-Ok-Call.field-0 Cha
 
 pub returns-in-Ok-Call : goal.returns-in-Ok-Call
 returns-in-Ok-Call g c =
-    let prepared = c.in-Ok-Call.ensures.prepared unseen in
+    let prepared = c.in-Ok-Call.ensures.prepared in
     let facts = rw c.in-Ok-Call.field-0-is at prepared in
     let l = c.args.numbered.now in
     let r = c.call-reply.result in
@@ -28,7 +28,7 @@ returns-in-Ok-Call g c =
 
 pub returns-in-Ok-Changed : goal.returns-in-Ok-Changed
 returns-in-Ok-Changed g c =
-    let prepared = c.in-Ok-Changed.ensures.prepared unseen in
+    let prepared = c.in-Ok-Changed.ensures.prepared in
     let is = rw c.in-Ok-Changed.field-0-is at prepared in (
       refl,
       does_change c.args.objects.now c.args.numbered.now c.args.sides.now.items
@@ -42,4 +42,4 @@ returns-in-Err g c =
     let l = c.args.numbered.now in
     subst (DoneAs c.args.objects.now l c.args.sides.now.items calls c.prepare.new.sides.items calls) (sym c.refused_as.ensures)
     (does_refused c.args.objects.now l c.args.sides.now.items calls c.prepare.new.sides.items calls (grows l.line) c.in-Err.refusal
-    (c.in-Err.ensures.prepared unseen) refl)
+    (c.in-Err.ensures.prepared) refl)

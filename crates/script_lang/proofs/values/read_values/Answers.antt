@@ -1,5 +1,5 @@
 use Rattle.std.proofs.lemmas.Result.{err_from_is_err_and}
-use Rattle.enq_base.proofs.Cuts.{cut-length}
+use Rattle.enq_base.proofs.lemmas.Cuts.{cut-length}
 use Rattle.script_lang.proofs.ValueLists.{values-step, values-stop, values-end, values-stop_last}
 use Rattle.script_lang.proofs.values.read_values.Goals as goal
 

@@ -1,5 +1,5 @@
 use Rattle.std.proofs.Common.{◌∙◌, sym}
-use Rattle.store_reading.proofs.Batches.{one_put}
+use Rattle.record_laws.proofs.Batches.{one_put}
 use Rattle.script_rows.proofs.keepers.put_row.Goals as goal
 
 pub room-requires-clause-batch : goal.room-requires-clause-batch

@@ -3,7 +3,7 @@ use Rattle.std.specs.Prelude.{Err}
 use Rattle.std.specs.Global.{Vec}
 use Rattle.std.proofs.lemmas.Option.{slice_get_read}
 use Rattle.enq_base.specs.declared.refusal.Refusal.TheVariants as refusal
-use Rattle.lock_entry.proofs.Places.{position-find_none, position-find_some}
+use Rattle.lock_entry.proofs.lemmas.Places.{position-find_none, position-find_some}
 use Rattle.lock_entry.specs.declared.entry.Asked.{Asked}
 use Rattle.lock_objects.specs.Objects.{Object}
 use Rattle.script_runner.specs.Answers.{IsGivenBy}

@@ -1,6 +1,6 @@
 use Rattle.std.proofs.Common.{◌<◌, length, arith, sym, ap, ◌∙◌}
 use Rattle.sorted_rows.specs.Places.{entries_in, place_in}
-use Rattle.sorted_rows.proofs.Places.{put_here, entries-set, entries-insert, inserted}
+use Rattle.sorted_rows.proofs.lemmas.Places.{put_here, entries-set, entries-insert, inserted}
 use Rattle.sorted_rows.proofs.Searches.{placed}
 use Rattle.sorted_rows.proofs.table.put_row.Goals as goal
 

@@ -1,6 +1,6 @@
 use Rattle.std.proofs.Common.{sym, refl, ap, ◌∙◌}
 use Rattle.sorted_rows.specs.Places.{entries_in}
-use Rattle.sorted_rows.proofs.Places.{remove_here, entries-remove}
+use Rattle.sorted_rows.proofs.lemmas.Places.{remove_here, entries-remove}
 use Rattle.sorted_rows.proofs.Searches.{placed}
 use Rattle.sorted_rows.proofs.table.remove_row.Goals as goal
 

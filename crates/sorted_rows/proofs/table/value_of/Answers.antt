@@ -1,7 +1,7 @@
 use Rattle.std.proofs.Common.{◌<◌, length, Some, refl, sym, ap, ◌∙◌, arith}
 use Rattle.keeper_api.specs.declared.rows.Row.{Row}
 use Rattle.sorted_rows.specs.Places.{entries_in}
-use Rattle.sorted_rows.proofs.Places.{find_here, value_row}
+use Rattle.sorted_rows.proofs.lemmas.Places.{find_here, value_row}
 use Rattle.sorted_rows.proofs.table.value_of.Goals as goal
 
 pub returns-in-At : goal.returns-in-At

@@ -1,5 +1,5 @@
 use Rattle.sorted_rows.proofs.Rooms.{room_first, room_after}
-use Rattle.sorted_rows.proofs.Views.{made_more}
+use Rattle.sorted_rows.proofs.lemmas.Views.{made_more}
 use Rattle.sorted_rows.proofs.tables.make_all.Goals as goal
 
 pub make_change-requires-clause-room : goal.make_change-requires-clause-room

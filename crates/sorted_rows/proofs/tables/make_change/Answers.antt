@@ -2,7 +2,7 @@ use Rattle.std.proofs.Common.{sym, ap, ◌∙◌}
 use Rattle.std.specs.FinMap.{remove}
 use Rattle.keeper_api.specs.Batch.{changed_once}
 use Rattle.sorted_rows.specs.Tables.{entries_from, rows_of}
-use Rattle.sorted_rows.proofs.Views.{sorted_put, view_put, sorted_remove, view_remove}
+use Rattle.sorted_rows.proofs.lemmas.Views.{sorted_put, view_put, sorted_remove, view_remove}
 use Rattle.sorted_rows.proofs.tables.make_change.Goals as goal
 
 pub returns-in-Put-clause-sorted : goal.returns-in-Put-clause-sorted

@@ -1,5 +1,5 @@
 use Rattle.std.proofs.Common.{[]}
-use Rattle.store_reading.proofs.Legal.{all_right, is_first, none_wrong}
+use Rattle.store_reading.proofs.lemmas.Legal.{all_right, is_first, none_wrong}
 use Rattle.store_reading.proofs.laws.places_are_first.Goals as goal
 
 pub returns-clause-none : goal.returns-clause-none

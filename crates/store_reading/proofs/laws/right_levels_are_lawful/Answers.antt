@@ -1,6 +1,6 @@
 use Rattle.std.proofs.Common.{[]}
 use Rattle.store_reading.specs.Intervals.{committed, is_right_level}
-use Rattle.store_reading.proofs.Legal.{all_right, first_none}
+use Rattle.store_reading.proofs.lemmas.Legal.{all_right, first_none}
 use Rattle.store_reading.proofs.Levels.{right_rows}
 use Rattle.store_reading.proofs.laws.right_levels_are_lawful.Goals as goal
 

@@ -1,6 +1,6 @@
 use Rattle.std.proofs.Common.{[], ◌+◌, length}
 use Rattle.store_reading.specs.Rules.{has_number, is_right_mark}
-use Rattle.store_reading.proofs.Legal.{all_right, legal_from, no_wrong_unit, numbered, under_from}
+use Rattle.store_reading.proofs.lemmas.Legal.{all_right, legal_from, no_wrong_unit, numbered, under_from}
 use Rattle.store_reading.proofs.laws.right_marks_are_lawful.Goals as goal
 
 pub returns-clause-numbered : goal.returns-clause-numbered

@@ -1,9 +1,9 @@
 use Rattle.std.proofs.Common.{◌≡◌, ◌++◌, ◌∷◌, [], true, ap, sym, subst, ◌∙◌}
 use Rattle.std.specs.HashSet.{contains}
-use Rattle.update_records.specs.Ids.{id_of, same_id}
+use Rattle.enq_base.specs.Ids.{id_of, same_id}
 use Rattle.store_reading.specs.Rules.{is_right_mark, may_mark}
 use Rattle.store_reading.specs.Standings.{AreStatuses}
-use Rattle.store_reading.proofs.Statuses.{statuses_more}
+use Rattle.store_reading.proofs.lemmas.Statuses.{statuses_more}
 use Rattle.store_reading.proofs.mark_rule.follow.Goals as goal
 
 pub returns : goal.returns

@@ -2,7 +2,7 @@ use Rattle.std.proofs.Common.{◌≡◌, ◌+◌, Some, drop, ap, sym, ◌∙◌
 use Rattle.std.specs.HashMap.{get}
 use Rattle.std.specs.List.{slice_get}
 use Rattle.std.proofs.lemmas.List.{at_drop_more}
-use Rattle.update_records.specs.Ids.{id_of, same_id}
+use Rattle.enq_base.specs.Ids.{id_of, same_id}
 use Rattle.store_reading.specs.Intervals.{numbers_after, numbers_told}
 use Rattle.store_reading.specs.Standings.{numbers_there}
 use Rattle.store_reading.proofs.Draws.{there_is}

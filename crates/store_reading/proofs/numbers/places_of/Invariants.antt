@@ -1,7 +1,7 @@
 use Rattle.std.proofs.Common.{◌≡◌, drop}
 use Rattle.std.specs.HashMap.{get}
 use Rattle.enq_base.specs.declared.owner.UnitKey.{UnitKey}
-use Rattle.update_records.specs.Ids.{id_of, same_id}
+use Rattle.enq_base.specs.Ids.{id_of, same_id}
 use Rattle.store_reading.specs.Intervals.{numbers_after, numbers_at}
 use Rattle.store_reading.specs.Standings.{numbers_there}
 use Rattle.store_reading.proofs.numbers.places_of.Given as goal

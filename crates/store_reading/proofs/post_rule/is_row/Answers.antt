@@ -2,7 +2,7 @@ use Rattle.std.proofs.Common.{ap, ◌∙◌}
 use Rattle.std.specs.Ordering.{eq_by_cmp}
 use Rattle.std.specs.Str.{bytes_eq}
 use Rattle.store_reading.specs.Ids.{text_cmp}
-use Rattle.store_reading.proofs.TextOrder.{named_row, other_row}
+use Rattle.store_reading.proofs.lemmas.TextOrder.{named_row, other_row}
 use Rattle.store_reading.proofs.post_rule.is_row.Goals as goal
 
 pub returns-then-eq : goal.returns-then-eq

@@ -1,6 +1,6 @@
 use Rattle.std.proofs.Common.{◌≡◌, ℕ}
 use Rattle.store_reading.specs.Told.{IsFirstBad}
-use Rattle.store_reading.specs.Tables.{rows_in}
+use Rattle.table_reading.specs.Tables.{rows_in}
 use Rattle.store_reading.proofs.Causes.{decoded_bad, decoded_cause, decoded_read, decoded_records, decoded_stays, decoded_untold, fault_cause, fault_not_bad, fault_not_bad_in, fault_stays}
 use Rattle.store_reading.proofs.reading.records_of.Goals as goal
 

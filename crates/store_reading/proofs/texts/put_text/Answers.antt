@@ -1,7 +1,7 @@
 use Rattle.std.proofs.Common.{Some, sym, ap, ◌∙◌}
 use Rattle.std.specs.BTreeMap.{get}
 use Rattle.store_reading.specs.Ids.{text_cmp, text_id}
-use Rattle.store_reading.proofs.TextOrder.{put_there}
+use Rattle.store_reading.proofs.lemmas.TextOrder.{put_there}
 use Rattle.store_reading.proofs.texts.put_text.Goals as goal
 
 pub returns-in_ok-insert-in-Some : goal.returns-in_ok-insert-in-Some

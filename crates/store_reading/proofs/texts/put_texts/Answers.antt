@@ -1,7 +1,7 @@
 use Rattle.std.proofs.Common.{◌-◌, length, drop, if◌then◌else◌, refl, ap, sym, ◌∙◌}
 use Rattle.std.specs.FinMap.{get}
 use Rattle.module_effects.specs.Spots.{is_at, with_spots}
-use Rattle.module_effects.proofs.Tables.{get-with_spot}
+use Rattle.module_effects.proofs.lemmas.Tables.{get-with_spot}
 use Rattle.store_reading.proofs.Laid.{spots_more}
 use Rattle.store_reading.proofs.texts.put_texts.Goals as goal
 

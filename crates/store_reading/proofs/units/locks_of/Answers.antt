@@ -1,7 +1,7 @@
 use Rattle.std.proofs.Common.{subst}
 use Rattle.std.proofs.lemmas.List.{take_all}
 use Rattle.store_reading.specs.Gathered.{entries_for, AreEntries}
-use Rattle.store_reading.proofs.Gathers.{entries_more}
+use Rattle.store_reading.proofs.lemmas.Gathers.{entries_more}
 use Rattle.store_reading.proofs.units.locks_of.Goals as goal
 
 pub loop-stored-preserved : goal.loop-stored-preserved

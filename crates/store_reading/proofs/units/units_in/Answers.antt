@@ -2,12 +2,12 @@ use Rattle.std.proofs.Common.{◌≡◌, ◌<◌, length, get_or, ap, sym, subst
 use Rattle.std.specs.Global.{Vec}
 use Rattle.std.specs.HashMap.{get}
 use Rattle.std.specs.List.{find}
-use Rattle.update_records.specs.Ids.{same_id}
+use Rattle.enq_base.specs.Ids.{same_id}
 use Rattle.update_records.specs.declared.records.Unit.{Unit as UnitOfWork}
 use Rattle.std.specs.Option.{option_map}
 use Rattle.store_reading.specs.Stores.{is_header, unit_in, user_told}
 use Rattle.store_reading.specs.Told.{records_in}
-use Rattle.store_reading.proofs.Gathers.{no_user, recorded_at, units_more, units_same}
+use Rattle.store_reading.proofs.lemmas.Gathers.{no_user, recorded_at, units_more, units_same}
 use Rattle.store_reading.proofs.units.units_in.Goals as goal
 use Rattle.store_reading.proofs.units.units_in.Goals.{in-Some+in-Some-copied+in_ok-unit_for+in_ok-push, in_default}
 

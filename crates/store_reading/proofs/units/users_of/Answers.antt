@@ -1,4 +1,4 @@
-use Rattle.store_reading.proofs.Gathers.{users_more}
+use Rattle.store_reading.proofs.lemmas.Gathers.{users_more}
 use Rattle.store_reading.proofs.units.users_of.Goals as goal
 
 pub loop-stored-preserved : goal.loop-stored-preserved

@@ -1,5 +1,5 @@
 use Rattle.std.specs.Prelude.{is_some}
-use Rattle.replica_link.proofs.Links.{Shipped}
+use Rattle.replica_link.proofs.lemmas.Links.{Shipped}
 use Rattle.table_tests.proofs.copies.given_after.Given as goal
 
 abbrev pub invariant-loop-op : goal.invariant-loop-op

@@ -10,6 +10,7 @@ returns g c = record {
     who = c.in-Worker.is;
     same = refl;
     said = refl;
+    glanced = refl;
     work =
         work_stood (λ d. record { state = d.served.hall.state; full_at = d.full_at }) _ LeadsServed (λ k m l h. h) c.in-Worker.worker c.do_orders-deed.result
         _ c.do_orders-deed.new.desk c.do_orders-deed.ensures.works;

@@ -32,4 +32,5 @@ returns-in-Ok-clause-acted g c =
     let lines = c.args.script.now.lines.items in
     let named = c.as_slice.ensures.value ∙ c.requires.names in
     let is = callers_are _ _ lines c.args.workers (c.as_slice-in-Ok.ensures.value ∙ c.in-Ok.ensures.callers) named in
-    subst (λ ws. IfOk c.act_as.result (λ r. ∥ HasActed c.args.objects.now lines ws r.0.hall.state r.1.items ∥₁)) is c.act_as.ensures.acted
+    subst (λ ws. IfOk c.act_as.result (λ r. ∥ HasActed c.args.objects.now lines ws c.args.served.hall.state r.0.hall.state r.1.items ∥₁)) is
+    c.act_as.ensures.acted

@@ -20,7 +20,8 @@ returns-in-Ok-clause-does g c =
     let report : IsWritten lines t ds (written old) (written new) (faults old) (faults new) why =
     subst (λ ls. IsWritten ls t ds (written old) (written new) (faults old) (faults new) why) c.as_slice.ensures.value c.write_run-why.ensures.written in
     ∥∥₁_map c.in-Ok.ensures.acted (λ a. inr
-    (have_done objects lines c.args.workers t ds (written old) (written new) (faults old) (faults new) why c.read_invariant.ensures.within report a))
+    (have_done objects lines c.args.workers c.args.served.hall.state t ds (written old) (written new) (faults old) (faults new) why
+    c.read_invariant.ensures.within report a))
 
 pub returns-in-Err-clause-does : goal.returns-in-Err-clause-does
 returns-in-Err-clause-does g c = ∥∥₁_map c.in-Err.ensures.none (λ e. inl (record { end = refl; same = e; still = refl }))

@@ -1,12 +1,14 @@
-use Rattle.std.proofs.Common.{List, arith, ap, sym, ◌∙◌, subst, length, reverse}
+use Rattle.std.proofs.Common.{List, arith, ap, sym, ◌∙◌, subst, length, map, reverse}
 use Rattle.std.specs.List.{AllByRecursion}
 use Rattle.actor_threads.specs.declared.actor.Actor.{Actor}
-use Rattle.thread_runner.specs.Hiring.{AreHired, HasGathered, IsLong}
+use Rattle.actor_threads.specs.declared.actor.Deed.{Deed}
+use Rattle.thread_runner.specs.Hiring.{AreHired, HasGathered, IsLong, glance_of}
 use Rattle.turn_lock.specs.Passes.{known}
 use Rattle.turn_lock.specs.Rule.{own_entries}
 use Rattle.thread_runner.proofs.Crews.{hired_length}
 use Rattle.thread_runner.proofs.Hired.{AllWorked, gathered_by, long_by, worked_by}
 use Rattle.thread_runner.proofs.Refilled.{refilled}
+use Rattle.thread_runner.proofs.Shown.{turned_back}
 use Rattle.thread_runner.proofs.running.work_in_turn.Goals as goal
 
 pub work_all-requires-clause-some : goal.work_all-requires-clause-some
@@ -26,7 +28,8 @@ gather-pass-requires-clause-room g c =
     let lent = ap length c.as_mut_slice.ensures.value in
     let ran_long = c.work_all.auto.actors in
     let room = c.requires.room.1 in
-    omega (arith, same, count, lent, ran_long, room)
+    let place = c.requires.room.2 in
+    (omega (arith, same, count, lent, ran_long, room), omega (arith, same, count, lent, ran_long, place))
 
 pub returns-clause-whole : goal.returns-clause-whole
 returns-clause-whole g c =
@@ -76,3 +79,10 @@ returns-clause-long g c =
     subst (AllByRecursion (IsLong pass.seen)) (sym order)
     (long_by past c.args.objects.now c.args.script.now.lines.items _ pass.seen c.gather-pass.result.1.items c.gather-pass.ensures.seen
     c.gather-pass.ensures.deeds)
+
+pub returns-clause-glances : goal.returns-clause-glances
+returns-clause-glances g c =
+    let turned = c.reverse.new.self in
+    let order = refilled c.gather-pass.result.1.len turned c.gather-pass.result.1.items (c.reverse.auto.self ∙ c.as_mut_slice-2.ensures.len)
+    ∙ (c.reverse.ensures.after ∙ ap reverse c.as_mut_slice-2.ensures.value) in
+    ap (λ (ds : List Deed). reverse (map glance_of ds)) order ∙ turned_back glance_of c.gather-pass.result.1.items ∙ c.gather-pass.ensures.glances

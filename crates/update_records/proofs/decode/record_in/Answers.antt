@@ -1,6 +1,6 @@
 use Rattle.std.proofs.Common.{arith}
-use Rattle.update_records.proofs.FieldLaws.{IsBytes}
-use Rattle.update_records.proofs.TableLaws.{is_read, is_bad, is_exact}
+use Rattle.byte_fields.proofs.lemmas.FieldLaws.{IsBytes}
+use Rattle.update_records.proofs.lemmas.TableLaws.{is_read, is_bad, is_exact}
 use Rattle.update_records.proofs.decode.record_in.Goals as goal
 
 pub returns-clause-read : goal.returns-clause-read

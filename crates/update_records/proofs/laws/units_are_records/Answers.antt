@@ -1,5 +1,5 @@
-use Rattle.update_records.proofs.Distinct.{unit_batch, units_apart}
-use Rattle.update_records.proofs.UnitRecords.{unit_is, unit_fits, kind_fits}
+use Rattle.update_records.proofs.lemmas.Distinct.{unit_batch, units_apart}
+use Rattle.update_records.proofs.lemmas.UnitRecords.{unit_is, unit_fits, kind_fits}
 use Rattle.update_records.proofs.laws.units_are_records.Goals as goal
 
 pub returns-clause-rows : goal.returns-clause-rows

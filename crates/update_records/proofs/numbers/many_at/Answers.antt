@@ -1,6 +1,6 @@
-use Rattle.update_records.specs.Fields.{many}
+use Rattle.byte_fields.specs.Fields.{many}
 use Rattle.update_records.specs.Reading.{num_at}
-use Rattle.update_records.proofs.Loop.{goes_on, ends, is_done}
+use Rattle.byte_fields.proofs.lemmas.Loop.{goes_on, ends, is_done}
 use Rattle.update_records.proofs.numbers.many_at.Goals as goal
 
 pub loop-preserved : goal.loop-preserved

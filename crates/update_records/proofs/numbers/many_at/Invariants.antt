@@ -1,7 +1,7 @@
 use Rattle.std.proofs.Common.{◌≡◌, ◌-◌}
-use Rattle.update_records.specs.Fields.{many}
+use Rattle.byte_fields.specs.Fields.{many}
 use Rattle.update_records.specs.Reading.{num_at}
-use Rattle.update_records.proofs.Loop.{with_front}
+use Rattle.byte_fields.proofs.lemmas.Loop.{with_front}
 use Rattle.update_records.proofs.numbers.many_at.Given as goal
 
 abbrev pub invariant-loop : goal.invariant-loop

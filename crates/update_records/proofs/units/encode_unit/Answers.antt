@@ -2,8 +2,8 @@ use Rattle.std.proofs.Common.{subst, sym, ◌∙◌, rules}
 use Rattle.std.specs.List.{All}
 use Rattle.update_records.specs.Grammar.{HasNames, IsEffect}
 use Rattle.keeper_api.specs.Batch.{IsBatch}
-use Rattle.update_records.proofs.Distinct.{unit_batch}
-use Rattle.update_records.proofs.UnitRecords.{unit_is, unit_fits, held_are}
+use Rattle.update_records.proofs.lemmas.Distinct.{unit_batch}
+use Rattle.update_records.proofs.lemmas.UnitRecords.{unit_is, unit_fits, held_are}
 use Rattle.update_records.proofs.units.encode_unit.Goals as goal
 
 pub returns-clause-rows : goal.returns-clause-rows

@@ -4,8 +4,8 @@ use Rattle.backup_file.specs.declared.handed.Record.{Record}
 use Rattle.backup_file.specs.declared.handed.Record.TheVariants.{Free}
 use Rattle.backup_file.specs.Lists.{is_known}
 use Rattle.backup_file.specs.Spelling.{spelling}
-use Rattle.backup_file.proofs.Adding.{either, ready_after}
-use Rattle.backup_file.proofs.Units.{units-free, stands_among}
+use Rattle.backup_file.proofs.lemmas.Adding.{either, ready_after}
+use Rattle.backup_file.proofs.lemmas.Units.{units-free, stands_among}
 use Rattle.backup_file.proofs.backup.Backup.free.Goals as goal
 
 pub returns-in_err-add-clause-images : goal.returns-in_err-add-clause-images

@@ -1,9 +1,9 @@
 use Rattle.std.proofs.Common.{ap, subst, ◌∙◌}
 use Rattle.bk_disk.specs.Disk.{Follows}
-use Rattle.gate_log.proofs.Logs.{all_keep}
+use Rattle.gate_log.proofs.lemmas.Logs.{all_keep}
 use Rattle.backup_file.specs.Reading.{record_at}
 use Rattle.backup_file.specs.File.{Keeps, grammar}
-use Rattle.backup_file.proofs.Records.{record_reader}
+use Rattle.backup_file.proofs.lemmas.Records.{record_reader}
 use Rattle.backup_file.proofs.backup.Backup.reopen.Goals as goal
 
 pub returns-in-Ok-clause-images : goal.returns-in-Ok-clause-images

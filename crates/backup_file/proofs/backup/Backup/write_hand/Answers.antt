@@ -6,9 +6,9 @@ use Rattle.backup_file.specs.declared.handed.Record.TheVariants.{Hand}
 use Rattle.backup_file.specs.Spelling.{spelling, user_of}
 use Rattle.backup_file.specs.Lists.{is_known}
 use Rattle.backup_file.specs.Handing.{handed_of}
-use Rattle.backup_file.proofs.Adding.{either, ready_after}
+use Rattle.backup_file.proofs.lemmas.Adding.{either, ready_after}
 use Rattle.backup_file.proofs.Handover.{distinct_handed}
-use Rattle.backup_file.proofs.Units.{units-hand}
+use Rattle.backup_file.proofs.lemmas.Units.{units-hand}
 use Rattle.backup_file.proofs.backup.Backup.write_hand.Goals as goal
 
 pub returns-in_err-add-clause-images : goal.returns-in_err-add-clause-images

@@ -1,4 +1,4 @@
-use Rattle.posting.proofs.LevelRows.{nothing_stored}
+use Rattle.posting.proofs.lemmas.LevelRows.{nothing_stored}
 use Rattle.books_tests.proofs.books.calls.commit.Goals as goal
 
 pub prepare_unit-requires-clause-store : goal.prepare_unit-requires-clause-store

@@ -8,7 +8,7 @@ use Rattle.replica_link.specs.Operations.{replica}
 use Rattle.replica_link.specs.Shipping.{drop_of, turn_ops}
 use Rattle.enq_server.proofs.Changed.{converted_other}
 use Rattle.enq_server.proofs.Copies.{converted_at}
-use Rattle.enq_server.proofs.Following.{lost_more}
+use Rattle.enq_server.proofs.lemmas.Following.{lost_more}
 use Rattle.enq_server.proofs.server.EnqServer.convert.Goals as goal
 
 pub invariant_of-self-2 : goal.invariant_of-self-2

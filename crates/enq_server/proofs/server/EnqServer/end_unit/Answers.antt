@@ -2,7 +2,7 @@ use Rattle.std.proofs.Common.{ap, not, ◌&&◌, subst, sym, ◌∙◌}
 use Rattle.backup_file.specs.Backup.{IsReady}
 use Rattle.backup_file.specs.Lists.{is_known, without}
 use Rattle.enq_base.specs.Owners.{same_unit}
-use Rattle.enq_server.proofs.Known.{without_absent as known_absent, without_freed}
+use Rattle.enq_server.proofs.lemmas.Known.{without_absent as known_absent, without_freed}
 use Rattle.enq_server.proofs.Others.{without_absent}
 use Rattle.enq_server.proofs.server.EnqServer.end_unit.Goals as goal
 use Rattle.enq_server.proofs.server.EnqServer.end_unit.Goals.{then-stands+in_ok-free, else-stands}

@@ -6,7 +6,7 @@ use Rattle.enq_server.specs.Server.{table_of}
 use Rattle.enq_server.proofs.Stores.{at_store, good_store, lost_store}
 use Rattle.replica_link.specs.Shipping.{freed_ops}
 use Rattle.enq_server.proofs.Changed.{freed_other}
-use Rattle.replica_link.proofs.Frees.{freed_ops-freed}
+use Rattle.replica_link.proofs.lemmas.Frees.{freed_ops-freed}
 use Rattle.lock_entry.specs.Names.{named}
 use Rattle.enq_server.proofs.server.EnqServer.free_one.Goals as goal
 

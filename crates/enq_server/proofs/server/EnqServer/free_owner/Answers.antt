@@ -5,7 +5,7 @@ use Rattle.enq_server.specs.Server.{table_of}
 use Rattle.enq_server.proofs.Stores.{at_store, lost_store}
 use Rattle.replica_link.specs.Shipping.{owner_ops}
 use Rattle.enq_server.proofs.Changed.{owner_other}
-use Rattle.replica_link.proofs.Drops.{owner_ops-freed_owner}
+use Rattle.replica_link.proofs.lemmas.Drops.{owner_ops-freed_owner}
 use Rattle.enq_server.proofs.server.EnqServer.free_owner.Goals as goal
 
 pub invariant_of-self : goal.invariant_of-self

@@ -5,7 +5,7 @@ use Rattle.backup_file.specs.File.{Stands}
 use Rattle.backup_file.specs.Lists.{is_known}
 use Rattle.enq_base.specs.Owners.{same_unit}
 use Rattle.enq_server.specs.Server.{lasting, of_user, table_of, with_list}
-use Rattle.enq_server.proofs.Known.{with_none, with_written}
+use Rattle.enq_server.proofs.lemmas.Known.{with_none, with_written}
 use Rattle.enq_server.proofs.Lasting.{length-user, listed_either}
 use Rattle.enq_server.proofs.server.EnqServer.save.Goals as goal
 use Rattle.enq_server.proofs.server.EnqServer.save.Goals.{then-count-gt0+in_ok-hand, else-count-gt0}

@@ -2,8 +2,8 @@ use Rattle.std.proofs.Common.{rules, inl, inr, refl, subst, ◌∙◌, is_some}
 use Rattle.enq_server.specs.Recovery.{AreKnown, locking}
 use Rattle.enq_server.specs.Server.{IsRecovered}
 use Rattle.ledger_steps.specs.Levels.{FitRows, intervals_of}
-use Rattle.hall_calls.proofs.lists.OfOpenUnits.{recovered_lists}
-use Rattle.hall_calls.proofs.lists.WaitingLists.{known_waiting}
+use Rattle.hall_calls.proofs.lemmas.OfOpenUnits.{recovered_lists}
+use Rattle.hall_calls.proofs.lemmas.WaitingLists.{known_waiting}
 use Rattle.ledger_steps.specs.Views.{open_locks}
 use Rattle.hall.specs.Faults.{IsFileFault}
 use Rattle.hall.proofs.Refused.{ranges_file_counts, ranges_left}

@@ -1,10 +1,10 @@
 use Rattle.std.proofs.Common.{◌≡◌, [], ◌∷◌, ◌++◌, true, false, IsTrue, is_some, refl, sym, ◌∙◌, subst, rules}
-use Rattle.hall_calls.proofs.ending.WithHistory.{given_noted, unrecorded_same}
+use Rattle.hall_calls.proofs.lemmas.WithHistory.{given_noted, unrecorded_same}
 use Rattle.hall_laws.proofs.keeping.InFlight.{kept_call}
 use Rattle.hall_laws.proofs.keeping.Unchanged.{noted_step}
-use Rattle.hall_calls.proofs.lists.GoodFiles.{given_sound}
+use Rattle.hall_calls.proofs.lemmas.GoodFiles.{given_sound}
 use Rattle.hall.proofs.KeptReplicas.{loses_only}
-use Rattle.hall_calls.proofs.verdicts.Replies.{given_telling}
+use Rattle.hall_calls.proofs.lemmas.Replies.{given_telling}
 use Rattle.hall_model.specs.History.{IsStep, entry_of}
 use Rattle.hall_model.specs.Kept.{IsKept}
 use Rattle.hall_model.specs.Calls.{call_of, renews_replica}

@@ -1,15 +1,13 @@
-use Rattle.std.proofs.Common.{◌≡◌, [], Err, false, refl, sym, ap, ◌∙◌, subst, is_some}
-use Rattle.enq_base.specs.declared.condition.Condition.{Condition}
-use Rattle.enq_base.specs.declared.condition.Condition.TheVariants.{Up}
+use Rattle.std.proofs.Common.{◌∙◌, Err, false, refl, sym, ap, subst}
 use Rattle.enq_base.specs.declared.refusal.Refusal.TheVariants as refusal
-use Rattle.hall_calls.proofs.verdicts.EachCall.{at_state}
-use Rattle.hall_calls.proofs.ending.WithHistory.{due_up}
-use Rattle.hall_calls.proofs.ending.StateBehind.{state_with}
+use Rattle.hall_calls.proofs.ending.OverFields.{seen, state_in, up}
+use Rattle.hall_calls.proofs.ending.PresentCalls.{finds_up, present_locked}
 use Rattle.hall_calls.proofs.following.Handovers.{attach_fails, attach_wanting, attaches}
-use Rattle.hall_model.specs.Acts.{Admits, IsAct}
-use Rattle.hall_calls.specs.Serving.{HasLinkCause, IsDue, Serves, with_calls}
-use Rattle.hall_model.specs.State.{State, is_up}
+use Rattle.hall_calls.proofs.verdicts.EachCall.{at_state}
+use Rattle.hall_calls.specs.Serving.{HasLinkCause, IsDue, Serves}
 use Rattle.hall_calls.specs.View.{View}
+use Rattle.hall_model.specs.Acts.{Admits, IsAct}
+use Rattle.hall_model.specs.State.{State, is_up}
 use Rattle.hall_model.specs.Step.{attached, detached}
 use Rattle.hall_model.specs.declared.command.Command.TheVariants as command
 use Rattle.hall_model.specs.declared.command.Reply.{Reply}
@@ -19,9 +17,13 @@ use Rattle.hall_calls.proofs.present.Present.attach.Goals.{in-Ok, in-Err-Failed,
 
 pub attach-requires : goal.attach-requires
 attach-requires g c =
-    let due = subst (λ (v : View g.row.K.Denot g.row.D.Denot g.row.L.Denot). IsDue v.state c.args.past.now.items command.Attach) (sym c.self.view_is)
-    c.requires in
-    record { stands = c.self.invariant.4 ∙ ap is_up (due_up _ c.args.past.now.items command.Attach refl due) }
+    record { stands = c.self.invariant.stands ∙ ap is_up (finds_up g.K.Keeper.held g.L.Link.applied c.self.inside c.self.view_is c.requires refl) }
+
+pub invariant_of-self : goal.invariant_of-self
+invariant_of-self g c =
+    present_locked c.attach.new.self c.self.invariant c.attach.ensures.file
+    (c.attach.ensures.standing
+    ∙ sym (c.self.invariant.stands ∙ ap is_up (finds_up g.K.Keeper.held g.L.Link.applied c.self.inside c.self.view_is c.requires refl)))
 
 pub returns : goal.returns
 returns g c =
@@ -29,37 +31,23 @@ returns g c =
     let past = c.args.past.now.items in
     let called = c.attach in
     let new = called.new.self in
+    let held = g.K.Keeper.held in
+    let applied = g.L.Link.applied in
+    let after = record old { locks = new } in
     let does : View g.row.K.Denot g.row.D.Denot g.row.L.Denot → View g.row.K.Denot g.row.D.Denot g.row.L.Denot → Reply → Type 0 = λ v w r.
-    Serves g.K.Keeper.held g.K.Keeper.may_leave g.K.Keeper.faults g.D.Disk.faults g.L.Link.gives g.L.Link.applied g.L.Link.faults g.L.Link.refusals v w past
-    command.Attach r in
-    let before : Condition → View g.row.K.Denot g.row.D.Denot g.row.L.Denot = λ k. record {
-      state =
-          state_with g.L.Link.applied (is_some (g.K.Keeper.held old.books.keeper)) old.taken_over k
-          old.sessions old.next_session old.orders.items old.locks old.max_locks old.max_marks old.ranges old.books.ledger old.failure [];
-      keeper = old.books.keeper;
-      file = old.locks.file;
-      follower = old.locks.copy;
-    } in
-    let after : Condition → View g.row.K.Denot g.row.D.Denot g.row.L.Denot = λ k. record {
-      state =
-          state_with g.L.Link.applied (is_some (g.K.Keeper.held old.books.keeper)) old.taken_over k
-          old.sessions old.next_session old.orders.items new old.max_locks old.max_marks old.ranges old.books.ledger old.failure [];
-      keeper = old.books.keeper;
-      file = new.file;
-      follower = new.copy;
-    } in
+    Serves held g.K.Keeper.may_leave g.K.Keeper.faults g.D.Disk.faults g.L.Link.gives applied g.L.Link.faults g.L.Link.refusals v w past command.Attach r in
+    let on = finds_up held applied old c.self.view_is c.requires refl in
     let due = subst (λ (v : View g.row.K.Denot g.row.D.Denot g.row.L.Denot). IsDue v.state past command.Attach) (sym c.self.view_is) c.requires in
-    let up : old.condition ≡ Up = due_up (before old.condition).state past command.Attach refl due in
-    let s : State = with_calls (before Up).state past in
-    let later : State = with_calls (after Up).state past in
-    let room : Admits s command.Attach = subst (λ k. Admits (with_calls (before k).state past) command.Attach) up due.admits in
+    let s : State = state_in held applied (up old) past in
+    let later : State = state_in held applied (up after) past in
+    let room : Admits s command.Attach = subst (λ k. Admits (state_in held applied (record old { condition = k }) past) command.Attach) on due.admits in
     let table = sym called.ensures.table in
     let links = sym called.ensures.later.told in
     let serves : (r : Reply) → IsAct s command.Attach later r → HasLinkCause (g.L.Link.faults old.locks.copy.link) (g.L.Link.faults new.copy.link) r
-    → does c.args.self.now (after old.condition) r =
+    → does c.args.self.now (seen held applied after) r =
     λ r act cause.
-    subst (λ v. does v (after old.condition) r) c.self.view_is
-    (subst (λ k. does (before k) (after k) r) (sym up)
+    subst (λ v. does v (seen held applied after) r) c.self.view_is
+    (subst (λ k. does (seen held applied (record old { condition = k })) (seen held applied (record after { condition = k })) r) (sym on)
     (record { call = act; store = refl; file = called.ensures.file; follower = called.ensures.later; over = tt; link = cause })) in
     elim c.match-attach.branch [
       | in-Ok w ↦

@@ -1,16 +1,15 @@
-use Rattle.std.proofs.Common.{◌≡◌, [], false, true, refl, sym, ap, ◌∙◌, subst, is_some}
-use Rattle.enq_base.specs.declared.condition.Condition.{Condition}
+use Rattle.std.proofs.Common.{◌≡◌, false, true, refl, sym, ap, ◌∙◌, subst}
 use Rattle.enq_base.specs.declared.condition.Condition.TheVariants.{Up, NoServer}
-use Rattle.enq_server.proofs.Following.{keeps_none}
+use Rattle.enq_server.proofs.lemmas.Following.{keeps_none}
 use Rattle.enq_server.specs.Server.{replicated}
 use Rattle.lock_entry.specs.Table.{IsTable, Table}
-use Rattle.hall_calls.proofs.verdicts.EachCall.{at_state}
-use Rattle.hall_calls.proofs.ending.StateBehind.{state_with}
-use Rattle.hall_calls.proofs.following.Handovers.{bare_good, following, given, goes_on, not_over_so, over_cause, over_told, over_up}
+use Rattle.hall_calls.proofs.ending.OverFields.{seen, state_in}
 use Rattle.hall_calls.proofs.following.EachCall.{any_link}
-use Rattle.hall_model.specs.Acts.{IsAct}
+use Rattle.hall_calls.proofs.following.Handovers.{bare_good, following, given, goes_on, not_over_so, over_cause, over_told, over_up}
+use Rattle.hall_calls.proofs.verdicts.EachCall.{at_state}
 use Rattle.hall_calls.specs.Serving.{IsDue, Serves, with_calls}
 use Rattle.hall_calls.specs.View.{View}
+use Rattle.hall_model.specs.Acts.{IsAct}
 use Rattle.hall_model.specs.State.{is_up}
 use Rattle.hall_model.specs.Step.{followed_over}
 use Rattle.hall_model.specs.declared.command.Command.TheVariants as command
@@ -19,7 +18,7 @@ use Rattle.hall_model.specs.declared.command.Reply.TheVariants as reply
 use Rattle.hall_calls.proofs.present.Present.fail_over.Goals as goal
 
 pub fail_over-requires : goal.fail_over-requires
-fail_over-requires g c = record { ended = c.self.invariant.4 ∙ ap is_up c.in-NoServer.is }
+fail_over-requires g c = record { ended = c.self.invariant.stands ∙ ap is_up c.in-NoServer.is }
 
 pub returns-in-Up : goal.returns-in-Up
 returns-in-Up g c =
@@ -42,38 +41,24 @@ returns-in-Ok g c =
     let past = c.args.past.now.items in
     let called = c.fail_over in
     let new = called.new.self in
+    let held = g.K.Keeper.held in
     let applied = g.L.Link.applied in
-    let does : View g.row.K.Denot g.row.D.Denot g.row.L.Denot → View g.row.K.Denot g.row.D.Denot g.row.L.Denot → Reply → Type 0 = λ v w r.
-    Serves g.K.Keeper.held g.K.Keeper.may_leave g.K.Keeper.faults g.D.Disk.faults g.L.Link.gives applied g.L.Link.faults g.L.Link.refusals v w past
-    command.FailOver r in
+    let bare = record old { condition = NoServer } in
+    let over = record old { condition = Up; taken_over = true; sessions = c.forgive.new.self; locks = new } in
     let list = g.L.Link.gives old.locks.copy.link in
-    let before : Condition → View g.row.K.Denot g.row.D.Denot g.row.L.Denot = λ k. record {
-      state =
-          state_with applied (is_some (g.K.Keeper.held old.books.keeper)) old.taken_over k
-          old.sessions old.next_session old.orders.items old.locks old.max_locks old.max_marks old.ranges old.books.ledger old.failure [];
-      keeper = old.books.keeper;
-      file = old.locks.file;
-      follower = old.locks.copy;
-    } in
-    let after : View g.row.K.Denot g.row.D.Denot g.row.L.Denot = record {
-      state =
-          state_with applied (is_some (g.K.Keeper.held old.books.keeper)) true Up c.forgive.new.self old.next_session old.orders.items new old.max_locks
-          old.max_marks old.ranges old.books.ledger old.failure [];
-      keeper = old.books.keeper;
-      file = new.file;
-      follower = new.copy;
-    } in
-    let is : before NoServer ≡ c.args.self.now = ap before (sym c.in-NoServer.is) ∙ c.self.view_is in
+    let is : seen held applied bare ≡ c.args.self.now =
+    (λ i. seen held applied (record old { condition = sym c.in-NoServer.is i })) ∙ c.self.view_is in
     let due = subst (λ (v : View g.row.K.Denot g.row.D.Denot g.row.L.Denot). IsDue v.state past command.FailOver) (sym is) c.requires in
-    let s = with_calls (before NoServer).state past in
-    let later = with_calls after.state past in
+    let s = state_in held applied bare past in
+    let later = state_in held applied over past in
     let on = c.in-Ok.ensures.followed in
     let told = given s refl due.admits g.L.Link.faults g.L.Link.gives applied old.locks.copy new.copy refl refl refl refl called.ensures.told on in
     let table = sym c.in-Ok.ensures.table in
     let good : IsTable (replicated old.max_locks list) = subst IsTable c.in-Ok.ensures.table called.ensures.good in
     let links = sym called.ensures.later.told in
     let marks = sym c.forgive.ensures in
-    subst (λ v. does v after reply.Done) is
+    subst (λ v. Serves held g.K.Keeper.may_leave g.K.Keeper.faults g.D.Disk.faults g.L.Link.gives applied g.L.Link.faults g.L.Link.refusals v
+    (seen held applied over) past command.FailOver reply.Done) is
     (record {
       call =
           at_state s command.FailOver (followed_over list s) later reply.Done
@@ -98,35 +83,23 @@ returns-in-Err g c =
     let past = c.args.past.now.items in
     let called = c.fail_over in
     let new = called.new.self in
+    let held = g.K.Keeper.held in
     let applied = g.L.Link.applied in
     let does : View g.row.K.Denot g.row.D.Denot g.row.L.Denot → View g.row.K.Denot g.row.D.Denot g.row.L.Denot → Reply → Type 0 = λ v w r.
-    Serves g.K.Keeper.held g.K.Keeper.may_leave g.K.Keeper.faults g.D.Disk.faults g.L.Link.gives applied g.L.Link.faults g.L.Link.refusals v w past
-    command.FailOver r in
-    let before : Condition → View g.row.K.Denot g.row.D.Denot g.row.L.Denot = λ k. record {
-      state =
-          state_with applied (is_some (g.K.Keeper.held old.books.keeper)) old.taken_over k
-          old.sessions old.next_session old.orders.items old.locks old.max_locks old.max_marks old.ranges old.books.ledger old.failure [];
-      keeper = old.books.keeper;
-      file = old.locks.file;
-      follower = old.locks.copy;
-    } in
-    let after : Condition → View g.row.K.Denot g.row.D.Denot g.row.L.Denot = λ k. record {
-      state =
-          state_with applied (is_some (g.K.Keeper.held old.books.keeper)) old.taken_over k
-          old.sessions old.next_session old.orders.items new old.max_locks old.max_marks old.ranges old.books.ledger old.failure [];
-      keeper = old.books.keeper;
-      file = new.file;
-      follower = new.copy;
-    } in
-    let is : before NoServer ≡ c.args.self.now = ap before (sym c.in-NoServer.is) ∙ c.self.view_is in
+    Serves held g.K.Keeper.may_leave g.K.Keeper.faults g.D.Disk.faults g.L.Link.gives applied g.L.Link.faults g.L.Link.refusals v w past command.FailOver r in
+    let bare = record old { condition = NoServer } in
+    let after = record old { locks = new } in
+    let is : seen held applied bare ≡ c.args.self.now =
+    (λ i. seen held applied (record old { condition = sym c.in-NoServer.is i })) ∙ c.self.view_is in
     let due = subst (λ (v : View g.row.K.Denot g.row.D.Denot g.row.L.Denot). IsDue v.state past command.FailOver) (sym is) c.requires in
-    let s = with_calls (before NoServer).state past in
-    let later = with_calls (after NoServer).state past in
+    let s = state_in held applied bare past in
+    let later = state_in held applied (record after { condition = NoServer }) past in
     let r = c.over_refusal.result in
     let links = sym called.ensures.later.told in
     let behind = following s refl due.admits g.L.Link.faults g.L.Link.gives applied old.locks.copy new.copy refl refl refl refl called.ensures.told in
-    subst (λ v. does v (after old.condition) (reply.Refused r)) c.self.view_is
-    (subst (λ k. does (before k) (after k) (reply.Refused r)) (sym c.in-NoServer.is)
+    subst (λ v. does v (seen held applied after) (reply.Refused r)) c.self.view_is
+    (subst (λ k. does (seen held applied (record old { condition = k })) (seen held applied (record after { condition = k })) (reply.Refused r))
+    (sym c.in-NoServer.is)
     (record {
       call =
           at_state s command.FailOver behind later (reply.Refused r) (λ i. record later { link_told = links i })

@@ -1,7 +1,7 @@
-use Rattle.std.proofs.Common.{◌≡◌, true, false, [], refl, sym, ap, ◌∙◌, subst, is_some}
+use Rattle.std.proofs.Common.{◌≡◌, true, false, refl, sym, ap, ◌∙◌, subst, is_some}
 use Rattle.std.specs.Prelude.{IsTrue}
-use Rattle.hall_calls.proofs.ending.StateBehind.{remade_as, state_with}
-use Rattle.hall_calls.proofs.ending.WithHistory.{store_told}
+use Rattle.hall_calls.proofs.ending.OverFields.{remade_as, seen, state_in}
+use Rattle.hall_calls.proofs.lemmas.WithHistory.{store_told}
 use Rattle.hall_calls.proofs.following.EachCall.{quiet_link}
 use Rattle.hall_calls.proofs.restarting.OverRead.{pending_under}
 use Rattle.lock_entry.specs.Sound.{IsSound}
@@ -23,44 +23,52 @@ use Rattle.hall_calls.proofs.present.Present.restart.Goals as goal
 pub invariant_of-self : goal.invariant_of-self
 invariant_of-self g c =
     let old = c.self.inside in
-    let past = c.args.past.now.items in
     let called = c.remake-remade in
-    let ended = c.settled in (
-      remade_usable g.K.Keeper.held g.K.Keeper.is_open called.result old.condition ended.new.condition _ old.books called.new.books ended.ensures.condition
-          called.ensures.usable called.ensures.apart c.self.invariant.0,
-      remade_leaves g.K.Keeper.held g.K.Keeper.may_leave called.result old.books.ledger called.new.books.ledger old.failure ended.new.failure
-          called.new.books.keeper ended.ensures.failure called.ensures.ledger called.ensures.left,
-      subst (λ k. OutsideDoubt k (HasOpenLists g.D.Disk.tells g.D.Disk.reads g.D.Disk.may_leave called.new.books.ledger called.new.locks.file))
+    let ended = c.settled in
+    record {
+      usable =
+          remade_usable g.K.Keeper.held g.K.Keeper.is_open called.result old.condition ended.new.condition _ old.books called.new.books
+          ended.ensures.condition called.ensures.usable called.ensures.apart c.self.invariant.usable;
+      left =
+          remade_leaves g.K.Keeper.held g.K.Keeper.may_leave called.result old.books.ledger called.new.books.ledger old.failure ended.new.failure
+          called.new.books.keeper ended.ensures.failure called.ensures.ledger called.ensures.left;
+      filed =
+          subst (λ k. OutsideDoubt k (HasOpenLists g.D.Disk.tells g.D.Disk.reads g.D.Disk.may_leave called.new.books.ledger called.new.locks.file))
           (sym ended.ensures.condition)
-          (remade_filed g.D.Disk.tells g.D.Disk.reads g.D.Disk.may_leave g.D.Disk.faults called.result old.condition _ old.books.ledger called.new.books.ledger
-          old.failure old.locks.file called.new.locks.file called.ensures.file called.ensures.ledger c.self.invariant.2),
-      remade_recovers g.D.Disk.tells g.D.Disk.reads g.D.Disk.may_leave g.D.Disk.faults called.result old.condition ended.new.condition _ old.books.ledger
-          called.new.books.ledger old.failure ended.new.failure old.locks.file called.new.locks.file
-          ended.ensures.condition ended.ensures.failure called.ensures.file called.ensures.ledger c.self.invariant.3,
-      called.ensures.stands _ ∙ ap is_up (sym ended.ensures.condition),
-    )
+          (remade_filed g.D.Disk.tells g.D.Disk.reads g.D.Disk.may_leave g.D.Disk.faults called.result old.condition _ old.books.ledger
+          called.new.books.ledger old.failure old.locks.file called.new.locks.file called.ensures.file called.ensures.ledger c.self.invariant.filed);
+      lists =
+          remade_recovers g.D.Disk.tells g.D.Disk.reads g.D.Disk.may_leave g.D.Disk.faults called.result old.condition ended.new.condition _
+          old.books.ledger called.new.books.ledger old.failure ended.new.failure old.locks.file called.new.locks.file
+          ended.ensures.condition ended.ensures.failure called.ensures.file called.ensures.ledger c.self.invariant.lists;
+      stands = called.ensures.stands _ ∙ ap is_up (sym ended.ensures.condition);
+    }
 
 -- what the call comes to, over the fields
 told_so : goal.returns-clause-taken
 told_so g c =
     let old = c.self.inside in
     let held = g.K.Keeper.held in
+    let applied = g.L.Link.applied in
     let past = c.args.past.now.items in
     let called = c.remake-remade in
     let ended = c.settled in
+    let now = record old {
+      condition = ended.new.condition;
+      taken_over = ended.new.taken_over;
+      sessions = called.new.sessions;
+      orders = called.new.orders;
+      locks = called.new.locks;
+      books = called.new.books;
+      failure = ended.new.failure;
+    } in
     let due = subst (λ v. IsDue v.state past command.Restart) (sym c.self.view_is) c.requires in
-    let s : State = state_with g.L.Link.applied (is_some (held old.books.keeper)) old.taken_over old.condition
-    old.sessions old.next_session old.orders.items old.locks old.max_locks old.max_marks old.ranges old.books.ledger old.failure past in
-    let new : State = state_with g.L.Link.applied (is_some (held called.new.books.keeper)) ended.new.taken_over ended.new.condition called.new.sessions
-    old.next_session
-    called.new.orders.items called.new.locks old.max_locks old.max_marks old.ranges called.new.books.ledger ended.new.failure past in
+    let s : State = state_in held applied old past in
+    let new : State = state_in held applied now past in
     let told = store_told held g.K.Keeper.may_leave g.K.Keeper.faults old.books.keeper called.new.books.keeper s command.Restart _ called.ensures.store in
     let is =
-    remade_as g.L.Link.applied called.result (is_some (held old.books.keeper)) (is_some (held called.new.books.keeper)) old.taken_over ended.new.taken_over
-    old.condition ended.new.condition old.sessions called.new.sessions old.next_session old.orders.items called.new.orders.items old.locks called.new.locks
-    old.max_locks old.max_marks old.ranges old.books.ledger called.new.books.ledger old.failure ended.new.failure past told called.ensures.follower.told
-    called.ensures.detached called.ensures.untouched ended.ensures.condition ended.ensures.over ended.ensures.failure
-    called.ensures.sessions called.ensures.orders called.ensures.ledger in
+    remade_as held applied called.result old now past told called.ensures.follower.told called.ensures.detached called.ensures.untouched
+    ended.ensures.condition ended.ensures.over ended.ensures.failure called.ensures.sessions called.ensures.orders called.ensures.ledger in
     subst (λ (v : View g.row.K.Denot g.row.D.Denot g.row.L.Denot). IsTelling
     (with_calls v.state past) command.Restart ended.result.taken new ended.result.reply) c.self.view_is
     (subst (λ b. IsTelling s command.Restart b new ended.result.reply) (sym ended.ensures.taken)
@@ -78,14 +86,19 @@ returns-clause-serves g c =
     let past = c.args.past.now.items in
     let called = c.remake-remade in
     let ended = c.settled in
-    let new : State = state_with g.L.Link.applied (is_some (held called.new.books.keeper)) ended.new.taken_over ended.new.condition called.new.sessions
-    old.next_session
-    called.new.orders.items called.new.locks old.max_locks old.max_marks old.ranges called.new.books.ledger ended.new.failure [] in
+    let after = seen held g.L.Link.applied (record old {
+      condition = ended.new.condition;
+      taken_over = ended.new.taken_over;
+      sessions = called.new.sessions;
+      orders = called.new.orders;
+      locks = called.new.locks;
+      books = called.new.books;
+      failure = ended.new.failure;
+    }) in
     let act = (told_so g c).act in
-    let after : View g.row.K.Denot g.row.D.Denot g.row.L.Denot =
-    record { state = new; keeper = called.new.books.keeper; file = called.new.locks.file; follower = called.new.locks.copy } in
-    subst (λ (v : View g.row.K.Denot g.row.D.Denot g.row.L.Denot). IsAct (with_calls v.state past) command.Restart (with_calls new past) ended.result.reply
-    → Serves held g.K.Keeper.may_leave g.K.Keeper.faults g.D.Disk.faults g.L.Link.gives g.L.Link.applied g.L.Link.faults g.L.Link.refusals v after past
+    subst (λ (v : View g.row.K.Denot g.row.D.Denot g.row.L.Denot). IsAct (with_calls v.state past) command.Restart (with_calls after.state past)
+    ended.result.reply → Serves held g.K.Keeper.may_leave g.K.Keeper.faults g.D.Disk.faults g.L.Link.gives g.L.Link.applied g.L.Link.faults
+    g.L.Link.refusals v after past
     command.Restart ended.result.reply) c.self.view_is
     (λ a. record {
       call = a;
@@ -95,7 +108,7 @@ returns-clause-serves g c =
           (sym ended.ensures.reply) called.ensures.cause;
       follower = called.ensures.follower;
       over = tt;
-      link = quiet_link _ command.Restart (with_calls new past) ended.result.reply (g.L.Link.faults old.locks.copy.link)
+      link = quiet_link _ command.Restart (with_calls after.state past) ended.result.reply (g.L.Link.faults old.locks.copy.link)
           (g.L.Link.faults called.new.locks.copy.link) refl a;
     }) act
 

@@ -3,7 +3,7 @@ use Rattle.std.specs.Map.{lookup, values_of}
 use Rattle.std.specs.Option.{option_copied_mut}
 use Rattle.hall_calls.specs.Named.{AreNamed}
 use Rattle.hall_model.specs.Sessions.{with_next_unit, with_session}
-use Rattle.hall_calls.proofs.NamedValues.{are_named_changed, changed_by_name, name_eq, unchanged_by_name}
+use Rattle.hall_calls.proofs.lemmas.NamedValues.{are_named_changed, changed_by_name, name_eq, unchanged_by_name}
 use Rattle.hall_calls.proofs.sessions.Sessions.begin_unit.Goals as goal
 use Rattle.hall_calls.proofs.sessions.Sessions.begin_unit.Goals.{in-Some, in_default}
 

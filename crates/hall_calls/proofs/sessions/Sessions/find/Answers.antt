@@ -1,6 +1,6 @@
 use Rattle.std.proofs.Common.{ap, ◌∙◌}
 use Rattle.hall_model.specs.Sessions.{session_at}
-use Rattle.hall_calls.proofs.NamedValues.{found_by_name}
+use Rattle.hall_calls.proofs.lemmas.NamedValues.{found_by_name}
 use Rattle.hall_calls.proofs.sessions.Sessions.find.Goals as goal
 
 pub returns : goal.returns

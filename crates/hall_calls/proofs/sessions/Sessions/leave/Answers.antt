@@ -2,7 +2,7 @@ use Rattle.std.proofs.Common.{ap, sym, ◌∙◌, subst}
 use Rattle.std.specs.Map.{lookup, values_of}
 use Rattle.hall_calls.specs.Named.{AreNamed}
 use Rattle.hall_model.specs.Sessions.{without_session}
-use Rattle.hall_calls.proofs.NamedValues.{are_named_taken, name_eq, taken_by_name}
+use Rattle.hall_calls.proofs.lemmas.NamedValues.{are_named_taken, name_eq, taken_by_name}
 use Rattle.hall_calls.proofs.sessions.Sessions.leave.Goals as goal
 
 pub invariant_of-self : goal.invariant_of-self

@@ -2,7 +2,7 @@ use Rattle.std.proofs.Common.{◌∷◌, [], ◌++◌, ap, sym, ◌∙◌, subst
 use Rattle.std.specs.Map.{values_of}
 use Rattle.hall_calls.specs.Named.{AreNamed}
 use Rattle.hall_model.specs.Sessions.{session_at}
-use Rattle.hall_calls.proofs.NamedValues.{added_by_name, are_named_added, found_by_name, where_done}
+use Rattle.hall_calls.proofs.lemmas.NamedValues.{added_by_name, are_named_added, found_by_name, where_done}
 use Rattle.hall_calls.proofs.sessions.Sessions.push.Goals as goal
 
 pub invariant_of-self-2 : goal.invariant_of-self-2

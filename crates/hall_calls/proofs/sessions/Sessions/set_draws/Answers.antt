@@ -5,7 +5,7 @@ use Rattle.enq_base.specs.declared.unit.Num.{Num}
 use Rattle.hall_calls.specs.Named.{AreNamed}
 use Rattle.hall_model.specs.declared.command.Session.{Session}
 use Rattle.hall_model.specs.Sessions.{with_session}
-use Rattle.hall_calls.proofs.NamedValues.{are_named_changed, changed_by_name, name_eq, unchanged_by_name}
+use Rattle.hall_calls.proofs.lemmas.NamedValues.{are_named_changed, changed_by_name, name_eq, unchanged_by_name}
 use Rattle.hall_calls.proofs.sessions.Sessions.set_draws.Goals as goal
 use Rattle.hall_calls.proofs.sessions.Sessions.set_draws.Goals.{in-Some, in_default}
 

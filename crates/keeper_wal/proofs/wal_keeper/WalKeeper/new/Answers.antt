@@ -1,7 +1,7 @@
 use Rattle.std.proofs.Common.{[], None, false, refl, subst}
 use Rattle.keeper_wal.specs.Meaning.{rows_in}
 use Rattle.keeper_wal.specs.Wal.{WalView}
-use Rattle.keeper_wal.proofs.Meaning.{fresh_left}
+use Rattle.keeper_wal.proofs.lemmas.Meaning.{fresh_left}
 use Rattle.keeper_wal.proofs.wal_keeper.WalKeeper.new.Goals as goal
 
 pub returns-clause-left : goal.returns-clause-left

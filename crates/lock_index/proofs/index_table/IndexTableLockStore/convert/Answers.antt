@@ -1,7 +1,7 @@
 use Rattle.std.proofs.Common.{◌≡◌, Ok}
 use Rattle.lock_entry.specs.Table.{Table}
 use Rattle.lock_entry.specs.Converting.{conversion, converted}
-use Rattle.lock_entry.proofs.ConversionSound.{IsTable-converted}
+use Rattle.lock_laws.proofs.ConversionSound.{IsTable-converted}
 use Rattle.lock_index.specs.Slots.{live}
 use Rattle.lock_index.proofs.index_table.IndexTableLockStore.convert.Goals as goal
 

@@ -2,7 +2,7 @@ use Rattle.std.proofs.Common.{◌≡◌, ◌∙◌, ap, sym, Ok, List}
 use Rattle.lock_entry.specs.declared.entry.Entry.{Entry}
 use Rattle.lock_entry.specs.Granting.{readmitted}
 use Rattle.lock_entry.specs.Table.{Table}
-use Rattle.lock_entry.proofs.Readmits.{IsTable-readmitted}
+use Rattle.lock_laws.proofs.Readmits.{IsTable-readmitted}
 use Rattle.lock_index.specs.Slots.{live}
 use Rattle.lock_index.proofs.index_table.IndexTableLockStore.readmit.Goals as goal
 

@@ -1,7 +1,7 @@
 use Rattle.std.proofs.Common.{◌≡◌, ◌∙◌, Some, sym, ap}
 use Rattle.lock_entry.specs.declared.entry.LockName.{LockName}
 use Rattle.lock_entry.specs.Names.{name_of}
-use Rattle.lock_entry.proofs.Naming.{same_name-same}
+use Rattle.lock_entry.proofs.lemmas.Naming.{same_name-same}
 use Rattle.lock_index.specs.Slots.{slot_at}
 use Rattle.lock_index.proofs.Live.{live-as_many}
 use Rattle.lock_index.proofs.Shipped.{same-keys}

@@ -2,7 +2,7 @@ use Rattle.std.proofs.Common.{◌≡◌, Ok, map, sym, ap, ◌∙◌}
 use Rattle.lock_entry.specs.Names.{halves}
 use Rattle.lock_entry.specs.Granting.{asked, is_over}
 use Rattle.lock_entry.specs.Table.{Table}
-use Rattle.lock_entry.proofs.GrantSound.{IsTable-asked}
+use Rattle.lock_laws.proofs.GrantSound.{IsTable-asked}
 use Rattle.lock_table.specs.Halves.{half_at, names_of}
 use Rattle.lock_table.proofs.HalfLists.{names_of-half_at, granted_is}
 use Rattle.lock_table.proofs.list_table.ListTableLockStore.ask.Goals as goal

@@ -1,7 +1,7 @@
 use Rattle.std.proofs.Common.{◌≡◌, Ok, rules}
 use Rattle.lock_entry.specs.Table.{Table}
 use Rattle.lock_entry.specs.Converting.{converted, conversion}
-use Rattle.lock_entry.proofs.ConversionSound.{IsTable-converted}
+use Rattle.lock_laws.proofs.ConversionSound.{IsTable-converted}
 use Rattle.lock_table.proofs.list_table.ListTableLockStore.convert.Goals as goal
 
 pub invariant_of-self-2 : goal.invariant_of-self-2

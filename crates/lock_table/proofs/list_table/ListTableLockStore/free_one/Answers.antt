@@ -1,6 +1,6 @@
 use Rattle.lock_entry.specs.Table.{Table}
 use Rattle.lock_entry.specs.Names.{named}
-use Rattle.lock_entry.proofs.Frees.{IsTable-freed}
+use Rattle.lock_laws.proofs.Frees.{IsTable-freed}
 use Rattle.lock_table.proofs.list_table.ListTableLockStore.free_one.Goals as goal
 
 pub invariant_of-self : goal.invariant_of-self

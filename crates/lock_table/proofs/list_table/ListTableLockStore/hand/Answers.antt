@@ -1,5 +1,5 @@
 use Rattle.lock_entry.specs.Table.{Table}
-use Rattle.lock_entry.proofs.Frees.{IsTable-handed_over}
+use Rattle.lock_laws.proofs.Frees.{IsTable-handed_over}
 use Rattle.lock_table.proofs.list_table.ListTableLockStore.hand.Goals as goal
 
 pub invariant_of-self : goal.invariant_of-self

@@ -1,6 +1,6 @@
 use Rattle.std.proofs.Common.{◌≡◌, Some, None, sym, ◌∙◌, ap}
 use Rattle.lock_entry.specs.Sound.{first_clash}
-use Rattle.lock_entry.proofs.Loads.{first_clash-sound, first_clash-unsound}
+use Rattle.lock_laws.proofs.Loads.{first_clash-sound, first_clash-unsound}
 use Rattle.lock_table.proofs.list_table.ListTableLockStore.load.Goals as goal
 
 pub invariant_of-result : goal.invariant_of-result

@@ -1,7 +1,7 @@
 use Rattle.std.proofs.Common.{◌≡◌, Ok, sym, ap, ◌∙◌}
 use Rattle.lock_entry.specs.Granting.{readmitted}
 use Rattle.lock_entry.specs.Table.{Table}
-use Rattle.lock_entry.proofs.Readmits.{IsTable-readmitted}
+use Rattle.lock_laws.proofs.Readmits.{IsTable-readmitted}
 use Rattle.lock_table.proofs.list_table.ListTableLockStore.readmit.Goals as goal
 
 pub invariant_of-self-2 : goal.invariant_of-self-2

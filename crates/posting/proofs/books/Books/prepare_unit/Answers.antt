@@ -3,12 +3,12 @@ use Rattle.posting.proofs.BatchRows.{unit_is_batch, unit_makes}
 use Rattle.posting.proofs.books.Books.prepare_unit.Goals as goal
 
 pub prepare-requires-clause-batch : goal.prepare-requires-clause-batch
-prepare-requires-clause-batch g c = unit_is_batch c.args.self.now.ledger c.args.unit c.args.levels.now c.in_ok-batch.batch.items _ _ c.requires.unit
-    c.requires.store.distinct c.in_ok-batch.ensures.rows
+prepare-requires-clause-batch g c = unit_is_batch c.args.self.now.ledger c.args.unit c.args.levels.now c.in-Ok.batch.items _ _ c.requires.unit
+    c.requires.store.distinct c.in-Ok.ensures.rows
 
 pub prepare-requires-clause-makes : goal.prepare-requires-clause-makes
 prepare-requires-clause-makes g c =
-    unit_makes (g.K.Keeper.held c.args.self.now.keeper) c.args.self.now.ledger c.args.unit c.args.levels.now c.from_vec-levels.result c.in_ok-batch.batch.items
+    unit_makes (g.K.Keeper.held c.args.self.now.keeper) c.args.self.now.ledger c.args.unit c.args.levels.now c.from_vec-levels.result c.in-Ok.batch.items
     _ _
-    c.requires.marks c.requires.unit c.requires.store c.in_ok-batch.ensures.spelt
-    c.start.ensures c.marks.ensures (c.from_vec-levels.ensures ∙ c.in_ok-from_slice.ensures.items) c.in_ok-batch.ensures.rows c.requires.usable.stands
+    c.requires.marks c.requires.unit c.requires.store c.in-Ok.ensures.spelt
+    c.start.ensures c.marks.ensures (c.from_vec-levels.ensures ∙ c.in-Ok-from_slice.ensures.items) c.in-Ok.ensures.rows c.requires.usable.stands

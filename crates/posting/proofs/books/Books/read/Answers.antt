@@ -4,7 +4,7 @@ use Rattle.module_effects.specs.Rows.{RowName}
 use Rattle.update_records.specs.Business.{tables_of}
 use Rattle.update_records.specs.Ledger.{StandFor}
 use Rattle.posting.specs.BooksView.{BooksView}
-use Rattle.posting.proofs.HeldRows.{all_read}
+use Rattle.posting.proofs.lemmas.HeldRows.{all_read}
 use Rattle.posting.proofs.books.Books.read.Goals as goal
 
 pub returns-clause-text : goal.returns-clause-text

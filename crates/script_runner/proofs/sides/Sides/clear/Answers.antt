@@ -3,7 +3,7 @@ use Rattle.std.specs.Map.{lookup}
 use Rattle.std.specs.Option.{option_copied_mut}
 use Rattle.dialogue_session.specs.Private.{Private, without_effects, without_requests}
 use Rattle.hall_calls.specs.Named.{AreNamed}
-use Rattle.hall_calls.proofs.NamedValues.{are_named_changed, name_eq}
+use Rattle.hall_calls.proofs.lemmas.NamedValues.{are_named_changed, name_eq}
 use Rattle.script_runner.specs.Sides.{with_side}
 use Rattle.script_runner.proofs.Dialogues.{owner, side_changed, side_unchanged, sides_in}
 use Rattle.script_runner.proofs.sides.Sides.clear.Goals as goal

@@ -3,7 +3,7 @@ use Rattle.std.specs.Map.{set_value}
 use Rattle.std.specs.Option.{option_copied_mut, option_map}
 use Rattle.dialogue_session.specs.Private.{DialogueView, Private}
 use Rattle.hall_calls.specs.Named.{AreNamed}
-use Rattle.hall_calls.proofs.NamedValues.{are_named_changed, kept_by_name, name_eq}
+use Rattle.hall_calls.proofs.lemmas.NamedValues.{are_named_changed, kept_by_name, name_eq}
 use Rattle.script_runner.specs.Sides.{side_of, with_side}
 use Rattle.script_runner.proofs.Dialogues.{owner, side, side_changed, side_found, sides_in}
 use Rattle.script_runner.proofs.SideLemmas.{collects, either_way, side_is_missing, when_refused}

@@ -1,7 +1,7 @@
 use Rattle.std.proofs.Common.{ap, sym, ◌∙◌, subst}
 use Rattle.std.specs.Map.{lookup}
 use Rattle.hall_calls.specs.Named.{AreNamed}
-use Rattle.hall_calls.proofs.NamedValues.{are_named_taken, name_eq}
+use Rattle.hall_calls.proofs.lemmas.NamedValues.{are_named_taken, name_eq}
 use Rattle.script_runner.specs.Sides.{without_side}
 use Rattle.script_runner.proofs.Dialogues.{owner, side_taken, sides_in}
 use Rattle.script_runner.proofs.sides.Sides.leave.Goals as goal

@@ -2,7 +2,7 @@ use Rattle.std.proofs.Common.{◌≡◌, ap, sym, ◌∙◌, subst}
 use Rattle.std.specs.Option.{option_copied_mut, option_map}
 use Rattle.dialogue_session.specs.Private.{Private}
 use Rattle.hall_calls.specs.Named.{AreNamed}
-use Rattle.hall_calls.proofs.NamedValues.{are_named_changed}
+use Rattle.hall_calls.proofs.lemmas.NamedValues.{are_named_changed}
 use Rattle.script_runner.specs.Sides.{side_of}
 use Rattle.script_runner.proofs.Dialogues.{owner, room_made, side, side_found, side_kept, sides_in}
 use Rattle.script_runner.proofs.SideLemmas.{side_is_missing}

@@ -2,7 +2,7 @@ use Rattle.std.proofs.Common.{◌≡◌, ◌≤◌, None, Some, arith, ap, sym, 
 use Rattle.std.specs.Option.{option_copied_mut}
 use Rattle.dialogue_session.specs.Private.{Private, with_variable}
 use Rattle.hall_calls.specs.Named.{AreNamed}
-use Rattle.hall_calls.proofs.NamedValues.{are_named_changed}
+use Rattle.hall_calls.proofs.lemmas.NamedValues.{are_named_changed}
 use Rattle.script_runner.specs.Sides.{SidesView, variable_room, with_side}
 use Rattle.script_runner.proofs.Dialogues.{owner, room_found, side_changed, sides_in}
 use Rattle.script_runner.proofs.sides.Sides.set_variable.Goals as goal

@@ -1,6 +1,6 @@
 use Rattle.std.proofs.Common.{Some, ap, ◌∙◌}
 use Rattle.sorted_rows.specs.Tables.{entries_from}
-use Rattle.sorted_rows.proofs.Views.{got, sorted_same}
+use Rattle.sorted_rows.proofs.lemmas.Views.{got, sorted_same}
 use Rattle.sorted_rows.proofs.sorted_rows.SortedRows.get.Goals as goal
 
 pub returns-in_ok-copy_bytes-in-Some : goal.returns-in_ok-copy_bytes-in-Some

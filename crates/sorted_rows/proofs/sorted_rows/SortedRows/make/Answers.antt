@@ -1,4 +1,4 @@
-use Rattle.sorted_rows.proofs.Views.{shown_made, room_none}
+use Rattle.sorted_rows.proofs.lemmas.Views.{shown_made, room_none}
 use Rattle.sorted_rows.proofs.sorted_rows.SortedRows.make.Goals as goal
 
 pub invariant_of-self : goal.invariant_of-self

@@ -1,4 +1,4 @@
-use Rattle.sorted_rows.proofs.Views.{shown_new}
+use Rattle.sorted_rows.proofs.lemmas.Views.{shown_new}
 use Rattle.sorted_rows.proofs.sorted_rows.SortedRows.new.Goals as goal
 
 pub returns : goal.returns

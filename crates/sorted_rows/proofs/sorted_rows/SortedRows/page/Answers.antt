@@ -1,6 +1,6 @@
 use Rattle.std.proofs.Common.{ap}
 use Rattle.sorted_rows.specs.Tables.{entries_from}
-use Rattle.sorted_rows.proofs.Views.{paged, page_shape, sorted_same}
+use Rattle.sorted_rows.proofs.lemmas.Views.{paged, page_shape, sorted_same}
 use Rattle.sorted_rows.proofs.sorted_rows.SortedRows.page.Goals as goal
 
 pub returns-clause-rows : goal.returns-clause-rows

@@ -1,6 +1,6 @@
 use Rattle.std.proofs.Common.{length}
 use Rattle.sorted_rows.proofs.Rooms.{room_kept}
-use Rattle.sorted_rows.proofs.Views.{sorted_same}
+use Rattle.sorted_rows.proofs.lemmas.Views.{sorted_same}
 use Rattle.sorted_rows.proofs.sorted_rows.SortedRows.room.Goals as goal
 
 pub invariant_of-self : goal.invariant_of-self

@@ -1,5 +1,5 @@
 use Rattle.std.proofs.Common.{arith}
-use Rattle.store_reading.proofs.TextOrder.{name_cmp}
+use Rattle.store_reading.proofs.lemmas.TextOrder.{name_cmp}
 use Rattle.store_reading.proofs.text_id.TextIdOrd.cmp.Goals as goal
 
 pub returns : goal.returns

@@ -1,8 +1,8 @@
 use Rattle.std.proofs.Common.{ap, ◌∙◌}
 use Rattle.std.proofs.Math.Logic.{∥∥₁_map}
 use Rattle.hall_model.specs.Unsound.{is_unsound_file, is_unsound_replica, is_unsound_store}
-use Rattle.script_runner.proofs.GoodFiles.{step_sound, told_honest}
-use Rattle.script_runner.proofs.Kept.{later_counts, linked_call}
+use Rattle.script_runner.proofs.lemmas.GoodFiles.{step_sound, told_honest}
+use Rattle.script_runner.proofs.lemmas.Kept.{later_counts, linked_call}
 use Rattle.order_laws.specs.Behind.{is_up}
 use Rattle.turn_desks.specs.Led.{counts_of}
 use Rattle.turn_desks.proofs.Led.{CallCounts, begun_is_prefix, desk_step, led_call, no_stock_may}

@@ -2,8 +2,8 @@ use Rattle.std.proofs.Common.{◌<◌, List, All, length, ap, subst, sym, ◌∙
 use mathlib.Core.List.{IsPrefix}
 use Rattle.turn_lock.specs.declared.view.View.{View}
 use Rattle.turn_lock.specs.Rule.{SeatState, own_entries}
-use Rattle.seat_sums.proofs.Beginnings.{front_is_short}
-use Rattle.seat_sums.proofs.Entries.{below_higher}
+use Rattle.seat_sums.proofs.lemmas.Beginnings.{front_is_short}
+use Rattle.seat_sums.proofs.lemmas.Entries.{below_higher}
 use Rattle.turn_lock.proofs.Keeps.{call_steps}
 use Rattle.turn_lock.proofs.Entries.{own_called, own_called_below}
 use Rattle.turn_lock.proofs.lock.TurnLock.with.Goals as goal

@@ -1,0 +1,4 @@
+pub mod Knowns
+pub mod LineLemmas
+pub mod LinesRead
+pub mod MoreBytes

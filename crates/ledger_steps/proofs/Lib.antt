@@ -1,3 +1,0 @@
-pub mod CommittedNumbers
-pub mod UnmarkedUnits
-pub mod RowNames

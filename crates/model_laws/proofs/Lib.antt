@@ -1,0 +1,16 @@
+pub mod BarredCalls
+pub mod BesideRecorded
+pub mod BlockLevels
+pub mod ByCall
+pub mod Cancels
+pub mod EachLock
+pub mod FoundSessions
+pub mod HandedLocks
+pub mod LockLists
+pub mod NotedCalls
+pub mod OtherStatuses
+pub mod OutsideDoubt
+pub mod PartOrders
+pub mod PlainRefusals
+pub mod Resubmissions
+pub mod WaitingUnits

@@ -1,0 +1,4 @@
+pub mod HeldRows
+pub mod LedgerNumbers
+pub mod LevelRows
+pub mod SettledDoubt

@@ -1,0 +1,5 @@
+pub mod Converts
+pub mod Drops
+pub mod Frees
+pub mod Grants
+pub mod Links

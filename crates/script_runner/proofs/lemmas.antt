@@ -1,0 +1,4 @@
+pub mod GoodFiles
+pub mod Kept
+pub mod MadeCalls
+pub mod Makings

@@ -1,0 +1,7 @@
+mod Levels
+mod Given
+mod Calls
+mod Steps
+mod Shares
+mod Opening
+mod Reserving

@@ -1,0 +1,9 @@
+pub mod BooksStand
+pub mod Elements
+pub mod Followings
+pub mod Gathers
+pub mod Legal
+pub mod Members
+pub mod Shelved
+pub mod Statuses
+pub mod TextOrder

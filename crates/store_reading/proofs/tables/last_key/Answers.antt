@@ -1,6 +1,0 @@
-use Rattle.std.proofs.Common.{[], sym, ◌∙◌}
-use Rattle.store_reading.proofs.Pages.{last_key_is}
-use Rattle.store_reading.proofs.tables.last_key.Goals as goal
-
-pub returns-in-Some : goal.returns-in-Some
-returns-in-Some c = c.as_slice.ensures ∙ sym (last_key_is [] c.args.rows.now c.in-Some.row.now c.in-Some.ensures.value)

@@ -1,0 +1,4 @@
+pub mod Distinct
+pub mod TableLaws
+pub mod UnitRecords
+pub mod BusinessTexts
